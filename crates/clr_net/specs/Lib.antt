@@ -1,0 +1,12 @@
+pub mod Amounts
+pub mod Name
+pub mod Net
+pub mod Limits
+pub mod Division
+pub mod InPlace
+pub mod Cases
+pub mod Samples
+pub mod Accounts
+pub mod Kept
+pub mod AmountsLent
+pub mod OrderOnly

@@ -1,0 +1,82 @@
+ghost use Rattle.clr_net.specs.Name.{is_name, may_stand_in_name as may_stand, is_control as is_control_character};
+ghost use Rattle.std.specs.Prelude.{◌≡◌, ◌↔◌, false, IfOk, IsTrue, IsErrOf};
+
+use crate::MAX_NAME_BYTES;
+use std::alloc::Global;
+use std::marker::Model;
+
+/// The name of a bank: 1 to [`MAX_NAME_BYTES`] bytes of UTF-8 without comma, double quote and control characters.
+#[derive(Drop)]
+pub struct Name {
+    text: Vec<u8>,
+}
+
+impl Model for Name {
+    ghost use Rattle.clr_net.specs.Name.{is_name};
+    ghost use Rattle.std.specs.Prelude.{List, ℕ, IsTrue};
+
+    ghost Value = { List ℕ };
+
+    ghost view = { λ n. n.text.items };
+
+    ghost invariant = { λ n. IsTrue (is_name n.text.items) };
+}
+
+/// Why a text gives no name.
+#[derive(Clone, Copy, Debug, PartialEq, Eq)]
+pub enum NameFault {
+    /// The text is not a name.
+    Bad,
+    /// Want of memory.
+    Mem,
+}
+
+impl Name {
+    /// The name that these bytes are.
+    pub fn of(alloc: Global, text: &[u8]) -> Result<Name, NameFault>
+        ensures ok { IfOk result (λ name. name ≡ text.now) }
+        ensures bad { IsErrOf result NameFault.Bad ↔ (is_name text.now ≡ false) }
+    {
+        if !Name::accepts(text) {
+            return Err(NameFault::Bad);
+        }
+        match Vec::from_slice(alloc, text) {
+            Ok(text) => Ok(Name { text }),
+            Err(_) => Err(NameFault::Mem),
+        }
+    }
+
+    /// Whether these bytes are a name: the test that [`Name::of`] makes.
+    pub fn accepts(text: &[u8]) -> bool
+        ensures { result ≡ is_name text.now }
+    {
+        if text.is_empty() || text.len() > MAX_NAME_BYTES {
+            return false;
+        }
+        match std::str::from_utf8(text) {
+            Ok(text) => text.chars().all(may_stand_in_name),
+            Err(_) => false,
+        }
+    }
+
+    /// The bytes of the name, which are UTF-8.
+    pub fn bytes(&self) -> &[u8]
+        ensures bytes { result.now ≡ self.now }
+        ensures is_name { IsTrue (is_name self.now) }
+    {
+        self.text.as_slice()
+    }
+}
+
+// Whether a name may have this character.
+fn may_stand_in_name(c: char) -> bool
+    ensures { result ≡ may_stand c }
+{
+    !is_control(c) && c != ',' && c != '"'
+}
+
+fn is_control(c: char) -> bool
+    ensures { result ≡ is_control_character c }
+{
+    c <= '\u{1F}' || ('\u{7F}'..='\u{9F}').contains(&c)
+}
