@@ -1,0 +1,5 @@
+pub mod Faults
+pub mod MemShelf
+pub mod MemSink
+pub mod Shelf
+pub mod Sink

@@ -1,0 +1,45 @@
+ghost use Rattle.clr_edge.specs.Faults.{HasRisen};
+ghost use Rattle.clr_edge.specs.Sink.{with_bytes, WritesPart};
+ghost use Rattle.std.specs.Prelude.{◌≡◌, ◌<◌, ◌≤◌, ℕ, List, Option, length, take, IfOk, OnOk, OnErr};
+
+/// The sink failed, and counted it.
+#[derive(Clone, Copy, Debug, PartialEq, Eq)]
+pub struct SinkFault;
+
+/// What takes bytes, in order.
+pub trait Sink {
+    /// The bytes that it has taken. A sink need not tell them.
+    ghost written: { Self → Option (List ℕ) };
+
+    /// How often it has failed.
+    ghost faults: { Self → ℕ };
+
+    /// Takes bytes from the front of the piece, and answers how many: from one to all. At a fault it took none, and the
+    /// count rose. It takes no memory.
+    fn put(&mut self, piece: &[u8]) -> Result<usize, SinkFault>
+        requires { 0 < length piece.now }
+        ensures some { IfOk result (λ n. 1 ≤ n) }
+        ensures within { IfOk result (λ n. n ≤ length piece.now) }
+        ensures written { IfOk result
+            (λ n. written self.new ≡ with_bytes (written self.old) (take n piece.now)) }
+        ensures unwritten { OnErr result (written self.new ≡ written self.old) }
+        ensures faults { faults self.old ≤ faults self.new }
+        ensures failed { OnErr result (HasRisen (faults self.old) (faults self.new)) };
+}
+
+/// Writes all bytes. At a fault some from their front have been written, but not all, and the count rose. It takes no
+/// memory.
+pub fn put_all<S: Sink>(sink: &mut S, bytes: &[u8]) -> Result<(), SinkFault>
+    ensures written { OnOk result
+        (S.written sink.new ≡ with_bytes (S.written sink.old) bytes.now) }
+    ensures part { OnErr result
+        (WritesPart (S.written sink.old) (S.written sink.new) bytes.now) }
+    ensures faults { S.faults sink.old ≤ S.faults sink.new }
+    ensures failed { OnErr result (HasRisen (S.faults sink.old) (S.faults sink.new)) }
+{
+    let mut done = 0;
+    while done < bytes.len() {
+        done += sink.put(&bytes[done..])?;
+    }
+    Ok(())
+}
