@@ -1,0 +1,2 @@
+pub mod AwardsOfKind
+pub mod FirstUnmet

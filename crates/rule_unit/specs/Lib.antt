@@ -1,0 +1,3 @@
+pub mod Awards
+pub mod Choice
+pub mod Units
