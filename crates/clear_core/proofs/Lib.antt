@@ -1,0 +1,12 @@
+pub mod OneClass
+pub mod OrderFill
+pub mod UnitRuled
+pub mod Rows
+pub mod Pay
+pub mod BankPays
+pub mod Least
+pub mod Legal
+pub mod Journals
+pub mod Runs
+pub mod Applied
+pub mod QuietBanks

@@ -1,0 +1,59 @@
+-- Payments that clear are those at which each bank is quiet.
+use Rattle.std.proofs.Common.{◌≡◌, ◌≢◌, ℕ, ◌<◌, List, length, get_or, map, sym, ap, ◌∙◌, subst, arith}
+use Rattle.std.proofs.lemmas.List.{ext_get_or, get_or-map, length-map}
+use Rattle.clr_net.specs.Amounts.{IsAtMost}
+use Rattle.clr_net.specs.Limits.{IsNetwork}
+use Rattle.clr_net.specs.Net.{Net, debtor_of, place_in_row, row}
+use Rattle.clr_net.proofs.RowsAndColumns.{debt_in_row}
+use Rattle.clear_core.specs.Buffers.{AreInLimit}
+use Rattle.clear_core.specs.Clearing.{receipts, division, pay, least, Clears}
+use Rattle.clear_core.specs.Quiet.{IsWithinClaims, IsQuiet}
+use Rattle.clear_core.proofs.BankPays.{pay_row}
+use Rattle.clear_core.proofs.Least.{least_clears}
+use Rattle.clear_core.proofs.Pay.{length-pay, pay_within}
+use Rattle.clear_core.proofs.Rows.{claim_in_limit}
+
+-- payments on the debts ns that are the awards, place by place
+pub row_agrees : (P ns awards : List ℕ) → length awards ≡ length ns
+    → ((k : ℕ) → k < length ns → get_or P (get_or ns k 0) 0 ≡ get_or awards k 0) → map (λ x. get_or P x 0) ns ≡ awards
+row_agrees P ns awards l h =
+    let paid = λ (x : ℕ). get_or P x 0 in
+    ext_get_or 0 (map paid ns) awards (length-map ns paid ∙ sym l) (λ k m.
+    let in_row : k < length ns = omega (arith, length-map ns paid) in
+    get_or-map paid ns k 0 0 in_row ∙ h k in_row)
+
+pub row_differs : (P ns awards : List ℕ) (k : ℕ) → k < length ns → get_or P (get_or ns k 0) 0 ≢ get_or awards k 0
+    → map (λ x. get_or P x 0) ns ≡ awards → ⊥
+row_differs P ns awards k l differs same =
+    differs (sym (get_or-map (λ x. get_or P x 0) ns k 0 0 l) ∙ ap (λ xs. get_or xs k 0) same)
+
+-- within the claims of a network, payments are in the limit
+pub within_in_limit : (net : Net) (P : List ℕ) → IsNetwork net → IsWithinClaims net P → AreInLimit P
+within_in_limit net P network h x = omega (arith, h x, claim_in_limit net x network)
+
+-- payments up to the least that clear are within the claims
+pub within_least : (net : Net) (P : List ℕ) → IsAtMost P (least net) → IsWithinClaims net P
+within_least net P h x =
+    omega (arith, h x, ap (λ Q. get_or Q x 0) (least_clears net), pay_within net (least net) x)
+
+pub quiet_from_clears : (net : Net) (P : List ℕ) → Clears net P → IsQuiet net P
+quiet_from_clears net P c i l =
+    subst (λ Q. map (λ x. get_or Q x 0) (row net i) ≡ division net i (receipts net P i)) c (pay_row net P i)
+
+-- the same lists of payments on a row are the same on each debt of it
+same_on_debt : (P Q ns : List ℕ) (k x : ℕ) → k < length ns → get_or ns k 0 ≡ x
+    → map (λ x. get_or P x 0) ns ≡ map (λ x. get_or Q x 0) ns → get_or P x 0 ≡ get_or Q x 0
+same_on_debt P Q ns k x l at same =
+    ap (λ y. get_or P y 0) (sym at)
+    ∙ sym (get_or-map (λ x. get_or P x 0) ns k 0 0 l)
+    ∙ ap (λ xs. get_or xs k 0) same
+    ∙ get_or-map (λ x. get_or Q x 0) ns k 0 0 l
+    ∙ ap (λ y. get_or Q y 0) at
+
+pub clears_from_quiet : (net : Net) (P : List ℕ) → IsNetwork net → length P ≡ length net.debts → IsQuiet net P → Clears net P
+clears_from_quiet net P network e h = ext_get_or 0 (pay net P) P (length-pay net P ∙ sym e) (λ x l.
+    let in_range : x < length net.debts = omega (arith, length-pay net P) in
+    let i = debtor_of net x in
+    let stands = debt_in_row net x in_range in
+    same_on_debt (pay net P) P (row net i) (place_in_row net x) x stands.within stands.at
+    (pay_row net P i ∙ sym (h i (network.each_debt x in_range).debtor_known)))

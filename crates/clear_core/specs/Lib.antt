@@ -1,0 +1,8 @@
+pub mod Clearing
+pub mod Process
+pub mod History
+pub mod Cases
+pub mod ByOrder
+pub mod Buffers
+pub mod ByUnits
+pub mod Quiet

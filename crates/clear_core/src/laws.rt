@@ -1,0 +1,66 @@
+//! The laws of clearing, for any plain data. A law has nothing to run; its `ensures` is proved.
+ghost use Rattle.clear_core.specs.Clearing.{Clears, IsLeast, least, pay, receipts, spend};
+ghost use Rattle.clear_core.specs.History.{IsTraced, Stands, journal_from, replayed};
+ghost use Rattle.clear_core.specs.Process.{AreLegal, NeverPassesLeast, opening};
+ghost use Rattle.clear_core.specs.declared.event.Event.{Event};
+ghost use Rattle.clear_core.specs.declared.event.Raise.{Raise};
+ghost use Rattle.clr_net.specs.Amounts.{IsAtMost};
+ghost use Rattle.clr_net.specs.Limits.{IsNetwork};
+ghost use Rattle.clr_net.specs.Net.{Net, claims_of, row};
+ghost use Rattle.std.specs.Prelude.{◌≡◌, ◌≤◌, ℕ, List, Some, length, min, slice_get, slice_index, sum, sum_by};
+
+/// No bank pays less on any debt as what was paid grows.
+#[tactic(auto, using(crate::proofs::Pay::pay_mono))]
+pub fn pay_never_falls()
+    ensures { (net : Net) (P Q : List ℕ) → IsAtMost P Q → IsAtMost (pay net P) (pay net Q) }
+{}
+
+/// The payments after as many rounds as units are owed clear, and are at most all that clear.
+pub fn least_is_least()
+    ensures { (net : Net) → IsLeast net (least net) }
+{}
+
+/// There is only one least: whatever payments are the least that clear are these.
+#[tactic(auto, using(crate::proofs::Least::least_only))]
+pub fn least_is_the_only_one()
+    ensures { (net : Net) (P : List ℕ) → IsLeast net P → P ≡ least net }
+{}
+
+/// In payments that clear a network each bank pays out all that it divides, up to all that it owes.
+#[tactic(auto, using(crate::proofs::BankPays::clearing_row))]
+pub fn clearing_bank_pays_out()
+    ensures { (net : Net) (P : List ℕ) → IsNetwork net → Clears net P
+        → (i : ℕ) → sum_by (slice_index P) (row net i) ≡ min (spend net i (receipts net P i)) (sum (claims_of net i)) }
+{}
+
+/// No legal order of loads and raises passes the least clearing payments.
+#[tactic(auto, using(crate::proofs::Legal::never_passes_least))]
+pub fn stays_below_least()
+    ensures { (net : Net) → NeverPassesLeast net }
+{}
+
+/// Payments on all debts that are at or below the least clearing payments, and on which no bank would pay more, are
+/// the least clearing payments: where a process that only raises legally has nothing left to raise, it is done.
+pub fn nothing_left_to_raise_is_least()
+    ensures { (net : Net) (P : List ℕ) → length P ≡ length net.debts → IsAtMost P (least net) → IsAtMost (pay net P) P
+        → P ≡ least net }
+{}
+
+/// A journal each raise of which is lawful where it stands pays no more than the least clearing payments.
+#[tactic(auto, using(crate::proofs::Journals::replayed_le_least))]
+pub fn standing_journal_stays_below_least()
+    ensures { (net : Net) (rs : List Raise) → Stands net rs → IsAtMost (replayed net rs) (least net) }
+{}
+
+/// No raise of a journal that is traced, by its stamps alone, is above the least clearing payments.
+#[tactic(auto, using(crate::proofs::Journals::traced_le_least))]
+pub fn traced_raises_stay_below_least()
+    ensures { (net : Net) (rs : List Raise) → IsTraced net rs
+        → (i : ℕ) (r : Raise) → slice_get rs i ≡ Some r → r.to ≤ slice_index (least net) r.debt.0 }
+{}
+
+/// The raises of a legal run, each stamped with its place, are a traced journal.
+#[tactic(auto, using(crate::proofs::Runs::run_is_traced))]
+pub fn legal_run_is_traced()
+    ensures { (net : Net) (es : List Event) → AreLegal net (opening net) es → IsTraced net (journal_from 0 es) }
+{}
