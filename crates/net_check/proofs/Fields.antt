@@ -1,0 +1,62 @@
+-- Steps of reading one field: a byte trimmed, a digit read.
+use Rattle.std.proofs.Common.{◌≡◌, ℕ, ◌+◌, ◌-◌, ◌*◌, ◌^◌, ◌<◌, ◌≤◌, ◌==◌, true, false, cond, List, [], ◌∷◌, ◌++◌, length, reverse, get_or, take, drop, Some, refl, sym, ap, ◌∙◌, arith, add-one}
+use Rattle.std.specs.List.{list_all}
+use Rattle.std.specs.Char.{is_ascii_digit}
+use Rattle.std.proofs.Math.Nat.{pow-suc}
+use Rattle.std.proofs.lemmas.Bool.{le-leb}
+use Rattle.std.proofs.lemmas.Bool.Decides.{nat_tests}
+use Rattle.std.proofs.lemmas.List.{at_drop_more, at_drop_all, take_all, reverse-append, reverse-reverse}
+use Rattle.net_check.specs.Field.{is_space_or_tab, trimmed_start, number_after, number_in}
+use Rattle.net_check.specs.declared.TheConstants.{MAX_DIGITS}
+
+-- a space or a tab at the start is dropped
+pub trimmed_start-drops : (field rest : List ℕ) (b : ℕ) → field ≡ b ∷ rest → is_space_or_tab b ≡ true → trimmed_start field ≡ trimmed_start rest
+unfolding trimmed_start
+trimmed_start-drops field rest b e blank = ap trimmed_start e ∙ ap (λ t. cond t (trimmed_start rest) (b ∷ rest)) blank
+
+-- another byte at the start ends the trimming
+pub trimmed_start-stops : (field rest : List ℕ) (b : ℕ) → field ≡ b ∷ rest → is_space_or_tab b ≡ false → trimmed_start field ≡ field
+unfolding trimmed_start
+trimmed_start-stops field rest b e other = ap trimmed_start e ∙ ap (λ t. cond t (trimmed_start rest) (b ∷ rest)) other ∙ sym e
+
+pub trimmed_start-empty : (field : List ℕ) → length field ≡ 0 → trimmed_start field ≡ field
+unfolding trimmed_start
+trimmed_start-empty [] h = refl
+trimmed_start-empty (b ∷ rest) h = absurd (omega arith)
+
+-- the same at the end
+pub trimmed_end-drops : (field rest : List ℕ) (b : ℕ) → field ≡ rest ++ b ∷ [] → is_space_or_tab b ≡ true
+    → reverse (trimmed_start (reverse field)) ≡ reverse (trimmed_start (reverse rest))
+trimmed_end-drops field rest b e blank =
+    ap reverse (trimmed_start-drops (reverse field) (reverse rest) b (ap reverse e ∙ reverse-append rest (b ∷ [])) blank)
+
+pub trimmed_end-stops : (field rest : List ℕ) (b : ℕ) → field ≡ rest ++ b ∷ [] → is_space_or_tab b ≡ false
+    → reverse (trimmed_start (reverse field)) ≡ field
+trimmed_end-stops field rest b e other =
+    ap reverse (trimmed_start-stops (reverse field) (reverse rest) b (ap reverse e ∙ reverse-append rest (b ∷ [])) other)
+    ∙ reverse-reverse field
+
+pub trimmed_end-empty : (field : List ℕ) → length field ≡ 0 → reverse (trimmed_start (reverse field)) ≡ field
+unfolding trimmed_start
+trimmed_end-empty [] h = refl
+trimmed_end-empty (b ∷ rest) h = absurd (omega arith)
+
+-- one digit more
+pub number_after_more : (field : List ℕ) (i n : ℕ) → i < length field
+    → number_after n (drop i field) ≡ number_after (10 * n + (get_or field i 0 - 48)) (drop (i + 1) field)
+unfolding number_after
+number_after_more field i n h = at_drop_more (number_after n) field i 0 h
+
+-- it keeps the number below a power of ten
+pub number_below_more : (i n d : ℕ) → n < 10 ^ i → d ≤ 9 → 10 * n + d < 10 ^ (i + 1)
+number_below_more i n d small digit = rw (add-one, pow-suc) (omega arith)
+
+-- a field of digits alone, all of which are read
+pub number_in-digits : (field : List ℕ) (i n : ℕ) → (length field == 0) ≡ false → length field ≤ MAX_DIGITS → length field ≤ i
+    → list_all is_ascii_digit (take i field) ≡ true → number_after n (drop i field) ≡ number_after 0 field → number_in field ≡ Some n
+unfolding number_after
+number_in-digits field i n filled high all_read digits e =
+    let low : 1 ≤ length field = grind (arith, nat_tests) in
+    let spelled : n ≡ number_after 0 field = sym (at_drop_all (number_after n) field i all_read) ∙ e in
+    let all_digits : list_all is_ascii_digit field ≡ true = ap (list_all is_ascii_digit) (sym (take_all i field all_read)) ∙ digits in
+    rw (le-leb 1 (length field) low, le-leb (length field) MAX_DIGITS high, all_digits) (ap Some (sym spelled))

@@ -1,0 +1,4 @@
+pub mod Fields
+pub mod FirstPlace
+pub mod Passed
+pub mod Additions

@@ -1,0 +1,4 @@
+pub mod Checks
+pub mod Field
+pub mod Words
+pub mod Record

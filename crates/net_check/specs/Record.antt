@@ -1,0 +1,67 @@
+-- What the fields of one record give, beside the network read so far: a bank, a debt, or the first fault.
+use Rattle.std.specs.Prelude.{ℕ, ◌+◌, ◌==◌, nat_le, not, List, [], ◌∷◌, position, Result, Ok, Err}
+use Rattle.std.specs.List.{list_any}
+use Rattle.std.specs.Option.{ok_or}
+use Rattle.std.specs.Result.{result_map_both}
+use Rattle.clr_net.specs.Name.{is_name}
+use Rattle.clr_net.specs.Net.{Net, units_owed, has_name, is_debt_of}
+use Rattle.clr_net.specs.OrderOnly.{is_order}
+use Rattle.clr_net.specs.declared.TheConstants.{MAX_CASH, MAX_CLAIM, MAX_OWED}
+use Rattle.clr_net.specs.declared.bank.Bank.{Bank}
+use Rattle.clr_net.specs.declared.debt.Debt.{Debt}
+use Rattle.clr_net.specs.declared.rule.RuleKind.{RuleKind}
+use Rattle.net_check.specs.Checks.{and_then, fault_unless}
+use Rattle.net_check.specs.Field.{number_in, class_in, rule_in}
+use Rattle.net_check.specs.declared.fault.Fault.{Fault}
+use Rattle.net_check.specs.declared.fault.FileKind.{FileKind}
+use Rattle.net_check.specs.declared.fault.FaultKind.{FaultKind}
+use Rattle.net_check.specs.declared.fault.FaultKind.TheVariants as fault
+
+-- the number in a field, if it is at most the limit
+abbrev pub number_up_to : ℕ → List ℕ → Result ℕ FaultKind
+number_up_to limit field =
+    and_then (ok_or (number_in field) fault.Number) (λ n.
+    fault_unless (nat_le n limit) fault.Limit (Ok n))
+
+-- the number of the bank that a field names
+abbrev pub bank_in : Net → List ℕ → Result ℕ FaultKind
+bank_in net field =
+    fault_unless (is_name field) fault.Name (
+    ok_or (position (has_name field) net.banks) fault.UnknownBank)
+
+-- a bank of this name, with its cash and its rule
+abbrev pub as_bank : List ℕ → ℕ × RuleKind → Bank
+as_bank name p = record { name = name; cash = p.0; rule = p.1 }
+
+-- the bank of the fields name, cash and rule
+abbrev pub bank_from : Net → List (List ℕ) → Result Bank FaultKind
+bank_from net (name ∷ cash ∷ rule ∷ []) =
+    fault_unless (is_name name) fault.Name (
+    fault_unless (not (list_any (has_name name) net.banks)) fault.DoubleBank (
+    and_then (number_up_to MAX_CASH cash) (λ n.
+    and_then (ok_or (rule_in rule) fault.Rule) (λ r.
+    fault_unless (is_order r) fault.Unsupported (
+    Ok (as_bank name (n, r)))))))
+bank_from net fields = Err fault.Fields
+
+-- the debt of the fields debtor, creditor, class and claim
+abbrev pub debt_from : Net → List (List ℕ) → Result Debt FaultKind
+debt_from net (debtor ∷ creditor ∷ class ∷ claim ∷ []) =
+    and_then (bank_in net debtor) (λ a.
+    and_then (bank_in net creditor) (λ b.
+    fault_unless (not (a == b)) fault.SelfDebt (
+    and_then (ok_or (class_in class) fault.Class) (λ c.
+    fault_unless (c == 1) fault.Unsupported (
+    and_then (number_up_to MAX_CLAIM claim) (λ n.
+    fault_unless (not (list_any (is_debt_of a b c) net.debts)) fault.DoubleDebt (
+    fault_unless (nat_le (units_owed net + n) MAX_OWED) fault.Total (
+    Ok (record { debtor = record { 0 = a }; creditor = record { 0 = b }; class = c; claim = n })))))))))
+debt_from net fields = Err fault.Fields
+
+-- a fault of a row: the header's is 0
+abbrev pub fault_at : FileKind → ℕ → FaultKind → Fault
+fault_at f row k = record { file = f; row = row; kind = k }
+
+-- what a row gives, or its fault
+abbrev pub in_row : {A : Type 0} → FileKind → ℕ → Result A FaultKind → Result A Fault
+in_row f row r = result_map_both (λ a. a) (fault_at f row) r

@@ -1,0 +1,86 @@
+ghost use Rattle.clr_net.specs.Limits.{IsNewDebt};
+ghost use Rattle.clr_net.specs.declared.TheConstants.{MAX_DEBTS};
+ghost use Rattle.net_check.specs.Field.{trimmed_field};
+ghost use Rattle.net_check.specs.Record.{bank_in, debt_from, in_row};
+ghost use Rattle.net_check.specs.declared.fault.FileKind.TheVariants as file;
+ghost use Rattle.std.specs.Result.{result_map_both};
+ghost use Rattle.std.specs.Prelude.{◌≡◌, ◌<◌, [], ◌∷◌, length, map, IfOk};
+
+use crate::fault::{Fault, FaultKind, FileKind};
+use crate::field::{class, number_up_to, trimmed};
+use clr_net::{BankId, Debt, MAX_CLAIM, MAX_OWED, Name, Network};
+
+/// The debt of a record with these fields, which may then be added to the network, or the first fault of the record.
+///
+/// Spaces and tabs at the ends of the fields are dropped. Takes no memory.
+pub fn check_debt(
+    net: &Network,
+    row: u32,
+    debtor: &[u8],
+    creditor: &[u8],
+    class: &[u8],
+    claim: &[u8],
+) -> Result<Debt, Fault>
+    requires { length net.now.debts < MAX_DEBTS }
+    ensures exact { let fields = map trimmed_field (debtor.now ∷ creditor.now ∷ class.now ∷ claim.now ∷ []) in
+        result ≡ in_row file.Debts row (debt_from net.now fields) }
+    ensures new { IfOk result (λ d. IsNewDebt net.now d) }
+{
+    debt_of(
+        net,
+        trimmed(debtor),
+        trimmed(creditor),
+        trimmed(class),
+        trimmed(claim),
+    )
+    .map_err(|kind| Fault {
+        file: FileKind::Debts,
+        row,
+        kind,
+    })
+}
+
+// The debt of a record with these fields, or the first fault of the record.
+fn debt_of(
+    net: &Network,
+    debtor: &[u8],
+    creditor: &[u8],
+    class_digit: &[u8],
+    claim: &[u8],
+) -> Result<Debt, FaultKind>
+    ensures { result ≡ debt_from net.now (debtor.now ∷ creditor.now ∷ class_digit.now ∷ claim.now ∷ []) }
+{
+    let debtor = bank_of(net, debtor)?;
+    let creditor = bank_of(net, creditor)?;
+    if debtor == creditor {
+        return Err(FaultKind::SelfDebt);
+    }
+    let class = class(class_digit).ok_or(FaultKind::Class)?;
+    if class != 1 {
+        return Err(FaultKind::Unsupported);
+    }
+    let claim = number_up_to(MAX_CLAIM, claim)?;
+    if net.has_debt(debtor, creditor, class) {
+        return Err(FaultKind::DoubleDebt);
+    }
+    if net.owed() > MAX_OWED - claim {
+        return Err(FaultKind::Total);
+    }
+    Ok(Debt {
+        debtor,
+        creditor,
+        class,
+        claim,
+    })
+}
+
+// The bank that a field names.
+fn bank_of(net: &Network, field: &[u8]) -> Result<BankId, FaultKind>
+    ensures bank { result_map_both (λ id. id.0) (λ k. k) result ≡ bank_in net.now field.now }
+    ensures known { IfOk result (λ id. id.0 < length net.now.banks) }
+{
+    if !Name::accepts(field) {
+        return Err(FaultKind::Name);
+    }
+    net.bank_named(field).ok_or(FaultKind::UnknownBank)
+}

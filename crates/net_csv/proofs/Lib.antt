@@ -1,0 +1,11 @@
+pub mod Left
+pub mod Turns
+pub mod Rows
+pub mod Networks
+pub mod Lines
+pub mod PlainFields
+pub mod PrintedRecords
+pub mod BackFacts
+pub mod BackRows
+pub mod ReadBack
+pub mod KeptNames

@@ -1,0 +1,160 @@
+-- Fields that a file keeps as they are: without quotes, and with no space or tab at their ends.
+use Rattle.std.proofs.Common.{◌≡◌, ◌≢◌, ◌∙◌, ◌<◌, ◌≤◌, ◌+◌, ◌-◌, ◌*◌, ◌/◌, ◌%◌, ◌^◌, ◌==◌, ◌&&◌, ◌||◌, ℕ, Bool, true, false, cond, not, nat_le, List, [], ◌∷◌, ◌++◌, length, reverse, Some, refl, sym, ap, arith}
+use Rattle.std.specs.List.{list_all, list_any}
+use Rattle.std.specs.Char.{is_ascii_digit}
+use Rattle.std.specs.Fmt.{decimal}
+use Rattle.std.specs.Str.{is_utf8, chars}
+use Rattle.std.proofs.lemmas.Bool.{ne_eqb, le-leb, leb-true}
+use Rattle.std.proofs.lemmas.Fmt.{decimal_by_steps, decimal_nonempty, length-decimal-le}
+use Rattle.std.proofs.lemmas.List.Folds.{list_all-append}
+use Rattle.std.proofs.lemmas.Str.{IsUtf8-from_is_utf8, chars-encodes}
+use lib.Dec.{ltb}
+use lib.Utf8.{encode, encodes, next}
+use Rattle.csv.specs.Writing.{default_writer, needs_byte}
+use Rattle.clr_net.specs.Name.{is_name, is_control, may_stand_in_name}
+use Rattle.clr_net.specs.declared.TheConstants.{MAX_NAME_BYTES}
+use Rattle.net_check.specs.Field.{is_space_or_tab, trimmed_start, trimmed_field, number_after, number_in}
+use Rattle.net_check.specs.declared.TheConstants.{MAX_DIGITS}
+use Rattle.net_check.proofs.Fields.{trimmed_start-stops, trimmed_end-stops}
+
+-- the parts of a test that passes
+and_parts : (a b : Bool) → (a && b) ≡ true → (a ≡ true) × (b ≡ true)
+and_parts true b e = (refl, e)
+and_parts false b e = cc e
+
+not_false : (b : Bool) → not b ≡ true → b ≡ false
+not_false true e = cc e
+not_false false e = refl
+
+-- a byte that calls for no quotes
+plain_byte : (b : ℕ) → b ≢ 44 → b ≢ 34 → b ≢ 13 → b ≢ 10 → needs_byte default_writer b ≡ false
+plain_byte b comma quote return feed = rw (ne_eqb b 44 comma, ne_eqb b 34 quote, ne_eqb b 13 return, ne_eqb b 10 feed) refl
+
+high_byte : (b : ℕ) → 128 ≤ b → needs_byte default_writer b ≡ false
+high_byte b high = plain_byte b (λ e. omega arith) (λ e. omega arith) (λ e. omega arith) (λ e. omega arith)
+
+-- a field with no byte that calls for quotes
+pub record IsPlain (field : List ℕ) : Type 0 where
+  pub unquoted : list_any (needs_byte default_writer) field ≡ false
+
+none_in_both : (p : ℕ → Bool) (xs ys : List ℕ) → list_any p xs ≡ false → list_any p ys ≡ false → list_any p (xs ++ ys) ≡ false
+none_in_both p [] ys e f = f
+none_in_both p (x ∷ xs) ys e f = by (p x) e (λ h. none_in_both p xs ys h f)
+  where
+    by : (b : Bool) → (b || list_any p xs) ≡ false → (list_any p xs ≡ false → list_any p (xs ++ ys) ≡ false) → (b || list_any p (xs ++ ys)) ≡ false
+    by true h more = h
+    by false h more = more h
+
+-- a character that may stand in a name
+plain_char : (c : ℕ) → may_stand_in_name c ≡ true → list_any (needs_byte default_writer) (encode c) ≡ false
+unfolding encode
+plain_char c may = by (ltb c 128) (ltb c 2048) (ltb c 65536) refl
+  where
+    low : needs_byte default_writer c ≡ false
+    low =
+        let quote = and_parts (not (is_control c) && not (c == 44)) (not (c == 34)) may in
+        let comma = and_parts (not (is_control c)) (not (c == 44)) quote.0 in
+        let control = not_false (is_control c) comma.0 in
+        plain_byte c (λ e. absurd (cc (rw e at comma.1))) (λ e. absurd (cc (rw e at quote.1)))
+        (λ e. absurd (cc (rw e at control))) (λ e. absurd (cc (rw e at control)))
+
+    by : (a b d : Bool) → ltb c 128 ≡ a
+        → list_any (needs_byte default_writer)
+        (cond a (c ∷ []) (cond b ((192 + c / 64) ∷ next c ∷ []) (cond d ((224 + c / 4096) ∷ next (c / 64) ∷ next c ∷ [])
+        ((240 + c / 262144) ∷ next (c / 4096) ∷ next (c / 64) ∷ next c ∷ [])))) ≡ false
+    by true b d e = rw low refl
+    by false true d e = rw (high_byte (192 + c / 64) (omega arith), high_byte (next c) (omega arith)) refl
+    by false false true e = rw (high_byte (224 + c / 4096) (omega arith), high_byte (next (c / 64)) (omega arith), high_byte (next c) (omega arith)) refl
+    by false false false e =
+        rw (high_byte (240 + c / 262144) (omega arith), high_byte (next (c / 4096)) (omega arith), high_byte (next (c / 64)) (omega arith), high_byte (next c) (omega arith)) refl
+
+plain_chars : (cs : List ℕ) → list_all may_stand_in_name cs ≡ true → list_any (needs_byte default_writer) (encodes cs) ≡ false
+plain_chars [] h = refl
+plain_chars (c ∷ cs) h =
+    let parts = and_parts (may_stand_in_name c) (list_all may_stand_in_name cs) h in
+    none_in_both (needs_byte default_writer) (encode c) (encodes cs) (plain_char c parts.0) (plain_chars cs parts.1)
+
+-- a name calls for no quotes
+pub plain_name : (name : List ℕ) → is_name name ≡ true → IsPlain name
+plain_name name h =
+    let characters = and_parts (nat_le 1 (length name) && nat_le (length name) MAX_NAME_BYTES && is_utf8 name) (list_all may_stand_in_name (chars name)) h in
+    let text = and_parts (nat_le 1 (length name) && nat_le (length name) MAX_NAME_BYTES) (is_utf8 name) characters.0 in
+    let utf8 = IsUtf8-from_is_utf8 name text.1 in
+    let spelt : chars name ≡ utf8.0 = ap chars (sym utf8.1.1) ∙ chars-encodes utf8.0 utf8.1.0 in
+    record { unquoted = rw utf8.1.1 at (plain_chars utf8.0 (rw spelt at characters.1)) }
+
+-- a name has a byte
+pub name_has_byte : (name : List ℕ) → is_name name ≡ true → (length name == 0) ≡ false
+name_has_byte [] h = absurd (cc h)
+name_has_byte (b ∷ rest) h = ne_eqb (length (b ∷ rest)) 0 (λ e. omega arith)
+
+-- and no more than a name may have
+pub name_is_short : (name : List ℕ) → is_name name ≡ true → length name ≤ MAX_NAME_BYTES
+name_is_short name h =
+    let characters = and_parts (nat_le 1 (length name) && nat_le (length name) MAX_NAME_BYTES && is_utf8 name) (list_all may_stand_in_name (chars name)) h in
+    let text = and_parts (nat_le 1 (length name) && nat_le (length name) MAX_NAME_BYTES) (is_utf8 name) characters.0 in
+    leb-true (length name) MAX_NAME_BYTES (and_parts (nat_le 1 (length name)) (nat_le (length name) MAX_NAME_BYTES) text.0).1
+
+-- digits call for no quotes
+plain_digit : (b : ℕ) → is_ascii_digit b ≡ true → (needs_byte default_writer b ≡ false) × (is_space_or_tab b ≡ false)
+plain_digit b h = (
+  plain_byte b (λ e. absurd (cc (rw e at h))) (λ e. absurd (cc (rw e at h))) (λ e. absurd (cc (rw e at h))) (λ e. absurd (cc (rw e at h))),
+  rw (ne_eqb b 32 (λ e. absurd (cc (rw e at h))), ne_eqb b 9 (λ e. absurd (cc (rw e at h)))) refl,
+)
+
+pub plain_digits : (ds : List ℕ) → list_all is_ascii_digit ds ≡ true → IsPlain ds
+plain_digits [] h = record { unquoted = refl }
+plain_digits (b ∷ rest) h =
+    let parts = and_parts (is_ascii_digit b) (list_all is_ascii_digit rest) h in
+    let more = plain_digits rest parts.1 in
+    record { unquoted = rw ((plain_digit b parts.0).0, more.unquoted) refl }
+
+-- the last of some elements that pass
+last_of : (p : ℕ → Bool) (x : ℕ) (xs : List ℕ) → list_all p (x ∷ xs) ≡ true
+    → (front : List ℕ) × (last : ℕ) × (x ∷ xs ≡ front ++ last ∷ []) × (p last ≡ true)
+last_of p x [] h = ([], x, refl, (and_parts (p x) true h).0)
+last_of p x (y ∷ ys) h =
+    let found = last_of p y ys (and_parts (p x) (list_all p (y ∷ ys)) h).1 in
+    (x ∷ found.0, found.1, ap (λ t. x ∷ t) found.2, found.3)
+
+-- digits have no space or tab to be dropped
+pub trimmed_digits : (ds : List ℕ) → list_all is_ascii_digit ds ≡ true → trimmed_field ds ≡ ds
+unfolding trimmed_start
+trimmed_digits [] h = refl
+trimmed_digits (b ∷ rest) h =
+    let first = (and_parts (is_ascii_digit b) (list_all is_ascii_digit rest) h).0 in
+    let found = last_of is_ascii_digit b rest h in
+    let start : trimmed_start (b ∷ rest) ≡ b ∷ rest = trimmed_start-stops (b ∷ rest) rest b refl (plain_digit b first).1 in
+    ap (λ t. reverse (trimmed_start (reverse t))) start
+    ∙ trimmed_end-stops (b ∷ rest) found.0 found.1 found.2 (plain_digit found.1 found.3).1
+
+-- one digit more
+number_after-push : (k : ℕ) (ds : List ℕ) (d : ℕ) → number_after k (ds ++ d ∷ []) ≡ 10 * number_after k ds + (d - 48)
+unfolding number_after
+number_after-push k [] d = refl
+number_after-push k (x ∷ xs) d = number_after-push (10 * k + (x - 48)) xs d
+
+-- the digits of a number spell it
+abbrev Spells : ℕ → List ℕ → Type 0
+Spells n ds = (list_all is_ascii_digit ds ≡ true) × (number_after 0 ds ≡ n)
+
+digit : (n : ℕ) → n < 10 → is_ascii_digit (48 + n) ≡ true
+digit n small = rw (le-leb 48 (48 + n) (omega arith), le-leb (48 + n) 57 (omega arith)) refl
+
+pub decimal_spells : (n : ℕ) → n < 2 ^ 64 → Spells n (decimal n)
+unfolding number_after
+decimal_spells n small = decimal_by_steps Spells
+    (λ m low. (rw (digit m low) refl, omega arith))
+    (λ m ds high so_far. (
+      rw (list_all-append is_ascii_digit ds ((48 + m % 10) ∷ []), so_far.0, digit (m % 10) (omega arith)) refl,
+      number_after-push 0 ds (48 + m % 10) ∙ (let before = so_far.1 in omega arith),
+    )) n small
+
+-- a number of a file is read back
+pub number_in-decimal : (n : ℕ) → n < 10 ^ 19 → number_in (decimal n) ≡ Some n
+number_in-decimal n small =
+    let wide : n < 2 ^ 64 = omega arith in
+    let spells = decimal_spells n wide in
+    let some = decimal_nonempty n wide in
+    let few = length-decimal-le 20 n (omega arith) (omega arith) wide in
+    rw (le-leb 1 (length (decimal n)) some, le-leb (length (decimal n)) MAX_DIGITS few, spells.0) (ap Some spells.1)

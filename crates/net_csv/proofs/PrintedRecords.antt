@@ -1,0 +1,76 @@
+-- A printed file, read record by record.
+use Rattle.std.proofs.Common.{◌≡◌, ◌∙◌, ℕ, List, [], ◌∷◌, ◌++◌, map, Some, refl, sym, ap}
+use Rattle.std.specs.List.{flat_map, join_with_byte}
+use Rattle.std.proofs.lemmas.List.{append-nil}
+use Rattle.std.proofs.lemmas.List.Concat.{flat_map-cons}
+use Rattle.csv.specs.Machine.{next_record}
+use Rattle.csv.specs.Reading.{records, default_config, strip_bom}
+use Rattle.csv.specs.Writing.{default_writer, fields_text, row_text, is_blank}
+use Rattle.csv.specs.declared.parser.State.TheVariants as st
+use Rattle.csv.proofs.RoundTrip.{read-write-many}
+use Rattle.net_csv.specs.Left.{records_after}
+use Rattle.net_csv.specs.Printing.{line}
+use Rattle.net_csv.specs.Reading.{Fields}
+use Rattle.net_csv.proofs.Left.{records-some, records-none}
+use Rattle.net_csv.proofs.PlainFields.{IsPlain}
+
+-- each field calls for no quotes
+unfoldable pub ArePlain : Fields → Type 0
+ArePlain [] = Unit {0}
+ArePlain (x ∷ rest) = IsPlain x × ArePlain rest
+
+-- a record of two fields or more that need no quotes
+pub record IsRow (fields : Fields) : Type 0 where
+  pub first : List ℕ
+  pub second : List ℕ
+  pub others : Fields
+  pub are : fields ≡ first ∷ second ∷ others
+  pub plain : ArePlain (first ∷ second ∷ others)
+
+-- fields joined by commas are the text that a writer of records makes
+joined-text : (x : List ℕ) (rest : Fields) → ArePlain (x ∷ rest) → join_with_byte 44 (x ∷ rest) ≡ x ++ fields_text default_writer rest
+unfolding fields_text ArePlain
+joined-text x [] plain = sym (append-nil x)
+joined-text x (y ∷ ys) plain =
+    rw plain.1.0.unquoted (ap (λ t. x ++ (44 ∷ t)) (joined-text y ys plain.1))
+
+line-row : (x y : List ℕ) (rest : Fields) → ArePlain (x ∷ y ∷ rest) → line (x ∷ y ∷ rest) ≡ row_text default_writer (x ∷ y ∷ rest)
+unfolding is_blank ArePlain
+line-row x y rest plain = rw plain.0.unquoted (ap (λ t. t ++ 10 ∷ []) (joined-text x (y ∷ rest) plain))
+
+-- a line is read as its record
+read_line : (fields : Fields) (tail : List ℕ) → IsRow fields
+    → next_record default_config st.StartRecord [] [] (line fields ++ tail) ≡ Some (fields, st.StartRecord, tail)
+read_line fields tail row =
+    rw row.are (rw (line-row row.first row.second row.others row.plain) (read-write-many row.first row.second row.others tail))
+
+-- each record is such
+unfoldable pub AreRows : List Fields → Type 0
+AreRows [] = Unit {0}
+AreRows (fields ∷ rest) = IsRow fields × AreRows rest
+
+read_lines : (rows : List Fields) → AreRows rows → records_after st.StartRecord (Some (flat_map line rows)) ≡ rows
+unfolding next_record AreRows
+read_lines [] all = records-none st.StartRecord [] refl
+read_lines (fields ∷ rest) all =
+    rw (flat_map-cons line fields rest)
+    (records-some st.StartRecord (line fields ++ flat_map line rest) (fields, st.StartRecord, flat_map line rest) refl (read_line fields (flat_map line rest) all.0)
+    ∙ ap (λ t. fields ∷ t) (read_lines rest all.1))
+
+-- lines made of other things
+lines-map : {X : Type 0} (fields_of : X → Fields) (line_of : X → List ℕ) → ((x : X) → line_of x ≡ line (fields_of x)) → (xs : List X)
+    → flat_map line_of xs ≡ flat_map line (map fields_of xs)
+lines-map fields_of line_of each [] = refl
+lines-map fields_of line_of each (x ∷ xs) =
+    rw (flat_map-cons line_of x xs, flat_map-cons line (fields_of x) (map fields_of xs), each x, lines-map fields_of line_of each xs) refl
+
+-- the records of a header and lines
+pub read_printed : {X : Type 0} (header : Fields) (fields_of : X → Fields) (line_of : X → List ℕ) (xs : List X)
+    → ((x : X) → line_of x ≡ line (fields_of x)) → IsRow header → AreRows (map fields_of xs)
+    → strip_bom (line header ++ flat_map line_of xs) ≡ line header ++ flat_map line_of xs
+    → records default_config (strip_bom (line header ++ flat_map line_of xs)) ≡ header ∷ map fields_of xs
+unfolding AreRows
+read_printed header fields_of line_of xs each head all no_mark =
+    let text : line header ++ flat_map line_of xs ≡ flat_map line (header ∷ map fields_of xs) =
+    ap (λ t. line header ++ t) (lines-map fields_of line_of each xs) ∙ sym (flat_map-cons line header (map fields_of xs)) in
+    ap (records default_config) (no_mark ∙ text) ∙ read_lines (header ∷ map fields_of xs) (head, all)

@@ -1,0 +1,10 @@
+use Rattle.std.proofs.Common.{◌≡◌, true, nat_lt, length, arith}
+use Rattle.std.proofs.lemmas.Bool.{lt-ltb}
+use Rattle.clr_net.specs.declared.TheConstants.{MAX_BANKS}
+use Rattle.net_csv.proofs.banks.bank_of.Goals as goal
+
+pub returns-in-Some-clause-refused : goal.returns-in-Some-clause-refused
+returns-in-Some-clause-refused c =
+    let banks = c.args.net.now.banks in
+    let room : nat_lt (length banks) MAX_BANKS ≡ true = lt-ltb (length banks) MAX_BANKS (omega arith) in
+    λ f e. rw (room, c.in-Some.ensures) ((c.check_bank.ensures.refused f).0 e)

@@ -1,0 +1,9 @@
+use Rattle.std.proofs.Common.{◌≡◌, ◌++◌, take}
+use Rattle.std.specs.List.{flat_map}
+use Rattle.net_csv.specs.Printing.{line, bank_line}
+use Rattle.net_csv.specs.Reading.{banks_header}
+use Rattle.net_csv.proofs.print.print_banks.Given as goal
+
+-- the header, and the lines of the banks so far
+abbrev pub invariant-loop-i : goal.invariant-loop-i
+invariant-loop-i l = l.text.items ≡ line banks_header ++ flat_map bank_line (take l.i l.net.banks)

@@ -1,0 +1,92 @@
+ghost use Rattle.clr_net.specs.Net.{name_of};
+ghost use Rattle.net_csv.specs.Printing.{bank_line, banks_text, debt_line, debts_text, rule_word as word_of_rule};
+ghost use Rattle.std.specs.Fmt.{decimal};
+ghost use Rattle.std.specs.Prelude.{◌≡◌, ◌<◌, ◌∷◌, ◌++◌, [], length, IfOk, OnOk};
+
+use clr_net::{Bank, BankId, Debt, DebtId, Mem, Network, RuleKind};
+use std::alloc::Global;
+
+/// The banks file of a network: its header, and a line for each bank, in file order.
+pub fn print_banks(alloc: Global, net: &Network) -> Result<Vec<u8>, Mem>
+    ensures { IfOk result (λ text. text.items ≡ banks_text net.now) }
+{
+    let mut text = Vec::from_slice(alloc, b"name,cash,rule\n")?;
+    let mut digits = String::new(alloc);
+    for i in 0..net.banks() {
+        push_bank(&mut text, &mut digits, net.bank(BankId(i)))?;
+    }
+    Ok(text)
+}
+
+/// The debts file of a network: its header, and a line for each debt, in file order.
+pub fn print_debts(alloc: Global, net: &Network) -> Result<Vec<u8>, Mem>
+    ensures { IfOk result (λ text. text.items ≡ debts_text net.now) }
+{
+    let mut text = Vec::from_slice(alloc, b"debtor,creditor,class,claim\n")?;
+    let mut digits = String::new(alloc);
+    for i in 0..net.debts() {
+        push_debt(&mut text, &mut digits, net, net.debt(DebtId(i)))?;
+    }
+    Ok(text)
+}
+
+// Appends the line of a bank. `digits` is scratch space.
+fn push_bank(text: &mut Vec<u8>, digits: &mut String, bank: &Bank) -> Result<(), Mem>
+    ensures { OnOk result (text.new.items ≡ text.old.items ++ bank_line bank.now) }
+{
+    push_field(text, bank.name.bytes(), b',')?;
+    push_number(text, digits, bank.cash, b',')?;
+    push_field(text, rule_word(bank.rule).as_bytes(), b'\n')
+}
+
+// Appends the line of a debt. `digits` is scratch space.
+fn push_debt(text: &mut Vec<u8>, digits: &mut String, net: &Network, debt: Debt) -> Result<(), Mem>
+    requires debtor { debt.debtor.0 < length net.now.banks }
+    requires creditor { debt.creditor.0 < length net.now.banks }
+    ensures { OnOk result (text.new.items ≡ text.old.items ++ debt_line net.now debt) }
+{
+    push_field(text, name(net, debt.debtor), b',')?;
+    push_field(text, name(net, debt.creditor), b',')?;
+    push_number(text, digits, u64::from(debt.class), b',')?;
+    push_number(text, digits, debt.claim, b'\n')
+}
+
+// The name of a bank.
+fn name(net: &Network, bank: BankId) -> &[u8]
+    requires { bank.0 < length net.now.banks }
+    ensures { result.now ≡ name_of net.now bank.0 }
+{
+    net.bank(bank).name.bytes()
+}
+
+// Appends a field and the byte that ends it.
+fn push_field(text: &mut Vec<u8>, field: &[u8], end: u8) -> Result<(), Mem>
+    ensures { OnOk result (text.new.items ≡ text.old.items ++ (field.now ++ end ∷ [])) }
+{
+    text.extend_from_slice(field)?;
+    text.push(end)?;
+    Ok(())
+}
+
+// Appends a number in decimal digits and the byte that ends it.
+fn push_number(text: &mut Vec<u8>, digits: &mut String, number: u64, end: u8) -> Result<(), Mem>
+    ensures { OnOk result (text.new.items ≡ text.old.items ++ (decimal number ++ end ∷ [])) }
+{
+    digits.clear();
+    write!(digits, "{number}")?;
+    push_field(text, digits.as_bytes(), end)
+}
+
+// The word by which a file names a rule.
+fn rule_word(rule: RuleKind) -> &'static str
+    ensures { result.now ≡ word_of_rule rule }
+{
+    match rule {
+        RuleKind::Order => "order",
+        RuleKind::Equal => "equal",
+        RuleKind::Losses => "losses",
+        RuleKind::Jefferson => "jefferson",
+        RuleKind::Webster => "webster",
+        RuleKind::Adams => "adams",
+    }
+}
