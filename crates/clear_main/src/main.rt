@@ -1,0 +1,30 @@
+//! The program `clearing`, the trusted edge of the crates below it.
+//!
+//! It collects the words of the command line, lends the files of the current folder, the standard output and the
+//! standard error to [`clear_top::run`], and ends with the code of the status that this answers. What the program
+//! computes and writes is all in `run`; what the system gives and takes is in [`DirShelf`] and [`StdSink`], which count
+//! their faults and tell no content.
+#![tactic(auto)]
+
+mod dir_shelf;
+mod start;
+mod std_sink;
+
+use dir_shelf::DirShelf;
+use start::{arguments, refuse, start};
+use std::process::ExitCode;
+use std_sink::StdSink;
+
+#[cfg(test)]
+mod tests;
+
+fn main(rt: HostRuntime) -> ExitCode {
+    let mut files = DirShelf::new(&rt);
+    let mut out = StdSink::new(rt.stdout());
+    let mut err = StdSink::new(rt.stderr());
+    let status = match arguments(&rt) {
+        Ok(args) => start(&rt, &args, &mut files, &mut out, &mut err),
+        Err(fault) => refuse(&mut err, fault.kind()),
+    };
+    ExitCode::from(status.code())
+}

@@ -1,0 +1,82 @@
+ghost use Rattle.clear_main.specs.Words.{words_of};
+ghost use Rattle.clear_top.specs.Job.{job_of};
+ghost use Rattle.clear_top.specs.Meaning.{Files, Means};
+ghost use Rattle.clear_top.specs.Message.{message, TakesText};
+ghost use Rattle.clear_top.specs.declared.status.Status.{Status};
+ghost use Rattle.clr_edge.specs.Sink.{with_bytes, WritesPart};
+ghost use Rattle.std.specs.Prelude.{◌≡◌, ◌≢◌, ◌⊎◌, ◌↔◌, ℕ, List, IfOk, None, Some, map};
+
+use clear_top::{Status, run};
+use clr_edge::{OpenGate, Shelf, Sink, put_all};
+use std::alloc::{AllocError, Global};
+use std::env::Env;
+use std::io::ErrorKind;
+use std::thread::Threads;
+use std::{env, io};
+
+/// The arguments of the process, of which the first is the program's name.
+pub fn arguments<R: Env + AllocGlobal>(rt: &R) -> io::Result<Vec<String>> {
+    Ok(env::args(rt)?.collect(rt.alloc())?)
+}
+
+/// Runs the program on the words of the command line, which are the arguments after the program's name, and answers how
+/// it ended. Where there is no memory to list them, it does not run.
+pub fn start<R: Threads + Sync + AllocGlobal, F: Shelf, O: Sink, E: Sink>(
+    rt: &R,
+    args: &[String],
+    files: &mut F,
+    out: &mut O,
+    err: &mut E,
+) -> Status
+    ensures usage { result ≡ Status.Usage → job_of (words_of args.now) ≡ None }
+    ensures refuses { job_of (words_of args.now) ≡ None → (result ≡ Status.Usage) ⊎ (result ≡ Status.Mem) }
+    ensures done { result ≡ Status.Done → (told : Files) → F.files files.old ≡ Some told
+        → (text : List ℕ) × Means told (words_of args.now) Status.Done text
+        × (O.written out.new ≡ with_bytes (O.written out.old) text) }
+    ensures part { result ≡ Status.WriteFault → (told : Files) → F.files files.old ≡ Some told
+        → (text : List ℕ) × Means told (words_of args.now) Status.Done text
+        × WritesPart (O.written out.old) (O.written out.new) text }
+    ensures untouched { result ≢ Status.Done → result ≢ Status.WriteFault → O.written out.new ≡ O.written out.old }
+    ensures told { TakesText (E.written err.old) (E.written err.new) (E.faults err.old) (E.faults err.new)
+        (message result (job_of (words_of args.now))) }
+{
+    let alloc = rt.alloc();
+    match words(alloc, args) {
+        Ok(words) => run(rt, alloc, words.as_slice(), files, out, err, &OpenGate),
+        Err(_) => refuse(err, ErrorKind::OutOfMemory),
+    }
+}
+
+/// Writes why the words of the command line cannot be collected, and answers the status with which the program ends:
+/// want of memory where that is the cause, and else a command line that is not understood.
+pub fn refuse<E: Sink>(err: &mut E, cause: ErrorKind) -> Status
+    ensures mem { (result ≡ Status.Mem) ↔ (cause ≡ ErrorKind.OutOfMemory) }
+    ensures usage { (result ≡ Status.Mem) ⊎ (result ≡ Status.Usage) }
+    ensures told { TakesText (E.written err.old) (E.written err.new) (E.faults err.old) (E.faults err.new)
+        (message result None) }
+{
+    match cause {
+        ErrorKind::OutOfMemory => {
+            put_text(err, "clearing: out of memory\n");
+            Status::Mem
+        }
+        _ => {
+            put_text(err, "clearing: the command line is not understood\n");
+            Status::Usage
+        }
+    }
+}
+
+// The words after the program's name.
+fn words(alloc: Global, args: &[String]) -> Result<Vec<&str>, AllocError>
+    ensures { IfOk result (λ words. map (λ word. word.now) words.items ≡ words_of args.now) }
+{
+    args.iter().skip(1).map(|word| word.as_str()).collect(alloc)
+}
+
+// Writes a text, up to a fault of the sink.
+fn put_text<S: Sink>(sink: &mut S, text: &str)
+    ensures { TakesText (S.written sink.old) (S.written sink.new) (S.faults sink.old) (S.faults sink.new) text.now }
+{
+    let _ = put_all(sink, text.as_bytes());
+}

@@ -1,0 +1,100 @@
+-- A sink that takes a text piece by piece.
+use Rattle.std.proofs.Common.{◌≡◌, ℕ, zero, suc, ◌+◌, ◌<◌, ◌≤◌, List, [], ◌∷◌, ◌++◌, length, take, drop, get_or, map, Option, None, Some, refl, sym, ap, ◌∙◌, inl, inr, ⊎_elim, append_assoc, length-append, arith, true, false, true≢false, Result, Ok, Err, Bor}
+use Rattle.std.specs.List.{concat}
+use Rattle.std.specs.Result.{is_err, OnOk, OnErr}
+use Rattle.std.proofs.lemmas.List.{append-nil, get_or-map, length-map}
+use Rattle.clr_edge.specs.Faults.{HasRisen}
+use Rattle.clr_edge.specs.Sink.{with_bytes, WritesPart}
+use Rattle.clear_top.specs.Message.{TakesText}
+
+pub with_no_bytes : (w : Option (List ℕ)) → with_bytes w [] ≡ w
+with_no_bytes None = refl
+with_no_bytes (Some w) = ap Some (append-nil w)
+
+-- bytes and then bytes
+pub with_bytes-twice : (w : Option (List ℕ)) (a b : List ℕ) → with_bytes (with_bytes w a) b ≡ with_bytes w (a ++ b)
+with_bytes-twice None a b = refl
+with_bytes-twice (Some w) a b = ap Some (append_assoc w a b)
+
+pub risen_since : (a b c : ℕ) → a ≤ b → HasRisen b c → HasRisen a c
+risen_since a b c l h = ⊎_elim (λ (r : b < c). inl (omega arith)) (λ r. inr r) h
+
+take-past : (a b : List ℕ) (k : ℕ) → take (length a + k) (a ++ b) ≡ a ++ take k b
+take-past [] b k = let e : 0 + k ≡ k = omega arith in ap (λ n. take n b) e
+take-past (x ∷ a) b k = let e : suc (length a) + k ≡ suc (length a + k) = omega arith in
+    ap (λ n. take n (x ∷ (a ++ b))) e ∙ ap (λ xs. x ∷ xs) (take-past a b k)
+
+-- a part of a piece is a part of the whole
+pub part_of_whole : (old mid new : Option (List ℕ)) (before piece after whole : List ℕ)
+    → mid ≡ with_bytes old before → whole ≡ before ++ (piece ++ after) → WritesPart mid new piece → WritesPart old new whole
+part_of_whole old mid new before piece after whole at is part = record {
+  count = length before + part.count;
+  not_all = omega (arith, ap length is, length-append before (piece ++ after), length-append piece after, part.not_all);
+  part =
+      part.part
+      ∙ ap (λ w. with_bytes w (take part.count piece)) at
+      ∙ with_bytes-twice old before (take part.count piece)
+      ∙ ap (with_bytes old) (sym (ap (take (length before + part.count)) is ∙ take-past before (piece ++ after) part.count
+      ∙ ap (λ xs. before ++ xs) (take_front piece after part.count part.not_all)));
+}
+  where
+    take_front : (a b : List ℕ) (k : ℕ) → k < length a → take k (a ++ b) ≡ take k a
+    take_front [] b k l = absurd (omega arith)
+    take_front (x ∷ a) b zero l = refl
+    take_front (x ∷ a) b (suc k) l = ap (λ xs. x ∷ xs) (take_front a b k (omega arith))
+
+-- the pieces up to one, that one, and those after it
+pub pieces_split : (ps : List (List ℕ)) (i : ℕ) → i < length ps
+    → concat ps ≡ concat (take i ps) ++ (get_or ps i [] ++ concat (drop (i + 1) ps))
+pieces_split [] i l = absurd (omega arith)
+pieces_split (p ∷ ps) zero l = refl
+pieces_split (p ∷ ps) (suc i) l = let e : suc i + 1 ≡ suc (i + 1) = omega arith in
+    ap (λ xs. p ++ xs) (pieces_split ps i (omega arith))
+    ∙ sym (append_assoc p (concat (take i ps)) (get_or ps i [] ++ concat (drop (i + 1) ps)))
+    ∙ ap (λ n. (p ++ concat (take i ps)) ++ (get_or ps i [] ++ concat (drop n (p ∷ ps)))) (sym e)
+
+concat_more : (ps : List (List ℕ)) (i : ℕ) → i < length ps → concat (take (i + 1) ps) ≡ concat (take i ps) ++ get_or ps i []
+concat_more [] i l = absurd (omega arith)
+concat_more (p ∷ ps) zero l = let e : zero + 1 ≡ suc zero = omega arith in ap (λ n. concat (take n (p ∷ ps))) e ∙ append-nil p
+concat_more (p ∷ ps) (suc i) l = let e : suc i + 1 ≡ suc (i + 1) = omega arith in
+    ap (λ n. concat (take n (p ∷ ps))) e ∙ ap (λ xs. p ++ xs) (concat_more ps i (omega arith)) ∙ sym (append_assoc p (concat (take i ps)) (get_or ps i []))
+
+module _ (ps : List (Bor (List ℕ))) (i : ℕ) (d : Bor (List ℕ)) (l : i < length ps) where
+  texts : List (List ℕ)
+  texts = map (λ p. p.now) ps
+
+  in_texts : i < length texts
+  unfolding texts
+  in_texts = omega (arith, length-map ps (λ p. p.now))
+
+  at_texts : (get_or ps i d).now ≡ get_or texts i []
+  unfolding texts
+  at_texts = sym (get_or-map (λ p. p.now) ps i d [] l)
+
+  -- one piece more, taken whole
+  pub piece_taken : (old mid new : Option (List ℕ)) → mid ≡ with_bytes old (concat (take i (map (λ p. p.now) ps)))
+      → new ≡ with_bytes mid (get_or ps i d).now → new ≡ with_bytes old (concat (take (i + 1) (map (λ p. p.now) ps)))
+  unfolding texts
+  piece_taken old mid new at then =
+      then ∙ ap (λ w. with_bytes w (get_or ps i d).now) at ∙ with_bytes-twice old (concat (take i texts)) (get_or ps i d).now
+      ∙ ap (λ p. with_bytes old (concat (take i texts) ++ p)) at_texts
+      ∙ ap (with_bytes old) (sym (concat_more texts i in_texts))
+
+  -- a piece taken in part: a part of all
+  pub piece_broken : (old mid new : Option (List ℕ)) (a b c : ℕ) → mid ≡ with_bytes old (concat (take i (map (λ p. p.now) ps)))
+      → a ≤ b → WritesPart mid new (get_or ps i d).now → HasRisen b c
+      → TakesText old new a c (concat (map (λ p. p.now) ps))
+  unfolding texts
+  piece_broken old mid new a b c at no_fall part risen = inr (
+    part_of_whole old mid new (concat (take i texts)) (get_or ps i d).now (concat (drop (i + 1) texts)) (concat texts) at
+        (pieces_split texts i in_texts ∙ ap (λ p. concat (take i texts) ++ (p ++ concat (drop (i + 1) texts))) (sym at_texts)) part,
+    risen_since a b c no_fall risen,
+  )
+
+pub on_ok_of : {T E P : Type 0} (r : Result T E) → is_err r ≡ false → OnOk r P → P
+on_ok_of (Ok x) e p = p
+on_ok_of (Err y) e p = absurd (true≢false e)
+
+pub on_err_of : {T E P : Type 0} (r : Result T E) → is_err r ≡ true → OnErr r P → P
+on_err_of (Ok x) e p = absurd (true≢false (sym e))
+on_err_of (Err y) e p = p

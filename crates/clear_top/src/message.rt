@@ -1,0 +1,87 @@
+ghost use Rattle.clear_top.specs.Job.{job_shown};
+ghost use Rattle.clear_top.specs.Message.{message, name_if, TakesText};
+ghost use Rattle.std.specs.List.{concat};
+ghost use Rattle.std.specs.Option.{option_map};
+ghost use Rattle.std.specs.Prelude.{◌≡◌, ◌∷◌, [], codes, map};
+
+use crate::job::Job;
+use crate::status::Status;
+use clr_edge::{Sink, put_all};
+use itoa::Buffer;
+use net_check::{Fault, FileKind};
+
+/// Writes the line that tells a person of a status. It takes no memory, and a fault of the sink changes nothing.
+pub fn tell<E: Sink>(err: &mut E, status: Status, job: Option<Job<'_>>)
+    ensures { TakesText (E.written err.old) (E.written err.new) (E.faults err.old) (E.faults err.new)
+        (message status (option_map job_shown job.entry)) }
+{
+    match status {
+        Status::Done => put_pieces(err, &[]),
+        Status::Usage => put_text(err, "clearing: the command line is not understood\n"),
+        Status::ReadFault(kind) => tell_name(err, name_of(job, kind)),
+        Status::Refused(fault) => tell_fault(err, fault),
+        Status::WriteFault => put_text(err, "clearing: cannot write the output\n"),
+        Status::Mem => put_text(err, "clearing: out of memory\n"),
+    }
+}
+
+// The name of the file of a kind, where there is a job.
+fn name_of<'a>(job: Option<Job<'a>>, kind: FileKind) -> &'a str
+    ensures { result.now ≡ name_if (option_map job_shown job.entry) kind }
+{
+    match job {
+        Some(job) => job.file(kind),
+        None => "",
+    }
+}
+
+fn tell_name<E: Sink>(err: &mut E, name: &str)
+    ensures { TakesText (E.written err.old) (E.written err.new) (E.faults err.old) (E.faults err.new)
+        (concat (codes "clearing: cannot read " ∷ name.now ∷ codes "\n" ∷ [])) }
+{
+    let pieces = [
+        "clearing: cannot read ".as_bytes(),
+        name.as_bytes(),
+        "\n".as_bytes(),
+    ];
+    put_pieces(err, &pieces);
+}
+
+fn tell_fault<E: Sink>(err: &mut E, fault: Fault)
+    ensures { TakesText (E.written err.old) (E.written err.new) (E.faults err.old) (E.faults err.new)
+        (message (Status.Refused fault) None) }
+{
+    let mut row = Buffer::new();
+    let mut number = Buffer::new();
+    let pieces = [
+        "clearing: ".as_bytes(),
+        fault.file.word().as_bytes(),
+        " row ".as_bytes(),
+        row.format(fault.row).as_bytes(),
+        ": ".as_bytes(),
+        fault.kind.word().as_bytes(),
+        " (".as_bytes(),
+        number.format(fault.kind.number()).as_bytes(),
+        ")\n".as_bytes(),
+    ];
+    put_pieces(err, &pieces);
+}
+
+fn put_text<S: Sink>(sink: &mut S, text: &str)
+    ensures { TakesText (S.written sink.old) (S.written sink.new) (S.faults sink.old) (S.faults sink.new)
+        (concat (text.now ∷ [])) }
+{
+    put_pieces(sink, &[text.as_bytes()]);
+}
+
+// Writes pieces one after another, up to a fault of the sink.
+fn put_pieces<S: Sink>(sink: &mut S, pieces: &[&[u8]])
+    ensures { TakesText (S.written sink.old) (S.written sink.new) (S.faults sink.old) (S.faults sink.new)
+        (concat (map (λ piece. piece.now) pieces.now)) }
+{
+    for piece in pieces {
+        if put_all(sink, piece).is_err() {
+            return;
+        }
+    }
+}
