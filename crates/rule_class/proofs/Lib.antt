@@ -1,0 +1,5 @@
+pub mod ShareOfKind
+pub mod ClassTotal
+pub mod Cleared
+pub mod Turn
+pub mod InPlace
