@@ -11,3 +11,6 @@ pub use division::share;
 
 /// The most units that all the claims on one bank come to.
 pub const MAX_CLAIMS: u64 = 10_000_000;
+
+#[cfg(test)]
+mod tests;
