@@ -88,8 +88,3 @@ award_rises_by rule claims e (suc d) = λ k. rw add-suc (omega (arith, award_ris
 pub award_mono : (rule : RuleKind) (claims : List ℕ) (d e : ℕ) → d ≤ e → IsAtMost (award rule claims d) (award rule claims e)
 award_mono rule claims d e l = subst (λ x. IsAtMost (award rule claims d) (award rule claims x)) (omega arith)
     (award_rises_by rule claims d (e - d))
-
--- so a given-out estate leaves none exactly where each claim is met
-pub next_of-award_none : (rule : RuleKind) (claims : List ℕ) (e : ℕ)
-    → (next_of rule claims (award rule claims e) ≡ None) ↔ (award rule claims e ≡ claims)
-next_of-award_none rule claims e = next_of-none rule claims (award rule claims e) (award_within rule claims e)

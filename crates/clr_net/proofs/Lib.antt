@@ -4,7 +4,6 @@ pub mod Order
 pub mod Best
 pub mod Next
 pub mod LeftOut
-pub mod KeptPlaces
 pub mod Award
 pub mod UnitByUnit
 pub mod Classes

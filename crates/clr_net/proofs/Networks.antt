@@ -114,10 +114,6 @@ IsNetwork-with_debt net d network new = record {
       only_of_its_kind = λ y m. rw (before y m, at) (new.only_of_its_kind y m);
     }
 
--- so `IsNetwork` may stand in a ghost field
-pub IsNetwork_prop : (net : Net) → IsProp (IsNetwork net)
-IsNetwork_prop net = hlevel (le_prop, ℕ_set, Bool-set)
-
 sum_by_bound : {X : Type 0} (f : X → ℕ) (most : ℕ) (xs : List X) → ((i : ℕ) (x : X) → slice_get xs i ≡ Some x → f x ≤ most) → sum_by f xs ≤ length xs * most
 sum_by_bound f most [] within = omega arith
 sum_by_bound f most (x ∷ xs) within =

@@ -9,4 +9,4 @@ pub mod Samples
 pub mod Accounts
 pub mod Kept
 pub mod AmountsLent
-pub mod OrderOnly
+pub mod Lines
