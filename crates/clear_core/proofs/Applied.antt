@@ -26,11 +26,6 @@ pub raise_legal : (net : Net) (s : Progress) (e : Event) (x : DebtId) (to : ℕ)
     → get_or s.paid x.0 0 < to → to ≤ allowed net s x.0 → IsLegal net s e
 raise_legal net s e x to is l more most = subst (λ e. IsLegal net s e) (sym is) (raise_in_range net e x to is l, more, most)
 
--- what a legal raise asks
-pub raise_asks : (net : Net) (s : Progress) (e : Event) (x : DebtId) (to : ℕ) → e ≡ Raise x to → IsLegal net s e
-    → (get_or s.paid x.0 0 < to) × (to ≤ allowed net s x.0)
-raise_asks net s e x to is legal = let all : IsLegal net s (Raise x to) = subst (λ e. IsLegal net s e) is legal in (all.1, all.2)
-
 -- amounts stay in the limit where one of them changes to another in the limit
 pub sound_raised : (paid seen : List ℕ) (x v : ℕ) → IsSound paid seen → v ≤ MAX_CLAIM → IsSound (set paid x v) seen
 sound_raised paid seen x v s l = record {

@@ -1,6 +1,5 @@
-pub mod OneClass
 pub mod OrderFill
-pub mod UnitRuled
+pub mod OrderClasses
 pub mod Rows
 pub mod Pay
 pub mod BankPays

@@ -1,15 +1,13 @@
 -- Division by order: the debts of one class are filled up one after another, in file order.
-use Rattle.std.proofs.Common.{◌≡◌, ℕ, zero, suc, ◌+◌, ◌-◌, ◌<◌, ◌≤◌, true, min, List, [], ◌∷◌, length, get_or, set, take, sum, replicate, Option, Some, None, sym, refl, ap, ◌∙◌, ⊎_elim, arith, add-one, lt-ltb, le-ltb}
+use Rattle.std.proofs.Common.{◌≡◌, ℕ, zero, suc, ◌-◌, ◌<◌, ◌≤◌, true, min, List, [], ◌∷◌, length, get_or, take, sum, replicate, Option, Some, None, sym, refl, ap, ◌∙◌, ⊎_elim, arith, add-one, lt-ltb, le-ltb}
 use Rattle.std.specs.Option.{option_map}
-use Rattle.std.proofs.lemmas.Grind.{common_steps}
 use Rattle.std.proofs.lemmas.Bool.{cases_lt, true≢false}
 use Rattle.clr_net.specs.declared.rule.RuleKind.TheVariants as kind
-use Rattle.clr_net.specs.Division.{is_unmet, next_of, one_more, award, share}
+use Rattle.clr_net.specs.Division.{is_unmet, next_of, one_more, award}
 use Rattle.clr_net.proofs.Lists.{sum-cons}
 use Rattle.clr_net.proofs.Next.{next_of_is_best}
 use Rattle.clr_net.proofs.LeftOut.{next_of_part}
-use Rattle.clear_core.specs.ByOrder.{is_first_class, fill}
-use Rattle.clear_core.proofs.OneClass.{share_awards}
+use Rattle.clear_core.specs.ByOrder.{fill}
 
 fill_nothing : (claims : List ℕ) → fill claims 0 ≡ replicate (length claims) 0
 fill_nothing [] = refl
@@ -86,14 +84,3 @@ pub get_or-fill : (claims : List ℕ) (e k : ℕ) → get_or (fill claims e) k 0
 get_or-fill [] e k = omega arith
 get_or-fill (c ∷ claims) e zero = omega (arith)
 get_or-fill (c ∷ claims) e (suc k) = omega (arith, get_or-fill claims (e - c) k, sum-cons c (take k claims))
-
--- one debt more is filled up
-pub filled_more : (claims into : List ℕ) (e left i award : ℕ) → i < length into → left ≡ e - sum (take i claims)
-    → award ≡ min left (get_or claims i 0) → ((k : ℕ) → k < i → get_or into k 0 ≡ get_or (fill claims e) k 0)
-    → (k : ℕ) → k < i + 1 → get_or (set into i award) k 0 ≡ get_or (fill claims e) k 0
-filled_more claims into e left i award l s a before k m = grind (arith, common_steps, before k, get_or-fill claims e k)
-
--- by order, with all debts of class 1, a share fills them up one after another
-pub share_fills : (claims classes : List ℕ) (e : ℕ) → length classes ≡ length claims → is_first_class classes ≡ true
-    → share kind.Order claims classes e ≡ fill claims e
-share_fills claims classes e l h = share_awards kind.Order claims classes e l h ∙ award_fills claims e

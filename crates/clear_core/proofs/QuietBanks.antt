@@ -1,17 +1,13 @@
 -- Payments that clear are those at which each bank is quiet.
 use Rattle.std.proofs.Common.{◌≡◌, ◌≢◌, ℕ, ◌<◌, List, length, get_or, map, sym, ap, ◌∙◌, subst, arith}
 use Rattle.std.proofs.lemmas.List.{ext_get_or, get_or-map, length-map}
-use Rattle.clr_net.specs.Amounts.{IsAtMost}
 use Rattle.clr_net.specs.Limits.{IsNetwork}
 use Rattle.clr_net.specs.Net.{Net, debtor_of, place_in_row, row}
 use Rattle.clr_net.proofs.RowsAndColumns.{debt_in_row}
-use Rattle.clear_core.specs.Buffers.{AreInLimit}
-use Rattle.clear_core.specs.Clearing.{receipts, division, pay, least, Clears}
-use Rattle.clear_core.specs.Quiet.{IsWithinClaims, IsQuiet}
+use Rattle.clear_core.specs.Clearing.{receipts, division, pay, Clears}
+use Rattle.clear_core.specs.Quiet.{IsQuiet}
 use Rattle.clear_core.proofs.BankPays.{pay_row}
-use Rattle.clear_core.proofs.Least.{least_clears}
-use Rattle.clear_core.proofs.Pay.{length-pay, pay_within}
-use Rattle.clear_core.proofs.Rows.{claim_in_limit}
+use Rattle.clear_core.proofs.Pay.{length-pay}
 
 -- payments on the debts ns that are the awards, place by place
 pub row_agrees : (P ns awards : List ℕ) → length awards ≡ length ns
@@ -26,15 +22,6 @@ pub row_differs : (P ns awards : List ℕ) (k : ℕ) → k < length ns → get_o
     → map (λ x. get_or P x 0) ns ≡ awards → ⊥
 row_differs P ns awards k l differs same =
     differs (sym (get_or-map (λ x. get_or P x 0) ns k 0 0 l) ∙ ap (λ xs. get_or xs k 0) same)
-
--- within the claims of a network, payments are in the limit
-pub within_in_limit : (net : Net) (P : List ℕ) → IsNetwork net → IsWithinClaims net P → AreInLimit P
-within_in_limit net P network h x = omega (arith, h x, claim_in_limit net x network)
-
--- payments up to the least that clear are within the claims
-pub within_least : (net : Net) (P : List ℕ) → IsAtMost P (least net) → IsWithinClaims net P
-within_least net P h x =
-    omega (arith, h x, ap (λ Q. get_or Q x 0) (least_clears net), pay_within net (least net) x)
 
 pub quiet_from_clears : (net : Net) (P : List ℕ) → Clears net P → IsQuiet net P
 quiet_from_clears net P c i l =

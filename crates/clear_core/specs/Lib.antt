@@ -4,5 +4,4 @@ pub mod History
 pub mod Cases
 pub mod ByOrder
 pub mod Buffers
-pub mod ByUnits
 pub mod Quiet

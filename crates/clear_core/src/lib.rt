@@ -10,6 +10,7 @@ mod division;
 mod event;
 pub mod laws;
 mod quiet;
+mod receipts;
 mod scratch;
 mod state;
 #[cfg(test)]
@@ -18,5 +19,6 @@ mod tests;
 pub use division::share_of;
 pub use event::{Event, Illegal, Raise};
 pub use quiet::{first_unquiet, is_quiet};
+pub use receipts::receipts_of;
 pub use scratch::Scratch;
 pub use state::State;

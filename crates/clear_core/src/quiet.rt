@@ -1,11 +1,10 @@
 ghost use Rattle.clear_core.specs.Buffers.{HasRoom};
-ghost use Rattle.clear_core.specs.ByUnits.{is_unit_ruled};
 ghost use Rattle.clear_core.specs.Clearing.{Clears};
 ghost use Rattle.clear_core.specs.Quiet.{IsFirstUnquiet, IsQuiet, IsWithinClaims};
 ghost use Rattle.std.specs.Prelude.{◌≡◌, ◌↔◌, IfSome, IsTrue, None, length};
 
+use crate::receipts::receipts_of;
 use crate::scratch::Scratch;
-use crate::state::receipts_of;
 use clr_net::{BankId, Network};
 
 /// The first bank that does not pay on each of its debts what its rule gives from its cash and from what it receives,
@@ -16,9 +15,6 @@ pub fn first_unquiet(net: &Network, paid: &[u64], scratch: &mut Scratch) -> Opti
     requires over { length paid.now ≡ length net.now.debts }
     requires within { IsWithinClaims net.now paid.now }
     requires room { HasRoom net.now scratch.old }
-
-    // Until the divisor rules and the other classes are wired.
-    requires unit_ruled { IsTrue (is_unit_ruled net.now) }
 
     ensures first { IfSome result (λ bank. IsFirstUnquiet net.now paid.now bank.0) }
     ensures none { (result ≡ None) ↔ IsQuiet net.now paid.now }
@@ -43,9 +39,6 @@ pub fn is_quiet(net: &Network, paid: &[u64], scratch: &mut Scratch) -> bool
     requires over { length paid.now ≡ length net.now.debts }
     requires within { IsWithinClaims net.now paid.now }
     requires room { HasRoom net.now scratch.old }
-
-    // Until the divisor rules and the other classes are wired.
-    requires unit_ruled { IsTrue (is_unit_ruled net.now) }
 
     ensures quiet { IsTrue result ↔ IsQuiet net.now paid.now }
     ensures clears { IsTrue result ↔ Clears net.now paid.now }

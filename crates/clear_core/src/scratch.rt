@@ -1,5 +1,4 @@
 ghost use Rattle.clear_core.specs.Buffers.{HasRoom};
-ghost use Rattle.clear_core.specs.ByUnits.{is_unit_ruled};
 ghost use Rattle.clear_core.specs.Clearing.{division};
 ghost use Rattle.clr_net.specs.Limits.{IsNetwork};
 ghost use Rattle.clr_net.specs.Net.{claims_of, classes_of, row as row_of};
@@ -46,9 +45,8 @@ impl Scratch {
     }
 
     /// Writes what a bank's rule gives each debt of its row, in file order, when the bank receives so many units.
-    pub(crate) fn divide(&mut self, net: &Network, bank: BankId, receipts: u64, into: &mut [u64])
-        requires network { IsNetwork net.now }
-        requires unit_ruled { IsTrue (is_unit_ruled net.now) }
+    /// Takes no memory.
+    pub fn divide(&mut self, net: &Network, bank: BankId, receipts: u64, into: &mut [u64])
         requires bank { bank.0 < length net.now.banks }
         requires receipts { receipts ≤ MAX_DEBTS * MAX_CLAIM }
         requires room { HasRoom net.now self.old }
@@ -56,6 +54,7 @@ impl Scratch {
         ensures division { into.new ≡ division net.now bank.0 receipts }
         ensures room { self.new ≡ self.old }
     {
+        prove!(bank.0 < net.banks());
         lay_out(net, bank, &mut self.claims, &mut self.classes);
         divide_row(
             net,
@@ -76,7 +75,6 @@ impl Scratch {
         place: usize,
     ) -> u64
         requires network { IsNetwork net.now }
-        requires unit_ruled { IsTrue (is_unit_ruled net.now) }
         requires bank { bank.0 < length net.now.banks }
         requires receipts { receipts ≤ MAX_DEBTS * MAX_CLAIM }
         requires room { HasRoom net.now self.old }
@@ -98,7 +96,6 @@ impl Scratch {
     /// Whether what is paid on the row of a bank is what its rule gives, when the bank receives so many units.
     pub(crate) fn gives(&mut self, net: &Network, bank: BankId, receipts: u64, paid: &[u64]) -> bool
         requires network { IsNetwork net.now }
-        requires unit_ruled { IsTrue (is_unit_ruled net.now) }
         requires bank { bank.0 < length net.now.banks }
         requires receipts { receipts ≤ MAX_DEBTS * MAX_CLAIM }
         requires room { HasRoom net.now self.old }
@@ -170,7 +167,6 @@ fn award_row(
     awards: &mut Vec<u64>,
 )
     requires network { IsNetwork net.now }
-    requires unit_ruled { IsTrue (is_unit_ruled net.now) }
     requires bank { bank.0 < length net.now.banks }
     requires receipts { receipts ≤ MAX_DEBTS * MAX_CLAIM }
     requires room_for_claims { length (row_of net.now bank.0) ≤ vec_capacity claims.old }
@@ -219,7 +215,6 @@ fn divide_row(
     into: &mut [u64],
 )
     requires network { IsNetwork net.now }
-    requires unit_ruled { IsTrue (is_unit_ruled net.now) }
     requires bank { bank.0 < length net.now.banks }
     requires receipts { receipts ≤ MAX_DEBTS * MAX_CLAIM }
     requires claims { claims.now ≡ claims_of net.now bank.0 }

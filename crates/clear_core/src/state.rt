@@ -1,5 +1,4 @@
 ghost use Rattle.clear_core.specs.Buffers.{AreInLimit, HasRoom};
-ghost use Rattle.clear_core.specs.ByUnits.{is_unit_ruled};
 ghost use Rattle.clear_core.specs.Clearing.{division, part, receipts as receipts_in};
 ghost use Rattle.clear_core.specs.Process.{IsBelowLeast, IsLegal, IsOver, allowed as allowed_on, debt_of, opening, step};
 ghost use Rattle.clr_net.specs.Limits.{IsNetwork};
@@ -8,6 +7,7 @@ ghost use Rattle.clr_net.specs.declared.TheConstants.{MAX_CLAIM, MAX_DEBTS};
 ghost use Rattle.std.specs.Prelude.{◌≡◌, ◌*◌, ◌<◌, ◌≤◌, IfErr, IfOk, IsTrue, OnErr, OnOk, length, map, slice_index};
 
 use crate::event::{Event, Illegal};
+use crate::receipts::receipts_of;
 use crate::scratch::Scratch;
 use clr_net::{BankId, DebtId, Mem, Network};
 use std::alloc::Global;
@@ -59,9 +59,6 @@ impl State {
         requires debt { debt_of event < length net.now.debts }
         requires room { HasRoom net.now scratch.old }
 
-        // Until the divisor rules and the other classes are wired.
-        requires unit_ruled { IsTrue (is_unit_ruled net.now) }
-
         ensures legal { OnOk result (IsLegal net.now self.old event) }
         ensures illegal { OnErr result (¬ (IsLegal net.now self.old event)) }
         ensures step { OnOk result (self.new ≡ step self.old event) }
@@ -101,9 +98,6 @@ impl State {
         requires places { length into.old ≡ length (row_of net.now bank.0) }
         requires room { HasRoom net.now scratch.old }
 
-        // Until the divisor rules and the other classes are wired.
-        requires unit_ruled { IsTrue (is_unit_ruled net.now) }
-
         ensures division { into.new ≡ division net.now bank.0 (receipts_in net.now self.now.seen bank.0) }
         ensures allowed { into.new ≡ map (allowed_on net.now self.now) (row_of net.now bank.0) }
         ensures room { scratch.new ≡ scratch.old }
@@ -135,7 +129,6 @@ fn allowed_of(net: &Network, debt: DebtId, seen: &[u64], scratch: &mut Scratch) 
     requires over { length seen.now ≡ length net.now.debts }
     requires in_limit { AreInLimit seen.now }
     requires room { HasRoom net.now scratch.old }
-    requires unit_ruled { IsTrue (is_unit_ruled net.now) }
     ensures allowed { result ≡ part net.now debt.0 (receipts_in net.now seen.now (debtor_of net.now debt.0)) }
     ensures room { scratch.new ≡ scratch.old }
 {
@@ -143,22 +136,6 @@ fn allowed_of(net: &Network, debt: DebtId, seen: &[u64], scratch: &mut Scratch) 
     let receipts = receipts_of(net, debtor, seen);
     let place = place_in_row(net, debtor, debt);
     scratch.award_at(net, debtor, receipts, place)
-}
-
-// What a bank has seen paid to itself.
-pub(crate) fn receipts_of(net: &Network, bank: BankId, seen: &[u64]) -> u64
-    requires network { IsNetwork net.now }
-    requires bank { bank.0 < length net.now.banks }
-    requires over { length seen.now ≡ length net.now.debts }
-    requires in_limit { AreInLimit seen.now }
-    ensures receipts { result ≡ receipts_in net.now seen.now bank.0 }
-    ensures in_limit { result ≤ MAX_DEBTS * MAX_CLAIM }
-{
-    let mut received = 0;
-    for id in net.column(bank) {
-        received += seen[id.0 as usize];
-    }
-    received
 }
 
 // The place of a debt in its debtor's row.

@@ -1,5 +1,4 @@
 ghost use Rattle.clear_core.specs.Buffers.{HasRoom};
-ghost use Rattle.clear_core.specs.ByUnits.{is_unit_ruled};
 ghost use Rattle.clear_core.specs.Process.{IsOver, debt_of};
 ghost use Rattle.clr_net.specs.Net.{claim_of, row, with_bank, with_debt};
 ghost use Rattle.clr_net.specs.Samples.{bank, debt};
@@ -53,7 +52,6 @@ fn add_debt(net: &mut Network, debtor: u32, creditor: u32, claim: u64) -> Result
 
 // A owes B 10, and B owes C 9; A has 7 and B has 1.
 fn chain_of_three(alloc: Global) -> Result<Network, Mem>
-    ensures unit_ruled { IfOk result (λ net. IsTrue (is_unit_ruled net)) }
     ensures banks { IfOk result (λ net. length net.banks ≡ 3) }
     ensures debts { IfOk result (λ net. length net.debts ≡ 2) }
     ensures second_row { IfOk result (λ net. length (row net 1) ≡ 1) }
@@ -76,7 +74,6 @@ fn answer(
     scratch: &mut Scratch,
     event: Event,
 ) -> Result<(), Illegal>
-    requires unit_ruled { IsTrue (is_unit_ruled net.now) }
     requires over { IsOver net.now state.old }
     requires debt { debt_of event < length net.now.debts }
     requires room { HasRoom net.now scratch.old }
@@ -123,7 +120,6 @@ fn a_bank_pays_on_what_it_has_seen(rt: HostRuntime) -> Result<(), Fail> {
 
 // The first bank that is not quiet where the two debts of a network are paid so, and whether none is.
 fn quiet_at(net: &Network, scratch: &mut Scratch, paid: [u64; 2]) -> (Option<BankId>, bool)
-    requires unit_ruled { IsTrue (is_unit_ruled net.now) }
     requires debts { length net.now.debts ≡ 2 }
     requires first { slice_index paid 0 ≤ claim_of net.now 0 }
     requires second { slice_index paid 1 ≤ claim_of net.now 1 }

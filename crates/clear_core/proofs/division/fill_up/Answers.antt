@@ -1,23 +1,18 @@
-use Rattle.std.proofs.Common.{arith, rules}
-use Rattle.std.proofs.lemmas.List.{ext_get_or}
-use Rattle.std.proofs.lemmas.List.Sums.{sum_by_more}
-use Rattle.clear_core.specs.ByOrder.{fill}
-use Rattle.clear_core.proofs.OrderFill.{filled_more, length-fill}
+use Rattle.std.proofs.Common.{◌+◌, sym, subst, arith}
+use Rattle.clear_core.proofs.OrderClasses.{IsFilledBelow, class_more, filled_all}
 use Rattle.clear_core.proofs.division.fill_up.Goals as goal
 
-pub loop-place-preserved : goal.loop-place-preserved
-loop-place-preserved c =
+pub loop-class-preserved : goal.loop-class-preserved
+loop-class-preserved c =
     let claims = c.args.claims.now in
-    let i = c.loop-place.place in
-    let more = sum_by_more (λ n. n) claims i 0 (omega arith) in
-    record {
-      left_is = omega (arith, more, c.min-award.ensures);
-      filled = filled_more claims c.loop-place.into c.args.estate c.loop-place.left i c.min-award.result (omega arith)
-          c.loop-place.invariant.left_is (search rules) c.loop-place.invariant.filled;
-    }
+    let classes = c.args.classes.now in
+    let class = c.loop-class.class in
+    subst (λ l. IsFilledBelow claims classes c.args.estate (class + 1) l c.fill_class-left.new.into) (sym c.fill_class-left.ensures.left)
+    (class_more claims classes c.args.estate class c.loop-class.left c.loop-class.into c.fill_class-left.new.into (omega arith)
+    c.loop-class.invariant c.fill_class-left.ensures.filled)
 
 pub returns : goal.returns
 returns c =
-    let claims = c.args.claims.now in
-    ext_get_or 0 c.loop-place.into (fill claims c.args.estate) (omega (arith, length-fill claims c.args.estate))
-    (λ k l. c.loop-place.invariant.filled k (omega arith))
+    filled_all c.args.claims.now c.args.classes.now c.args.estate c.last_class-class-end.result c.loop-class.left c.loop-class.into
+    c.last_class-class-end.ensures.last (subst (λ n. IsFilledBelow c.args.claims.now c.args.classes.now c.args.estate n c.loop-class.left c.loop-class.into)
+    (omega arith) c.loop-class.invariant)
