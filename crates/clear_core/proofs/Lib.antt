@@ -7,5 +7,6 @@ pub mod Least
 pub mod Legal
 pub mod Journals
 pub mod Runs
+pub mod Ordered
 pub mod Applied
 pub mod QuietBanks

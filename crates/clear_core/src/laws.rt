@@ -1,13 +1,13 @@
 //! The laws of clearing, for any plain data. A law has nothing to run; its `ensures` is proved.
 ghost use Rattle.clear_core.specs.Clearing.{Clears, IsLeast, least, pay, receipts, spend};
-ghost use Rattle.clear_core.specs.History.{IsTraced, Stands, journal_from, replayed};
+ghost use Rattle.clear_core.specs.History.{IsHistory, IsTraced, Stands, journal_from, ordered, raised_to, replayed};
 ghost use Rattle.clear_core.specs.Process.{AreLegal, NeverPassesLeast, opening};
 ghost use Rattle.clear_core.specs.declared.event.Event.{Event};
 ghost use Rattle.clear_core.specs.declared.event.Raise.{Raise};
 ghost use Rattle.clr_net.specs.Amounts.{IsAtMost};
 ghost use Rattle.clr_net.specs.Limits.{IsNetwork};
 ghost use Rattle.clr_net.specs.Net.{Net, claims_of, row};
-ghost use Rattle.std.specs.Prelude.{◌≡◌, ◌≤◌, ℕ, List, Some, length, min, slice_get, slice_index, sum, sum_by};
+ghost use Rattle.std.specs.Prelude.{◌≡◌, ◌<◌, ◌≤◌, ℕ, List, Some, length, min, slice_get, slice_index, sum, sum_by};
 
 /// No bank pays less on any debt as what was paid grows.
 #[tactic(auto, using(crate::proofs::Pay::pay_mono))]
@@ -63,4 +63,22 @@ pub fn traced_raises_stay_below_least()
 #[tactic(auto, using(crate::proofs::Runs::run_is_traced))]
 pub fn legal_run_is_traced()
     ensures { (net : Net) (es : List Event) → AreLegal net (opening net) es → IsTraced net (journal_from 0 es) }
+{}
+
+/// A history stands once its raises are in order: by stamp, then by debt, then by amount, whatever the order in which
+/// they were made (Lamport 1978). It is traced then as well.
+pub fn ordered_history_stands()
+    ensures { (net : Net) (rs : List Raise) → IsHistory net rs → Stands net (ordered rs) × IsTraced net (ordered rs) }
+{}
+
+/// And it replays to the greatest amount to which each debt was raised.
+pub fn ordered_history_replays()
+    ensures { (net : Net) (rs : List Raise) → IsHistory net rs → (x : ℕ) → x < length net.debts
+        → slice_index (replayed net (ordered rs)) x ≡ raised_to rs x }
+{}
+
+/// Raises that are in order stay as they are.
+#[tactic(auto, using(crate::proofs::Ordered::ordered_again))]
+pub fn order_is_kept()
+    ensures { (rs : List Raise) → ordered (ordered rs) ≡ ordered rs }
 {}
