@@ -8,6 +8,7 @@
 
 mod division;
 mod event;
+mod journal;
 pub mod laws;
 mod quiet;
 mod receipts;
@@ -18,6 +19,7 @@ mod tests;
 
 pub use division::share_of;
 pub use event::{Event, Illegal, Raise};
+pub use journal::Journal;
 pub use quiet::{first_unquiet, is_quiet};
 pub use receipts::receipts_of;
 pub use scratch::Scratch;
