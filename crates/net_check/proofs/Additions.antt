@@ -1,43 +1,32 @@
 -- A bank or a debt that a record gives may be added to the network read so far.
-use Rattle.std.proofs.Common.{◌≡◌, ℕ, ◌+◌, ◌<◌, ◌==◌, not, nat_le, List, [], ◌∷◌, length, Result, Ok, Err, IfOk, true, refl, sym, ap, ◌∙◌, subst, eq-eqb}
+use Rattle.std.proofs.Common.{◌≡◌, ℕ, ◌+◌, ◌<◌, ◌==◌, not, nat_le, List, [], ◌∷◌, length, Result, Ok, Err, IfOk, refl, sym, ◌∙◌, subst, eq-eqb}
 use Rattle.std.specs.List.{list_any}
 use Rattle.std.specs.Option.{ok_or}
-use Rattle.std.proofs.lemmas.Bool.{leb-true, eqb-true, true≢false}
+use Rattle.std.proofs.lemmas.Bool.{leb-true, true≢false}
 use Rattle.clr_net.specs.Name.{is_name}
 use Rattle.clr_net.specs.Net.{Net, units_owed, has_name, is_debt_of}
-use Rattle.clr_net.specs.OrderOnly.{is_order}
 use Rattle.clr_net.specs.Limits.{IsNewBank, IsNewDebt}
 use Rattle.clr_net.specs.declared.TheConstants.{MAX_BANKS, MAX_DEBTS, MAX_CASH, MAX_CLAIM, MAX_OWED}
 use Rattle.clr_net.specs.declared.bank.Bank.{Bank}
 use Rattle.clr_net.specs.declared.debt.Debt.{Debt}
 use Rattle.clr_net.specs.declared.rule.RuleKind.{RuleKind}
-use Rattle.clr_net.specs.declared.rule.RuleKind.TheVariants as rule_kind
 use Rattle.net_check.specs.Checks.{and_then, fault_unless}
 use Rattle.net_check.specs.Field.{class_in, rule_in}
-use Rattle.net_check.specs.Record.{number_up_to, bank_in, bank_from, debt_from, in_row}
+use Rattle.net_check.specs.Record.{number_up_to, bank_in, as_bank, bank_from, debt_from, in_row}
 use Rattle.net_check.specs.declared.fault.Fault.{Fault}
 use Rattle.net_check.specs.declared.fault.FileKind.{FileKind}
 use Rattle.net_check.specs.declared.fault.FaultKind.{FaultKind}
 use Rattle.net_check.specs.declared.fault.FaultKind.TheVariants as fault
 use Rattle.net_check.proofs.Passed.{fault_unless-ok, and_then-ok, ok_or-ok, number_up_to-ok, bank_in-ok, class_in-some, not-from_true, new_name, new_kind}
 
-order_rule : (r : RuleKind) → is_order r ≡ true → r ≡ rule_kind.Order
-order_rule rule_kind.Order h = refl
-order_rule rule_kind.Equal h = cc
-order_rule rule_kind.Losses h = cc
-order_rule rule_kind.Jefferson h = cc
-order_rule rule_kind.Webster h = cc
-order_rule rule_kind.Adams h = cc
-
--- what is known of a bank that a record gives
-bank_from-facts : (net : Net) (fields : List (List ℕ)) (b : Bank) → bank_from net fields ≡ Ok b
-    → (length net.banks < MAX_BANKS → IsNewBank net b) × (b.rule ≡ rule_kind.Order)
-bank_from-facts net [] b h = cc
-bank_from-facts net (name ∷ []) b h = cc
-bank_from-facts net (name ∷ cash ∷ []) b h = cc
-bank_from-facts net (name ∷ cash ∷ rule ∷ []) b h =
-    let made : ℕ → RuleKind → Bank = λ n r. record { name = name; cash = n; rule = r } in
-    let after_rule : ℕ → RuleKind → Result Bank FaultKind = λ n r. fault_unless (is_order r) fault.Unsupported (Ok (made n r)) in
+-- a bank that a record gives is new, within the limits
+pub bank_from-ok : (net : Net) (fields : List (List ℕ)) (b : Bank) → bank_from net fields ≡ Ok b → length net.banks < MAX_BANKS
+    → IsNewBank net b
+bank_from-ok net [] b h l = cc
+bank_from-ok net (name ∷ []) b h l = cc
+bank_from-ok net (name ∷ cash ∷ []) b h l = cc
+bank_from-ok net (name ∷ cash ∷ rule ∷ []) b h l =
+    let after_rule : ℕ → RuleKind → Result Bank FaultKind = λ n r. Ok (as_bank name (n, r)) in
     let after_cash = λ (n : ℕ). and_then (ok_or (rule_in rule) fault.Rule) (after_rule n) in
     let after_name = and_then (number_up_to MAX_CASH cash) after_cash in
     let after_named = fault_unless (not (list_any (has_name name) net.banks)) fault.DoubleBank after_name in
@@ -45,43 +34,30 @@ bank_from-facts net (name ∷ cash ∷ rule ∷ []) b h =
     let is_new = fault_unless-ok (not (list_any (has_name name) net.banks)) fault.DoubleBank after_name b named.1 in
     let the_cash = and_then-ok (number_up_to MAX_CASH cash) after_cash b is_new.1 in
     let the_rule = and_then-ok (ok_or (rule_in rule) fault.Rule) (after_rule the_cash.0) b the_cash.2 in
-    let supported = fault_unless-ok (is_order the_rule.0) fault.Unsupported (Ok (made the_cash.0 the_rule.0)) b the_rule.2 in
-    let same : made the_cash.0 the_rule.0 ≡ b = cc in (
-      λ l. subst (IsNewBank net) {x = made the_cash.0 the_rule.0} same (record {
-        banks_in_limit = l;
-        named = named.0;
-        cash_in_limit = number_up_to-ok MAX_CASH cash the_cash.0 the_cash.1;
-        only_of_its_name = new_name name net.banks (not-from_true (list_any (has_name name) net.banks) is_new.0);
-      }),
-      ap (λ (bank : Bank). bank.rule) (sym same) ∙ order_rule the_rule.0 supported.0,
-    )
-bank_from-facts net (name ∷ cash ∷ rule ∷ more ∷ fields) b h = cc
+    let same : as_bank name (the_cash.0, the_rule.0) ≡ b = cc in
+    subst (IsNewBank net) {x = as_bank name (the_cash.0, the_rule.0)} same (record {
+      banks_in_limit = l;
+      named = named.0;
+      cash_in_limit = number_up_to-ok MAX_CASH cash the_cash.0 the_cash.1;
+      only_of_its_name = new_name name net.banks (not-from_true (list_any (has_name name) net.banks) is_new.0);
+    })
+bank_from-ok net (name ∷ cash ∷ rule ∷ more ∷ fields) b h l = cc
 
--- a bank that a record gives is new, within the limits
-pub bank_from-ok : (net : Net) (fields : List (List ℕ)) (b : Bank) → bank_from net fields ≡ Ok b → length net.banks < MAX_BANKS
-    → IsNewBank net b
-bank_from-ok net fields b h l = (bank_from-facts net fields b h).0 l
-
--- as long as the other rules are not wired, it divides by the rule `order`
-pub bank_from-order : (net : Net) (fields : List (List ℕ)) (b : Bank) → bank_from net fields ≡ Ok b → b.rule ≡ rule_kind.Order
-bank_from-order net fields b h = (bank_from-facts net fields b h).1
-
--- what is known of a debt that a record gives
-debt_from-facts : (net : Net) (fields : List (List ℕ)) (d : Debt) → debt_from net fields ≡ Ok d
-    → (length net.debts < MAX_DEBTS → IsNewDebt net d) × (d.class ≡ 1)
-debt_from-facts net [] d h = cc
-debt_from-facts net (debtor ∷ []) d h = cc
-debt_from-facts net (debtor ∷ creditor ∷ []) d h = cc
-debt_from-facts net (debtor ∷ creditor ∷ class ∷ []) d h = cc
-debt_from-facts net (debtor ∷ creditor ∷ class ∷ claim ∷ []) d h =
+-- a debt that a record gives is new, within the limits
+pub debt_from-ok : (net : Net) (fields : List (List ℕ)) (d : Debt) → debt_from net fields ≡ Ok d → length net.debts < MAX_DEBTS
+    → IsNewDebt net d
+debt_from-ok net [] d h l = cc
+debt_from-ok net (debtor ∷ []) d h l = cc
+debt_from-ok net (debtor ∷ creditor ∷ []) d h l = cc
+debt_from-ok net (debtor ∷ creditor ∷ class ∷ []) d h l = cc
+debt_from-ok net (debtor ∷ creditor ∷ class ∷ claim ∷ []) d h l =
     let made : ℕ → ℕ → ℕ → ℕ → Debt =
     λ a b c n. record { debtor = record { 0 = a }; creditor = record { 0 = b }; class = c; claim = n } in
     let after_kind : ℕ → ℕ → ℕ → ℕ → Result Debt FaultKind =
     λ a b c n. fault_unless (nat_le (units_owed net + n) MAX_OWED) fault.Total (Ok (made a b c n)) in
     let after_claim : ℕ → ℕ → ℕ → ℕ → Result Debt FaultKind =
     λ a b c n. fault_unless (not (list_any (is_debt_of a b c) net.debts)) fault.DoubleDebt (after_kind a b c n) in
-    let after_supported : ℕ → ℕ → ℕ → Result Debt FaultKind = λ a b c. and_then (number_up_to MAX_CLAIM claim) (after_claim a b c) in
-    let after_class : ℕ → ℕ → ℕ → Result Debt FaultKind = λ a b c. fault_unless (c == 1) fault.Unsupported (after_supported a b c) in
+    let after_class : ℕ → ℕ → ℕ → Result Debt FaultKind = λ a b c. and_then (number_up_to MAX_CLAIM claim) (after_claim a b c) in
     let after_two : ℕ → ℕ → Result Debt FaultKind = λ a b. and_then (ok_or (class_in class) fault.Class) (after_class a b) in
     let after_creditor : ℕ → ℕ → Result Debt FaultKind = λ a b. fault_unless (not (a == b)) fault.SelfDebt (after_two a b) in
     let after_debtor : ℕ → Result Debt FaultKind = λ a. and_then (bank_in net creditor) (after_creditor a) in
@@ -92,36 +68,24 @@ debt_from-facts net (debtor ∷ creditor ∷ class ∷ claim ∷ []) d h =
     let two_banks = fault_unless-ok (not (a == b)) fault.SelfDebt (after_two a b) d the_creditor.2 in
     let the_class = and_then-ok (ok_or (class_in class) fault.Class) (after_class a b) d two_banks.1 in
     let c = the_class.0 in
-    let supported = fault_unless-ok (c == 1) fault.Unsupported (after_supported a b c) d the_class.2 in
-    let the_claim = and_then-ok (number_up_to MAX_CLAIM claim) (after_claim a b c) d supported.1 in
+    let the_claim = and_then-ok (number_up_to MAX_CLAIM claim) (after_claim a b c) d the_class.2 in
     let n = the_claim.0 in
     let is_new = fault_unless-ok (not (list_any (is_debt_of a b c) net.debts)) fault.DoubleDebt (after_kind a b c n) d the_claim.2 in
     let in_total = fault_unless-ok (nat_le (units_owed net + n) MAX_OWED) fault.Total (Ok (made a b c n)) d is_new.1 in
     let same : made a b c n ≡ d = cc in
-    let in_class = class_in-some class c (ok_or-ok (class_in class) fault.Class c the_class.1) in (
-      λ l. subst (IsNewDebt net) {x = made a b c n} same (record {
-        debts_in_limit = l;
-        owed_in_limit = leb-true (units_owed net + n) MAX_OWED in_total.0;
-        debtor_known = bank_in-ok net debtor a the_debtor.1;
-        creditor_known = bank_in-ok net creditor b the_creditor.1;
-        between_two_banks = λ e. true≢false (sym (eq-eqb a b e) ∙ not-from_true (a == b) two_banks.0);
-        class_at_least_1 = in_class.0;
-        class_in_limit = in_class.1;
-        claim_in_limit = number_up_to-ok MAX_CLAIM claim n the_claim.1;
-        only_of_its_kind = new_kind a b c net.debts (not-from_true (list_any (is_debt_of a b c) net.debts) is_new.0);
-      }),
-      ap (λ (debt : Debt). debt.class) (sym same) ∙ eqb-true c 1 supported.0,
-    )
-debt_from-facts net (debtor ∷ creditor ∷ class ∷ claim ∷ more ∷ fields) d h = cc
-
--- a debt that a record gives is new, within the limits
-pub debt_from-ok : (net : Net) (fields : List (List ℕ)) (d : Debt) → debt_from net fields ≡ Ok d → length net.debts < MAX_DEBTS
-    → IsNewDebt net d
-debt_from-ok net fields d h l = (debt_from-facts net fields d h).0 l
-
--- as long as the other classes are not wired, it is of class 1
-pub debt_from-class_1 : (net : Net) (fields : List (List ℕ)) (d : Debt) → debt_from net fields ≡ Ok d → d.class ≡ 1
-debt_from-class_1 net fields d h = (debt_from-facts net fields d h).1
+    let in_class = class_in-some class c (ok_or-ok (class_in class) fault.Class c the_class.1) in
+    subst (IsNewDebt net) {x = made a b c n} same (record {
+      debts_in_limit = l;
+      owed_in_limit = leb-true (units_owed net + n) MAX_OWED in_total.0;
+      debtor_known = bank_in-ok net debtor a the_debtor.1;
+      creditor_known = bank_in-ok net creditor b the_creditor.1;
+      between_two_banks = λ e. true≢false (sym (eq-eqb a b e) ∙ not-from_true (a == b) two_banks.0);
+      class_at_least_1 = in_class.0;
+      class_in_limit = in_class.1;
+      claim_in_limit = number_up_to-ok MAX_CLAIM claim n the_claim.1;
+      only_of_its_kind = new_kind a b c net.debts (not-from_true (list_any (is_debt_of a b c) net.debts) is_new.0);
+    })
+debt_from-ok net (debtor ∷ creditor ∷ class ∷ claim ∷ more ∷ fields) d h l = cc
 
 -- so is the debt of a row
 pub debt_in_row-ok : (net : Net) (fields : List (List ℕ)) (f : FileKind) (row : ℕ) (r : Result Debt Fault)

@@ -5,7 +5,6 @@ use Rattle.std.specs.Option.{ok_or}
 use Rattle.std.specs.Result.{result_map_both}
 use Rattle.clr_net.specs.Name.{is_name}
 use Rattle.clr_net.specs.Net.{Net, units_owed, has_name, is_debt_of}
-use Rattle.clr_net.specs.OrderOnly.{is_order}
 use Rattle.clr_net.specs.declared.TheConstants.{MAX_CASH, MAX_CLAIM, MAX_OWED}
 use Rattle.clr_net.specs.declared.bank.Bank.{Bank}
 use Rattle.clr_net.specs.declared.debt.Debt.{Debt}
@@ -40,8 +39,7 @@ bank_from net (name ∷ cash ∷ rule ∷ []) =
     fault_unless (not (list_any (has_name name) net.banks)) fault.DoubleBank (
     and_then (number_up_to MAX_CASH cash) (λ n.
     and_then (ok_or (rule_in rule) fault.Rule) (λ r.
-    fault_unless (is_order r) fault.Unsupported (
-    Ok (as_bank name (n, r)))))))
+    Ok (as_bank name (n, r))))))
 bank_from net fields = Err fault.Fields
 
 -- the debt of the fields debtor, creditor, class and claim
@@ -51,11 +49,10 @@ debt_from net (debtor ∷ creditor ∷ class ∷ claim ∷ []) =
     and_then (bank_in net creditor) (λ b.
     fault_unless (not (a == b)) fault.SelfDebt (
     and_then (ok_or (class_in class) fault.Class) (λ c.
-    fault_unless (c == 1) fault.Unsupported (
     and_then (number_up_to MAX_CLAIM claim) (λ n.
     fault_unless (not (list_any (is_debt_of a b c) net.debts)) fault.DoubleDebt (
     fault_unless (nat_le (units_owed net + n) MAX_OWED) fault.Total (
-    Ok (record { debtor = record { 0 = a }; creditor = record { 0 = b }; class = c; claim = n })))))))))
+    Ok (record { debtor = record { 0 = a }; creditor = record { 0 = b }; class = c; claim = n }))))))))
 debt_from net fields = Err fault.Fields
 
 -- a fault of a row: the header's is 0

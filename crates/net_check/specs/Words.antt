@@ -26,9 +26,8 @@ kind_word fault.DoubleDebt = codes "double debt"
 kind_word fault.TooMany = codes "too many"
 kind_word fault.Total = codes "total"
 kind_word fault.FileSize = codes "file size"
-kind_word fault.Unsupported = codes "unsupported"
 
--- the number of a kind of fault: 15 to 17 are those of files that are not read yet
+-- the number of a kind of fault: 15 to 17 are those of files that are not read yet, and 18 is not given again
 abbrev pub kind_number : FaultKind → ℕ
 kind_number fault.Header = 1
 kind_number fault.Fields = 2
@@ -44,4 +43,3 @@ kind_number fault.DoubleDebt = 11
 kind_number fault.TooMany = 12
 kind_number fault.Total = 13
 kind_number fault.FileSize = 14
-kind_number fault.Unsupported = 18

@@ -68,9 +68,6 @@ fn cash_and_rule(
     }
     let cash = number_up_to(MAX_CASH, cash)?;
     let rule = rule(rule_word).ok_or(FaultKind::Rule)?;
-    if rule != RuleKind::Order {
-        return Err(FaultKind::Unsupported);
-    }
     Ok((cash, rule))
 }
 

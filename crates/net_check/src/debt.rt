@@ -56,9 +56,6 @@ fn debt_of(
         return Err(FaultKind::SelfDebt);
     }
     let class = class(class_digit).ok_or(FaultKind::Class)?;
-    if class != 1 {
-        return Err(FaultKind::Unsupported);
-    }
     let claim = number_up_to(MAX_CLAIM, claim)?;
     if net.has_debt(debtor, creditor, class) {
         return Err(FaultKind::DoubleDebt);

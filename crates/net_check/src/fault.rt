@@ -51,8 +51,6 @@ pub enum FaultKind {
     Total,
     /// The file is longer than its limit.
     FileSize,
-    /// A rule other than `order`, or a class other than 1: they are not cleared yet.
-    Unsupported,
 }
 
 impl FaultKind {
@@ -75,7 +73,6 @@ impl FaultKind {
             FaultKind::TooMany => 12,
             FaultKind::Total => 13,
             FaultKind::FileSize => 14,
-            FaultKind::Unsupported => 18,
         }
     }
 
@@ -98,7 +95,6 @@ impl FaultKind {
             FaultKind::TooMany => "too many",
             FaultKind::Total => "total",
             FaultKind::FileSize => "file size",
-            FaultKind::Unsupported => "unsupported",
         }
     }
 }

@@ -64,13 +64,18 @@ fn the_first_fault_of_a_bank_is_told(rt: HostRuntime) {
     let net = chain(&rt, rt.alloc());
     for (name, cash, rule, want) in [
         ("D", "1000000000000", "order", None),
+        ("D", "1", "equal", None),
+        ("D", "1", " losses", None),
+        ("D", "1", "jefferson", None),
+        ("D", "1", "webster", None),
+        ("D", "1", "adams\t", None),
         ("", "x", "none", Some(FaultKind::Name)),
         ("D\"", "x", "none", Some(FaultKind::Name)),
         (" A ", "x", "none", Some(FaultKind::DoubleBank)),
         ("D", "-1", "none", Some(FaultKind::Number)),
         ("D", "1000000000001", "none", Some(FaultKind::Limit)),
         ("D", "1", "Order", Some(FaultKind::Rule)),
-        ("D", "1", "equal", Some(FaultKind::Unsupported)),
+        ("D", "1", "equals", Some(FaultKind::Rule)),
     ] {
         assert!(rt; net.banks() < MAX_BANKS);
         let found = check_bank(
@@ -97,6 +102,8 @@ fn the_first_fault_of_a_debt_is_told(rt: HostRuntime) {
     let net = chain(&rt, rt.alloc());
     for (debtor, creditor, class, claim, want) in [
         ("A", "C", "1", "1000000", None),
+        ("A", "C", "9", "0", None),
+        ("A", "B", "2", "2", None),
         (",", "", "x", "x", Some(FaultKind::Name)),
         ("X", "", "x", "x", Some(FaultKind::UnknownBank)),
         ("A", "", "x", "x", Some(FaultKind::Name)),
@@ -104,7 +111,7 @@ fn the_first_fault_of_a_debt_is_told(rt: HostRuntime) {
         ("A", "A", "x", "x", Some(FaultKind::SelfDebt)),
         ("A", "B", "0", "x", Some(FaultKind::Class)),
         ("A", "B", "11", "x", Some(FaultKind::Class)),
-        ("A", "B", "2", "x", Some(FaultKind::Unsupported)),
+        ("A", "B", "2", "x", Some(FaultKind::Number)),
         ("A", "B", "1", "x", Some(FaultKind::Number)),
         ("A", "B", "1", "1000001", Some(FaultKind::Limit)),
         ("A", "B", "1", "2", Some(FaultKind::DoubleDebt)),
