@@ -1,24 +1,20 @@
 -- What a network's banks and debts are, beside those that stand before them.
 use Rattle.std.proofs.Common.{◌≡◌, ◌≢◌, ◌∙◌, ◌<◌, ◌≤◌, ◌+◌, ◌==◌, ◌&&◌, ◌||◌, ℕ, zero, suc, Bool, true, false, List, [], ◌∷◌, ◌++◌, length, get_or, slice_get, Option, Some, None, refl, sym, ap, arith, sum_by}
 use Rattle.std.specs.Prelude.{position}
-use Rattle.std.specs.List.{list_all, list_any}
+use Rattle.std.specs.List.{list_any}
 use Rattle.std.specs.Option.{option_map_or}
 use Rattle.std.specs.Str.{bytes_eq}
 use Rattle.std.proofs.lemmas.Bool.{lt-ltb, false_from_ne_true, eqb-true}
 use Rattle.std.proofs.lemmas.List.{length-append}
-use Rattle.std.proofs.lemmas.List.Folds.{list_all-append}
 use Rattle.std.proofs.lemmas.List.Sums.{position_or_len_is, sum_by-append, sum_by-cons}
 use Rattle.std.proofs.lemmas.Option.{get_or_from_slice_get, slice_get-get_or}
 use Rattle.std.proofs.lemmas.Slice.Eq.{bytes_eq-Decides}
 use Rattle.clr_net.specs.Name.{is_name}
 use Rattle.clr_net.specs.Net.{Net, name_of, has_name, is_debt_of, units_owed}
 use Rattle.clr_net.specs.Limits.{IsNetwork, IsBankOf}
-use Rattle.clr_net.specs.OrderOnly.{is_order, is_order_only}
-use Rattle.clr_net.specs.declared.TheConstants.{MAX_BANKS, MAX_CASH, MAX_DEBTS, MAX_CLAIM, MAX_OWED}
+use Rattle.clr_net.specs.declared.TheConstants.{MAX_BANKS, MAX_CASH, MAX_DEBTS, MAX_CLASS, MAX_CLAIM, MAX_OWED}
 use Rattle.clr_net.specs.declared.bank.Bank.{Bank}
 use Rattle.clr_net.specs.declared.debt.Debt.{Debt}
-use Rattle.clr_net.specs.declared.rule.RuleKind.{RuleKind}
-use Rattle.clr_net.specs.declared.rule.RuleKind.TheVariants as kind
 use Rattle.net_check.specs.Field.{trimmed_field}
 use Rattle.net_csv.specs.Printing.{KeepsNames}
 
@@ -85,14 +81,6 @@ position_of_name banks i b at below other =
     (λ l. rw (get_or_from_slice_get banks i b b at) ((bytes_eq-Decides b.name b.name).1 refl)) in
     rw (first, lt-ltb i (length banks) below) refl
 
-order_rule : (r : RuleKind) → is_order r ≡ true → r ≡ kind.Order
-order_rule kind.Order e = refl
-order_rule kind.Equal e = cc e
-order_rule kind.Losses e = cc e
-order_rule kind.Jefferson e = cc e
-order_rule kind.Webster e = cc e
-order_rule kind.Adams e = cc e
-
 -- what a bank of a network is, beside those before it
 pub record IsBackBank (done : List Bank) (b : Bank) : Type 0 where
   pub room : length done < MAX_BANKS
@@ -100,22 +88,17 @@ pub record IsBackBank (done : List Bank) (b : Bank) : Type 0 where
   pub kept : trimmed_field b.name ≡ b.name
   pub new : list_any (has_name b.name) done ≡ false
   pub cash : b.cash ≤ MAX_CASH
-  pub order : b.rule ≡ kind.Order
 
-pub bank_back : (net : Net) → IsNetwork net → is_order_only net ≡ true → KeepsNames net → (done rest : List Bank) (b : Bank)
+pub bank_back : (net : Net) → IsNetwork net → KeepsNames net → (done rest : List Bank) (b : Bank)
     → net.banks ≡ done ++ b ∷ rest → IsBackBank done b
-bank_back net network only keeps done rest b banks =
+bank_back net network keeps done rest b banks =
     let longer = length-append done (b ∷ rest) in
     let i = length done in
     let sizes : length net.banks ≡ length (done ++ b ∷ rest) = ap length banks in
     let below : i < length net.banks = omega arith in
     let here : slice_get net.banks i ≡ Some b = ap (λ l. slice_get l i) banks ∙ at_end done rest b in
     let fact = network.each_bank i below in
-    let rules = and_left (list_all (λ b. is_order b.rule) net.banks) (list_all (λ d. d.class == 1) net.debts) only in
-    let rules_too : list_all (λ b. is_order b.rule) (done ++ b ∷ rest) ≡ true = rw banks at rules in
     let limit = network.banks_in_limit in
-    let tail = and_right (list_all (λ b. is_order b.rule) done) (list_all (λ b. is_order b.rule) (b ∷ rest))
-    (sym (list_all-append (λ b. is_order b.rule) done (b ∷ rest)) ∙ rules_too) in
     record {
       room = omega arith;
       named = rw here at fact.named;
@@ -124,7 +107,6 @@ bank_back net network only keeps done rest b banks =
           (ap (λ o. option_map_or (λ b. b.name) o []) (ap (λ l. slice_get l j) banks ∙ before_end done (b ∷ rest) j l) ∙ same
           ∙ sym (ap (λ o. option_map_or (λ b. b.name) o []) here)));
       cash = rw here at fact.cash_in_limit;
-      order = order_rule b.rule (and_left (is_order b.rule) (list_all (λ b. is_order b.rule) rest) tail);
     }
 
 -- what a debt of a network is, beside those before it
@@ -133,24 +115,21 @@ pub record IsBackDebt (net : Net) (done : List Debt) (d : Debt) : Type 0 where
   pub debtor : d.debtor.0 < length net.banks
   pub creditor : d.creditor.0 < length net.banks
   pub two : d.debtor.0 ≢ d.creditor.0
-  pub class : d.class ≡ 1
+  pub class_at_least_1 : 1 ≤ d.class
+  pub class_in_limit : d.class ≤ MAX_CLASS
   pub claim : d.claim ≤ MAX_CLAIM
   pub new : list_any (is_debt_of d.debtor.0 d.creditor.0 d.class) done ≡ false
   pub total : sum_by (λ d. d.claim) done + d.claim ≤ MAX_OWED
 
-pub debt_back : (net : Net) → IsNetwork net → is_order_only net ≡ true → (done rest : List Debt) (d : Debt)
+pub debt_back : (net : Net) → IsNetwork net → (done rest : List Debt) (d : Debt)
     → net.debts ≡ done ++ d ∷ rest → IsBackDebt net done d
-debt_back net network only done rest d debts =
+debt_back net network done rest d debts =
     let longer = length-append done (d ∷ rest) in
     let x = length done in
     let sizes : length net.debts ≡ length (done ++ d ∷ rest) = ap length debts in
     let below : x < length net.debts = omega arith in
     let here : slice_get net.debts x ≡ Some d = ap (λ l. slice_get l x) debts ∙ at_end done rest d in
     let fact = network.each_debt x below in
-    let classes = and_right (list_all (λ b. is_order b.rule) net.banks) (list_all (λ d. d.class == 1) net.debts) only in
-    let classes_too : list_all (λ d. d.class == 1) (done ++ d ∷ rest) ≡ true = rw debts at classes in
-    let tail = and_right (list_all (λ d. d.class == 1) done) (list_all (λ d. d.class == 1) (d ∷ rest))
-    (sym (list_all-append (λ d. d.class == 1) done (d ∷ rest)) ∙ classes_too) in
     let limit = network.debts_in_limit in
     let owed : units_owed net ≡ sum_by (λ d. d.claim) (done ++ d ∷ rest) = ap (sum_by (λ d. d.claim)) debts in
     let parts = sum_by-append (λ (d : Debt). d.claim) done (d ∷ rest) in
@@ -161,7 +140,8 @@ debt_back net network only done rest d debts =
       debtor = rw here at fact.debtor_known;
       creditor = rw here at fact.creditor_known;
       two = rw here at fact.between_two_banks;
-      class = eqb-true d.class 1 (and_left (d.class == 1) (list_all (λ d. d.class == 1) rest) tail);
+      class_at_least_1 = rw here at fact.class_at_least_1;
+      class_in_limit = rw here at fact.class_in_limit;
       claim = rw here at fact.claim_in_limit;
       new = no_kind d.debtor.0 d.creditor.0 d.class done (λ y l same.
           let before : slice_get net.debts y ≡ slice_get done y = ap (λ l. slice_get l y) debts ∙ before_end done (d ∷ rest) y l in

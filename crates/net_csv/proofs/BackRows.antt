@@ -1,6 +1,5 @@
 -- What is printed of one bank and of one debt is read back as that bank and that debt.
-use Rattle.std.proofs.Common.{◌≡◌, ◌∙◌, ◌<◌, ◌≤◌, ◌+◌, ◌^◌, ◌==◌, ℕ, true, false, List, [], ◌∷◌, length, Some, Ok, refl, sym, ap, arith, sum_by}
-use Rattle.std.specs.Prelude.{codes}
+use Rattle.std.proofs.Common.{◌≡◌, ◌<◌, ◌≤◌, ◌+◌, ◌^◌, ℕ, true, false, List, [], ◌∷◌, length, Some, Ok, refl, ap, arith, sum_by}
 use Rattle.std.specs.List.{list_any}
 use Rattle.std.specs.Fmt.{decimal}
 use Rattle.std.proofs.lemmas.Bool.{lt-ltb, le-leb, ne_eqb}
@@ -8,11 +7,12 @@ use Rattle.std.proofs.lemmas.List.{length-append}
 use Rattle.std.proofs.lemmas.Fmt.{decimal_digit, length-decimal-le}
 use Rattle.clr_net.specs.Name.{is_name}
 use Rattle.clr_net.specs.Net.{Net, name_of, has_name}
-use Rattle.clr_net.specs.declared.TheConstants.{MAX_BANKS, MAX_CASH, MAX_DEBTS, MAX_CLAIM, MAX_OWED}
+use Rattle.clr_net.specs.declared.TheConstants.{MAX_BANKS, MAX_CASH, MAX_DEBTS, MAX_CLASS, MAX_CLAIM, MAX_OWED}
 use Rattle.clr_net.specs.declared.bank.Bank.{Bank}
 use Rattle.clr_net.specs.declared.debt.Debt.{Debt}
+use Rattle.clr_net.specs.declared.rule.RuleKind.{RuleKind}
 use Rattle.clr_net.specs.declared.rule.RuleKind.TheVariants as kind
-use Rattle.net_check.specs.Field.{trimmed_start, trimmed_field, class_in}
+use Rattle.net_check.specs.Field.{trimmed_start, trimmed_field, class_in, rule_in}
 use Rattle.net_check.specs.Record.{bank_in}
 use Rattle.net_csv.specs.Printing.{rule_word, bank_line, debt_line}
 use Rattle.net_csv.specs.Reading.{Fields, trimmed_fields, is_blank, bank_in_row, debt_in_row}
@@ -33,8 +33,39 @@ plain_decimal n small = let wide : n < 2 ^ 64 = omega arith in plain_digits (dec
 trimmed_decimal : (n : ℕ) → n < 10 ^ 19 → trimmed_field (decimal n) ≡ decimal n
 trimmed_decimal n small = let wide : n < 2 ^ 64 = omega arith in trimmed_digits (decimal n) (decimal_spells n wide).0
 
-plain_order : IsPlain (codes "order")
-plain_order = record { unquoted = refl }
+-- the word of each rule is plain, short, and read back as the rule
+plain_rule : (r : RuleKind) → IsPlain (rule_word r)
+plain_rule kind.Order = record { unquoted = refl }
+plain_rule kind.Equal = record { unquoted = refl }
+plain_rule kind.Losses = record { unquoted = refl }
+plain_rule kind.Jefferson = record { unquoted = refl }
+plain_rule kind.Webster = record { unquoted = refl }
+plain_rule kind.Adams = record { unquoted = refl }
+
+trimmed_rule : (r : RuleKind) → trimmed_field (rule_word r) ≡ rule_word r
+unfolding trimmed_start
+trimmed_rule kind.Order = refl
+trimmed_rule kind.Equal = refl
+trimmed_rule kind.Losses = refl
+trimmed_rule kind.Jefferson = refl
+trimmed_rule kind.Webster = refl
+trimmed_rule kind.Adams = refl
+
+rule_is_short : (r : RuleKind) → length (rule_word r) ≤ 9
+rule_is_short kind.Order = omega arith
+rule_is_short kind.Equal = omega arith
+rule_is_short kind.Losses = omega arith
+rule_is_short kind.Jefferson = omega arith
+rule_is_short kind.Webster = omega arith
+rule_is_short kind.Adams = omega arith
+
+rule_back : (r : RuleKind) → rule_in (rule_word r) ≡ Some r
+rule_back kind.Order = refl
+rule_back kind.Equal = refl
+rule_back kind.Losses = refl
+rule_back kind.Jefferson = refl
+rule_back kind.Webster = refl
+rule_back kind.Adams = refl
 
 -- a bank that a file keeps
 pub record IsKeptRow (fields : Fields) : Type 0 where
@@ -43,7 +74,7 @@ pub record IsKeptRow (fields : Fields) : Type 0 where
   pub full : is_blank fields ≡ false
 
 pub bank_row : (done : List Bank) (b : Bank) → IsBackBank done b → IsKeptRow (bank_fields b)
-unfolding trimmed_start ArePlain
+unfolding ArePlain
 bank_row done b back =
     let limit = back.cash in
     let small : b.cash < 10 ^ 19 = omega arith in
@@ -53,33 +84,31 @@ bank_row done b back =
         second = decimal b.cash;
         others = rule_word b.rule ∷ [];
         are = refl;
-        plain = (plain_name b.name back.named, (plain_decimal b.cash small, (rw back.order plain_order, tt)));
+        plain = (plain_name b.name back.named, (plain_decimal b.cash small, (plain_rule b.rule, tt)));
       };
-      trimmed = rw (back.kept, trimmed_decimal b.cash small, back.order) refl;
+      trimmed = rw (back.kept, trimmed_decimal b.cash small, trimmed_rule b.rule) refl;
       full = rw (name_has_byte b.name back.named) refl;
     }
 
-order_bank_back : (done : List Bank) (row : ℕ) (name : List ℕ) (cash : ℕ) → length done < MAX_BANKS → is_name name ≡ true
-    → list_any (has_name name) done ≡ false → cash ≤ MAX_CASH
-    → bank_in_row (record { banks = done; debts = [] }) (row, name ∷ decimal cash ∷ codes "order" ∷ [])
-    ≡ Ok (record { name = name; cash = cash; rule = kind.Order })
-order_bank_back done row name cash room named new limit =
-    rw (lt-ltb (length done) MAX_BANKS room, named, new, number_in-decimal cash (omega arith), le-leb cash MAX_CASH limit) refl
+-- a bank whose rule stands there as a word
+bank_of_word_back : (done : List Bank) (row : ℕ) (name : List ℕ) (cash : ℕ) (word : List ℕ) (rule : RuleKind) → length done < MAX_BANKS
+    → is_name name ≡ true → list_any (has_name name) done ≡ false → cash ≤ MAX_CASH → rule_in word ≡ Some rule
+    → bank_in_row (record { banks = done; debts = [] }) (row, name ∷ decimal cash ∷ word ∷ [])
+    ≡ Ok (record { name = name; cash = cash; rule = rule })
+bank_of_word_back done row name cash word rule room named new limit is_rule =
+    rw (lt-ltb (length done) MAX_BANKS room, named, new, number_in-decimal cash (omega arith), le-leb cash MAX_CASH limit, is_rule) refl
 
 pub bank_read_back : (done : List Bank) (row : ℕ) (b : Bank) → IsBackBank done b
     → bank_in_row (record { banks = done; debts = [] }) (row, bank_fields b) ≡ Ok b
 bank_read_back done row b back =
-    let same : record { name = b.name; cash = b.cash; rule = kind.Order } ≡ b =
-    ap (λ r. record { name = b.name; cash = b.cash; rule = r }) (sym back.order) in
-    ap (λ r. bank_in_row (record { banks = done; debts = [] }) (row, b.name ∷ decimal b.cash ∷ rule_word r ∷ [])) back.order
-    ∙ order_bank_back done row b.name b.cash back.room back.named back.new back.cash ∙ ap Ok same
+    bank_of_word_back done row b.name b.cash (rule_word b.rule) b.rule back.room back.named back.new back.cash (rule_back b.rule)
 
 pub debt_row : (net : Net) (done : List Debt) (d : Debt) → IsBackDebt net done d → IsBackName net d.debtor.0 → IsBackName net d.creditor.0
     → IsKeptRow (debt_fields net d)
 unfolding ArePlain
 debt_row net done d back debtor creditor =
     let limit = back.claim in
-    let class = back.class in
+    let class = back.class_in_limit in
     let small : d.claim < 10 ^ 19 = omega arith in
     let small_too : d.class < 10 ^ 19 = omega arith in
     record {
@@ -103,21 +132,22 @@ debt_row net done d back debtor creditor =
 bank_named_back : (net : Net) (done : List Debt) (i : ℕ) → IsBackName net i → bank_in (record { banks = net.banks; debts = done }) (name_of net i) ≡ Ok i
 bank_named_back net done i name = rw (name.named, name.place) refl
 
-class_back : (c : ℕ) → c ≡ 1 → class_in (decimal c) ≡ Some c
-class_back c one = rw (one, decimal_digit 1 (omega arith)) refl
+-- the digit of a class is read back as the class
+class_back : (c : ℕ) → 1 ≤ c → c ≤ MAX_CLASS → class_in (decimal c) ≡ Some c
+class_back c low high =
+    rw (decimal_digit c (omega arith), le-leb 49 (48 + c) (omega arith), le-leb (48 + c) (48 + MAX_CLASS) (omega arith))
+    (ap Some (omega arith))
 
 pub debt_read_back : (net : Net) (done : List Debt) (row : ℕ) (d : Debt) → IsBackDebt net done d → IsBackName net d.debtor.0 → IsBackName net d.creditor.0
     → debt_in_row (record { banks = net.banks; debts = done }) (row, debt_fields net d) ≡ Ok d
 debt_read_back net done row d back debtor creditor =
     let limit = back.claim in
-    let one : (d.class == 1) ≡ true = rw back.class refl in
     rw (
       lt-ltb (length done) MAX_DEBTS back.room,
       bank_named_back net done d.debtor.0 debtor,
       bank_named_back net done d.creditor.0 creditor,
       ne_eqb d.debtor.0 d.creditor.0 back.two,
-      class_back d.class back.class,
-      one,
+      class_back d.class back.class_at_least_1 back.class_in_limit,
       number_in-decimal d.claim (omega arith),
       le-leb d.claim MAX_CLAIM back.claim,
       back.new,
@@ -130,14 +160,14 @@ short_bank_line done b back =
     let limit = back.cash in
     let name = name_is_short b.name back.named in
     let cash = length-decimal-le 20 b.cash (omega arith) (omega arith) (omega arith) in
-    let word : length (rule_word b.rule) ≡ 5 = rw back.order refl in
+    let word = rule_is_short b.rule in
     simp length-append (omega arith)
 
 pub short_debt_line : (net : Net) (done : List Debt) (d : Debt) → IsBackDebt net done d → IsBackName net d.debtor.0 → IsBackName net d.creditor.0
     → length (debt_line net d) ≤ 200
 short_debt_line net done d back debtor creditor =
     let limit = back.claim in
-    let one = back.class in
+    let high = back.class_in_limit in
     let name = name_is_short (name_of net d.debtor.0) debtor.named in
     let name_too = name_is_short (name_of net d.creditor.0) creditor.named in
     let class = length-decimal-le 20 d.class (omega arith) (omega arith) (omega arith) in

@@ -6,14 +6,13 @@ use Rattle.std.proofs.lemmas.Bool.{cases_eq}
 use Rattle.std.proofs.lemmas.List.{length_push, reverse-append, reverse-reverse}
 use Rattle.clr_net.specs.Name.{is_name}
 use Rattle.clr_net.specs.Net.{Net, empty_net, with_bank, with_debt, has_name}
-use Rattle.clr_net.specs.OrderOnly.{is_order}
 use Rattle.clr_net.specs.declared.TheConstants.{MAX_BANKS, MAX_CASH}
 use Rattle.clr_net.specs.declared.bank.Bank.{Bank}
 use Rattle.clr_net.specs.declared.rule.RuleKind.{RuleKind}
 use Rattle.clr_net.proofs.Networks.{slice_get_push_before, slice_get_push_at}
 use Rattle.net_check.specs.Checks.{and_then, fault_unless}
 use Rattle.net_check.specs.Field.{is_space_or_tab, trimmed_start, trimmed_field, rule_in}
-use Rattle.net_check.specs.Record.{number_up_to, bank_from, fault_at}
+use Rattle.net_check.specs.Record.{number_up_to, as_bank, bank_from, fault_at}
 use Rattle.net_check.specs.declared.fault.FileKind.TheVariants as file
 use Rattle.net_check.specs.declared.fault.FaultKind.{FaultKind}
 use Rattle.net_check.specs.declared.fault.FaultKind.TheVariants as fault
@@ -106,8 +105,7 @@ bank_from-name net [] b kept h = cc
 bank_from-name net (name ∷ []) b kept h = cc
 bank_from-name net (name ∷ cash ∷ []) b kept h = cc
 bank_from-name net (name ∷ cash ∷ rule ∷ []) b kept h =
-    let made : ℕ → RuleKind → Bank = λ n r. record { name = name; cash = n; rule = r } in
-    let after_rule : ℕ → RuleKind → Result Bank FaultKind = λ n r. fault_unless (is_order r) fault.Unsupported (Ok (made n r)) in
+    let after_rule : ℕ → RuleKind → Result Bank FaultKind = λ n r. Ok (as_bank name (n, r)) in
     let after_cash : ℕ → Result Bank FaultKind = λ n. and_then (ok_or (rule_in rule) fault.Rule) (after_rule n) in
     let after_name = and_then (number_up_to MAX_CASH cash) after_cash in
     let after_named = fault_unless (not (list_any (has_name name) net.banks)) fault.DoubleBank after_name in
@@ -115,8 +113,7 @@ bank_from-name net (name ∷ cash ∷ rule ∷ []) b kept h =
     let is_new = fault_unless-ok (not (list_any (has_name name) net.banks)) fault.DoubleBank after_name b named.1 in
     let the_cash = and_then-ok (number_up_to MAX_CASH cash) after_cash b is_new.1 in
     let the_rule = and_then-ok (ok_or (rule_in rule) fault.Rule) (after_rule the_cash.0) b the_cash.2 in
-    let supported = fault_unless-ok (is_order the_rule.0) fault.Unsupported (Ok (made the_cash.0 the_rule.0)) b the_rule.2 in
-    let same : made the_cash.0 the_rule.0 ≡ b = cc in
+    let same : as_bank name (the_cash.0, the_rule.0) ≡ b = cc in
     let first : trimmed_field name ≡ name = cc in
     rw (← same) first
 bank_from-name net (name ∷ cash ∷ rule ∷ more ∷ fields) b kept h = cc

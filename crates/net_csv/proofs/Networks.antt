@@ -1,11 +1,8 @@
 -- What every network that is read has: what each bank and each debt that is added keeps.
-use Rattle.std.proofs.Common.{◌≡◌, ◌<◌, ◌≤◌, ◌==◌, ◌++◌, ℕ, Bool, true, nat_le, nat_lt, List, [], ◌∷◌, length, Result, Ok, Err, refl, subst, ltb-true}
-use Rattle.std.specs.List.{list_all}
+use Rattle.std.proofs.Common.{◌≡◌, ◌<◌, ◌≤◌, ℕ, nat_le, nat_lt, List, [], ◌∷◌, length, Result, Ok, Err, subst, ltb-true}
 use Rattle.std.proofs.lemmas.Bool.{le-leb}
-use Rattle.std.proofs.lemmas.List.Folds.{list_all-append}
 use Rattle.clr_net.specs.Net.{Net, empty_net, with_bank, with_debt}
 use Rattle.clr_net.specs.Limits.{IsNetwork}
-use Rattle.clr_net.specs.OrderOnly.{is_order, is_order_only}
 use Rattle.clr_net.specs.declared.TheConstants.{MAX_BANKS, MAX_DEBTS}
 use Rattle.clr_net.specs.declared.bank.Bank.{Bank}
 use Rattle.clr_net.specs.declared.debt.Debt.{Debt}
@@ -17,10 +14,8 @@ use Rattle.net_check.specs.declared.fault.FileKind.TheVariants as file
 use Rattle.net_check.specs.declared.fault.FaultKind.{FaultKind}
 use Rattle.net_check.specs.declared.fault.FaultKind.TheVariants as fault
 use Rattle.net_check.proofs.Passed.{fault_unless-ok, and_then-ok}
-use Rattle.net_check.proofs.Additions.{bank_from-ok, bank_from-order, debt_from-ok, debt_from-class_1}
+use Rattle.net_check.proofs.Additions.{bank_from-ok, debt_from-ok}
 use Rattle.net_csv.specs.declared.TheConstants.{MAX_FILE_BYTES}
-use Rattle.clr_net.specs.Samples.{chain}
-use Rattle.net_csv.specs.Cases.{chain_banks, chain_debts, chain_reads}
 use Rattle.net_csv.specs.Reading.{Fields, bank_in_row, debt_in_row, read_banks, read_debts, banks_header, debts_header, rows_in_file, with_banks_of, with_debts_of, network_of}
 
 pub in_row-ok : {A : Type 0} (f : FileKind) (row : ℕ) (r : Result A FaultKind) (a : A) → in_row f row r ≡ Ok a → r ≡ Ok a
@@ -74,37 +69,6 @@ network_of_ok = network_of-keeps IsNetwork (record {
   bank = λ net fields b has read room. IsNetwork-with_bank net b has (bank_from-ok net fields b read room);
   debt = λ net fields d has read room. IsNetwork-with_debt net d has (debt_from-ok net fields d read room);
 })
-
--- the chain, for one
-pub chain_is_network : IsNetwork chain
-chain_is_network = network_of_ok chain_banks chain_debts chain chain_reads
-
--- all elements pass, and one more
-all_and_one : {X : Type 0} (p : X → Bool) (xs : List X) (x : X) → list_all p xs ≡ true → p x ≡ true → list_all p (xs ++ x ∷ []) ≡ true
-all_and_one p xs x all one = rw (list_all-append p xs (x ∷ []), all, one) refl
-
--- each bank divides by the rule `order`, and each debt is of class 1
-record IsOrderOnly (net : Net) : Type 0 where
-  rules : list_all (λ b. is_order b.rule) net.banks ≡ true
-  classes : list_all (λ d. d.class == 1) net.debts ≡ true
-
-IsOrderOnly-kept : IsKept IsOrderOnly
-IsOrderOnly-kept = record {
-  empty = record { rules = refl; classes = refl };
-  bank = λ net fields b has read room. record {
-    rules = all_and_one (λ b. is_order b.rule) net.banks b has.rules (rw (bank_from-order net fields b read) refl);
-    classes = has.classes;
-  };
-  debt = λ net fields d has read room. record {
-    rules = has.rules;
-    classes = all_and_one (λ d. d.class == 1) net.debts d has.classes (rw (debt_from-class_1 net fields d read) refl);
-  };
-}
-
--- what two files give has no rule but `order` and no class but 1
-pub network_of_order_only : (banks debts : List ℕ) (net : Net) → network_of banks debts ≡ Ok net → is_order_only net ≡ true
-network_of_order_only banks debts net h =
-    let only = network_of-keeps IsOrderOnly IsOrderOnly-kept banks debts net h in rw (only.rules, only.classes) refl
 
 -- the network of two files of the allowed sizes, read one after the other
 pub network_of_read : (banks debts : List ℕ) (some net : Net) → length banks ≤ MAX_FILE_BYTES → length debts ≤ MAX_FILE_BYTES

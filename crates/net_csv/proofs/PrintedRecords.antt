@@ -8,8 +8,8 @@ use Rattle.csv.specs.Reading.{records, default_config, strip_bom}
 use Rattle.csv.specs.Writing.{default_writer, fields_text, row_text, is_blank}
 use Rattle.csv.specs.declared.parser.State.TheVariants as st
 use Rattle.csv.proofs.RoundTrip.{read-write-many}
+use Rattle.clr_net.specs.Lines.{line}
 use Rattle.net_csv.specs.Left.{records_after}
-use Rattle.net_csv.specs.Printing.{line}
 use Rattle.net_csv.specs.Reading.{Fields}
 use Rattle.net_csv.proofs.Left.{records-some, records-none}
 use Rattle.net_csv.proofs.PlainFields.{IsPlain}

@@ -1,5 +1,5 @@
 -- A printed network is read back as it was.
-use Rattle.std.proofs.Common.{◌≡◌, ◌∙◌, ◌≤◌, ◌+◌, ◌*◌, ℕ, true, List, [], ◌∷◌, ◌++◌, length, map, Ok, refl, sym, ap, arith, append_assoc}
+use Rattle.std.proofs.Common.{◌≡◌, ◌∙◌, ◌≤◌, ◌+◌, ◌*◌, ℕ, List, [], ◌∷◌, ◌++◌, length, map, Ok, refl, sym, ap, arith, append_assoc}
 use Rattle.std.specs.Prelude.{codes}
 use Rattle.std.specs.List.{flat_map}
 use Rattle.std.proofs.lemmas.List.{append-nil, length-append}
@@ -7,7 +7,6 @@ use Rattle.std.proofs.lemmas.List.Concat.{flat_map-cons}
 use Rattle.csv.specs.Reading.{strip_bom}
 use Rattle.clr_net.specs.Net.{Net, empty_net, with_bank, with_debt}
 use Rattle.clr_net.specs.Limits.{IsNetwork}
-use Rattle.clr_net.specs.OrderOnly.{is_order_only}
 use Rattle.clr_net.specs.declared.bank.Bank.{Bank}
 use Rattle.clr_net.specs.declared.debt.Debt.{Debt}
 use Rattle.net_check.specs.Field.{trimmed_start}
@@ -23,7 +22,6 @@ use Rattle.net_csv.proofs.BackRows.{bank_fields, debt_fields, bank_row, debt_row
 -- the network that is printed
 record IsPrinted (net : Net) : Type 0 where
   network : IsNetwork net
-  only : is_order_only net ≡ true
   names : KeepsNames net
 
 -- an element more before the rest
@@ -41,7 +39,7 @@ bank_rows : (net : Net) → IsPrinted net → (rest done : List Bank) → net.ba
 unfolding AreRows
 bank_rows net printed [] done e = tt
 bank_rows net printed (b ∷ rest) done e = (
-  (bank_row done b (bank_back net printed.network printed.only printed.names done rest b e)).row,
+  (bank_row done b (bank_back net printed.network printed.names done rest b e)).row,
   bank_rows net printed rest (done ++ b ∷ []) (moved net.banks done rest b e),
 )
 
@@ -49,7 +47,7 @@ debt_rows : (net : Net) → IsPrinted net → (rest done : List Debt) → net.de
 unfolding AreRows
 debt_rows net printed [] done e = tt
 debt_rows net printed (d ∷ rest) done e =
-    let back = debt_back net printed.network printed.only done rest d e in (
+    let back = debt_back net printed.network done rest d e in (
       (debt_row net done d back (debtor_back net printed done d back) (creditor_back net printed done d back)).row,
       debt_rows net printed rest (done ++ d ∷ []) (moved net.debts done rest d e),
     )
@@ -58,7 +56,7 @@ debt_rows net printed (d ∷ rest) done e =
 bank_lines : (net : Net) → IsPrinted net → (rest done : List Bank) → net.banks ≡ done ++ rest → length (flat_map bank_line rest) ≤ 100 * length rest
 bank_lines net printed [] done e = omega arith
 bank_lines net printed (b ∷ rest) done e =
-    let one = short_bank_line done b (bank_back net printed.network printed.only printed.names done rest b e) in
+    let one = short_bank_line done b (bank_back net printed.network printed.names done rest b e) in
     let more = bank_lines net printed rest (done ++ b ∷ []) (moved net.banks done rest b e) in
     let both = length-append (bank_line b) (flat_map bank_line rest) in
     rw (flat_map-cons bank_line b rest) (omega arith)
@@ -66,7 +64,7 @@ bank_lines net printed (b ∷ rest) done e =
 debt_lines : (net : Net) → IsPrinted net → (rest done : List Debt) → net.debts ≡ done ++ rest → length (flat_map (debt_line net) rest) ≤ 200 * length rest
 debt_lines net printed [] done e = omega arith
 debt_lines net printed (d ∷ rest) done e =
-    let back = debt_back net printed.network printed.only done rest d e in
+    let back = debt_back net printed.network done rest d e in
     let one = short_debt_line net done d back (debtor_back net printed done d back) (creditor_back net printed done d back) in
     let more = debt_lines net printed rest (done ++ d ∷ []) (moved net.debts done rest d e) in
     let both = length-append (debt_line net d) (flat_map (debt_line net) rest) in
@@ -79,7 +77,7 @@ banks_read_back net printed [] done row e =
     banks-end (record { banks = done; debts = [] }) row ∙ ap (λ l. Ok (record { banks = l; debts = [] })) (sym (append-nil done))
 banks_read_back net printed (b ∷ rest) done row e =
     let cur : Net = record { banks = done; debts = [] } in
-    let back = bank_back net printed.network printed.only printed.names done rest b e in
+    let back = bank_back net printed.network printed.names done rest b e in
     let kept = bank_row done b back in
     let fields = trimmed_fields (bank_fields b) in
     let one = one_bank-added cur row fields b (ap is_blank kept.trimmed ∙ kept.full)
@@ -95,7 +93,7 @@ debts_read_back net printed [] done row e =
     debts-end (record { banks = net.banks; debts = done }) row ∙ ap (λ l. Ok (record { banks = net.banks; debts = l })) (sym (append-nil done))
 debts_read_back net printed (d ∷ rest) done row e =
     let cur : Net = record { banks = net.banks; debts = done } in
-    let back = debt_back net printed.network printed.only done rest d e in
+    let back = debt_back net printed.network done rest d e in
     let debtor = debtor_back net printed done d back in
     let creditor = creditor_back net printed done d back in
     let kept = debt_row net done d back debtor creditor in
@@ -161,10 +159,9 @@ debts_file_back net printed =
     ∙ debts_read_back net printed net.debts [] 1 refl
 
 -- what is printed of a network is read back as the same network
-pub printed_is_read_back : (net : Net) → IsNetwork net → is_order_only net ≡ true → KeepsNames net
-    → network_of (banks_text net) (debts_text net) ≡ Ok net
-printed_is_read_back net network only names =
-    let printed : IsPrinted net = record { network = network; only = only; names = names } in
+pub printed_is_read_back : (net : Net) → IsNetwork net → KeepsNames net → network_of (banks_text net) (debts_text net) ≡ Ok net
+printed_is_read_back net network names =
+    let printed : IsPrinted net = record { network = network; names = names } in
     let banks = bank_lines net printed net.banks [] refl in
     let debts = debt_lines net printed net.debts [] refl in
     let few = network.banks_in_limit in

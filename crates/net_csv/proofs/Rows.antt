@@ -133,25 +133,13 @@ rows_in_file-ok : (kind : FileKind) (header : Fields) (bytes : List ℕ) (left b
     → below_header kind header left ≡ Ok below → rows_in_file kind header bytes ≡ Ok (rows_from 1 below)
 rows_in_file-ok kind header bytes left below all e = rw (← all, e) refl
 
-rows_in_file-err : (kind : FileKind) (header : Fields) (bytes : List ℕ) (left : List Fields) (f : Fault) → left ≡ records_of bytes
-    → below_header kind header left ≡ Err f → rows_in_file kind header bytes ≡ Err f
-rows_in_file-err kind header bytes left f all e = rw (← all, e) refl
-
 pub banks-below : (bytes : List ℕ) (net : Net) (left below : List Fields) → left ≡ records_of bytes → below_header file.Banks banks_header left ≡ Ok below
     → with_banks_of bytes net ≡ read_banks net (rows_from 1 below)
 banks-below bytes net left below all e = rw (rows_in_file-ok file.Banks banks_header bytes left below all e) refl
 
-pub banks-header : (bytes : List ℕ) (net : Net) (left : List Fields) (f : Fault) → left ≡ records_of bytes → below_header file.Banks banks_header left ≡ Err f
-    → with_banks_of bytes net ≡ Err f
-banks-header bytes net left f all e = rw (rows_in_file-err file.Banks banks_header bytes left f all e) refl
-
 pub debts-below : (bytes : List ℕ) (net : Net) (left below : List Fields) → left ≡ records_of bytes → below_header file.Debts debts_header left ≡ Ok below
     → with_debts_of bytes net ≡ read_debts net (rows_from 1 below)
 debts-below bytes net left below all e = rw (rows_in_file-ok file.Debts debts_header bytes left below all e) refl
-
-pub debts-header : (bytes : List ℕ) (net : Net) (left : List Fields) (f : Fault) → left ≡ records_of bytes → below_header file.Debts debts_header left ≡ Err f
-    → with_debts_of bytes net ≡ Err f
-debts-header bytes net left f all e = rw (rows_in_file-err file.Debts debts_header bytes left f all e) refl
 
 -- the records below the header are fewer than all records
 below_header-fewer : (kind : FileKind) (header : Fields) (left below : List Fields) → below_header kind header left ≡ Ok below

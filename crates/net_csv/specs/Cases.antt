@@ -5,6 +5,8 @@ use Rattle.std.specs.Fmt.{digits}
 use Rattle.std.specs.Str.{is_utf8, chars}
 use lib.Utf8.{encode}
 use Rattle.clr_net.specs.Samples.{bank, chain}
+use Rattle.clr_net.specs.declared.debt.Debt.{Debt}
+use Rattle.clr_net.specs.declared.rule.RuleKind.TheVariants as kind
 use Rattle.net_check.specs.Field.{trimmed_start, number_after}
 use Rattle.net_check.specs.declared.fault.FileKind.TheVariants as file
 use Rattle.net_check.specs.declared.fault.FaultKind.TheVariants as fault
@@ -25,6 +27,11 @@ no_debts = codes "debtor,creditor,class,claim\n"
 
 abbrev pub chain_debts : List ℕ
 chain_debts = codes "debtor,creditor,class,claim\nA,B,1,10\nB,C,1,9\n"
+
+-- a debt of a class
+abbrev debt_of_class : ℕ → ℕ → ℕ → ℕ → Debt
+debt_of_class class debtor creditor claim =
+    record { debtor = record { 0 = debtor }; creditor = record { 0 = creditor }; class = class; claim = claim }
 
 pub chain_reads : network_of chain_banks chain_debts ≡ Ok chain
 unfolding reading_on_literals
@@ -97,12 +104,14 @@ pub too_much_cash : network_of (codes "name,cash,rule\nA,1000000000001,order\n")
 unfolding reading_on_literals
 too_much_cash = refl
 
--- as long as only the rule `order` and class 1 are cleared: after Rule, and after Class and before the claim
-pub other_rule : network_of (codes "name,cash,rule\nA,7,equal\n") no_debts ≡ Err (fault_at file.Banks 1 fault.Unsupported)
+-- a bank by another rule than `order`, and a debt of another class than 1
+pub other_rule : network_of (codes "name,cash,rule\nA,7,equal\n") no_debts
+    ≡ Ok (record { banks = record { name = codes "A"; cash = 7; rule = kind.Equal } ∷ []; debts = [] })
 unfolding reading_on_literals
 other_rule = refl
 
-pub other_class : network_of chain_banks (codes "debtor,creditor,class,claim\nA,B,2,x\n") ≡ Err (fault_at file.Debts 1 fault.Unsupported)
+pub other_class : network_of chain_banks (codes "debtor,creditor,class,claim\nA,B,2,10\n")
+    ≡ Ok (record { banks = chain.banks; debts = debt_of_class 2 0 1 10 ∷ [] })
 unfolding reading_on_literals
 other_class = refl
 
@@ -131,6 +140,12 @@ pub double_debt : network_of chain_banks (codes "debtor,creditor,class,claim\nA,
     ≡ Err (fault_at file.Debts 3 fault.DoubleDebt)
 unfolding reading_on_literals
 double_debt = refl
+
+-- debts of two classes are two debts
+pub debts_of_two_classes : network_of chain_banks (codes "debtor,creditor,class,claim\nA,B,1,10\nB,C,1,9\nA,B,2,2\n")
+    ≡ Ok (record { banks = chain.banks; debts = debt_of_class 1 0 1 10 ∷ debt_of_class 1 1 2 9 ∷ debt_of_class 2 0 1 2 ∷ [] })
+unfolding reading_on_literals
+debts_of_two_classes = refl
 
 -- what is printed of the chain is its two files
 pub chain_prints_banks : banks_text chain ≡ chain_banks

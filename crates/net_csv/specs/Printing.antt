@@ -1,7 +1,8 @@
 -- The two files of a network, as bytes.
 use Rattle.std.specs.Prelude.{◌≡◌, ◌<◌, ℕ, List, [], ◌∷◌, ◌++◌, length, codes}
-use Rattle.std.specs.List.{flat_map, join_with_byte}
+use Rattle.std.specs.List.{flat_map}
 use Rattle.std.specs.Fmt.{decimal}
+use Rattle.clr_net.specs.Lines.{line}
 use Rattle.clr_net.specs.Net.{Net, name_of}
 use Rattle.clr_net.specs.declared.bank.Bank.{Bank}
 use Rattle.clr_net.specs.declared.debt.Debt.{Debt}
@@ -9,10 +10,6 @@ use Rattle.clr_net.specs.declared.rule.RuleKind.{RuleKind}
 use Rattle.clr_net.specs.declared.rule.RuleKind.TheVariants as kind
 use Rattle.net_check.specs.Field.{trimmed_field}
 use Rattle.net_csv.specs.Reading.{banks_header, debts_header}
-
--- a line: fields with commas (44) between them, and a line feed (10). No field needs quotes, since a name has no comma or quote
-abbrev pub line : List (List ℕ) → List ℕ
-line fields = join_with_byte 44 fields ++ 10 ∷ []
 
 -- the word of a rule
 abbrev pub rule_word : RuleKind → List ℕ

@@ -1,9 +1,8 @@
 ghost use Rattle.clr_net.specs.Limits.{IsNetwork};
-ghost use Rattle.clr_net.specs.OrderOnly.{is_order_only};
 ghost use Rattle.net_check.specs.declared.fault.Fault.{Fault};
 ghost use Rattle.net_csv.specs.Printing.{banks_text, debts_text};
 ghost use Rattle.net_csv.specs.Reading.{network_of};
-ghost use Rattle.std.specs.Prelude.{◌≡◌, Ok, Err, IfOk, IsErrOf, IsTrue};
+ghost use Rattle.std.specs.Prelude.{◌≡◌, Ok, Err, IfOk, IsErrOf};
 
 use crate::MAX_FILE_BYTES;
 use crate::banks::add_banks;
@@ -21,7 +20,6 @@ pub fn read_network(alloc: Global, banks: &[u8], debts: &[u8]) -> Result<Network
     ensures network { IfOk result (λ net. network_of banks.now debts.now ≡ Ok net) }
     ensures refused { (f : Fault) → IsErrOf result (ReadNet.Refused f) → network_of banks.now debts.now ≡ Err f }
     ensures lawful { IfOk result IsNetwork }
-    ensures order_only { IfOk result (λ net. IsTrue (is_order_only net)) }
 
     // What is printed of the network is read as the same network.
     ensures prints { IfOk result (λ net. network_of (banks_text net) (debts_text net) ≡ Ok net) }

@@ -34,14 +34,14 @@ fn numbered_banks(alloc: Global, count: u32) -> Result<String, AllocError> {
     Ok(text)
 }
 
-// A debts file of so many debts of one size among such banks: the first bank owes each other one, then the second.
-fn numbered_debts(alloc: Global, banks: u32, count: u32, claim: u32) -> Result<String, AllocError> {
+// A debts file of so many debts of one unit among such banks: the first bank owes each other one, then the second.
+fn numbered_debts(alloc: Global, banks: u32, count: u32) -> Result<String, AllocError> {
     let mut text = String::from_str(alloc, NO_DEBTS)?;
     let mut written = 0u32;
     for debtor in 0..banks {
         for creditor in 0..banks {
             if debtor != creditor && written < count {
-                write!(text, "{debtor},{creditor},1,{claim}\n")?;
+                write!(text, "{debtor},{creditor},1,1\n")?;
                 written += 1;
             }
         }
@@ -66,6 +66,10 @@ fn well_formed_banks_files_are_read(rt: HostRuntime) {
         (
             "name,cash,rule\nA,1000000000000,order\na,0,order\nA A,0,order\n",
             3,
+        ),
+        (
+            "name,cash,rule\nA,1,order\nB,2,equal\nC,3, losses\nD,4,jefferson\nE,5,webster\t\nF,6,adams\n",
+            6,
         ),
         ("name,cash,rule\n\u{E9}\u{2192}\u{1F600},7,order\n", 1),
         (
@@ -132,7 +136,7 @@ fn the_first_fault_of_a_banks_file_is_told(rt: HostRuntime) {
         ),
         ("name,cash,rule\nA,7,Order\n", 1, FaultKind::Rule),
         ("name,cash,rule\nA,7,\"order\n", 1, FaultKind::Rule),
-        ("name,cash,rule\nA,7,equal\n", 1, FaultKind::Unsupported),
+        ("name,cash,rule\nA,7,equals\n", 1, FaultKind::Rule),
         (
             "name,cash,rule\nA,7,order\n , \t,\nB,x,order\n",
             3,
@@ -163,6 +167,10 @@ fn well_formed_debts_files_are_read(rt: HostRuntime) {
             2,
         ),
         ("debtor,creditor,class,claim\nA,B,1,0\nB,A,1,1000000\n", 2),
+        (
+            "debtor,creditor,class,claim\nA,B,1,10\nB,C,1,9\nA,B,2,2\nA,B,9,2\n",
+            4,
+        ),
         (
             "debtor,creditor,class,claim\n,,,\n\"A\",\"B\",\"1\",00000000000000000005\n,",
             1,
@@ -223,12 +231,12 @@ fn the_first_fault_of_a_debts_file_is_told(rt: HostRuntime) {
         (
             "debtor,creditor,class,claim\nA,B,2,x\n",
             1,
-            FaultKind::Unsupported,
+            FaultKind::Number,
         ),
         (
-            "debtor,creditor,class,claim\nA,B,9,x\n",
+            "debtor,creditor,class,claim\nA,B,9,1000001\n",
             1,
-            FaultKind::Unsupported,
+            FaultKind::Limit,
         ),
         (
             "debtor,creditor,class,claim\nA,B,1,-1\n",
@@ -257,6 +265,11 @@ fn the_first_fault_of_a_debts_file_is_told(rt: HostRuntime) {
         ),
         (
             "debtor,creditor,class,claim\nA,B,1,10\n,,,\nA,B,1,10\n",
+            3,
+            FaultKind::DoubleDebt,
+        ),
+        (
+            "debtor,creditor,class,claim\nA,B,1,10\nA,B,9,10\nA,B,9,2\n",
             3,
             FaultKind::DoubleDebt,
         ),
@@ -318,7 +331,7 @@ fn a_thousand_banks_are_read_and_no_more(rt: HostRuntime) -> Result<(), Fail> {
 fn twenty_thousand_debts_are_read_and_no_more(rt: HostRuntime) -> Result<(), Fail> {
     let alloc = rt.alloc();
     let banks = numbered_banks(alloc, 142)?;
-    let mut debts = numbered_debts(alloc, 142, 20_000, 1)?;
+    let mut debts = numbered_debts(alloc, 142, 20_000)?;
     assert_eq!(rt;
         read(alloc, banks.as_bytes(), debts.as_bytes()),
         Ok((142, 20_000))
@@ -332,15 +345,17 @@ fn twenty_thousand_debts_are_read_and_no_more(rt: HostRuntime) -> Result<(), Fai
 #[test]
 fn claims_are_within_ten_million_together(rt: HostRuntime) -> Result<(), Fail> {
     let alloc = rt.alloc();
-    let banks = numbered_banks(alloc, 4)?;
-    let mut debts = numbered_debts(alloc, 4, 10, 1_000_000)?;
-    debts.push_str("3,1,1,0\n")?;
+    let mut debts = String::from_str(alloc, NO_DEBTS)?;
+    for class in 1..10 {
+        write!(debts, "A,B,{class},1000000\n")?;
+    }
+    debts.push_str("B,A,1,1000000\nB,A,2,0\n")?;
     assert_eq!(rt;
-        read(alloc, banks.as_bytes(), debts.as_bytes()),
-        Ok((4, 11))
+        read(alloc, THREE_BANKS.as_bytes(), debts.as_bytes()),
+        Ok((3, 11))
     );
-    debts.push_str("3,2,1,1\n")?;
-    let found = read(alloc, banks.as_bytes(), debts.as_bytes());
+    debts.push_str("B,A,3,1\n")?;
+    let found = read(alloc, THREE_BANKS.as_bytes(), debts.as_bytes());
     assert_eq!(rt; found, debt_fault(12, FaultKind::Total));
     Ok(())
 }
@@ -359,5 +374,21 @@ fn a_network_is_printed_plainly(rt: HostRuntime) -> Result<(), Fail> {
         printed.as_slice(),
         b"debtor,creditor,class,claim\nA,B,1,10\nB,C,1,9\n".as_slice()
     );
+    Ok(())
+}
+
+#[test]
+fn each_rule_and_class_is_printed_by_its_word_and_digit(rt: HostRuntime) -> Result<(), Fail> {
+    let banks =
+        "name,cash,rule\nA,7,order\nB,1,equal\nC,0,losses\nD,2,jefferson\nE,3,webster\nF,4,adams\n";
+    let debts =
+        "debtor,creditor,class,claim\nA,B,9,1\nA,B,8,2\nA,B,7,3\nA,B,6,4\nA,B,5,5\nB,C,4,6\nB,C,3,7\nB,C,2,8\nB,C,1,9\n";
+    let Ok(net) = read_network(rt.alloc(), banks.as_bytes(), debts.as_bytes()) else {
+        panic!(rt; "no network");
+    };
+    let printed = print_banks(rt.alloc(), &net)?;
+    assert_eq!(rt; printed.as_slice(), banks.as_bytes());
+    let printed = print_debts(rt.alloc(), &net)?;
+    assert_eq!(rt; printed.as_slice(), debts.as_bytes());
     Ok(())
 }

@@ -1,5 +1,6 @@
 use Rattle.std.proofs.Common.{arith}
-use Rattle.net_csv.specs.Printing.{line, bank_line}
+use Rattle.clr_net.specs.Lines.{line}
+use Rattle.net_csv.specs.Printing.{bank_line}
 use Rattle.net_csv.specs.Reading.{banks_header}
 use Rattle.net_csv.proofs.Lines.{line_more}
 use Rattle.net_csv.proofs.print.print_banks.Goals as goal

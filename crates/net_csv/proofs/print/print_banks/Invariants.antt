@@ -1,6 +1,7 @@
 use Rattle.std.proofs.Common.{◌≡◌, ◌++◌, take}
 use Rattle.std.specs.List.{flat_map}
-use Rattle.net_csv.specs.Printing.{line, bank_line}
+use Rattle.clr_net.specs.Lines.{line}
+use Rattle.net_csv.specs.Printing.{bank_line}
 use Rattle.net_csv.specs.Reading.{banks_header}
 use Rattle.net_csv.proofs.print.print_banks.Given as goal
 

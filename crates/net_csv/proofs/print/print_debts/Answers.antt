@@ -1,5 +1,6 @@
 use Rattle.std.proofs.Common.{arith}
-use Rattle.net_csv.specs.Printing.{line, debt_line}
+use Rattle.clr_net.specs.Lines.{line}
+use Rattle.net_csv.specs.Printing.{debt_line}
 use Rattle.net_csv.specs.Reading.{debts_header}
 use Rattle.net_csv.proofs.Lines.{line_more}
 use Rattle.net_csv.proofs.print.print_debts.Goals as goal

@@ -1,6 +1,7 @@
 use Rattle.std.proofs.Common.{◌≡◌, ◌++◌, take}
 use Rattle.std.specs.List.{flat_map}
-use Rattle.net_csv.specs.Printing.{line, debt_line}
+use Rattle.clr_net.specs.Lines.{line}
+use Rattle.net_csv.specs.Printing.{debt_line}
 use Rattle.net_csv.specs.Reading.{debts_header}
 use Rattle.net_csv.proofs.print.print_debts.Given as goal
 
