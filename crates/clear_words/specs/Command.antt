@@ -1,0 +1,27 @@
+-- The command as `clap` knows it, and the words that it takes.
+use Rattle.std.specs.Prelude.{◌==◌, Bool, true, List, codes, length, Some}
+use Rattle.clap.specs.Words.{App, Rule, Text, fault_of, new_app, new_rule, with_rule}
+use Rattle.clap.specs.Simple.{on_top}
+use Rattle.clap.specs.declared.builder.action.ArgAction.TheVariants.{Set}
+use Rattle.clear_words.specs.declared.task.JobOption.TheVariants as option
+use Rattle.clear_words.specs.Tasks.{name_of}
+
+-- the task: a required positional
+abbrev pub task_argument : Text → Rule
+task_argument name = record (new_rule name) { required = true; action = Some Set }
+
+-- an option with one value
+abbrev pub option_argument : Text → Rule
+option_argument name = record (new_rule name) { long = Some name; action = Some Set }
+
+-- the first word is no program's name, and there is no flag that asks for help
+abbrev pub plain : App
+plain = on_top (λ s. record s { no_binary_name = true; disable_help_flag = true }) (new_app (codes "clearing"))
+
+-- the task and the options, each option used at most once
+unfoldable pub command : App
+command = with_rule (with_rule (with_rule plain (task_argument (codes "task"))) (option_argument (name_of option.Banks))) (option_argument (name_of option.Debts))
+
+-- the command takes the words: it finds no fault in them
+abbrev pub is_taken : List Text → Bool
+is_taken words = length (fault_of command words) == 0

@@ -1,0 +1,5 @@
+pub mod Tasks
+pub mod Command
+pub mod Job
+pub mod Named
+pub mod Cases
