@@ -5,7 +5,6 @@ ghost use Rattle.clear_top.specs.Passes.{IsPassCount, passed, visited};
 ghost use Rattle.clr_net.specs.Amounts.{IsAtMost};
 ghost use Rattle.clr_net.specs.Limits.{IsNetwork};
 ghost use Rattle.clr_net.specs.Net.{debtor_of, row as row_of, units_owed};
-ghost use Rattle.clear_core.specs.ByUnits.{is_unit_ruled};
 ghost use Rattle.std.specs.Bool.{MatchBool, OnFalse};
 ghost use Rattle.std.specs.Prelude.{◌≡◌, ◌≢◌, ℕ, ◌+◌, ◌<◌, ◌≤◌, ◌↔◌, IfOk, IsTrue, length, map, max, slice_index, slice_set, sum};
 
@@ -25,9 +24,6 @@ pub struct Settlement {
 /// A pass goes over the banks in file order. Each looks at what is paid to it, and raises what it pays on its debts to
 /// what its rule gives from that. Memory is taken at the start alone, and `Err` is want of it.
 pub fn cleared(alloc: Global, net: &Network) -> Result<Settlement, Mem>
-    // Until the divisor rules and the other classes are wired.
-    requires unit_ruled { IsTrue (is_unit_ruled net.now) }
-
     ensures least { IfOk result (λ c. c.state.paid ≡ least net.now) }
     ensures passes { IfOk result (λ c. IsPassCount net.now c.passes) }
     ensures few_passes { IfOk result (λ c. c.passes ≤ units_owed net.now + 1) }
@@ -43,7 +39,6 @@ pub fn cleared(alloc: Global, net: &Network) -> Result<Settlement, Mem>
 // Makes passes up to the first that raises nothing, and counts them, that one too.
 fn settle(state: &mut State, net: &Network, scratch: &mut Scratch, targets: &mut [u64]) -> u64
     requires network { IsNetwork net.now }
-    requires unit_ruled { IsTrue (is_unit_ruled net.now) }
     requires over { IsOver net.now state.old }
     requires below { IsBelowLeast net.now state.old }
     requires nothing_paid { state.old.paid ≡ zeros net.now }
@@ -62,7 +57,6 @@ fn settle(state: &mut State, net: &Network, scratch: &mut Scratch, targets: &mut
 
 // Visits each bank once, in file order, and says whether any raised what it pays.
 fn pass(state: &mut State, net: &Network, scratch: &mut Scratch, targets: &mut [u64]) -> bool
-    requires unit_ruled { IsTrue (is_unit_ruled net.now) }
     requires over { IsOver net.now state.old }
     requires below { IsBelowLeast net.now state.old }
     requires rises { IsAtMost state.old.paid (pay net.now state.old.paid) }
@@ -91,7 +85,6 @@ fn visit(
     scratch: &mut Scratch,
     targets: &mut [u64],
 ) -> bool
-    requires unit_ruled { IsTrue (is_unit_ruled net.now) }
     requires bank { bank.0 < length net.now.banks }
     requires over { IsOver net.now state.old }
     requires below { IsBelowLeast net.now state.old }
@@ -113,7 +106,6 @@ fn visit(
 
 // A bank looks at what is paid on each debt that is owed to it.
 fn look(state: &mut State, net: &Network, bank: BankId, scratch: &mut Scratch)
-    requires unit_ruled { IsTrue (is_unit_ruled net.now) }
     requires bank { bank.0 < length net.now.banks }
     requires over { IsOver net.now state.old }
     requires below { IsBelowLeast net.now state.old }
@@ -137,7 +129,6 @@ fn raise_row(
     scratch: &mut Scratch,
     targets: &[u64],
 ) -> bool
-    requires unit_ruled { IsTrue (is_unit_ruled net.now) }
     requires bank { bank.0 < length net.now.banks }
     requires over { IsOver net.now state.old }
     requires below { IsBelowLeast net.now state.old }
@@ -160,7 +151,6 @@ fn raise_row(
 
 // Raises what is paid on a debt to a target, if it is below that, and says whether it was.
 fn raise(state: &mut State, net: &Network, debt: DebtId, target: u64, scratch: &mut Scratch) -> bool
-    requires unit_ruled { IsTrue (is_unit_ruled net.now) }
     requires debt { debt.0 < length net.now.debts }
     requires over { IsOver net.now state.old }
     requires below { IsBelowLeast net.now state.old }

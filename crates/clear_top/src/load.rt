@@ -1,7 +1,6 @@
 ghost use Rattle.clear_top.specs.Ending.{Gives, IsFile, Stops, StopsFetch};
 ghost use Rattle.clear_top.specs.Job.{job_shown};
 ghost use Rattle.clr_edge.specs.Faults.{NoneFalls};
-ghost use Rattle.clr_net.specs.OrderOnly.{is_order_only};
 ghost use Rattle.net_csv.specs.declared.TheConstants.{MAX_FILE_BYTES};
 ghost use Rattle.std.specs.Prelude.{◌≡◌, ◌≤◌, length, IfOk, IfErr, IsTrue};
 
@@ -26,7 +25,6 @@ pub enum Stop {
 /// The network that the files of a job give. Each file's size is looked at before the next file is fetched.
 pub fn load<F: Shelf>(alloc: Global, job: &Job<'_>, files: &mut F) -> Result<Network, Stop>
     ensures network { IfOk result (λ net. Gives (F.files files.old) (job_shown job.now) (Ok net)) }
-    ensures order_only { IfOk result (λ net. IsTrue (is_order_only net)) }
     ensures stopped { IfErr result (Stops (F.files files.old) (F.faults files.old) (F.faults files.new) (job_shown job.now)) }
 {
     let banks = fetch_whole(alloc, files, FileKind::Banks, job.banks)?;

@@ -1,3 +1,5 @@
+mod twelve_banks;
+
 use crate::{Status, run};
 use clr_edge::{MemShelf, MemSink, OpenGate};
 use net_check::{Fault, FaultKind, FileKind};
@@ -13,6 +15,23 @@ const CHAIN_BANKS: &str = "name,cash,rule\nA,7,order\nB,1,order\nC,0,order\n";
 const CHAIN_DEBTS: &str = "debtor,creditor,class,claim\nA,B,1,10\nB,C,1,9\n";
 
 const CHAIN_TEXT: &str = "debtor,creditor,class,claim,paid\nA,B,1,10,7\nB,C,1,9,8\n";
+
+const TWO_BANKS: &str = "name,cash,rule\nA,0,order\nB,0,order\n";
+
+// The most that may be owed, and a debt of one unit more.
+const TOTAL_AND_ONE_MORE: &str =
+    "debtor,creditor,class,claim\nA,B,1,1000000\nA,B,2,1000000\nA,B,3,1000000\n\
+A,B,4,1000000\nA,B,5,1000000\nA,B,6,1000000\nA,B,7,1000000\nA,B,8,1000000\nA,B,9,1000000\nB,A,1,1000000\nB,A,2,1\n";
+
+// The most that may be owed, and a debt of no unit more.
+const TOTAL_AND_NO_MORE: &str =
+    "debtor,creditor,class,claim\nA,B,1,1000000\nA,B,2,1000000\nA,B,3,1000000\n\
+A,B,4,1000000\nA,B,5,1000000\nA,B,6,1000000\nA,B,7,1000000\nA,B,8,1000000\nA,B,9,1000000\nB,A,1,1000000\nB,A,2,0\n";
+
+// Nothing is there to be paid.
+const TOTAL_PAYMENTS: &str = "debtor,creditor,class,claim,paid\nA,B,1,1000000,0\nA,B,2,1000000,0\n\
+A,B,3,1000000,0\nA,B,4,1000000,0\nA,B,5,1000000,0\nA,B,6,1000000,0\nA,B,7,1000000,0\nA,B,8,1000000,0\n\
+A,B,9,1000000,0\nB,A,1,1000000,0\nB,A,2,0,0\n";
 
 // Two files, and what a run on them comes to.
 #[derive(Drop)]
@@ -56,7 +75,7 @@ fn check<R: Threads + Sync + Abort>(rt: &R, alloc: Global, case: &Case<'_>) -> R
     let mut files = MemShelf::make(alloc);
     files.add("b.csv", case.banks.as_bytes())?;
     files.add("d.csv", case.debts.as_bytes())?;
-    let mut out = MemSink::with_room(alloc, 1000, 1000, 0)?;
+    let mut out = MemSink::with_room(alloc, 2000, 1000, 0)?;
     let mut err = MemSink::with_room(alloc, 1000, 1000, 0)?;
     let status = run(rt, alloc, &WORDS, &mut files, &mut out, &mut err, &OpenGate);
     assert_eq!(rt; status, case.status);
@@ -86,10 +105,17 @@ fn payments_of_small_networks(rt: HostRuntime) -> Result<(), Fail> {
             "debtor,creditor,class,claim\n",
             "debtor,creditor,class,claim,paid\n",
         ),
+        done(TWO_BANKS, TOTAL_AND_NO_MORE, TOTAL_PAYMENTS),
         done(
             "name,cash,rule\nA,1000000000000,order\nB,0,order\n",
             "debtor,creditor,class,claim\nA,B,1,1000000\n",
             "debtor,creditor,class,claim,paid\nA,B,1,1000000,1000000\n",
+        ),
+        // Two debts of two classes between the same banks: the lower class is paid first.
+        done(
+            CHAIN_BANKS,
+            "debtor,creditor,class,claim\nA,B,1,10\nB,C,1,9\nA,B,2,2\n",
+            "debtor,creditor,class,claim,paid\nA,B,1,10,7\nB,C,1,9,8\nA,B,2,2,0\n",
         ),
         // A byte order mark, line ends of two bytes, spaces round fields, and none after the last record.
         done(
@@ -102,6 +128,19 @@ fn payments_of_small_networks(rt: HostRuntime) -> Result<(), Fail> {
         check(&rt, rt.alloc(), case)?;
     }
     Ok(())
+}
+
+#[test]
+fn twelve_banks_by_all_rules(rt: HostRuntime) -> Result<(), Fail> {
+    check(
+        &rt,
+        rt.alloc(),
+        &done(
+            twelve_banks::BANKS,
+            twelve_banks::DEBTS,
+            twelve_banks::PAYMENTS,
+        ),
+    )
 }
 
 #[test]
@@ -144,10 +183,16 @@ fn faults_of_files_are_named(rt: HostRuntime) -> Result<(), Fail> {
             "clearing: banks row 0: header (1)\n",
         ),
         refused(
-            "name,cash,rule\nA,7,equal\n",
+            "name,cash,rule\nA,7,equally\n",
             "debtor,creditor,class,claim\n",
-            (FileKind::Banks, 1, FaultKind::Unsupported),
-            "clearing: banks row 1: unsupported (18)\n",
+            (FileKind::Banks, 1, FaultKind::Rule),
+            "clearing: banks row 1: rule (5)\n",
+        ),
+        refused(
+            TWO_BANKS,
+            TOTAL_AND_ONE_MORE,
+            (FileKind::Debts, 11, FaultKind::Total),
+            "clearing: debts row 11: total (13)\n",
         ),
     ];
     for case in &cases {

@@ -8,7 +8,6 @@ ghost use Rattle.clr_edge.specs.Sink.{with_bytes, WritesPart};
 ghost use Rattle.net_check.specs.declared.fault.Fault.{Fault};
 ghost use Rattle.net_check.specs.declared.fault.FileKind.{FileKind};
 ghost use Rattle.std.specs.Prelude.{◌≡◌, ◌≢◌, ◌⊎◌, ◌↔◌, ℕ, List, IfOk, IsTrue, map};
-ghost use Rattle.clr_net.specs.OrderOnly.{is_order_only};
 
 use crate::clearing::cleared;
 use crate::job::{Job, read_job};
@@ -110,7 +109,6 @@ fn carry_out<F: Shelf, O: Sink>(alloc: Global, job: &Job<'_>, files: &mut F, out
 
 // The text of the least clearing payments of a network.
 fn text_for(alloc: Global, net: &Network) -> Result<Vec<u8>, Mem>
-    requires { IsTrue (is_order_only net.now) }
     ensures { IfOk result (λ text. text.items ≡ text_of net.now) }
 {
     let outcome = cleared(alloc, net)?;

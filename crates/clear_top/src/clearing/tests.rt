@@ -1,5 +1,4 @@
 ghost use Rattle.clr_net.specs.Net.{with_bank, with_debt};
-ghost use Rattle.clear_core.specs.ByUnits.{is_unit_ruled};
 ghost use Rattle.clr_net.specs.Samples.{bank, debt};
 ghost use Rattle.std.specs.Prelude.{◌≡◌, IfOk, IsTrue, OnOk};
 
@@ -50,9 +49,7 @@ fn add_debt(net: &mut Network, debtor: u32, creditor: u32, claim: u64) -> Result
 }
 
 // A and B owe each other the same claim. A has cash, and B has none.
-fn ring(alloc: Global, cash: u64, claim: u64) -> Result<Network, Mem>
-    ensures unit_ruled { IfOk result (λ net. IsTrue (is_unit_ruled net)) }
-{
+fn ring(alloc: Global, cash: u64, claim: u64) -> Result<Network, Mem> {
     let mut net = Network::empty(alloc);
     add_bank(alloc, &mut net, b"A", cash)?;
     add_bank(alloc, &mut net, b"B", 0)?;
@@ -62,9 +59,7 @@ fn ring(alloc: Global, cash: u64, claim: u64) -> Result<Network, Mem>
 }
 
 // A owes B 10, and B owes C 9; A has 7 and B has 1.
-fn chain(alloc: Global) -> Result<Network, Mem>
-    ensures unit_ruled { IfOk result (λ net. IsTrue (is_unit_ruled net)) }
-{
+fn chain(alloc: Global) -> Result<Network, Mem> {
     let mut net = Network::empty(alloc);
     add_bank(alloc, &mut net, b"A", 7)?;
     add_bank(alloc, &mut net, b"B", 1)?;

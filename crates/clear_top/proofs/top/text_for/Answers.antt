@@ -4,7 +4,6 @@ use Rattle.std.proofs.lemmas.List.{length-replicate}
 use Rattle.clr_net.specs.Net.{Net, units_owed}
 use Rattle.clear_core.specs.Clearing.{rounds}
 use Rattle.clear_core.proofs.Pay.{length-pay}
-use Rattle.clear_core.proofs.UnitRuled.{order_only_is_unit_ruled}
 use Rattle.clear_top.proofs.top.text_for.Goals as goal
 
 places : (net : Net) (n : ℕ) → length (rounds net n) ≡ length net.debts
@@ -14,7 +13,3 @@ places net (suc n) = length-pay net (rounds net n)
 
 pub pay_text-requires : goal.pay_text-requires
 pay_text-requires c = ap length (c.paid.ensures ∙ c.in_ok-outcome.ensures.least) ∙ places c.args.net.now (units_owed c.args.net.now)
-
--- a network by order alone is one that is cleared
-pub cleared-requires : goal.cleared-requires
-cleared-requires c = record { unit_ruled = order_only_is_unit_ruled c.args.net.now c.requires }
