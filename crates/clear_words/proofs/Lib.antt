@@ -1,2 +1,4 @@
 pub mod Values
 pub mod Taken
+pub mod PlainWords
+pub mod FiveWords

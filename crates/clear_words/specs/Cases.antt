@@ -19,29 +19,35 @@ on_words = tt
 abbrev on_files : Task → Option Job
 on_files task = Some (record { task = task; banks = codes "b.csv"; debts = codes "d.csv" })
 
-pub check_is_job : job_of (codes "check" ∷ codes "--banks" ∷ codes "b.csv" ∷ codes "--debts" ∷ codes "d.csv" ∷ []) ≡ on_files task.Check
+pub check_is_job : job_of (codes "check" ∷ codes "--banks" ∷ codes "b.csv" ∷ codes "--debts" ∷ codes "d.csv" ∷ [])
+    ≡ on_files task.Check
 unfolding on_words
 check_is_job = refl
 
-pub clear_is_job : job_of (codes "clear" ∷ codes "--banks" ∷ codes "b.csv" ∷ codes "--debts" ∷ codes "d.csv" ∷ []) ≡ on_files task.Clear
+pub clear_is_job : job_of (codes "clear" ∷ codes "--banks" ∷ codes "b.csv" ∷ codes "--debts" ∷ codes "d.csv" ∷ [])
+    ≡ on_files task.Clear
 unfolding on_words
 clear_is_job = refl
 
-pub central_is_job : job_of (codes "central" ∷ codes "--banks" ∷ codes "b.csv" ∷ codes "--debts" ∷ codes "d.csv" ∷ []) ≡ on_files task.Central
+pub central_is_job : job_of (codes "central" ∷ codes "--banks" ∷ codes "b.csv" ∷ codes "--debts" ∷ codes "d.csv" ∷ [])
+    ≡ on_files task.Central
 unfolding on_words
 central_is_job = refl
 
 -- the options may stand in any order, before the task too, and with their values in one word
-pub options_first_is_job : job_of (codes "--debts" ∷ codes "d.csv" ∷ codes "--banks=b.csv" ∷ codes "clear" ∷ []) ≡ on_files task.Clear
+pub options_first_is_job : job_of (codes "--debts" ∷ codes "d.csv" ∷ codes "--banks=b.csv" ∷ codes "clear" ∷ [])
+    ≡ on_files task.Clear
 unfolding on_words
 options_first_is_job = refl
 
 -- after two dashes there are no options
-pub task_after_dashes_is_job : job_of (codes "--banks" ∷ codes "b.csv" ∷ codes "--debts" ∷ codes "d.csv" ∷ codes "--" ∷ codes "clear" ∷ []) ≡ on_files task.Clear
+pub task_after_dashes_is_job : job_of (codes "--banks" ∷ codes "b.csv" ∷ codes "--debts" ∷ codes "d.csv" ∷ codes "--" ∷ codes "clear" ∷ [])
+    ≡ on_files task.Clear
 unfolding on_words
 task_after_dashes_is_job = refl
 
-pub option_after_dashes_is_none : job_of (codes "clear" ∷ codes "--banks" ∷ codes "b.csv" ∷ codes "--" ∷ codes "--debts" ∷ codes "d.csv" ∷ []) ≡ None
+pub option_after_dashes_is_none : job_of (codes "clear" ∷ codes "--banks" ∷ codes "b.csv" ∷ codes "--" ∷ codes "--debts" ∷ codes "d.csv" ∷ [])
+    ≡ None
 unfolding on_words
 option_after_dashes_is_none = refl
 
@@ -54,7 +60,8 @@ pub missing_value_is_none : job_of (codes "clear" ∷ codes "--banks" ∷ codes 
 unfolding on_words
 missing_value_is_none = refl
 
-pub option_twice_is_none : job_of (codes "clear" ∷ codes "--banks" ∷ codes "b.csv" ∷ codes "--banks" ∷ codes "b.csv" ∷ codes "--debts" ∷ codes "d.csv" ∷ []) ≡ None
+pub option_twice_is_none : job_of (codes "clear" ∷ codes "--banks" ∷ codes "b.csv" ∷ codes "--banks" ∷ codes "b.csv" ∷ codes "--debts" ∷ codes "d.csv" ∷ [])
+    ≡ None
 unfolding on_words
 option_twice_is_none = refl
 
@@ -62,20 +69,24 @@ pub empty_name_is_none : job_of (codes "clear" ∷ codes "--banks" ∷ [] ∷ co
 unfolding on_words
 empty_name_is_none = refl
 
-pub name_with_dash_is_none : job_of (codes "clear" ∷ codes "--banks=-b.csv" ∷ codes "--debts" ∷ codes "d.csv" ∷ []) ≡ None
+pub name_with_dash_is_none : job_of (codes "clear" ∷ codes "--banks=-b.csv" ∷ codes "--debts" ∷ codes "d.csv" ∷ [])
+    ≡ None
 unfolding on_words
 name_with_dash_is_none = refl
 
 -- no other words are a job
-pub other_task_is_none : job_of (codes "Clear" ∷ codes "--banks" ∷ codes "b.csv" ∷ codes "--debts" ∷ codes "d.csv" ∷ []) ≡ None
+pub other_task_is_none : job_of (codes "Clear" ∷ codes "--banks" ∷ codes "b.csv" ∷ codes "--debts" ∷ codes "d.csv" ∷ [])
+    ≡ None
 unfolding on_words
 other_task_is_none = refl
 
-pub other_option_is_none : job_of (codes "clear" ∷ codes "--banks" ∷ codes "b.csv" ∷ codes "--debts" ∷ codes "d.csv" ∷ codes "--workers=2" ∷ []) ≡ None
+pub other_option_is_none : job_of (codes "clear" ∷ codes "--banks" ∷ codes "b.csv" ∷ codes "--debts" ∷ codes "d.csv" ∷ codes "--workers=2" ∷ [])
+    ≡ None
 unfolding on_words
 other_option_is_none = refl
 
-pub word_too_many_is_none : job_of (codes "clear" ∷ codes "again" ∷ codes "--banks" ∷ codes "b.csv" ∷ codes "--debts" ∷ codes "d.csv" ∷ []) ≡ None
+pub word_too_many_is_none : job_of (codes "clear" ∷ codes "again" ∷ codes "--banks" ∷ codes "b.csv" ∷ codes "--debts" ∷ codes "d.csv" ∷ [])
+    ≡ None
 unfolding on_words
 word_too_many_is_none = refl
 

@@ -10,7 +10,7 @@ use Rattle.clear_words.specs.Tasks.{name_of}
 abbrev pub task_argument : Text → Rule
 task_argument name = record (new_rule name) { required = true; action = Some Set }
 
--- an option with one value
+-- an option with one value: by `Set` a second use is a fault
 abbrev pub option_argument : Text → Rule
 option_argument name = record (new_rule name) { long = Some name; action = Some Set }
 
@@ -18,9 +18,11 @@ option_argument name = record (new_rule name) { long = Some name; action = Some 
 abbrev pub plain : App
 plain = on_top (λ s. record s { no_binary_name = true; disable_help_flag = true }) (new_app (codes "clearing"))
 
--- the task and the options, each option used at most once
+-- the task and the options
 unfoldable pub command : App
-command = with_rule (with_rule (with_rule plain (task_argument (codes "task"))) (option_argument (name_of option.Banks))) (option_argument (name_of option.Debts))
+command =
+    with_rule (with_rule (with_rule plain (task_argument (codes "task"))) (option_argument (name_of option.Banks)))
+    (option_argument (name_of option.Debts))
 
 -- the command takes the words: it finds no fault in them
 abbrev pub is_taken : List Text → Bool

@@ -3,3 +3,4 @@ pub mod Command
 pub mod Job
 pub mod Named
 pub mod Cases
+pub mod Fault

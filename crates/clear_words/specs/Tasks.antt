@@ -6,12 +6,18 @@ use Rattle.clear_words.specs.declared.task.Task.TheVariants as task
 use Rattle.clear_words.specs.declared.task.JobOption.{JobOption}
 use Rattle.clear_words.specs.declared.task.JobOption.TheVariants as option
 
+-- the word of a task
+abbrev pub word_of : Task → List ℕ
+word_of task.Check = codes "check"
+word_of task.Clear = codes "clear"
+word_of task.Central = codes "central"
+
 -- the task that a word names
 abbrev pub task_named : List ℕ → Option Task
 task_named word =
-    if bytes_eq word (codes "check") then Some task.Check
-    else if bytes_eq word (codes "clear") then Some task.Clear
-    else if bytes_eq word (codes "central") then Some task.Central
+    if bytes_eq word (word_of task.Check) then Some task.Check
+    else if bytes_eq word (word_of task.Clear) then Some task.Clear
+    else if bytes_eq word (word_of task.Central) then Some task.Central
     else None
 
 -- the name of an option, without its dashes

@@ -1,4 +1,4 @@
-ghost use Rattle.clap.specs.Words.{first_value, found_of, kind_of, matches_of, rows_of};
+ghost use Rattle.clap.specs.Words.{first_value, found_of, matches_of, rows_of};
 ghost use Rattle.clear_words.specs.Command.{command as the_command, is_taken};
 ghost use Rattle.clear_words.specs.Job.{file_in, job_in, job_of};
 ghost use Rattle.clear_words.specs.Named.{shown};
@@ -7,12 +7,11 @@ ghost use Rattle.std.specs.Option.{option_map};
 ghost use Rattle.std.specs.Prelude.{◌≡◌, IfOk, IsErrOf, None, Some, false, map, true};
 
 use crate::command::{TASK, command};
+use crate::fault::WordsFault;
 use crate::file_name::{FileName, may_name_file};
 use crate::task::{JobOption, Task};
 use clap::ArgMatches;
-use clap::error::ErrorKind;
-use clr_net::Mem;
-use std::alloc::{AllocError, Global};
+use std::alloc::Global;
 
 /// What the program is to do, and the files to do it on.
 #[derive(Drop)]
@@ -23,15 +22,6 @@ pub struct Job {
     pub banks: FileName,
     /// The name of the debts file.
     pub debts: FileName,
-}
-
-/// Why words give no job.
-#[derive(Clone, Copy, Debug, PartialEq, Eq)]
-pub enum WordsFault {
-    /// The words are no job.
-    Usage,
-    /// Want of memory.
-    Mem,
 }
 
 /// Reads the words after the program's name.
@@ -53,40 +43,6 @@ fn matches_in<'a>(alloc: Global, words: &'a [&str]) -> Result<ArgMatches<'a>, Wo
     ensures refused { IsErrOf result WordsFault.Usage → is_taken (map (λ word. word.now) words.now) ≡ false }
 {
     Ok(command(alloc)?.try_get_matches_from(words)?)
-}
-
-impl From<AllocError> for WordsFault {
-    ghost use Rattle.clear_words.specs.declared.job.WordsFault.{WordsFault};
-
-    ghost from_gives = { λ _ fault. fault ≡ WordsFault.Mem };
-
-    fn from(_e: AllocError) -> WordsFault {
-        WordsFault::Mem
-    }
-}
-
-impl From<Mem> for WordsFault {
-    ghost use Rattle.clear_words.specs.declared.job.WordsFault.{WordsFault};
-
-    ghost from_gives = { λ _ fault. fault ≡ WordsFault.Mem };
-
-    fn from(_e: Mem) -> WordsFault {
-        WordsFault::Mem
-    }
-}
-
-impl From<clap::Error> for WordsFault {
-    ghost use Rattle.clap.specs.declared.error.kind.ErrorKind.{ErrorKind};
-    ghost use Rattle.clear_words.specs.declared.job.WordsFault.{WordsFault};
-
-    ghost from_gives = { λ e fault. kind_of e ≡ ErrorKind.OutOfMemory → fault ≡ WordsFault.Mem };
-
-    fn from(e: clap::Error) -> WordsFault {
-        match e.kind() {
-            ErrorKind::OutOfMemory => WordsFault::Mem,
-            _ => WordsFault::Usage,
-        }
-    }
 }
 
 // The task and the names of its files, in the words themselves.

@@ -5,12 +5,15 @@
 #![tactic(auto)]
 
 mod command;
+mod fault;
 mod file_name;
 mod job;
+pub mod laws;
 mod task;
 
+pub use fault::WordsFault;
 pub use file_name::FileName;
-pub use job::{Job, WordsFault, read_words};
+pub use job::{Job, read_words};
 pub use task::Task;
 
 #[cfg(test)]

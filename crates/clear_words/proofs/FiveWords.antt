@@ -1,0 +1,128 @@
+-- A task and both files, each by its option, are a job.
+use Rattle.std.proofs.Common.{◌≡◌, ◌∙◌, ◌∷◌, List, None, Some, [], ap, ap₂, codes, refl, true}
+use Rattle.std.specs.Prelude.{◌==◌, if◌then◌else◌, is_some, length, option_and_then}
+use Rattle.clap.specs.Faults.{check_fault, defaults_fault, entered_fault, settle_fault, walk_fault}
+use Rattle.clap.specs.Kinds.{Kinds, or_else}
+use Rattle.clap.specs.Simple.{App, Shape, built, entered}
+use Rattle.clap.specs.Walk.{Rule, Text, Walk, after_step, finished, idle, nothing_held, plain_word, settled, walk, walk_from, walked}
+use Rattle.clap.specs.Words.{Row, fault_of, first_of, matches_of}
+use Rattle.clap.proofs.OnLiterals.{clap_on_literals}
+use Rattle.clear_words.specs.Command.{command}
+use Rattle.clear_words.specs.Job.{file_in, job_for, job_in, job_of, job_on, may_name_a_file}
+use Rattle.clear_words.specs.Tasks.{is_required, task_named, word_of}
+use Rattle.clear_words.specs.declared.task.Task.{Task}
+use Rattle.clear_words.specs.declared.task.Task.TheVariants as task
+use Rattle.clear_words.specs.declared.task.JobOption.TheVariants as option
+use Rattle.clear_words.proofs.PlainWords.{IsPlainWord, named_is_plain, plain_walked, plain_walk_fault}
+
+abbrev app : App
+app = built command
+
+abbrev shape : Shape
+shape = app.top
+
+abbrev rules : List Rule
+rules = shape.rules
+
+abbrev banks_word : Text
+banks_word = codes "--banks"
+
+abbrev debts_word : Text
+debts_word = codes "--debts"
+
+abbrev words : Text → Text → Text → List Text
+words task banks debts = task ∷ banks_word ∷ banks ∷ debts_word ∷ debts ∷ []
+
+-- where the walk stands after each of the words
+abbrev with_value : Walk → Text → Walk
+with_value w word = after_step rules word w (plain_word rules w.waiting word w.held).0 (plain_word rules w.waiting word w.held).1
+
+abbrev after_task : Text → Walk
+after_task task = with_value (walk_from nothing_held) task
+
+abbrev before_banks : Text → Walk
+before_banks task = walked rules [] (after_task task) banks_word
+
+abbrev after_banks : Text → Text → Walk
+after_banks task banks = with_value (before_banks task) banks
+
+abbrev before_debts : Text → Text → Walk
+before_debts task banks = walked rules [] (after_banks task banks) debts_word
+
+abbrev after_debts : Text → Text → Text → Walk
+after_debts task banks debts = with_value (before_debts task banks) debts
+
+five_walked : (task banks debts : Text) → IsPlainWord task → IsPlainWord banks → IsPlainWord debts
+    → walk rules [] nothing_held (words task banks debts) ≡ after_debts task banks debts
+unfolding clap_on_literals command
+five_walked task banks debts is_task is_banks is_debts =
+    ap (λ w. walked rules [] (walked rules [] (walked rules [] (walked rules [] w banks_word) banks) debts_word) debts)
+    (plain_walked rules nothing_held idle 1 task is_task refl)
+    ∙ ap (λ w. walked rules [] (walked rules [] w debts_word) debts)
+    (plain_walked rules (before_banks task).held (before_banks task).waiting (before_banks task).position
+    banks is_banks refl)
+    ∙ plain_walked rules (before_debts task banks).held (before_debts task banks).waiting (before_debts task banks).position
+    debts is_debts refl
+
+five_walk_fault : (task banks debts : Text) → IsPlainWord task → IsPlainWord banks → IsPlainWord debts
+    → walk_fault shape [] (walk_from nothing_held) (words task banks debts) ≡ []
+unfolding clap_on_literals command
+five_walk_fault task banks debts is_task is_banks is_debts =
+    plain_walk_fault shape nothing_held idle 1 task (banks_word ∷ banks ∷ debts_word ∷ debts ∷ []) is_task refl
+    ∙ plain_walk_fault shape (before_banks task).held (before_banks task).waiting (before_banks task).position
+    banks (debts_word ∷ debts ∷ []) is_banks refl
+    ∙ plain_walk_fault shape (before_debts task banks).held (before_debts task banks).waiting (before_debts task banks).position
+    debts [] is_debts refl
+
+-- the fault of a parse, by that of its walk and by where the walk ends
+abbrev fault_after : Kinds → Walk → Kinds
+fault_after fault w = or_else fault
+    (or_else (entered_fault app w.stopped) (or_else (settle_fault rules shape.args_override_self w.held)
+    (or_else (defaults_fault (settled rules w.held).rows rules)
+    (check_fault shape (finished rules w.held) (is_some (entered app w.stopped))))))
+
+five_fault : (task banks debts : Text) → IsPlainWord task → IsPlainWord banks → IsPlainWord debts
+    → fault_of command (words task banks debts) ≡ []
+unfolding clap_on_literals command
+five_fault task banks debts is_task is_banks is_debts = ap₂ fault_after
+    (five_walk_fault task banks debts is_task is_banks is_debts) (five_walked task banks debts is_task is_banks is_debts)
+
+abbrev five_rows : Text → Text → Text → List Row
+five_rows task banks debts = finished rules (after_debts task banks debts).held
+
+five_matches : (task banks debts : Text) → IsPlainWord task → IsPlainWord banks → IsPlainWord debts
+    → matches_of command (words task banks debts) ≡ five_rows task banks debts
+unfolding clap_on_literals command
+five_matches task banks debts is_task is_banks is_debts =
+    ap (λ w. finished rules w.held) (five_walked task banks debts is_task is_banks is_debts)
+
+task_of_word : (t : Task) → task_named (word_of t) ≡ Some t
+task_of_word task.Check = refl
+task_of_word task.Clear = refl
+task_of_word task.Central = refl
+
+may_name : (t : Task) → may_name_a_file (word_of t) ≡ true
+may_name task.Check = refl
+may_name task.Clear = refl
+may_name task.Central = refl
+
+-- a task requires both files
+both_files : (t : Task) (banks debts : Text) → may_name_a_file banks ≡ true → may_name_a_file debts ≡ true
+    → job_on t (file_in (is_required t option.Banks) (Some banks)) (file_in (is_required t option.Debts) (Some debts))
+    ≡ Some (record { task = t; banks = banks; debts = debts })
+both_files task.Check banks debts b d = rw (b, d) refl
+both_files task.Clear banks debts b d = rw (b, d) refl
+both_files task.Central banks debts b d = rw (b, d) refl
+
+pub five_words : (t : Task) (banks debts : Text) → may_name_a_file banks ≡ true → may_name_a_file debts ≡ true
+    → job_of (words (word_of t) banks debts) ≡ Some (record { task = t; banks = banks; debts = debts })
+unfolding clap_on_literals command job_of
+five_words t banks debts b d =
+    let is_task = named_is_plain (word_of t) (may_name t) in
+    let is_banks = named_is_plain banks b in
+    let is_debts = named_is_plain debts d in
+    ap₂ (λ faults rows. if length faults == 0 then job_in (λ id. first_of id rows) else None)
+    (five_fault (word_of t) banks debts is_task is_banks is_debts)
+    (five_matches (word_of t) banks debts is_task is_banks is_debts)
+    ∙ ap (option_and_then (job_for (λ id. first_of id (five_rows (word_of t) banks debts)))) (task_of_word t)
+    ∙ both_files t banks debts b d
