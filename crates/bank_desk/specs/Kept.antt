@@ -1,0 +1,20 @@
+-- How the type `Desk` keeps what a bank knows.
+use Rattle.clr_net.specs.Net.{numbers}
+use Rattle.bank_desk.specs.declared.desk.Desk.TheInside.{Inside}
+use Rattle.bank_desk.specs.Desks.{BankView, IsSound}
+
+-- the bank that contracts see
+abbrev pub view_of : Inside → BankView
+view_of a = record {
+  bank = a.bank.0;
+  cash = a.cash;
+  rule = a.rule;
+  debts_out = numbers a.debts_out.items;
+  claims = a.claims.items;
+  classes = a.classes.items;
+  debts_in = numbers a.debts_in.items;
+}
+
+-- what always holds of the fields
+abbrev pub IsKept : Inside → Type 0
+IsKept a = IsSound (view_of a)

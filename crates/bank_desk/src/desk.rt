@@ -1,0 +1,122 @@
+ghost use Rattle.bank_desk.specs.Desks.{IsSound, desk_of, target as target_of};
+ghost use Rattle.clr_net.specs.Net.{claims_of, classes_of, numbers};
+ghost use Rattle.clr_net.specs.declared.TheConstants.{MAX_OWED};
+ghost use Rattle.std.specs.Prelude.{◌≡◌, ◌<◌, ◌≤◌, IfOk, length};
+
+use clear_core::share_of;
+use clr_net::{BankId, DebtId, Mem, Network, RuleKind};
+use std::alloc::Global;
+use std::marker::Model;
+
+/// What one bank of a network knows: itself, the debts that it owes, and the numbers of those that are owed to it.
+///
+/// Contracts see a record of this and nothing else, `BankView`. What a desk holds always is in the limits of a
+/// network (`IsSound`).
+#[derive(Drop)]
+pub struct Desk {
+    bank: BankId,
+    cash: u64,
+    rule: RuleKind,
+    debts_out: Vec<DebtId>,
+    claims: Vec<u64>,
+    classes: Vec<u8>,
+    debts_in: Vec<DebtId>,
+}
+
+impl Model for Desk {
+    ghost use Rattle.bank_desk.specs.Desks.{BankView};
+
+    ghost Value = { BankView };
+
+    ghost use Rattle.bank_desk.specs.Kept.{view_of, IsKept};
+
+    ghost view = { view_of };
+
+    ghost invariant = { IsKept };
+}
+
+impl Desk {
+    /// The desk of a bank of a network: copies of what the bank knows. Its costs grow with the bank's own debts.
+    pub fn of(alloc: Global, net: &Network, bank: BankId) -> Result<Desk, Mem>
+        requires bank { bank.0 < length net.now.banks }
+        ensures { IfOk result (λ desk. desk ≡ desk_of net.now bank.0) }
+    {
+        prove!(bank.0 < net.banks());
+        let known = net.bank(bank);
+        let (cash, rule) = (known.cash, known.rule);
+        Ok(Desk {
+            bank,
+            cash,
+            rule,
+            debts_out: Vec::from_slice(alloc, net.row(bank))?,
+            claims: claims_owed(alloc, net, bank)?,
+            classes: classes_owed(alloc, net, bank)?,
+            debts_in: Vec::from_slice(alloc, net.column(bank))?,
+        })
+    }
+
+    /// The bank whose desk this is.
+    pub fn bank(&self) -> BankId
+        ensures bank { result.0 ≡ self.now.bank }
+        ensures sound { IsSound self.now }
+    {
+        self.bank
+    }
+
+    /// The debts that the bank owes, in file order.
+    pub fn debts_out(&self) -> &[DebtId]
+        ensures { numbers result.now ≡ self.now.debts_out }
+    {
+        self.debts_out.as_slice()
+    }
+
+    /// The debts that are owed to the bank, in file order.
+    pub fn debts_in(&self) -> &[DebtId]
+        ensures { numbers result.now ≡ self.now.debts_in }
+    {
+        self.debts_in.as_slice()
+    }
+
+    /// Writes what the bank's rule gives each of its debts, of its cash and of so many units received.
+    ///
+    /// `into` has a place for each debt that the bank owes, in file order, in units. Takes no memory.
+    pub fn target(&self, receipts: u64, into: &mut [u64])
+        requires places { length into.old ≡ length self.now.debts_out }
+        requires receipts { receipts ≤ MAX_OWED }
+        ensures { into.new ≡ target_of self.now receipts }
+    {
+        share_of(
+            self.rule,
+            self.claims.as_slice(),
+            self.classes.as_slice(),
+            self.cash + receipts,
+            into,
+        );
+    }
+}
+
+// The claims on a bank, in file order.
+fn claims_owed(alloc: Global, net: &Network, bank: BankId) -> Result<Vec<u64>, Mem>
+    requires { bank.0 < length net.now.banks }
+    ensures { IfOk result (λ claims. claims.items ≡ claims_of net.now bank.0) }
+{
+    let row = net.row(bank);
+    let mut claims = Vec::with_capacity(alloc, row.len())?;
+    for id in row {
+        claims.push_reserved(net.debt(*id).claim);
+    }
+    Ok(claims)
+}
+
+// The classes of the debts that a bank owes, in file order.
+fn classes_owed(alloc: Global, net: &Network, bank: BankId) -> Result<Vec<u8>, Mem>
+    requires { bank.0 < length net.now.banks }
+    ensures { IfOk result (λ classes. classes.items ≡ classes_of net.now bank.0) }
+{
+    let row = net.row(bank);
+    let mut classes = Vec::with_capacity(alloc, row.len())?;
+    for id in row {
+        classes.push_reserved(net.debt(*id).class);
+    }
+    Ok(classes)
+}
