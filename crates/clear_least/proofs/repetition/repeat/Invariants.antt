@@ -1,0 +1,13 @@
+use Rattle.std.proofs.Common.{◌≡◌, ◌-◌, sum}
+use Rattle.clr_net.specs.Net.{units_owed}
+use Rattle.clear_least.proofs.Rounds.{IsOnTheWay}
+use Rattle.clear_least.proofs.repetition.repeat.Given as goal
+
+abbrev pub invariant-loop-paid : goal.invariant-loop-paid
+invariant-loop-paid l = record {
+  way : IsOnTheWay l.net l.paid;
+  room : l.scratch ≡ l.fn.scratch;
+}
+
+abbrev pub decreases-loop-paid : goal.decreases-loop-paid
+decreases-loop-paid l = units_owed l.net - sum l.paid
