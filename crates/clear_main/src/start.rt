@@ -1,13 +1,13 @@
 ghost use Rattle.clear_main.specs.Words.{words_of};
-ghost use Rattle.clear_top.specs.Job.{job_of};
 ghost use Rattle.clear_top.specs.Meaning.{Files, Means};
 ghost use Rattle.clear_top.specs.Message.{message, TakesText};
 ghost use Rattle.clear_top.specs.declared.status.Status.{Status};
+ghost use Rattle.clear_words.specs.Job.{job_of};
 ghost use Rattle.clr_edge.specs.Sink.{with_bytes, WritesPart};
 ghost use Rattle.std.specs.Prelude.{◌≡◌, ◌≢◌, ◌⊎◌, ◌↔◌, ℕ, List, IfOk, None, Some, map};
 
-use clear_top::{Status, run};
-use clr_edge::{OpenGate, Shelf, Sink, put_all};
+use clear_top::{Status, put_text, run};
+use clr_edge::{OpenGate, Shelf, Sink};
 use std::alloc::{AllocError, Global};
 use std::env::Env;
 use std::io::ErrorKind;
@@ -72,11 +72,4 @@ fn words(alloc: Global, args: &[String]) -> Result<Vec<&str>, AllocError>
     ensures { IfOk result (λ words. map (λ word. word.now) words.items ≡ words_of args.now) }
 {
     args.iter().skip(1).map(|word| word.as_str()).collect(alloc)
-}
-
-// Writes a text, up to a fault of the sink.
-fn put_text<S: Sink>(sink: &mut S, text: &str)
-    ensures { TakesText (S.written sink.old) (S.written sink.new) (S.faults sink.old) (S.faults sink.new) text.now }
-{
-    let _ = put_all(sink, text.as_bytes());
 }

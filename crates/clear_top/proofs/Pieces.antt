@@ -7,16 +7,12 @@ use Rattle.clr_edge.specs.Faults.{HasRisen}
 use Rattle.clr_edge.specs.Sink.{with_bytes, WritesPart}
 use Rattle.clear_top.specs.Message.{TakesText}
 
-pub with_no_bytes : (w : Option (List ℕ)) → with_bytes w [] ≡ w
-with_no_bytes None = refl
-with_no_bytes (Some w) = ap Some (append-nil w)
-
 -- bytes and then bytes
 pub with_bytes-twice : (w : Option (List ℕ)) (a b : List ℕ) → with_bytes (with_bytes w a) b ≡ with_bytes w (a ++ b)
 with_bytes-twice None a b = refl
 with_bytes-twice (Some w) a b = ap Some (append_assoc w a b)
 
-pub risen_since : (a b c : ℕ) → a ≤ b → HasRisen b c → HasRisen a c
+risen_since : (a b c : ℕ) → a ≤ b → HasRisen b c → HasRisen a c
 risen_since a b c l h = ⊎_elim (λ (r : b < c). inl (omega arith)) (λ r. inr r) h
 
 take-past : (a b : List ℕ) (k : ℕ) → take (length a + k) (a ++ b) ≡ a ++ take k b
@@ -25,7 +21,7 @@ take-past (x ∷ a) b k = let e : suc (length a) + k ≡ suc (length a + k) = om
     ap (λ n. take n (x ∷ (a ++ b))) e ∙ ap (λ xs. x ∷ xs) (take-past a b k)
 
 -- a part of a piece is a part of the whole
-pub part_of_whole : (old mid new : Option (List ℕ)) (before piece after whole : List ℕ)
+part_of_whole : (old mid new : Option (List ℕ)) (before piece after whole : List ℕ)
     → mid ≡ with_bytes old before → whole ≡ before ++ (piece ++ after) → WritesPart mid new piece → WritesPart old new whole
 part_of_whole old mid new before piece after whole at is part = record {
   count = length before + part.count;

@@ -3,12 +3,13 @@ use Rattle.std.specs.Prelude.{◌≡◌, ℕ, ◌<◌, List, length, Option, Som
 use Rattle.clr_edge.specs.Faults.{HasRisen}
 use Rattle.clr_edge.specs.Sink.{with_bytes, WritesPart}
 use Rattle.clr_net.specs.Net.{Net}
+use Rattle.clear_words.specs.declared.job.Job.{Job}
 use Rattle.net_check.specs.Record.{fault_at}
 use Rattle.net_check.specs.declared.fault.Fault.{Fault}
 use Rattle.net_check.specs.declared.fault.FileKind.{FileKind}
 use Rattle.net_check.specs.declared.fault.FaultKind.TheVariants as fault
 use Rattle.net_csv.specs.declared.TheConstants.{MAX_FILE_BYTES}
-use Rattle.clear_top.specs.Job.{Task, name_in}
+use Rattle.clear_top.specs.Job.{name_in}
 use Rattle.clear_top.specs.Meaning.{Files, reading, text_of}
 use Rattle.clear_top.specs.declared.load.Stop.{Stop}
 use Rattle.clear_top.specs.declared.load.Stop.TheVariants as stop
@@ -24,9 +25,9 @@ abbrev pub IsTooLong : Option Files → List ℕ → Type 0
 IsTooLong files name =
     (told : Files) → files ≡ Some told → (bytes : List ℕ) × (told name ≡ Some bytes) × (MAX_FILE_BYTES < length bytes)
 
--- where the files are told, this is what the files of the task give
-abbrev pub Gives : Option Files → Task → Result Net Fault → Type 0
-Gives files task read = (told : Files) → files ≡ Some told → reading told task ≡ Some read
+-- where the files are told, this is what the files of the job give
+abbrev pub Gives : Option Files → Job → Result Net Fault → Type 0
+Gives files job read = (told : Files) → files ≡ Some told → reading told job ≡ Some read
 
 -- why a file of a kind is not fetched
 abbrev pub StopsFetch : Option Files → (List ℕ → ℕ) → (List ℕ → ℕ) → FileKind → List ℕ → Stop → Type 0
@@ -34,11 +35,11 @@ StopsFetch files before after kind name (stop.ReadFault k) = (k ≡ kind) × Has
 StopsFetch files before after kind name (stop.Refused f) = (f ≡ fault_at kind 0 fault.FileSize) × IsTooLong files name
 StopsFetch files before after kind name stop.Mem = Unit {0}
 
--- why the files of a task give no network
-abbrev pub Stops : Option Files → (List ℕ → ℕ) → (List ℕ → ℕ) → Task → Stop → Type 0
-Stops files before after task (stop.ReadFault k) = HasRisen (before (name_in task k)) (after (name_in task k))
-Stops files before after task (stop.Refused f) = Gives files task (Err f)
-Stops files before after task stop.Mem = Unit {0}
+-- why the files of a job give no network
+abbrev pub Stops : Option Files → (List ℕ → ℕ) → (List ℕ → ℕ) → Job → Stop → Type 0
+Stops files before after job (stop.ReadFault k) = HasRisen (before (name_in job k)) (after (name_in job k))
+Stops files before after job (stop.Refused f) = Gives files job (Err f)
+Stops files before after job stop.Mem = Unit {0}
 
 -- what is known of the outside at an ending: the files, the counts of the shelf, and what the sink took and counted
 pub record Outside : Type 0 where
@@ -50,12 +51,12 @@ pub record Outside : Type 0 where
   pub faults_before : ℕ
   pub faults_after : ℕ
 
--- how the work on a task ends
-abbrev pub Ends : Outside → Task → Status → Type 0
-Ends o task status.Done = (net : Net) × Gives o.files task (Ok net) × (o.new ≡ with_bytes o.old (text_of net))
-Ends o task status.Usage = ⊥
-Ends o task (status.ReadFault k) = HasRisen (o.before (name_in task k)) (o.after (name_in task k)) × (o.new ≡ o.old)
-Ends o task (status.Refused f) = Gives o.files task (Err f) × (o.new ≡ o.old)
-Ends o task status.WriteFault =
-    (net : Net) × Gives o.files task (Ok net) × WritesPart o.old o.new (text_of net) × HasRisen o.faults_before o.faults_after
-Ends o task status.Mem = o.new ≡ o.old
+-- how the work on a job ends
+abbrev pub Ends : Outside → Job → Status → Type 0
+Ends o job status.Done = (net : Net) × Gives o.files job (Ok net) × (o.new ≡ with_bytes o.old (text_of job.task net))
+Ends o job status.Usage = ⊥
+Ends o job (status.ReadFault k) = HasRisen (o.before (name_in job k)) (o.after (name_in job k)) × (o.new ≡ o.old)
+Ends o job (status.Refused f) = Gives o.files job (Err f) × (o.new ≡ o.old)
+Ends o job status.WriteFault =
+    (net : Net) × Gives o.files job (Ok net) × WritesPart o.old o.new (text_of job.task net) × HasRisen o.faults_before o.faults_after
+Ends o job status.Mem = o.new ≡ o.old

@@ -5,14 +5,13 @@
 #![tactic(auto)]
 
 mod clearing;
-mod job;
 mod load;
 mod message;
 mod status;
 mod top;
 
 pub use clearing::{Settlement, cleared};
-pub use job::{Job, read_job};
+pub use message::put_text;
 pub use status::Status;
 pub use top::run;
 

@@ -1,10 +1,9 @@
 ghost use Rattle.clear_top.specs.Ending.{Gives, IsFile, Stops, StopsFetch};
-ghost use Rattle.clear_top.specs.Job.{job_shown};
 ghost use Rattle.clr_edge.specs.Faults.{NoneFalls};
 ghost use Rattle.net_csv.specs.declared.TheConstants.{MAX_FILE_BYTES};
 ghost use Rattle.std.specs.Prelude.{◌≡◌, ◌≤◌, length, IfOk, IfErr, IsTrue};
 
-use crate::job::Job;
+use clear_words::Job;
 use clr_edge::{FetchFault, Shelf};
 use clr_net::Network;
 use net_check::{Fault, FaultKind, FileKind, ReadNet};
@@ -23,12 +22,12 @@ pub enum Stop {
 }
 
 /// The network that the files of a job give. Each file's size is looked at before the next file is fetched.
-pub fn load<F: Shelf>(alloc: Global, job: &Job<'_>, files: &mut F) -> Result<Network, Stop>
-    ensures network { IfOk result (λ net. Gives (F.files files.old) (job_shown job.now) (Ok net)) }
-    ensures stopped { IfErr result (Stops (F.files files.old) (F.faults files.old) (F.faults files.new) (job_shown job.now)) }
+pub fn load<F: Shelf>(alloc: Global, job: &Job, files: &mut F) -> Result<Network, Stop>
+    ensures network { IfOk result (λ net. Gives (F.files files.old) job.now (Ok net)) }
+    ensures stopped { IfErr result (Stops (F.files files.old) (F.faults files.old) (F.faults files.new) job.now) }
 {
-    let banks = fetch_whole(alloc, files, FileKind::Banks, job.banks)?;
-    let debts = fetch_whole(alloc, files, FileKind::Debts, job.debts)?;
+    let banks = fetch_whole(alloc, files, FileKind::Banks, job.banks.as_str())?;
+    let debts = fetch_whole(alloc, files, FileKind::Debts, job.debts.as_str())?;
     match read_network(alloc, banks.as_slice(), debts.as_slice()) {
         Ok(net) => Ok(net),
         Err(ReadNet::Refused(fault)) => Err(Stop::Refused(fault)),

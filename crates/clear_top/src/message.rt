@@ -1,22 +1,22 @@
-ghost use Rattle.clear_top.specs.Job.{job_shown};
+ghost use Rattle.clear_top.specs.Job.{name_in};
 ghost use Rattle.clear_top.specs.Message.{message, name_if, TakesText};
 ghost use Rattle.std.specs.List.{concat};
 ghost use Rattle.std.specs.Option.{option_map};
 ghost use Rattle.std.specs.Prelude.{◌≡◌, ◌∷◌, [], codes, map};
 
-use crate::job::Job;
 use crate::status::Status;
+use clear_words::Job;
 use clr_edge::{Sink, put_all};
 use itoa::Buffer;
 use net_check::{Fault, FileKind};
 
 /// Writes the line that tells a person of a status. It takes no memory, and a fault of the sink changes nothing.
-pub fn tell<E: Sink>(err: &mut E, status: Status, job: Option<Job<'_>>)
+pub fn tell<E: Sink>(err: &mut E, status: Status, job: Option<&Job>)
     ensures { TakesText (E.written err.old) (E.written err.new) (E.faults err.old) (E.faults err.new)
-        (message status (option_map job_shown job.entry)) }
+        (message status (option_map (λ job. job.now) job.entry)) }
 {
     match status {
-        Status::Done => put_pieces(err, &[]),
+        Status::Done => put_text(err, ""),
         Status::Usage => put_text(err, "clearing: the command line is not understood\n"),
         Status::ReadFault(kind) => tell_name(err, name_of(job, kind)),
         Status::Refused(fault) => tell_fault(err, fault),
@@ -25,13 +25,30 @@ pub fn tell<E: Sink>(err: &mut E, status: Status, job: Option<Job<'_>>)
     }
 }
 
+/// Writes a text, up to a fault of the sink. Takes no memory.
+pub fn put_text<S: Sink>(sink: &mut S, text: &str)
+    ensures { TakesText (S.written sink.old) (S.written sink.new) (S.faults sink.old) (S.faults sink.new) text.now }
+{
+    let _ = put_all(sink, text.as_bytes());
+}
+
 // The name of the file of a kind, where there is a job.
-fn name_of<'a>(job: Option<Job<'a>>, kind: FileKind) -> &'a str
-    ensures { result.now ≡ name_if (option_map job_shown job.entry) kind }
+fn name_of<'a>(job: Option<&'a Job>, kind: FileKind) -> &'a str
+    ensures { result.now ≡ name_if (option_map (λ job. job.now) job.entry) kind }
 {
     match job {
-        Some(job) => job.file(kind),
+        Some(job) => file_name(job, kind),
         None => "",
+    }
+}
+
+// The name of the file of a kind.
+fn file_name(job: &Job, kind: FileKind) -> &str
+    ensures { result.now ≡ name_in job.now kind }
+{
+    match kind {
+        FileKind::Banks => job.banks.as_str(),
+        FileKind::Debts => job.debts.as_str(),
     }
 }
 
@@ -65,13 +82,6 @@ fn tell_fault<E: Sink>(err: &mut E, fault: Fault)
         ")\n".as_bytes(),
     ];
     put_pieces(err, &pieces);
-}
-
-fn put_text<S: Sink>(sink: &mut S, text: &str)
-    ensures { TakesText (S.written sink.old) (S.written sink.new) (S.faults sink.old) (S.faults sink.new)
-        (concat (text.now ∷ [])) }
-{
-    put_pieces(sink, &[text.as_bytes()]);
 }
 
 // Writes pieces one after another, up to a fault of the sink.

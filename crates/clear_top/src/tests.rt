@@ -33,6 +33,10 @@ const TOTAL_PAYMENTS: &str = "debtor,creditor,class,claim,paid\nA,B,1,1000000,0\
 A,B,3,1000000,0\nA,B,4,1000000,0\nA,B,5,1000000,0\nA,B,6,1000000,0\nA,B,7,1000000,0\nA,B,8,1000000,0\n\
 A,B,9,1000000,0\nB,A,1,1000000,0\nB,A,2,0,0\n";
 
+const CHAIN_CHECKED: &str = "banks,3\ndebts,2\nowed,19\ncash,8\n\n\
+name,cash,rule\nA,7,order\nB,1,order\nC,0,order\n\n\
+debtor,creditor,class,claim\nA,B,1,10\nB,C,1,9\n";
+
 // Two files, and what a run on them comes to.
 #[derive(Drop)]
 struct Case<'a> {
@@ -130,6 +134,73 @@ fn payments_of_small_networks(rt: HostRuntime) -> Result<(), Fail> {
     Ok(())
 }
 
+// Runs a task on the two files, and compares what it writes.
+fn writes<R: Threads + Sync + Abort>(
+    rt: &R,
+    alloc: Global,
+    words: &[&str],
+    text: &str,
+) -> Result<(), Fail> {
+    let mut files = chain_shelf(alloc, 0)?;
+    let mut out = MemSink::with_room(alloc, 1000, 1000, 0)?;
+    let mut err = MemSink::with_room(alloc, 1000, 1000, 0)?;
+    let status = run(rt, alloc, words, &mut files, &mut out, &mut err, &OpenGate);
+    assert_eq!(rt; status, Status::Done);
+    assert_eq!(rt; out.written(), text.as_bytes());
+    assert_eq!(rt; err.written(), b"".as_slice());
+    Ok(())
+}
+
+#[test]
+fn tasks_on_the_chain(rt: HostRuntime) -> Result<(), Fail> {
+    let jobs: [(&[&str], &str); 5] = [
+        (
+            &["check", "--banks", "b.csv", "--debts", "d.csv"],
+            CHAIN_CHECKED,
+        ),
+        (
+            &["clear", "--banks", "b.csv", "--debts", "d.csv"],
+            CHAIN_TEXT,
+        ),
+        (
+            &["central", "--banks", "b.csv", "--debts", "d.csv"],
+            CHAIN_TEXT,
+        ),
+        // Options before the task, and with their values in one word.
+        (&["--debts=d.csv", "--banks", "b.csv", "clear"], CHAIN_TEXT),
+        (
+            &["--banks=b.csv", "--debts=d.csv", "--", "check"],
+            CHAIN_CHECKED,
+        ),
+    ];
+    for (words, text) in jobs {
+        writes(&rt, rt.alloc(), words, text)?;
+    }
+    Ok(())
+}
+
+#[test]
+fn central_gives_the_least(rt: HostRuntime) -> Result<(), Fail> {
+    let alloc = rt.alloc();
+    let mut files = MemShelf::make(alloc);
+    files.add("b.csv", b"name,cash,rule\nA,0,order\nB,0,order\n")?;
+    files.add(
+        "d.csv",
+        b"debtor,creditor,class,claim\nA,B,1,10\nB,A,1,10\n",
+    )?;
+    let mut out = MemSink::with_room(alloc, 1000, 1000, 0)?;
+    let mut err = MemSink::with_room(alloc, 1000, 1000, 0)?;
+    let words = ["central", "--banks", "b.csv", "--debts", "d.csv"];
+    let status = run(
+        &rt, alloc, &words, &mut files, &mut out, &mut err, &OpenGate,
+    );
+    assert_eq!(rt; status, Status::Done);
+    // Paying all would clear as well.
+    let none = "debtor,creditor,class,claim,paid\nA,B,1,10,0\nB,A,1,10,0\n";
+    assert_eq!(rt; out.written(), none.as_bytes());
+    Ok(())
+}
+
 #[test]
 fn twelve_banks_by_all_rules(rt: HostRuntime) -> Result<(), Fail> {
     check(
@@ -204,13 +275,31 @@ fn faults_of_files_are_named(rt: HostRuntime) -> Result<(), Fail> {
 #[test]
 fn words_that_are_no_job(rt: HostRuntime) -> Result<(), Fail> {
     let alloc = rt.alloc();
-    let lists: [&[&str]; 6] = [
+    let lists: [&[&str]; 14] = [
         &[],
         &["clear", "--banks", "b.csv"],
+        &["check", "--debts", "d.csv"],
         &["clear", "--banks", "b.csv", "--debts", "d.csv", "d.csv"],
         &["--help"],
+        &["-h"],
+        &["--version"],
         &["clear", "--banks", "", "--debts", "d.csv"],
         &["clear", "--banks", "b.csv", "--debts", "-d"],
+        &["clear", "--banks", "b.csv", "--debts=-d"],
+        &["settle", "--banks", "b.csv", "--debts", "d.csv"],
+        &[
+            "clear", "--banks", "b.csv", "--banks", "b.csv", "--debts", "d.csv",
+        ],
+        &["clear", "--banks", "b.csv", "--", "--debts", "d.csv"],
+        &[
+            "clear",
+            "--banks",
+            "b.csv",
+            "--debts",
+            "d.csv",
+            "--workers",
+            "65",
+        ],
     ];
     for words in lists {
         let mut files = MemShelf::make(alloc);

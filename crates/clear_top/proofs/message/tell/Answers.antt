@@ -2,7 +2,7 @@
 use Rattle.clear_top.proofs.message.tell.Goals as goal
 
 pub returns-in-Usage : goal.returns-in-Usage
-returns-in-Usage g c = rw c.in-Usage.is c.put_text.ensures
+returns-in-Usage g c = rw c.in-Usage.is c.put_text-in-Usage.ensures
 
 pub returns-in-ReadFault : goal.returns-in-ReadFault
 returns-in-ReadFault g c = rw (c.in-ReadFault.is, ← c.name_of.ensures) c.tell_name.ensures
