@@ -1,0 +1,114 @@
+-- Words for the proofs that each step keeps the rule of the bells.
+use Rattle.std.proofs.Common.{◌≡◌, ◌≢◌, ℕ, zero, suc, ◌+◌, ◌<◌, ◌≤◌, ◌==◌, List, [], ◌∷◌, length, map, set, get_or, sum, sum_by, Bool, true, false, refl, sym, ap, ◌∙◌, subst, ⊎_elim, arith, le_trans, le_of_eq, zero-le, length-set, get_or-set_same, get_or-set_other}
+use Rattle.std.specs.Prelude.{if◌then◌else◌}
+use Rattle.std.specs.List.{range_with_len}
+use Rattle.std.proofs.lemmas.Bool.{eq-eqb, ne_eqb, cases_Bool}
+use Rattle.std.proofs.lemmas.List.{ext_get_or, get_or_past}
+use Rattle.std.proofs.lemmas.List.FromFn.{length-range_with_len}
+use Rattle.std.proofs.lemmas.List.Sums.{sum_by-cons, sum_by-set}
+use mathlib.Core.Option.{some, some-ne-none, some-injective}
+use mathlib.Core.Logic.{dite}
+use native.Mathlib.Decide.{ℕ_discrete, dec_lt}
+use lib.ListN.{get_elem?}
+use Rattle.atomic_table.proofs.Lists.{at_set}
+use Rattle.clr_net.proofs.Lists.{sum-le, sum-cons}
+use Rattle.clr_net.specs.Amounts.{IsAtMost}
+use Rattle.pay_words.specs.declared.deed.Deed.{Deed}
+use Rattle.pay_words.specs.declared.view.View.{View}
+use Rattle.pay_words.specs.Views.{tabled}
+use Rattle.pay_words.specs.Kept.{Tower, HasBells, how_many}
+use Rattle.pay_words.proofs.Tables.{tabled_at, length-tabled, sum_less}
+use Rattle.pay_words.proofs.Marks.{chooses, refuses}
+use Rattle.pay_words.proofs.Views.{within_length}
+
+-- a function that is changed at one number
+abbrev pub changed : {A : Type 0} → ℕ → A → (ℕ → A) → ℕ → A
+changed x a f y = if y == x then a else f y
+
+pub changed_here : {A : Type 0} (x : ℕ) (a : A) (f : ℕ → A) (y : ℕ) → y ≡ x → changed x a f y ≡ a
+changed_here x a f y e = chooses (y == x) a (f y) (eq-eqb y x e)
+
+pub changed_else : {A : Type 0} (x : ℕ) (a : A) (f : ℕ → A) (y : ℕ) → y ≢ x → changed x a f y ≡ f y
+changed_else x a f y ne = refuses (y == x) a (f y) (ne_eqb y x ne)
+
+got : {A : Type 0} (l : List A) (i : ℕ) (a d : A) → get_elem? l i ≡ some a → get_or l i d ≡ a
+got [] i a d e = absurd (some-ne-none a (sym e))
+got (x ∷ xs) zero a d e = some-injective x a e
+got (x ∷ xs) (suc i) a d e = got xs i a d e
+
+-- a sum over all views when one changes
+pub sum_views : (f : View → ℕ) (views : List View) (id : ℕ) (v w : View) → get_elem? views id ≡ some v → sum_by f (set views id w) + f v ≡ sum_by f views + f w
+sum_views f views id v w at = subst (λ (u : View). sum_by f (set views id w) + f u ≡ sum_by f views + f w) (got views id v v at) (sum_by-set f views id w v (within_length views id v at))
+
+-- a sum over all views is at least what one has, and it is that where the others have nothing
+pub sum_least : (f : View → ℕ) (views : List View) (id : ℕ) (v : View) → get_elem? views id ≡ some v → f v ≤ sum_by f views
+sum_least f [] id v at = absurd (some-ne-none v (sym at))
+sum_least f (x ∷ xs) zero v at = omega (arith, sum_by-cons f x xs, ap f (some-injective x v at))
+sum_least f (x ∷ xs) (suc id) v at = omega (arith, sum_by-cons f x xs, sum_least f xs id v at)
+
+sum_none : (f : View → ℕ) (views : List View) → ((j : ℕ) (u : View) → get_elem? views j ≡ some u → f u ≡ 0) → sum_by f views ≡ 0
+sum_none f [] h = refl
+sum_none f (x ∷ xs) h = omega (arith, sum_by-cons f x xs, h 0 x refl, sum_none f xs (λ j. h (suc j)))
+
+pub sum_alone : (f : View → ℕ) (views : List View) (id : ℕ) (v : View) → get_elem? views id ≡ some v → ((j : ℕ) (u : View) → j ≢ id → get_elem? views j ≡ some u → f u ≡ 0) → sum_by f views ≡ f v
+sum_alone f [] id v at h = absurd (some-ne-none v (sym at))
+sum_alone f (x ∷ xs) zero v at h = omega (arith, sum_by-cons f x xs, ap f (some-injective x v at), sum_none f xs (λ j u e. h (suc j) u (λ i. absurd (omega (arith, i))) e))
+sum_alone f (x ∷ xs) (suc id) v at h = omega (arith, sum_by-cons f x xs, h 0 x (λ i. absurd (omega (arith, i))) refl, sum_alone f xs id v at (λ j u ne e. h (suc j) u (λ i. ne (omega (arith, i))) e))
+
+-- the others have their bells, and the new view has, so all have
+pub has_set : (d : Deed) (w : Tower) (views : List View) (id : ℕ) (n : View) → ((j : ℕ) (u : View) → j ≢ id → get_elem? views j ≡ some u → u.live ≡ true → HasBells d w u) → (n.live ≡ true → HasBells d w n)
+    → (j : ℕ) (u : View) → get_elem? (set views id n) j ≡ some u → u.live ≡ true → HasBells d w u
+has_set d w views id n others mine j u e on = ⊎_elim
+    (λ (t : (j ≡ id) × (n ≡ u)). subst (HasBells d w) t.1 (mine (ap (λ (y : View). y.live) t.1 ∙ on)))
+    (λ (t : (j ≢ id) × (get_elem? views j ≡ some u)). others j u t.0 t.1 on)
+    (at_set views id j n u e)
+
+-- a sum over a table when one number changes
+pub sum_changed : (n : ℕ) (f g : ℕ → ℕ) (c : ℕ) → c < n → ((y : ℕ) → y ≢ c → g y ≡ f y) → sum (tabled n g) + f c ≡ sum (tabled n f) + g c
+sum_changed n f g c lt same =
+    let is : tabled n g ≡ set (tabled n f) c (g c) =
+    ext_get_or 0 (tabled n g) (set (tabled n f) c (g c)) (length-tabled n g ∙ sym (length-set (tabled n f) c (g c) ∙ length-tabled n f))
+    (λ k l. let low : k < n = omega (arith, l, length-tabled n g) in dite (ℕ_discrete k c)
+    (λ e. tabled_at n g k 0 low ∙ ap g e ∙ sym (ap (λ (m : ℕ). get_or (set (tabled n f) c (g c)) m 0) e ∙ get_or-set_same (tabled n f) c (g c) 0 (omega (arith, lt, length-tabled n f))))
+    (λ ne. tabled_at n g k 0 low ∙ same k ne ∙ sym (get_or-set_other (tabled n f) c k (g c) 0 ne ∙ tabled_at n f k 0 low))) in
+    let at : get_or (tabled n f) c 0 ≡ f c = tabled_at n f c 0 lt in
+    omega (arith, ap sum is, sum_by-set (λ (m : ℕ). m) (tabled n f) c (g c) 0 (omega (arith, lt, length-tabled n f)), at)
+
+pub tabled_most : (n : ℕ) (f g : ℕ → ℕ) → ((x : ℕ) → x < n → f x ≤ g x) → IsAtMost (tabled n f) (tabled n g)
+tabled_most n f g h x = dite (dec_lt x n)
+    (λ lt. omega (arith, tabled_at n f x 0 lt, tabled_at n g x 0 lt, h x lt))
+    (λ ge. let far : length (tabled n f) ≤ x = omega (arith, length-tabled n f) in omega (arith, get_or_past (tabled n f) x 0 far))
+
+ones : (xs : List ℕ) → sum (map (λ (_ : ℕ). 1) xs) ≡ length xs
+ones [] = refl
+ones (x ∷ xs) = omega (arith, sum-cons 1 (map (λ (_ : ℕ). 1) xs), ones xs)
+
+zeros : (xs : List ℕ) → sum (map (λ (_ : ℕ). 0) xs) ≡ 0
+zeros [] = refl
+zeros (x ∷ xs) = omega (arith, sum-cons 0 (map (λ (_ : ℕ). 0) xs), zeros xs)
+
+pub sum_of_ones : (n : ℕ) (f : ℕ → ℕ) → ((x : ℕ) → x < n → f x ≤ 1) → sum (tabled n f) ≤ n
+sum_of_ones n f h = omega (arith, sum-le (tabled n f) (tabled n (λ _. 1)) (tabled_most n f (λ _. 1) h), ones (range_with_len 0 n), length-range_with_len 0 n)
+
+pub sum_of_zeros : (n : ℕ) (f : ℕ → ℕ) → ((x : ℕ) → x < n → f x ≤ 0) → sum (tabled n f) ≤ 0
+sum_of_zeros n f h = omega (arith, sum-le (tabled n f) (tabled n (λ _. 0)) (tabled_most n f (λ _. 0) h), zeros (range_with_len 0 n))
+
+pub one_more : (n : ℕ) (marks : ℕ → Bool) (x : ℕ) → x < n → how_many n (changed x true marks) ≤ how_many n marks + 1
+one_more n marks x lt =
+    let f : ℕ → ℕ = λ y. if marks y then 1 else 0 in
+    let g : ℕ → ℕ = λ y. if changed x true marks y then 1 else 0 in
+    let here : g x ≡ 1 = ap (λ (b : Bool). if b then 1 else 0) (changed_here x true marks x refl) in
+    omega (arith, sum_changed n f g x lt (λ y ne. ap (λ (b : Bool). if b then 1 else 0) (changed_else x true marks y ne)), here)
+
+-- fewer are marked where one mark less is set, and none more
+pub one_less : (n : ℕ) (marks less : ℕ → Bool) (x : ℕ) → x < n → marks x ≡ true → less x ≡ false → ((y : ℕ) → less y ≡ true → marks y ≡ true) → how_many n less + 1 ≤ how_many n marks
+one_less n marks less x lt was now h =
+    let f : ℕ → ℕ = λ y. if less y then 1 else 0 in
+    let g : ℕ → ℕ = λ y. if marks y then 1 else 0 in
+    let below : (y : ℕ) → f y ≤ g y = λ y. ⊎_elim
+    (λ (t : less y ≡ true). le_of_eq (ap (λ (b : Bool). if b then 1 else 0) t ∙ sym (ap (λ (b : Bool). if b then 1 else 0) (h y t))))
+    (λ (t : less y ≡ false). le_trans (le_of_eq (ap (λ (b : Bool). if b then 1 else 0) t)) zero-le)
+    (cases_Bool (less y)) in
+    let a : f x ≡ 0 = ap (λ (b : Bool). if b then 1 else 0) now in
+    let b : g x ≡ 1 = ap (λ (b : Bool). if b then 1 else 0) was in
+    omega (arith, sum_less (tabled n f) (tabled n g) x (omega (arith, lt, length-tabled n f)) (tabled_most n f g (λ y _. below y)) (omega (arith, a, b, tabled_at n f x 0 lt, tabled_at n g x 0 lt)))

@@ -1,0 +1,160 @@
+-- What the words and the raises are when a board is closed by a master that holds all banks.
+use Rattle.std.proofs.Common.{◌≡◌, ℕ, zero, suc, ◌+◌, ◌<◌, ◌≤◌, All, List, [], ◌∷◌, ◌++◌, length, get_or, sum, Bool, true, false, inl, inr, refl, sym, ap, ◌∙◌, subst, ⊎_elim, arith}
+use Rattle.std.specs.Prelude.{slice_index, if◌then◌else◌}
+use Rattle.std.proofs.lemmas.List.{append-nil, ext_get_or}
+use mathlib.Core.Option.{some, some-ne-none, some-injective}
+use lib.ListN.{get_elem?}
+use Rattle.atomic_table.specs.Table.{Final, Seen}
+use Rattle.clr_net.specs.Amounts.{IsAtMost}
+use Rattle.clr_net.specs.Net.{Net, debtor_of, debt_numbers}
+use Rattle.clear_core.specs.Clearing.{least}
+use Rattle.clear_core.specs.History.{IsHistory, ordered, replayed}
+use Rattle.clear_core.proofs.Ordered.{ordered_stands, ordered_is_traced}
+use Rattle.clear_core.specs.declared.event.Raise.{Raise}
+use Rattle.pay_words.specs.declared.deed.Deed.{Deed}
+use Rattle.pay_words.specs.declared.payment.Payment.{Payment}
+use Rattle.pay_words.specs.declared.view.Shown.{Shown}
+use Rattle.pay_words.specs.declared.view.View.{View}
+use Rattle.pay_words.specs.Belongs.{Belongs}
+use Rattle.pay_words.specs.Ends.{payments_of, values, Ends}
+use Rattle.pay_words.specs.Words.{unpaid, payment_of}
+use Rattle.pay_words.specs.Traces.{Traces, IsLawful, In, ending, raises_of, last_payment, start_of, paid_in}
+use Rattle.pay_words.specs.Views.{tabled, HoldsAll, holds}
+use Rattle.pay_words.specs.Kept.{Ledger, Suits, taken_of, made_of, own_raises}
+use Rattle.pay_words.proofs.Tables.{tabled_at, tabled_agree, length-tabled}
+use Rattle.pay_words.proofs.Traces.{among_raises_of, under_ending, read_back}
+use Rattle.pay_words.proofs.Lawful.{value_fits, paid_in_below}
+use Rattle.pay_words.proofs.Pasts.{mapped_twice}
+use Rattle.pay_words.proofs.Orders.{same_of}
+use Rattle.pay_words.proofs.Histories.{lawful_agree, history_of, replayed_is}
+use Rattle.pay_words.proofs.Views.{rule, not_both}
+use Rattle.pay_words.proofs.Marks.{chooses}
+use Rattle.pay_words.proofs.Bells.{sum_least, sum_alone}
+use Rattle.std.proofs.lemmas.Bool.{cases_Bool}
+use Rattle.std.proofs.Common.{◌≢◌}
+
+pub get_here : (xs : List ℕ) (i n : ℕ) → get_elem? xs i ≡ some n → slice_index xs i ≡ n
+get_here [] i n e = absurd (some-ne-none n (sym e))
+get_here (x ∷ xs) zero n e = some-injective _ _ e
+get_here (x ∷ xs) (suc i) n e = get_here xs i n e
+
+in_at : (rs : List Raise) (k : ℕ) (d : Raise) → k < length rs → In (get_or rs k d) rs
+in_at [] k d lt = absurd (omega (arith, lt))
+in_at (r ∷ rs) zero d lt = inl refl
+in_at (r ∷ rs) (suc k) d lt = inr (in_at rs k d (omega (arith, lt)))
+
+-- raises that are lawful by debt, whatever their order
+module _ (net : Net) (raises : List Raise) (known : (r : Raise) → In r raises → r.debt.0 < length net.debts) (h : IsLawful net (λ x. raises_of x raises)) where
+  abbrev t : Traces
+  t x = raises_of x raises
+
+  abbrev payments : List Payment
+  payments = start_of net raises
+
+  values_are : values payments ≡ paid_in net t
+  values_are = mapped_twice (λ (p : Payment). p.value) (λ (x : ℕ). last_payment x raises) (debt_numbers net)
+
+  pub low_stamps : All (λ r. r.stamp ≤ sum (values payments)) raises
+  low_stamps k d lt =
+      let r = get_or raises k d in
+      let i = in_at raises k d lt in
+      let l = known r i in
+      let u = under_ending unpaid (t r.debt.0) (h.rise r.debt.0 l) r (among_raises_of raises r i) in
+      omega (arith, u.0, h.low r.debt.0 l, ap sum values_are)
+
+  pub values_below : IsAtMost (values payments) (least net)
+  values_below x = omega (arith, paid_in_below net t h x, ap (λ (ns : List ℕ). slice_index ns x) values_are)
+
+  payment_low : All (λ p. p.stamp ≤ sum (values payments)) payments
+  payment_low k d lt =
+      let l : k < length net.debts = omega (arith, lt, length-tabled (length net.debts) (λ x. last_payment x raises)) in
+      omega (arith, ap (λ (p : Payment). p.stamp) (tabled_at (length net.debts) (λ x. last_payment x raises) k d l), h.low k l, ap sum values_are)
+
+  start_same : payments ≡ start_of net (ordered raises)
+  start_same = tabled_agree unpaid (length net.debts) (λ x. last_payment x raises) (λ x. last_payment x (ordered raises)) (λ x lt. ap ending (sym (same_of x raises (h.rise x lt))))
+
+  history : IsHistory net raises
+  history = history_of net raises h known
+
+  pub belongs : Belongs net payments (ordered raises)
+  belongs = record { stands = ordered_stands net raises history; traced = ordered_is_traced net raises history; start_is = start_same; stamps_low = payment_low }
+
+  pub replays : replayed net (ordered raises) ≡ values payments
+  replays = replayed_is net (ordered raises) ∙ ap values (sym start_same)
+
+-- a seat that holds no bank of a debtor has made no raise
+made_none : (d : Deed) (k : Ledger) (roll count id j : ℕ) (v u : View) → Suits d k roll count id v → v.shown.master ≡ true → ((x : ℕ) → x < length d.net.debts → holds v.shown (debtor_of d.net x) ≡ true)
+    → j ≢ id → (u.live ≡ true → Suits d k roll count j u) → made_of u ≡ 0
+made_none d k roll count id j v u f chief all apart fits = go u.live refl
+  where
+    none : (rs : List Raise) → ((r : Raise) → In r rs → ⊥) → length rs ≡ 0
+    none [] h = refl
+    none (r ∷ rs) h = absurd (h r (inl refl))
+
+    made : u.live ≡ true → length u.shown.raises ≡ 0
+    made on = none u.shown.raises (λ r i.
+        let g = fits on in
+        let plain : u.shown.master ≡ false = ⊎_elim (λ (e : u.shown.master ≡ true). absurd (apart ((g.leads e).0 ∙ sym (f.leads chief).0))) (λ (e : u.shown.master ≡ false). e) (cases_Bool u.shown.master) in
+        let o = g.only r (subst (λ (b : Bool). In r (own_raises b u.shown.raises)) (sym plain) i) in
+        not_both d k roll count id j u v (debtor_of d.net r.debt.0) apart f (all r.debt.0 o.0) g o.1)
+
+    go : (b : Bool) → u.live ≡ b → (if b then length u.shown.raises else 0) ≡ 0
+    go true e = made e
+    go false e = refl
+
+-- what the last state says, of the words
+pub record Closed (d : Deed) (s : Shown) (words : List ℕ) : Type 0 where
+  pub size : length words ≡ 1 + length d.net.debts + length d.net.banks
+  pub payments : (x : ℕ) → x < length d.net.debts → payment_of (slice_index words (x + 1)) ≡ record { value = slice_index s.paid x; stamp = slice_index s.paid_stamps x }
+  pub ends : Ends d.net d.past s (payments_of s)
+
+pub closes : (d : Deed) (id : ℕ) (v : View) (ws : List ℕ) (xs : List (Unit {0})) → v.live ≡ true → v.shown.master ≡ true → HoldsAll v.shown → Final (Seen (rule d) id v) ws xs → Closed d v.shown ws
+closes d id v ws xs on chief all final =
+    let s = final.0 in
+    let h = final.1.0 in
+    let k = h.ledger in
+    let f = h.fits id v final.1.1 on in
+    let net = d.net in
+    let raises : List Raise = d.past ++ v.shown.raises in
+    let base : k.base ≡ raises = (f.leads chief).1 in
+    let over : length v.shown.net.debts ≡ length net.debts = ap (λ (n : Net). length n.debts) f.net_is in
+    let mine : (x : ℕ) → x < length net.debts → holds v.shown (debtor_of net x) ≡ true =
+    λ x lt. all (debtor_of net x) (subst (λ (n : Net). debtor_of net x < length n.banks) (sym f.net_is) (h.network.each_debt x lt).debtor_known) in
+    let same : (x : ℕ) → x < length net.debts → raises_of x raises ≡ k.trace x =
+    λ x lt. ap (raises_of x) (sym base)
+    ∙ sym (f.told x lt (mine x lt) ∙ ap (λ (b : Bool). raises_of x k.base ++ raises_of x (own_raises b v.shown.raises)) chief ∙ append-nil (raises_of x k.base)) in
+    let lawful : IsLawful net (λ x. raises_of x raises) = lawful_agree net k.trace (λ x. raises_of x raises) h.lawful same in
+    let known : (r : Raise) → In r raises → r.debt.0 < length net.debts = λ r i. h.known r (subst (In r) (sym base) i) in
+    let shown : payments_of v.shown ≡ start_of net raises =
+    subst (λ (n : ℕ). tabled n (λ x. record { value = slice_index v.shown.paid x; stamp = slice_index v.shown.paid_stamps x }) ≡ start_of net raises) (sym over)
+    (tabled_agree unpaid (length net.debts) (λ x. record { value = slice_index v.shown.paid x; stamp = slice_index v.shown.paid_stamps x }) (λ x. last_payment x raises)
+    (λ x lt. f.pays x lt (mine x lt) ∙ ap ending (sym (same x lt)))) in
+    record {
+      size = ap length (sym final.2) ∙ h.size;
+      payments = λ x lt. ap (λ (l : List ℕ). payment_of (slice_index l (x + 1))) (sym final.2) ∙ ap payment_of (h.stands x lt)
+          ∙ read_back (ending (k.trace x)) (omega (arith, value_fits net k.trace h.lawful x lt h.network)) ∙ sym (f.pays x lt (mine x lt));
+      ends = record {
+        payments_are = refl;
+        below_least = subst (λ (ps : List Payment). IsAtMost (values ps) (least net)) (sym shown) (values_below net raises known lawful);
+        lawful = subst (λ (ps : List Payment). Belongs net ps (ordered raises)) (sym shown) (belongs net raises known lawful);
+        replays = subst (λ (ps : List Payment). replayed net (ordered raises) ≡ values ps) (sym shown) (replays net raises known lawful);
+        low_stamps = subst (λ (ps : List Payment). All (λ r. r.stamp ≤ sum (values ps)) raises) (sym shown) (low_stamps net raises known lawful);
+        few_bells =
+            let r = h.rung in
+            let taken = sum_least taken_of s.views id v final.1.1 in
+            let made = sum_alone made_of s.views id v final.1.1 (λ j u ne e. made_none d k (slice_index s.words 0) (length s.views) id j v u f chief mine ne (λ o. h.fits j u e o)) in
+            omega (arith, r.few, taken, made, chooses v.live v.shown.taken 0 on, chooses v.live (length v.shown.raises) 0 on);
+        after_past = λ a b lt i j l. f.late (get_or v.shown.raises a b) (in_at v.shown.raises a b lt) (get_or d.past i j) (in_at d.past i j l);
+      };
+    }
+
+-- the payments in the list that the words are copied to
+pub copied : (d : Deed) (s : Shown) (words : List ℕ) (into : List Payment) → s.net ≡ d.net → Closed d s words → length into ≡ length d.net.debts
+    → ((k : ℕ) → k < length into → get_or into k unpaid ≡ payment_of (slice_index words (k + 1))) → Ends d.net d.past s into
+copied d s words into e h size each =
+    let over : length s.net.debts ≡ length d.net.debts = ap (λ (n : Net). length n.debts) e in
+    let pay : ℕ → Payment = λ x. record { value = slice_index s.paid x; stamp = slice_index s.paid_stamps x } in
+    let all : payments_of s ≡ into = ext_get_or unpaid (payments_of s) into (length-tabled (length s.net.debts) pay ∙ over ∙ sym size)
+    (λ x lt. let l : x < length s.net.debts = omega (arith, lt, length-tabled (length s.net.debts) pay) in
+    tabled_at (length s.net.debts) pay x unpaid l ∙ sym (each x (omega (arith, l, over, size)) ∙ h.payments x (omega (arith, l, over)))) in
+    subst (Ends d.net d.past s) all h.ends

@@ -1,0 +1,117 @@
+-- One more raise keeps the raises lawful, and no payment word overflows.
+use Rattle.std.proofs.Common.{◌≡◌, ◌≢◌, ℕ, ◌+◌, ◌<◌, ◌≤◌, List, length, get_or, sum, refl, sym, ap, ◌∙◌, subst, ⊎_elim, le_trans, le_of_eq, arith}
+use Rattle.std.specs.Prelude.{slice_index}
+use Rattle.std.proofs.lemmas.List.{get_or_past}
+use Rattle.std.proofs.lemmas.List.Sums.{sum_by-le-sum_by}
+use native.Mathlib.Decide.{ℕ_discrete, dec_lt}
+use mathlib.Core.Logic.{dite}
+use Rattle.clr_net.specs.declared.TheConstants.{MAX_CLAIM}
+use Rattle.clr_net.specs.Amounts.{IsAtMost}
+use Rattle.clr_net.specs.Limits.{IsNetwork}
+use Rattle.clr_net.specs.Net.{Net, debtor_of, column, units_owed}
+use Rattle.clr_net.proofs.Lists.{sum-le}
+use Rattle.clear_core.specs.Clearing.{part, receipts, least}
+use Rattle.clear_core.specs.History.{raised_before}
+use Rattle.clear_core.specs.declared.event.Raise.{Raise}
+use Rattle.clear_core.proofs.Pay.{pay_at, pay_within, part_mono, sum-pay_le}
+use Rattle.clear_core.proofs.Least.{least_clears}
+use Rattle.clear_core.proofs.Journals.{pay_le_least}
+use Rattle.clear_core.proofs.Rows.{claim_in_limit}
+use Rattle.pay_words.specs.declared.payment.Payment.{Payment}
+use Rattle.pay_words.specs.Words.{unpaid}
+use Rattle.pay_words.specs.Traces.{Traces, IsLawful, In, Rise, Stood, ending, paid_in, paid_to, total}
+use Rattle.pay_words.proofs.Tables.{tabled_at, length-tabled, sum_less}
+use Rattle.pay_words.proofs.Traces.{left_by, pushed, pushed_here, pushed_else, pushed_cases, before_pushed, rise_push, under_ending, ending_push, stood_before}
+
+-- the least clearing payments are within the claims, and so in all within what is owed
+pub least_in_limit : (net : Net) (x : ℕ) → IsNetwork net → slice_index (least net) x ≤ MAX_CLAIM
+least_in_limit net x network =
+    omega (arith, ap (λ P. get_or P x 0) (least_clears net), pay_within net (least net) x, claim_in_limit net x network)
+
+pub sum-least_le : (net : Net) → sum (least net) ≤ units_owed net
+sum-least_le net = omega (arith, ap sum (least_clears net), sum-pay_le net (least net))
+
+-- what a bank's rule gives from what is at most the least clearing payments is at most the least clearing payment
+pub part_le_least : (net : Net) (P : List ℕ) (x : ℕ) → x < length net.debts → IsAtMost P (least net)
+    → part net x (receipts net P (debtor_of net x)) ≤ slice_index (least net) x
+part_le_least net P x lt h = omega (arith, pay_at net P x lt, pay_le_least net P h x)
+
+module _ (net : Net) (t : Traces) (h : IsLawful net t) where
+  pub paid_in_at : (x : ℕ) → x < length net.debts → slice_index (paid_in net t) x ≡ (ending (t x)).value
+  paid_in_at x lt = tabled_at (length net.debts) (λ y. (ending (t y)).value) x 0 lt
+
+  pub paid_in_below : IsAtMost (paid_in net t) (least net)
+  paid_in_below x = dite (dec_lt x (length net.debts))
+      (λ lt. omega (arith, paid_in_at x lt, h.most x lt))
+      (λ ge. let far : length (paid_in net t) ≤ x = omega (arith, length-tabled (length net.debts) (λ y. (ending (t y)).value)) in
+      omega (arith, get_or_past (paid_in net t) x 0 far))
+
+  pub total_le : total net t ≤ units_owed net
+  total_le = omega (arith, sum-le (paid_in net t) (least net) paid_in_below, sum-least_le net)
+
+  -- both halves of a payment word fit
+  pub value_fits : (x : ℕ) → x < length net.debts → IsNetwork net → (ending (t x)).value ≤ MAX_CLAIM
+  value_fits x lt network = omega (arith, h.most x lt, least_in_limit net x network)
+
+  module _ (x : ℕ) (lt : x < length net.debts) (r : Raise) (is : r.debt.0 ≡ x) where
+    abbrev more : Traces
+    more = pushed t x r
+
+    pub ending_here : (y : ℕ) → y ≡ x → ending (more y) ≡ left_by r
+    ending_here y e = ap ending (pushed_here t x r y e) ∙ ending_push unpaid (t y) r
+
+    pub ending_else : (y : ℕ) → y ≢ x → ending (more y) ≡ ending (t y)
+    ending_else y ne = ap ending (pushed_else t x r y ne)
+
+    module _ (up : (ending (t x)).value < r.to) where
+      pub ending_rises : (y : ℕ) → (ending (t y)).value ≤ (ending (more y)).value
+      ending_rises y = dite (ℕ_discrete y x)
+          (λ e. omega (arith, up, ap (λ (q : Payment). q.value) (ending_here y e), ap (λ (z : ℕ). (ending (t z)).value) e))
+          (λ ne. le_of_eq (sym (ap (λ (q : Payment). q.value) (ending_else y ne))))
+
+      pub total_rises : total net t < total net more
+      total_rises = sum_less (paid_in net t) (paid_in net more) x (omega (arith, length-tabled (length net.debts) (λ y. (ending (t y)).value)))
+          (λ y. dite (dec_lt y (length net.debts))
+          (λ l. omega (arith, paid_in_at y l, tabled_at (length net.debts) (λ z. (ending (more z)).value) y 0 l, ending_rises y))
+          (λ ge. let far : length (paid_in net t) ≤ y = omega (arith, length-tabled (length net.debts) (λ z. (ending (t z)).value)) in
+          omega (arith, get_or_past (paid_in net t) y 0 far)))
+          (omega (arith, paid_in_at x lt, tabled_at (length net.debts) (λ z. (ending (more z)).value) x 0 lt, up, ap (λ (q : Payment). q.value) (ending_here x refl)))
+
+      within_more : (stamp y : ℕ) → part net y (paid_to net t stamp y) ≤ part net y (paid_to net more stamp y)
+      within_more stamp y = part_mono net y _ _
+          (sum_by-le-sum_by (λ z. raised_before stamp (t z) z) (λ z. raised_before stamp (more z) z) (column net (debtor_of net y)) (before_pushed t x r stamp))
+
+      pub lawful_push : (ending (t x)).stamp < r.stamp → r.to ≤ part net x (paid_to net t r.stamp x) → r.to ≤ slice_index (least net) x → r.stamp ≤ total net t + 1 → IsLawful net more
+      lawful_push late within below low = record {
+        rise = λ y l. dite (ℕ_discrete y x)
+            (λ e. subst Rise (sym (pushed_here t x r y e)) (rise_push (t y) r (h.rise y l)
+            (λ s i. let u = under_ending unpaid (t y) (h.rise y l) s i in
+            let a : (ending (t y)).stamp < r.stamp = subst (λ (z : ℕ). (ending (t z)).stamp < r.stamp) (sym e) late in
+            let b : (ending (t y)).value < r.to = subst (λ (z : ℕ). (ending (t z)).value < r.to) (sym e) up in
+            (omega (arith, a, u.0), omega (arith, b, u.1)))))
+            (λ ne. subst Rise (sym (pushed_else t x r y ne)) (h.rise y l));
+        each = λ y l s i. ⊎_elim
+            (λ (j : In s (t y)). h.each y l s j)
+            (λ (e : (y ≡ x) × (r ≡ s)). (subst (λ (z : Raise). 0 < z.to) e.1 (omega (arith, up)), ap (λ (z : Raise). z.debt.0) (sym e.1) ∙ is ∙ sym e.0))
+            (pushed_cases t x r y s i);
+        within = λ y l s i. ⊎_elim
+            (λ (j : In s (t y)). le_trans (h.within y l s j) (within_more s.stamp y))
+            (λ (e : (y ≡ x) × (r ≡ s)). subst (λ (z : ℕ × Raise). z.1.to ≤ part net z.0 (paid_to net more z.1.stamp z.0)) (λ k. (sym e.0 k, e.1 k)) (le_trans within (within_more r.stamp x)))
+            (pushed_cases t x r y s i);
+        most = λ y l. dite (ℕ_discrete y x)
+            (λ e. omega (arith, below, ap (λ (q : Payment). q.value) (ending_here y e), ap (slice_index (least net)) e))
+            (λ ne. omega (arith, h.most y l, ap (λ (q : Payment). q.value) (ending_else y ne)));
+        low = λ y l. dite (ℕ_discrete y x)
+            (λ e. omega (arith, low, total_rises, ap (λ (q : Payment). q.stamp) (ending_here y e)))
+            (λ ne. omega (arith, h.low y l, total_rises, ap (λ (q : Payment). q.stamp) (ending_else y ne)));
+      }
+
+  -- what was seen before the stamp was paid before it
+  pub seen_before : (sights stamps : List ℕ) (stamp x : ℕ) → length sights ≡ length net.debts
+      → ((y : ℕ) → y < length net.debts → Stood (t y) (slice_index sights y) (slice_index stamps y)) → ((y : ℕ) → slice_index stamps y < stamp)
+      → part net x (receipts net sights (debtor_of net x)) ≤ part net x (paid_to net t stamp x)
+  seen_before sights stamps stamp x size stood early = part_mono net x _ _
+      (sum_by-le-sum_by (slice_index sights) (λ y. raised_before stamp (t y) y) (column net (debtor_of net x))
+      (λ y. dite (dec_lt y (length net.debts))
+      (λ l. stood_before y (t y) (λ r i. (h.each y l r i).1) stamp (slice_index sights y) (slice_index stamps y) (stood y l) (early y))
+      (λ ge. let far : length sights ≤ y = omega arith in omega (arith, get_or_past sights y 0 far))))

@@ -1,0 +1,103 @@
+-- Marks of banks, and lists of which one part is chosen from another.
+use Rattle.std.proofs.Common.{◌≡◌, ◌⊎◌, ℕ, suc, ◌+◌, ◌<◌, ◌≤◌, List, [], ◌∷◌, length, get_or, sum_by, Bool, true, false, true≢false, inl, inr, refl, sym, ◌∙◌, subst, ⊎_elim, arith, le_refl}
+use Rattle.std.specs.Prelude.{slice_index, if◌then◌else◌, ◌&&◌, ◌||◌, not, slice_index_or}
+use Rattle.std.proofs.lemmas.Bool.{cases_Bool}
+use Rattle.std.proofs.lemmas.List.{get_or_past}
+use Rattle.std.proofs.lemmas.List.Sums.{sum_by-cons}
+use mathlib.Core.Logic.{dite}
+use native.Mathlib.Decide.{dec_lt}
+use Rattle.clr_net.specs.Net.{Net, column, creditor_of}
+use Rattle.clr_net.proofs.RowsAndColumns.{column_place}
+use Rattle.clear_core.specs.Clearing.{receipts}
+use Rattle.pay_words.specs.Views.{tabled, chosen, is_marked}
+use Rattle.pay_words.proofs.Tables.{tabled_at, length-tabled}
+
+module _ (n : ℕ) (f : ℕ → Bool) (b : ℕ) where
+  pub marked_if : is_marked (tabled n f) b ≡ true → (b < n) × (f b ≡ true)
+  marked_if e = dite (dec_lt b n)
+      (λ l. (l, sym (tabled_at n f b false l) ∙ e))
+      (λ ge. let far : length (tabled n f) ≤ b = omega (arith, length-tabled n f) in absurd (true≢false (sym e ∙ get_or_past (tabled n f) b false far)))
+
+  pub marked : b < n → f b ≡ true → is_marked (tabled n f) b ≡ true
+  marked l e = tabled_at n f b false l ∙ e
+
+  pub unmarked : b < n → is_marked (tabled n f) b ≡ false → f b ≡ false
+  unmarked l e = sym (tabled_at n f b false l) ∙ e
+
+-- the first where the test passes
+pub chooses : {A : Type 0} (t : Bool) (x y : A) → t ≡ true → (if t then x else y) ≡ x
+chooses true x y e = refl
+chooses false x y e = absurd (true≢false (sym e))
+
+pub refuses : {A : Type 0} (t : Bool) (x y : A) → t ≡ false → (if t then x else y) ≡ y
+refuses true x y e = absurd (true≢false e)
+refuses false x y e = refl
+
+pub either_marked : (s t : Bool) → (s || t) ≡ true → (s ≡ true) ⊎ (t ≡ true)
+either_marked true t e = inl refl
+either_marked false t e = inr e
+
+pub first_marked : (s t : Bool) → s ≡ true → (s || t) ≡ true
+first_marked true t e = refl
+first_marked false t e = absurd (true≢false (sym e))
+
+pub second_marked : (s t : Bool) → t ≡ true → (s || t) ≡ true
+second_marked true t e = refl
+second_marked false t e = e
+
+pub both_marked : (s t : Bool) → (s && not t) ≡ true → (s ≡ true) × (t ≡ false)
+both_marked true false e = (refl, refl)
+both_marked true true e = absurd (true≢false (sym e))
+both_marked false t e = absurd (true≢false (sym e))
+
+pub marked_without : (s t : Bool) → s ≡ true → t ≡ false → (s && not t) ≡ true
+marked_without true false e f = refl
+marked_without true true e f = absurd (true≢false f)
+marked_without false t e f = absurd (true≢false (sym e))
+
+module _ {A : Type 0} (none : A) (n : ℕ) (p : ℕ → Bool) (xs ys : List A) where
+  abbrev pick : ℕ → A
+  pick k = if p k then slice_index_or ys k none else slice_index_or xs k none
+
+  pub chosen_second : (x : ℕ) → x < n → p x ≡ true → get_or (chosen none n p xs ys) x none ≡ get_or ys x none
+  chosen_second x lt e = tabled_at n pick x none lt ∙ chooses (p x) (get_or ys x none) (get_or xs x none) e
+
+  pub chosen_first : (x : ℕ) → x < n → p x ≡ false → get_or (chosen none n p xs ys) x none ≡ get_or xs x none
+  chosen_first x lt e = tabled_at n pick x none lt ∙ refuses (p x) (get_or ys x none) (get_or xs x none) e
+
+  pub length-chosen : length (chosen none n p xs ys) ≡ n
+  length-chosen = length-tabled n pick
+
+  -- a fact of each place of both lists is one of each place of the choice
+  pub chosen_each : (F : ℕ → A → Type 0) → ((x : ℕ) → x < n → p x ≡ false → F x (get_or xs x none)) → ((x : ℕ) → x < n → p x ≡ true → F x (get_or ys x none))
+      → (x : ℕ) → x < n → F x (get_or (chosen none n p xs ys) x none)
+  chosen_each F f g x lt = ⊎_elim
+      (λ (e : p x ≡ true). subst (F x) (sym (chosen_second x lt e)) (g x lt e))
+      (λ (e : p x ≡ false). subst (F x) (sym (chosen_first x lt e)) (f x lt e))
+      (cases_Bool (p x))
+
+  pub chosen_past : (x : ℕ) → n ≤ x → get_or (chosen none n p xs ys) x none ≡ none
+  chosen_past x ge = get_or_past (chosen none n p xs ys) x none (omega (arith, length-chosen))
+
+pub chosen_most : (n : ℕ) (p : ℕ → Bool) (xs ys : List ℕ) (Q : ℕ → ℕ) → ((x : ℕ) → get_or xs x 0 ≤ Q x) → ((x : ℕ) → get_or ys x 0 ≤ Q x) → (x : ℕ) → get_or (chosen 0 n p xs ys) x 0 ≤ Q x
+chosen_most n p xs ys Q f g x = dite (dec_lt x n)
+    (λ lt. chosen_each 0 n p xs ys (λ y m. m ≤ Q y) (λ y _ _. f y) (λ y _ _. g y) x lt)
+    (λ ge. omega (arith, chosen_past 0 n p xs ys x (omega arith)))
+
+sum_agree : (f g : ℕ → ℕ) (xs : List ℕ) → ((k : ℕ) → k < length xs → f (get_or xs k 0) ≡ g (get_or xs k 0)) → sum_by f xs ≡ sum_by g xs
+sum_agree f g [] h = refl
+sum_agree f g (x ∷ xs) h = sum_by-cons f x xs ∙ (λ i. h 0 (omega arith) i + sum_agree f g xs (λ k l. h (suc k) (omega (arith, l))) i) ∙ sym (sum_by-cons g x xs)
+
+-- receipts are those of two lists that agree at each debt that is owed to the bank
+pub receipts_agree : (net : Net) (P Q : List ℕ) (b : ℕ) → ((x : ℕ) → x < length net.debts → creditor_of net x ≡ b → slice_index P x ≡ slice_index Q x) → receipts net P b ≡ receipts net Q b
+receipts_agree net P Q b h = sum_agree (slice_index P) (slice_index Q) (column net b) (λ k l. let c = column_place net b k l in h (get_or (column net b) k 0) c.0 c.1)
+
+pub column_agree : (net : Net) (f g : ℕ → ℕ) (b : ℕ) → ((x : ℕ) → x < length net.debts → f x ≡ g x) → sum_by f (column net b) ≡ sum_by g (column net b)
+column_agree net f g b h = sum_agree f g (column net b) (λ k l. h (get_or (column net b) k 0) (column_place net b k l).0)
+
+sum_most : (f g : ℕ → ℕ) (xs : List ℕ) → ((k : ℕ) → k < length xs → f (get_or xs k 0) ≤ g (get_or xs k 0)) → sum_by f xs ≤ sum_by g xs
+sum_most f g [] h = le_refl 0
+sum_most f g (x ∷ xs) h = omega (arith, sum_by-cons f x xs, sum_by-cons g x xs, h 0 (omega arith), sum_most f g xs (λ k l. h (suc k) (omega (arith, l))))
+
+pub column_most : (net : Net) (f g : ℕ → ℕ) (b : ℕ) → ((x : ℕ) → x < length net.debts → f x ≤ g x) → sum_by f (column net b) ≤ sum_by g (column net b)
+column_most net f g b h = sum_most f g (column net b) (λ k l. h (get_or (column net b) k 0) (column_place net b k l).0)

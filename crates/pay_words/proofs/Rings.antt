@@ -1,0 +1,402 @@
+-- A ring, and a take, keep the rule of a board.
+use Rattle.std.proofs.Common.{◌≡◌, ◌≢◌, ◌⊎◌, ℕ, ◌+◌, ◌<◌, ◌≤◌, ◌==◌, List, length, set, Bool, true, false, true≢false, inl, inr, refl, sym, ap, ◌∙◌, subst, ⊎_elim, arith, le_trans, le_of_eq, length-set, get_or-set_same, get_or-set_other}
+use Rattle.std.specs.Prelude.{slice_index, if◌then◌else◌, ◌&&◌, ◌||◌, not}
+use Rattle.std.proofs.lemmas.Bool.{cases_Bool, eqb-true, eq-eqb, ne_eqb, and_parts, and_from}
+use Rattle.std.proofs.lemmas.List.{get_or_past}
+use mathlib.Core.Option.{some, none}
+use mathlib.Core.Logic.{dite}
+use native.Mathlib.Decide.{ℕ_discrete, dec_lt}
+use lib.ListN.{get_elem?}
+use Rattle.atomic_table.specs.Table.{State, Me, Allows, keeps, step}
+use Rattle.atomic_table.proofs.Lists.{set_again}
+use Rattle.clr_net.specs.Limits.{IsNetwork}
+use Rattle.clr_net.specs.Net.{Net, debtor_of, creditor_of}
+use Rattle.pay_words.specs.declared.deed.Deed.{Deed}
+use Rattle.pay_words.specs.declared.payment.Payment.{Payment}
+use Rattle.pay_words.specs.declared.view.Shown.{Shown}
+use Rattle.pay_words.specs.declared.view.View.{View}
+use Rattle.pay_words.specs.Traces.{Traces, ending}
+use Rattle.pay_words.specs.Views.{IsSound, IsCalm, OwesRing, holds, is_marked, tabled, rung, took}
+use Rattle.pay_words.specs.Kept.{Ledger, Suits, IsKept, Tower, HasBells, IsCalled, IsRung, TakeTells, Rings, Takes, after_take, bell, taken_of, made_of, showing}
+use Rattle.pay_words.proofs.Tables.{tabled_at, length-tabled}
+use Rattle.pay_words.proofs.Marks.{chooses, refuses}
+use Rattle.pay_words.proofs.Bells.{changed, changed_here, changed_else, sum_views, has_set, sum_changed, one_less}
+use Rattle.pay_words.proofs.Rung.{NoOther, called_still}
+use Rattle.pay_words.proofs.Views.{rule, fits_again, sits_set, not_both}
+
+-- a view whose bells alone change
+module _ (s : Shown) (pending owing fresh : List Bool) (taken : ℕ) where
+  abbrev pub belled : Shown
+  belled = record s { pending = pending; owes_ring = owing; fresh = fresh; taken = taken }
+
+  pub sound_belled : IsSound s → length pending ≡ length s.net.debts → length owing ≡ length s.net.debts → length fresh ≡ length s.net.banks → IsSound belled
+  sound_belled h a b c = record {
+    network = h.network;
+    over = record {
+      banks = h.over.banks;
+      sights = h.over.sights;
+      sight_stamps = h.over.sight_stamps;
+      looks = h.over.looks;
+      paid = h.over.paid;
+      paid_stamps = h.over.paid_stamps;
+      floor = h.over.floor;
+      pending = a;
+      owes_ring = b;
+      fresh = c;
+    };
+    pays_within = h.pays_within;
+    sights_below = h.sights_below;
+    paid_below = h.paid_below;
+    clock_below = h.clock_below;
+  }
+
+pub belled_suits : (d : Deed) (k : Ledger) (roll count id : ℕ) (v : View) (pending owing fresh : List Bool) (taken : ℕ) → IsSound (belled v.shown pending owing fresh taken) → Suits d k roll count id v
+    → Suits d k roll count id (showing v (belled v.shown pending owing fresh taken))
+belled_suits d k roll count id v pending owing fresh taken sound f = record {
+  net_is = f.net_is;
+  sound = sound;
+  mine = f.mine;
+  pays = f.pays;
+  told = f.told;
+  only = f.only;
+  stood = f.stood;
+  floor = f.floor;
+  seen_by_clock = f.seen_by_clock;
+  paid_by_clock = f.paid_by_clock;
+  past_by_clock = f.past_by_clock;
+  late = f.late;
+  clock_low = f.clock_low;
+  leads = f.leads;
+}
+
+pub sound_rung : (s : Shown) (b : ℕ) → IsSound s → IsSound (rung s b)
+sound_rung s b h = sound_belled s s.pending _ s.fresh s.taken h h.over.pending (length-tabled (length s.net.debts) (λ x. is_marked s.owes_ring x && not (creditor_of s.net x == b))) h.over.fresh
+
+pub sound_took : (s : Shown) (b : ℕ) → IsSound s → IsSound (took s b)
+sound_took s b h = sound_belled s _ s.owes_ring _ (s.taken + 1) h (length-tabled (length s.net.debts) (λ x. is_marked s.pending x || (creditor_of s.net x == b))) h.over.owes_ring (length-set s.fresh b false ∙ h.over.fresh)
+
+-- the place of a bell, and how the words change there
+module _ (d : Deed) (words : List ℕ) (size : length words ≡ 1 + length d.net.debts + length d.net.banks) (b : ℕ) (lt : b < length d.net.banks) (m : ℕ) where
+  abbrev pub place : ℕ
+  place = length d.net.debts + 1 + b
+
+  abbrev pub struck : List ℕ
+  struck = set words place m
+
+  pub bell_here : (c : ℕ) → c ≡ b → bell d.net struck c ≡ m
+  bell_here c e = ap (λ (z : ℕ). slice_index struck (length d.net.debts + 1 + z)) e ∙ get_or-set_same words place m 0 (omega (arith, lt, size))
+
+  pub bell_else : (c : ℕ) → c ≢ b → bell d.net struck c ≡ bell d.net words c
+  bell_else c ne = get_or-set_other words place (length d.net.debts + 1 + c) m 0 (λ e. ne (omega (arith, e)))
+
+  pub word_still : (x : ℕ) → x < length d.net.debts → slice_index struck (x + 1) ≡ slice_index words (x + 1)
+  word_still x l = get_or-set_other words place (x + 1) m 0 (λ e. absurd (omega (arith, e, l)))
+
+  pub roll_still : slice_index struck 0 ≡ slice_index words 0
+  roll_still = get_or-set_other words place 0 m 0 (λ e. absurd (omega (arith, e)))
+
+module _ (d : Deed) (t : Traces) (words : List ℕ) (views : List View) (id : ℕ) (v : View) (at : get_elem? views id ≡ some v) (on : v.live ≡ true) (size : length words ≡ 1 + length d.net.debts + length d.net.banks) (h : IsRung d t words views) (b : ℕ) (lt : b < length d.net.banks) where
+  abbrev net : Net
+  net = d.net
+
+  abbrev n : ℕ
+  n = length d.net.debts
+
+  abbrev w : Tower
+  w = h.tower
+
+  -- a ring
+  module _ (over : v.shown.net ≡ d.net) (alone : (x : ℕ) → holds v.shown (debtor_of net x) ≡ true → NoOther views id (debtor_of net x)) where
+    abbrev answers : ℕ → Bool
+    answers x = holds v.shown (debtor_of net x) && (creditor_of net x == b)
+
+    abbrev rung_tower : Tower
+    rung_tower = record w { owed = λ x. if answers x then false else w.owed x }
+
+    still_owed : (x : ℕ) → answers x ≡ false → rung_tower.owed x ≡ w.owed x
+    still_owed x e = refuses (answers x) false (w.owed x) e
+
+    abbrev now : List ℕ
+    now = set words (n + 1 + b) 1
+
+    up : (x : ℕ) → creditor_of net x ≡ b → IsCalled net now rung_tower x
+    up x e = inl (bell_here d words size b lt 1 (creditor_of net x) e)
+
+    called_else : (x : ℕ) → creditor_of net x ≢ b → IsCalled net words w x → IsCalled net now rung_tower x
+    called_else x ne c = called_still net words now w rung_tower x (bell_else d words size b lt 1 (creditor_of net x) ne) refl c
+
+    not_answered : (x : ℕ) → creditor_of net x ≢ b → answers x ≡ false
+    not_answered x ne = ap (λ (z : Bool). holds v.shown (debtor_of net x) && z) (ne_eqb (creditor_of net x) b ne) ∙ and_false (holds v.shown (debtor_of net x))
+      where
+        and_false : (z : Bool) → (z && false) ≡ false
+        and_false true = refl
+        and_false false = refl
+
+    rung_at : (y : ℕ) → y < n → is_marked (rung v.shown b).owes_ring y ≡ (is_marked v.shown.owes_ring y && not (creditor_of net y == b))
+    rung_at y l = subst (λ (m : Net). is_marked (tabled (length m.debts) (λ x. is_marked v.shown.owes_ring x && not (creditor_of m x == b))) y ≡ (is_marked v.shown.owes_ring y && not (creditor_of net y == b))) (sym over)
+        (tabled_at n (λ x. is_marked v.shown.owes_ring x && not (creditor_of net x == b)) y false l)
+
+    rung_has : HasBells d w v → HasBells d rung_tower (showing v (rung v.shown b))
+    rung_has g = record {
+      seen = g.seen;
+      pend = g.pend;
+      owed = λ y l m. rung_at y l ∙ go (is_marked v.shown.owes_ring y) (w.owed y) (holds v.shown (debtor_of net y)) (creditor_of net y == b) m (g.owed y l m);
+      level = g.level;
+      fresh = g.fresh;
+    }
+      where
+        go : (p q r s : Bool) → r ≡ true → p ≡ q → (p && not s) ≡ (if r && s then false else q)
+        go true q true true e f = refl
+        go false q true true e f = refl
+        go true q true false e f = f
+        go false q true false e f = f
+        go p q false s e f = absurd (true≢false (sym e))
+
+    others_rung : (u : View) (apart : (x : ℕ) → holds u.shown (debtor_of net x) ≡ true → holds v.shown (debtor_of net x) ≡ true → ⊥) → HasBells d w u → HasBells d rung_tower u
+    others_rung u apart g = record {
+      seen = g.seen;
+      pend = g.pend;
+      owed = λ y l m. g.owed y l m ∙ sym (still_owed y (⊎_elim
+          (λ (e : answers y ≡ true). absurd (apart y m (and_parts (holds v.shown (debtor_of net y)) (creditor_of net y == b) e).0))
+          (λ (e : answers y ≡ false). e)
+          (cases_Bool (answers y))));
+      level = g.level;
+      fresh = g.fresh;
+    }
+
+    pub rung_ring : (x : ℕ) → x < n → holds v.shown (debtor_of net x) ≡ true → creditor_of net x ≡ b → is_marked v.shown.owes_ring x ≡ true → IsRung d t now (set views id (showing v (rung v.shown b)))
+    rung_ring x l mine is owing = record {
+      tower = rung_tower;
+      bells = λ c l'. dite (ℕ_discrete c b) (λ e. le_of_eq (bell_here d words size b lt 1 c e)) (λ ne. le_trans (le_of_eq (bell_else d words size b lt 1 c ne)) (h.bells c l'));
+      answered = λ y l'. dite (ℕ_discrete (creditor_of net y) b)
+          (λ e. inr (inl (up y e)))
+          (λ ne. ⊎_elim
+          (λ (a : w.seen y ≡ (ending (t y)).value). inl a)
+          (λ (a : IsCalled net words w y ⊎ (w.owed y ≡ true)). inr (⊎_elim (λ (c : IsCalled net words w y). inl (called_else y ne c)) (λ (o : w.owed y ≡ true). inr (still_owed y (not_answered y ne) ∙ o)) a))
+          (h.answered y l'));
+      lifted = λ y l'. dite (ℕ_discrete (creditor_of net y) b)
+          (λ e. inr (up y e))
+          (λ ne. ⊎_elim (λ (a : w.level y ≤ w.seen y). inl a) (λ (c : IsCalled net words w y). inr (called_else y ne c)) (h.lifted y l'));
+      levels = h.levels;
+      fresh = λ c l' e. let f = h.fresh c l' e in (dite (ℕ_discrete c b) (λ i. bell_here d words size b lt 1 c i) (λ ne. bell_else d words size b lt 1 c ne ∙ f.0), f.1);
+      few =
+          let u = showing v (rung v.shown b) in
+          let more = sum_changed (length net.banks) (bell net words) (bell net now) b lt (λ c ne. bell_else d words size b lt 1 c ne) in
+          let one = bell_here d words size b lt 1 b refl in
+          let was : w.owed x ≡ true = sym ((h.has id v at on).owed x l mine) ∙ owing in
+          let here : answers x ≡ true = and_from (holds v.shown (debtor_of net x)) (creditor_of net x == b) mine (eq-eqb (creditor_of net x) b is) in
+          let less = one_less n w.owed rung_tower.owed x l was (chooses (answers x) false (w.owed x) here) owed_before in
+          omega (arith, h.few, sum_views taken_of views id v u at, sum_views made_of views id v u at, more, one, less);
+      has = has_set d rung_tower views id (showing v (rung v.shown b)) (λ j u ne e o. others_rung u (λ y a c. alone y c j u ne e o a) (h.has j u e o)) (λ _. rung_has (h.has id v at on));
+    }
+      where
+        owed_before : (y : ℕ) → rung_tower.owed y ≡ true → w.owed y ≡ true
+        owed_before y e = ⊎_elim
+            (λ (a : answers y ≡ true). absurd (true≢false (sym e ∙ chooses (answers y) false (w.owed y) a)))
+            (λ (a : answers y ≡ false). sym (still_owed y a) ∙ e)
+            (cases_Bool (answers y))
+
+  -- a take that finds the bell up
+  module _ (over : v.shown.net ≡ d.net) (mine : holds v.shown b ≡ true) (alone : NoOther views id b) (long : length v.shown.fresh ≡ length d.net.banks) where
+    abbrev took_tower : Tower
+    took_tower = record w { pend = λ x. if creditor_of net x == b then true else w.pend x; fresh = changed b false w.fresh }
+
+    abbrev down : List ℕ
+    down = set words (n + 1 + b) 0
+
+    pend_here : (x : ℕ) → creditor_of net x ≡ b → took_tower.pend x ≡ true
+    pend_here x e = chooses (creditor_of net x == b) true (w.pend x) (eq-eqb (creditor_of net x) b e)
+
+    pend_else : (x : ℕ) → creditor_of net x ≢ b → took_tower.pend x ≡ w.pend x
+    pend_else x ne = refuses (creditor_of net x == b) true (w.pend x) (ne_eqb (creditor_of net x) b ne)
+
+    called_on : (x : ℕ) → creditor_of net x ≢ b → IsCalled net words w x → IsCalled net down took_tower x
+    called_on x ne c = called_still net words down w took_tower x (bell_else d words size b lt 0 (creditor_of net x) ne) (pend_else x ne) c
+
+    took_at : (y : ℕ) → y < n → is_marked (took v.shown b).pending y ≡ (is_marked v.shown.pending y || (creditor_of net y == b))
+    took_at y l = subst (λ (m : Net). is_marked (tabled (length m.debts) (λ x. is_marked v.shown.pending x || (creditor_of m x == b))) y ≡ (is_marked v.shown.pending y || (creditor_of net y == b))) (sym over)
+        (tabled_at n (λ x. is_marked v.shown.pending x || (creditor_of net x == b)) y false l)
+
+    took_has : HasBells d w v → HasBells d took_tower (showing v (took v.shown b))
+    took_has g = record {
+      seen = g.seen;
+      pend = λ y l m. took_at y l ∙ go (is_marked v.shown.pending y) (w.pend y) (creditor_of net y == b) (g.pend y l m);
+      owed = g.owed;
+      level = g.level;
+      fresh = λ c l m. dite (ℕ_discrete c b)
+          (λ e. ap (is_marked (set v.shown.fresh b false)) e ∙ get_or-set_same v.shown.fresh b false false (omega (arith, lt, long)) ∙ sym (changed_here b false w.fresh c e))
+          (λ ne. get_or-set_other v.shown.fresh b c false false ne ∙ g.fresh c l m ∙ sym (changed_else b false w.fresh c ne));
+    }
+      where
+        go : (p q s : Bool) → p ≡ q → (p || s) ≡ (if s then true else q)
+        go true q true f = refl
+        go false q true f = refl
+        go true q false f = f
+        go false q false f = f
+
+    others_took : (u : View) → (holds u.shown b ≡ true → ⊥) → HasBells d w u → HasBells d took_tower u
+    others_took u away g = record {
+      seen = g.seen;
+      pend = λ y l m. g.pend y l m ∙ sym (pend_else y (λ e. away (subst (λ (z : ℕ). holds u.shown z ≡ true) e m)));
+      owed = g.owed;
+      level = g.level;
+      fresh = λ c l m. g.fresh c l m ∙ sym (changed_else b false w.fresh c (λ e. away (subst (λ (z : ℕ). holds u.shown z ≡ true) e m)));
+    }
+
+    pub rung_take : bell net words b ≡ 1 → IsRung d t down (set views id (showing v (took v.shown b)))
+    rung_take raised = record {
+      tower = took_tower;
+      bells = λ c l'. dite (ℕ_discrete c b) (λ e. let z = bell_here d words size b lt 0 c e in omega (arith, z)) (λ ne. le_trans (le_of_eq (bell_else d words size b lt 0 c ne)) (h.bells c l'));
+      answered = λ y l'. dite (ℕ_discrete (creditor_of net y) b)
+          (λ e. inr (inl (inr (pend_here y e))))
+          (λ ne. ⊎_elim
+          (λ (a : w.seen y ≡ (ending (t y)).value). inl a)
+          (λ (a : IsCalled net words w y ⊎ (w.owed y ≡ true)). inr (⊎_elim (λ (c : IsCalled net words w y). inl (called_on y ne c)) (λ (o : w.owed y ≡ true). inr o) a))
+          (h.answered y l'));
+      lifted = λ y l'. dite (ℕ_discrete (creditor_of net y) b)
+          (λ e. inr (inr (pend_here y e)))
+          (λ ne. ⊎_elim (λ (a : w.level y ≤ w.seen y). inl a) (λ (c : IsCalled net words w y). inr (called_on y ne c)) (h.lifted y l'));
+      levels = h.levels;
+      fresh = λ c l' e. dite (ℕ_discrete c b)
+          (λ i. absurd (true≢false (sym e ∙ changed_here b false w.fresh c i)))
+          (λ ne. let f = h.fresh c l' (sym (changed_else b false w.fresh c ne) ∙ e) in
+          (bell_else d words size b lt 0 c ne ∙ f.0, λ y m o. pend_else y (λ i. ne (sym o ∙ i)) ∙ f.1 y m o));
+      few =
+          let u = showing v (took v.shown b) in
+          let less = sum_changed (length net.banks) (bell net words) (bell net down) b lt (λ c ne. bell_else d words size b lt 0 c ne) in
+          let none' = bell_here d words size b lt 0 b refl in
+          omega (arith, h.few, sum_views taken_of views id v u at, sum_views made_of views id v u at, less, none', raised, chooses v.live v.shown.taken 0 on, chooses v.live (v.shown.taken + 1) 0 on);
+      has = has_set d took_tower views id (showing v (took v.shown b)) (λ j u ne e o. others_took u (alone j u ne e o) (h.has j u e o)) (λ _. took_has (h.has id v at on));
+    }
+
+-- one step at a bell: the words, and a view that shows other bells
+struck_kept : (d : Deed) (s : State (Unit {0}) View) (id : ℕ) (v : View) (at : get_elem? s.views id ≡ some v) (h : IsKept d s.words s.views) (b m : ℕ) → b < length d.net.banks → (pending owing fresh : List Bool) (taken : ℕ)
+    → (v.live ≡ true) → IsSound (belled v.shown pending owing fresh taken)
+    → IsRung d h.ledger.trace (set s.words (length d.net.debts + 1 + b) m) (set s.views id (showing v (belled v.shown pending owing fresh taken)))
+    → IsKept d (set s.words (length d.net.debts + 1 + b) m) (set s.views id (showing v (belled v.shown pending owing fresh taken)))
+struck_kept d s id v at h b m lt pending owing fresh taken on sound rings =
+    let k = h.ledger in
+    let u = showing v (belled v.shown pending owing fresh taken) in
+    record {
+      ledger = k;
+      network = h.network;
+      size = length-set s.words (length d.net.debts + 1 + b) m ∙ h.size;
+      stands = λ x l. word_still d s.words h.size b lt m x l ∙ h.stands x l;
+      lawful = h.lawful;
+      known = h.known;
+      held = λ c l. sits_set s.views id v u (k.owner c) (λ y. holds y.shown c ≡ true) at refl (λ e. e) (h.held c l);
+      led = sits_set s.views id v u k.chief (λ y. y.shown.master ≡ true) at refl (λ e. e) h.led;
+      fits = fits_again d k (slice_index s.words 0) (set s.words (length d.net.debts + 1 + b) m) s.views id u (roll_still d s.words h.size b lt m) (λ j y _ e t. h.fits j y e t)
+          (λ _. belled_suits d k (slice_index s.words 0) (length s.views) id v pending owing fresh taken sound (h.fits id v at on));
+      rung = rings;
+    }
+
+pub rings : (d : Deed) (slots id : ℕ) (me : Me (Unit {0}) View) (i b : ℕ) → i ≡ length d.net.debts + 1 + b → me.0.live ≡ true → me.0.shown.net ≡ d.net → OwesRing me.0.shown b
+    → Allows (rule d) slots id me i (λ _. 1) (λ _. Rings (step slots i 1 0 none) me 1)
+rings d slots id me i b place on over owes s h sized at small =
+    let k = h.ledger in
+    let v = me.0 in
+    let f = h.fits id v at on in
+    let x = owes.0 in
+    let lt : x < length d.net.debts = subst (λ (n : Net). x < length n.debts) over owes.1 in
+    let mine : holds v.shown (debtor_of d.net x) ≡ true = subst (λ (n : Net). holds v.shown (debtor_of n x) ≡ true) over owes.2 in
+    let both = and_parts (is_marked v.shown.owes_ring x) (creditor_of v.shown.net x == b) owes.3 in
+    let is : creditor_of d.net x ≡ b = ap (λ (n : Net). creditor_of n x) (sym over) ∙ eqb-true (creditor_of v.shown.net x) b both.1 in
+    let bank : b < length d.net.banks = subst (λ (c : ℕ). c < length d.net.banks) is (h.network.each_debt x lt).creditor_known in
+    let w = showing v (rung v.shown b) in
+    let alone : (y : ℕ) → holds v.shown (debtor_of d.net y) ≡ true → NoOther s.views id (debtor_of d.net y) =
+    λ y m j u ne e t. not_both d k (slice_index s.words 0) (length s.views) id j u v (debtor_of d.net y) ne f m (h.fits j u e t) in
+    let new = rung_ring d k.trace s.words s.views id v at on h.size h.rung b bank over alone x lt mine is both.0 in (
+      w,
+      keeps,
+      tt,
+      subst (λ (j : ℕ). IsKept d (set s.words j 1) (set s.views id w)) (sym place)
+          (struck_kept d s id v at h b 1 bank v.shown.pending _ v.shown.fresh v.shown.taken on (sound_rung v.shown b f.sound) new),
+      λ c e. let same : b ≡ c = omega (arith, e, place, ap (λ (n : Net). length n.debts) over) in
+          subst (λ (z : ℕ). ◌≡◌ {A = Me (Unit {0}) View} (w, me.1) (showing v (rung v.shown z), me.1)) same refl,
+    )
+
+-- what a take tells
+take_tells : (d : Deed) (k : Ledger) (roll count id : ℕ) (v : View) (words : List ℕ) (views : List View) (b : ℕ) → b < length d.net.banks → get_elem? views id ≡ some v → v.live ≡ true → holds v.shown b ≡ true → IsRung d k.trace words views → Suits d k roll count id v
+    → TakeTells v.shown b (bell d.net words b)
+take_tells d k roll count id v words views b lt at on mine h f =
+    let g = h.has id v at on in
+    let w = h.tower in
+    record {
+      up_or_down = h.bells b lt;
+      up_if_fresh = λ e. (h.fresh b lt (sym (g.fresh b lt mine) ∙ e)).0;
+      seen_floor = λ down calm x l is.
+          let l' = within x l in
+          let o = of x is in
+          let e = g.seen x l' (held x o) in
+          ⊎_elim (λ (a : w.level x ≤ w.seen x). le_trans (g.level x l') (le_trans a (le_of_eq (sym e)))) (λ (c : IsCalled d.net words w x). absurd (not_called down calm x l is c)) (h.lifted x l');
+      seen_all = λ down calm all calm' x l is.
+          let l' = within x l in
+          let o = of x is in
+          let owner = all (debtor_of v.shown.net x) (f.sound.network.each_debt x l).debtor_known in
+          let owner' = subst (λ (n : Net). holds v.shown (debtor_of n x) ≡ true) f.net_is owner in
+          ⊎_elim
+          (λ (a : w.seen x ≡ (ending (k.trace x)).value). g.seen x l' (held x o) ∙ a ∙ sym (ap (λ (p : Payment). p.value) (f.pays x l' owner')))
+          (λ (a : IsCalled d.net words w x ⊎ (w.owed x ≡ true)). ⊎_elim
+          (λ (c : IsCalled d.net words w x). absurd (not_called down calm x l is c))
+          (λ (r : w.owed x ≡ true). absurd (true≢false (sym r ∙ sym (g.owed x l' owner') ∙ calm' x l owner))) a)
+          (h.answered x l');
+    }
+  where
+    within : (x : ℕ) → x < length v.shown.net.debts → x < length d.net.debts
+    within x l = subst (λ (n : Net). x < length n.debts) f.net_is l
+
+    of : (x : ℕ) → creditor_of v.shown.net x ≡ b → creditor_of d.net x ≡ b
+    of x is = ap (λ (n : Net). creditor_of n x) (sym f.net_is) ∙ is
+
+    held : (x : ℕ) → creditor_of d.net x ≡ b → holds v.shown (creditor_of d.net x) ≡ true
+    held x o = ap (holds v.shown) o ∙ mine
+
+    not_called : bell d.net words b ≡ 0 → IsCalm v.shown b → (x : ℕ) → x < length v.shown.net.debts → creditor_of v.shown.net x ≡ b → IsCalled d.net words h.tower x → ⊥
+    not_called down calm x l is (inl e) = absurd (omega (arith, down, e, ap (bell d.net words) (of x is)))
+    not_called down calm x l is (inr e) = absurd (true≢false (sym e ∙ sym ((h.has id v at on).pend x (within x l) (held x (of x is))) ∙ calm x l is))
+
+pub takes : (d : Deed) (slots id : ℕ) (me : Me (Unit {0}) View) (i b : ℕ) → i ≡ length d.net.debts + 1 + b → b < length d.net.banks → me.0.live ≡ true → me.0.shown.net ≡ d.net → holds me.0.shown b ≡ true
+    → Allows (rule d) slots id me i (λ _. 0) (Takes (step slots i 0 0 none) me)
+takes d slots id me i b place lt on over mine s h sized at small =
+    let k = h.ledger in
+    let v = me.0 in
+    let f = h.fits id v at on in
+    let n : ℕ = slice_index s.words i in
+    let is : n ≡ bell d.net s.words b = ap (slice_index s.words) place in
+    let w = showing v (after_take v.shown b n) in
+    let tells : TakeTells v.shown b n = subst (TakeTells v.shown b) (sym is) (take_tells d k (slice_index s.words 0) (length s.views) id v s.words s.views b lt at on mine h.rung f) in
+    let alone : NoOther s.views id b = λ j u ne e t. not_both d k (slice_index s.words 0) (length s.views) id j u v b ne f mine (h.fits j u e t) in
+    let long : length v.shown.fresh ≡ length d.net.banks = f.sound.over.fresh ∙ ap (λ (m : Net). length m.banks) f.net_is in (
+      w,
+      keeps,
+      tt,
+      subst (λ (j : ℕ). IsKept d (set s.words j 0) (set s.views id w)) (sym place)
+          (dite (ℕ_discrete n 0)
+          (λ e.
+          let same : showing v (after_take v.shown b n) ≡ v = ap (λ (m : ℕ). showing v (after_take v.shown b m)) e in
+          let words : set s.words (length d.net.debts + 1 + b) 0 ≡ s.words = ap (set s.words (length d.net.debts + 1 + b)) (sym e ∙ is) ∙ Rattle.std.proofs.lemmas.List.set-get_or s.words (length d.net.debts + 1 + b) 0 in
+          let views : set s.views id (showing v (after_take v.shown b n)) ≡ s.views = ap (set s.views id) same ∙ set_again s.views id v at in
+          subst (λ (y : List ℕ × List View). IsKept d y.0 y.1) (λ a. (sym words a, sym views a)) h)
+          (λ ne.
+          let one : n ≡ 1 = omega (arith, ne, tells.up_or_down) in
+          subst (λ (m : ℕ). IsKept d (set s.words (length d.net.debts + 1 + b) 0) (set s.views id (showing v (after_take v.shown b m)))) (sym one)
+          (struck_kept d s id v at h b 0 lt _ v.shown.owes_ring _ (v.shown.taken + 1) on (sound_took v.shown b f.sound)
+          (rung_take d k.trace s.words s.views id v at on h.size h.rung b lt over mine alone long (sym is ∙ one))))),
+      λ c e. let same : b ≡ c = omega (arith, e, place, ap (λ (m : Net). length m.debts) over) in
+          subst (λ (z : ℕ). (◌≡◌ {A = Me (Unit {0}) View} (w, me.1) (showing v (after_take v.shown z n), me.1)) × TakeTells v.shown z n) same (refl, tells),
+    )
+
+-- the bank that a ring is owed to is one of the network
+pub bank_of_ring : (net : Net) (s : Shown) (b : ℕ) → IsNetwork net → s.net ≡ net → OwesRing s b → b < length net.banks
+bank_of_ring net s b network over owes =
+    let lt = subst (λ (n : Net). owes.0 < length n.debts) over owes.1 in
+    let both = and_parts (is_marked s.owes_ring owes.0) (creditor_of s.net owes.0 == b) owes.3 in
+    let is : creditor_of net owes.0 ≡ b = ap (λ (n : Net). creditor_of n owes.0) (sym over) ∙ eqb-true (creditor_of s.net owes.0) b both.1 in
+    subst (λ (c : ℕ). c < length net.banks) is (network.each_debt owes.0 lt).creditor_known
+
+-- and so is a bank that a seat holds
+pub bank_held : (net : Net) (s : Shown) (b : ℕ) → s.net ≡ net → length s.banks ≡ length s.net.banks → holds s b ≡ true → b < length net.banks
+bank_held net s b over size held = dite (dec_lt b (length net.banks))
+    (λ lt. lt)
+    (λ ge. let far : length s.banks ≤ b = omega (arith, size, ap (λ (n : Net). length n.banks) over) in absurd (true≢false (sym held ∙ get_or_past s.banks b false far)))

@@ -1,0 +1,45 @@
+-- Lists over banks and debts: one that a function gives, and one of whose places changes.
+use Rattle.std.proofs.Common.{◌≡◌, ℕ, zero, suc, ◌+◌, ◌<◌, ◌≤◌, List, [], ◌∷◌, length, set, get_or, sum, refl, sym, ap, ◌∙◌, subst, le_refl, arith, get_or-set_same, get_or-set_other}
+use Rattle.std.specs.Prelude.{slice_index}
+use Rattle.std.proofs.lemmas.List.{ext_get_or}
+use Rattle.std.proofs.lemmas.List.FromFn.{get_or-map-range_with_len, length-map-range_with_len}
+use native.Mathlib.Decide.{ℕ_discrete, dec_lt}
+use mathlib.Core.Logic.{dite}
+use Rattle.clr_net.specs.Amounts.{IsAtMost}
+use Rattle.clr_net.proofs.Lists.{sum-le, sum_raised}
+use Rattle.pay_words.specs.Views.{tabled}
+
+pub tabled_at : {A : Type 0} (n : ℕ) (f : ℕ → A) (x : ℕ) (d : A) → x < n → get_or (tabled n f) x d ≡ f x
+tabled_at n f x d lt = get_or-map-range_with_len f 0 n x x d lt (omega arith)
+
+pub length-tabled : {A : Type 0} (n : ℕ) (f : ℕ → A) → length (tabled n f) ≡ n
+length-tabled n f = length-map-range_with_len f 0 n
+
+pub tabled_agree : {A : Type 0} (d : A) (n : ℕ) (f g : ℕ → A) → ((x : ℕ) → x < n → f x ≡ g x) → tabled n f ≡ tabled n g
+tabled_agree d n f g h = ext_get_or d (tabled n f) (tabled n g) (length-tabled n f ∙ sym (length-tabled n g))
+    (λ x lt. let l : x < n = omega (arith, lt, length-tabled n f) in tabled_at n f x d l ∙ h x l ∙ sym (tabled_at n g x d l))
+
+set_past : {A : Type 0} (P : List A) (x : ℕ) (n : A) → length P ≤ x → set P x n ≡ P
+set_past [] x n h = refl
+set_past (p ∷ P) zero n h = absurd (omega arith)
+set_past (p ∷ P) (suc x) n h = ap (λ q. p ∷ q) (set_past P x n (omega arith))
+
+-- a fact of each number after one has changed: of the new one, and of the others
+pub after_set : (F : ℕ → ℕ → Type 0) (P : List ℕ) (x n : ℕ) → F x n → ((y : ℕ) → F y (get_or P y 0))
+    → (y : ℕ) → F y (get_or (set P x n) y 0)
+after_set F P x n here other y = dite (ℕ_discrete y x)
+    (λ e. subst (λ z. F z (get_or (set P x n) z 0)) (sym e) (dite (dec_lt x (length P))
+    (λ lt. subst (F x) (sym (get_or-set_same P x n 0 lt)) here)
+    (λ ge. let far : length P ≤ x = omega arith in subst (λ Q. F x (get_or Q x 0)) (sym (set_past P x n far)) (other x))))
+    (λ ne. subst (F y) (sym (get_or-set_other P x y n 0 ne)) (other y))
+
+pub set_above : (P : List ℕ) (x n : ℕ) → slice_index P x ≤ n → IsAtMost P (set P x n)
+set_above P x n h = after_set (λ y m. slice_index P y ≤ m) P x n h (λ y. le_refl _)
+
+pub set_below : (P Q : List ℕ) (x n : ℕ) → IsAtMost P Q → n ≤ slice_index Q x → IsAtMost (set P x n) Q
+set_below P Q x n h le = after_set (λ y m. m ≤ slice_index Q y) P x n le h
+
+-- a sum is above another where one number is, and none is below
+pub sum_less : (P Q : List ℕ) (x : ℕ) → x < length P → IsAtMost P Q → slice_index P x < slice_index Q x → sum P < sum Q
+sum_less P Q x lt h up =
+    omega (arith, sum-le (set P x (slice_index P x + 1)) Q (set_below P Q x (slice_index P x + 1) h (omega arith)), sum_raised P x lt)

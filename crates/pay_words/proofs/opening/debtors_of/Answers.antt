@@ -1,0 +1,24 @@
+use Rattle.std.proofs.Common.{◌≡◌, ◌<◌, ◌∙◌, [], ◌∷◌, ◌++◌, length, map, get_or, ap, sym, arith}
+use Rattle.std.proofs.lemmas.List.{take_all}
+use Rattle.std.proofs.lemmas.List.FromFn.{length-range_with_len, get_or-range_with_len}
+use Rattle.std.specs.Option.{option_map_or}
+use Rattle.std.specs.Prelude.{Option}
+use Rattle.clr_net.specs.declared.debt.Debt.{Debt}
+use Rattle.clr_net.specs.Net.{debtor_of, debt_numbers}
+use Rattle.pay_words.proofs.Openings.{mapped_more}
+use Rattle.pay_words.proofs.opening.debtors_of.Goals as goal
+
+pub loop-number-preserved : goal.loop-number-preserved
+loop-number-preserved c =
+    let net = c.args.net.now in
+    let k = c.loop-number.number in
+    let lt : k < length (debt_numbers net) = omega (arith, c.loop-number-test.true, c.debts-number-end.ensures.debts, length-range_with_len 0 (length net.debts)) in
+    let at : get_or (debt_numbers net) k 0 ≡ k = omega (arith, get_or-range_with_len 0 (length net.debts) k 0 (omega (arith, lt, length-range_with_len 0 (length net.debts)))) in
+    let read : c.debt.result.debtor.0 ≡ debtor_of net k = sym (ap (λ (o : Option Debt). option_map_or (λ (d : Debt). d.debtor.0) o 0) c.debt.ensures) in
+    c.in_ok-push.ensures.items ∙ (λ i. c.loop-number.invariant i ++ (read ∙ ap (debtor_of net) (sym at)) i ∷ [])
+    ∙ mapped_more (debtor_of net) (debt_numbers net) k 0 lt
+
+pub returns : goal.returns
+returns c =
+    let net = c.args.net.now in
+    c.loop-number.invariant ∙ ap (map (debtor_of net)) (take_all c.loop-number.number (debt_numbers net) (omega (arith, c.loop-number-test.false, c.debts-number-end.ensures.debts, length-range_with_len 0 (length net.debts))))

@@ -1,0 +1,10 @@
+pub mod Founded
+pub mod Words
+pub mod Views
+pub mod Traces
+pub mod Kept
+pub mod Seats
+pub mod Belongs
+pub mod Ends
+pub mod Sealed
+pub mod Cases

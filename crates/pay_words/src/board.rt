@@ -1,0 +1,351 @@
+ghost use Rattle.clear_core.specs.Clearing.{least, part, receipts};
+ghost use Rattle.clear_core.specs.History.{ordered};
+ghost use Rattle.clr_net.specs.Net.{creditor_of, debtor_of};
+ghost use Rattle.clr_net.specs.Amounts.{IsAtMost};
+ghost use Rattle.pay_words.specs.Belongs.{Belongs};
+ghost use Rattle.pay_words.specs.Ends.{AreAfter, AreLawful, HaveLowStamps, Replay, payments_of, values};
+ghost use Rattle.pay_words.specs.Views.{HasSeenAll, HasSeenFloor, HoldsAll, HoldsAllOf, IsAt, IsCalm, OwesNoRing, OwesRing, handed, holds, is_marked, is_of_worker, looked, opening, raised, rejoined, rung, took, without};
+ghost use Rattle.std.specs.Prelude.{◌≡◌, ℕ, ◌+◌, ◌<◌, ◌≤◌, ◌++◌, IfOk, OnErr, OnOk, if◌then◌else◌, false, length, slice_index, true};
+
+use crate::deed::{Deed, Founding, deed_of};
+use crate::opening::{debtors_of, greatest_stamp, opening_words, values_of};
+use crate::payment::Payment;
+use crate::record::Record;
+use crate::rule::{Both, Chosen, Clearing, Look, Part, Ring, Rise, Roll, Take};
+use crate::seat::PaySeat;
+use crate::view::View;
+use atomic_table::{Seat, Table};
+use clear_core::{Journal, Raise};
+use clr_net::{BankId, DebtId, Mem, Network};
+use std::alloc::Global;
+use std::marker::{Brand, Model};
+
+/// The words of the payments on all debts of a network, on which any number of threads work at once, each by a seat.
+///
+/// Contracts see its network, its past, which are the raises that were made before it, and its number of workers.
+#[derive(Drop)]
+pub struct Board {
+    table: Table<(), View, Seat<(), Deed>, Clearing, Global>,
+    debtors: Vec<u32>,
+    past: usize,
+    workers: u32,
+}
+
+impl Model for Board {
+    ghost use Rattle.pay_words.specs.Seats.{IsLaidOut};
+    ghost use Rattle.pay_words.specs.Views.{Panel};
+    ghost use Rattle.std.specs.Prelude.{◌≡◌, length};
+
+    ghost Value = { Panel };
+
+    ghost view = { λ b. record { table = b.table.shared.table_id; net = b.table.shared.key.me.0.net; past = b.table.shared.key.me.0.past; workers = b.workers } };
+
+    ghost invariant = { λ b. IsLaidOut b.table.shared.key.me.0.net b.table.shared.table_id.words b.table.shared.table_id.slots b.debtors.items b.workers × (b.past ≡ length b.table.shared.key.me.0.past) };
+}
+
+impl Board {
+    /// A board on which the payments of a past stand, and its master, which holds all banks.
+    ///
+    /// `start` is over all debts, in file order. Costs a walk over all debts and banks.
+    pub fn make(
+        alloc: Global,
+        net: &Network,
+        workers: u32,
+        start: &[Payment],
+        past: &[Raise],
+    ) -> Result<(Board, PaySeat), Mem>
+        requires workers { (1 ≤ workers) × (workers ≤ 64) }
+        requires belongs { Belongs net.now start.now past.now }
+        ensures board { IfOk result (λ r. (r.0.net ≡ net.now) × (r.0.past ≡ past.now) × (r.0.workers ≡ workers)) }
+        ensures master { IfOk result (λ r. (r.1.table ≡ r.0.table) × (r.1.shows ≡ opening net.now start.now)) }
+    {
+        Board::found::<Brand>(alloc, net, workers, start, past)
+    }
+
+    fn found<C: Founding>(
+        alloc: Global,
+        net: &Network,
+        workers: u32,
+        start: &[Payment],
+        past: &[Raise],
+    ) -> Result<(Board, PaySeat), Mem>
+        requires workers { 1 ≤ workers }
+        requires belongs { Belongs net.now start.now past.now }
+        requires deed { C.deed ≡ record { net = net.now; past = past.now } }
+        ensures board { IfOk result (λ r. (r.0.net ≡ net.now) × (r.0.past ≡ past.now) × (r.0.workers ≡ workers)) }
+        ensures master { IfOk result (λ r. (r.1.table ≡ r.0.table) × (r.1.shows ≡ opening net.now start.now)) }
+    {
+        let words = opening_words(alloc, start, net.banks() as usize)?;
+        let paid = values_of(alloc, start)?;
+        let debtors = debtors_of(alloc, net)?;
+        let deed = deed_of::<C>(alloc)?;
+        let (table, seat) = Table::of_words(alloc, words.as_slice(), &deed)?;
+        let board = Board {
+            table,
+            debtors,
+            past: past.len(),
+            workers,
+        };
+        let master = PaySeat {
+            seat,
+            paid,
+            clock: greatest_stamp(start),
+            seats: 0,
+            workers,
+            worker: 0,
+        };
+        Ok((board, master))
+    }
+
+    /// Looks at what is paid on a debt to a bank of the seat, by one atomic load. Takes no memory.
+    pub fn look(&self, seat: &mut PaySeat, debt: DebtId) -> Payment
+        requires seat { IsAt self.now seat.old }
+        requires not_the_master { seat.old.shows.master ≡ false }
+        requires debt { debt.0 < length self.now.net.debts }
+        requires creditor { holds seat.old.shows (creditor_of self.now.net debt.0) ≡ true }
+        ensures table { seat.new.table ≡ seat.old.table }
+        ensures seen { seat.new.shows ≡ looked seat.old.shows debt.0 result }
+        ensures not_below_the_floor { slice_index seat.old.shows.floor debt.0 ≤ result.value }
+        ensures never_falls { slice_index seat.old.shows.sights debt.0 ≤ result.value }
+        ensures below_least { result.value ≤ slice_index (least self.now.net) debt.0 }
+        ensures own { holds seat.old.shows (debtor_of self.now.net debt.0) ≡ true
+            → result ≡ record { value = slice_index seat.old.shows.paid debt.0; stamp = slice_index seat.old.shows.paid_stamps debt.0 } }
+    {
+        let word = self
+            .table
+            .shared
+            .load::<Look>(&mut seat.seat, debt.0 as usize + 1);
+        let found = Payment {
+            value: word % 4294967296,
+            stamp: word / 4294967296,
+        };
+        seat.clock = seat.clock.max(found.stamp);
+        found
+    }
+
+    /// Raises what is paid on a debt of a bank of the seat to so many units, by one atomic store, and answers the stamp
+    /// of the raise. Takes no memory.
+    pub fn raise(&self, seat: &mut PaySeat, debt: DebtId, to: u64) -> u64
+        requires seat { IsAt self.now seat.old }
+        requires not_the_master { seat.old.shows.master ≡ false }
+        requires debt { debt.0 < length self.now.net.debts }
+        requires debtor { holds seat.old.shows (debtor_of self.now.net debt.0) ≡ true }
+        requires more { slice_index seat.old.shows.paid debt.0 < to }
+        requires within { to ≤ part self.now.net debt.0 (receipts self.now.net seat.old.shows.sights (debtor_of self.now.net debt.0)) }
+        ensures stamp { result ≡ seat.old.shows.clock + 1 }
+        ensures table { seat.new.table ≡ seat.old.table }
+        ensures raised { seat.new.shows ≡ raised seat.old.shows debt.0 to }
+    {
+        let stamp = seat.clock + 1;
+        self.table.shared.store::<Rise>(
+            &mut seat.seat,
+            debt.0 as usize + 1,
+            stamp * 4294967296 + to,
+        );
+        seat.clock = stamp;
+        seat.paid[debt.0 as usize] = to;
+        stamp
+    }
+
+    /// Rings the bell of a bank to which a debt of the seat owes a ring, by one atomic store. Takes no memory.
+    pub fn ring(&self, seat: &mut PaySeat, bank: BankId)
+        requires seat { IsAt self.now seat.old }
+        requires owes { OwesRing seat.old.shows bank.0 }
+        ensures table { seat.new.table ≡ seat.old.table }
+        ensures rung { seat.new.shows ≡ rung seat.old.shows bank.0 }
+    {
+        let bell = self.debtors.len() + 1 + bank.0 as usize;
+        self.table.shared.store::<Ring>(&mut seat.seat, bell, 1);
+    }
+
+    /// Takes the bell of a bank of the seat down, by one atomic swap, and answers whether it was up. Takes no memory.
+    pub fn take(&self, seat: &mut PaySeat, bank: BankId) -> bool
+        requires seat { IsAt self.now seat.old }
+        requires held { holds seat.old.shows bank.0 ≡ true }
+        ensures table { seat.new.table ≡ seat.old.table }
+        ensures taken { seat.new.shows ≡ (if result then took seat.old.shows bank.0 else seat.old.shows) }
+        ensures up_if_fresh { is_marked seat.old.shows.fresh bank.0 ≡ true → result ≡ true }
+        ensures seen_floor { result ≡ false → IsCalm seat.old.shows bank.0 → HasSeenFloor seat.old.shows bank.0 }
+        ensures seen_all { result ≡ false → IsCalm seat.old.shows bank.0 → HoldsAll seat.old.shows → OwesNoRing seat.old.shows
+            → HasSeenAll seat.old.shows bank.0 }
+    {
+        let bell = self.debtors.len() + 1 + bank.0 as usize;
+        let found = self.table.shared.swap::<Take>(&mut seat.seat, bell, 0);
+        found != 0
+    }
+
+    /// Hands the banks of a worker to a new seat. Where there is no memory nothing has changed.
+    ///
+    /// Costs a copy of what the master keeps for each debt.
+    pub fn hand(&self, alloc: Global, master: &mut PaySeat, worker: u32) -> Result<PaySeat, Mem>
+        requires master { IsAt self.now master.old }
+        requires is_the_master { master.old.shows.master ≡ true }
+        requires worker { worker < self.now.workers }
+        requires banks { HoldsAllOf self.now.workers worker master.old.shows }
+        requires seats { master.old.shows.seats < 4294967295 }
+        ensures table { master.new.table ≡ master.old.table }
+        ensures rest { OnOk result (master.new.shows ≡ without self.now.workers worker master.old.shows) }
+        ensures seat { IfOk result (λ s. (s.table ≡ self.now.table) × (s.shows ≡ handed self.now.workers worker master.old.shows)) }
+        ensures unchanged { OnErr result (master.new.shows ≡ master.old.shows) }
+    {
+        self.hand_out::<Brand>(alloc, master, worker)
+    }
+
+    fn hand_out<C: Chosen>(
+        &self,
+        alloc: Global,
+        master: &mut PaySeat,
+        worker: u32,
+    ) -> Result<PaySeat, Mem>
+        requires master { IsAt self.now master.old }
+        requires is_the_master { master.old.shows.master ≡ true }
+        requires banks { HoldsAllOf self.now.workers worker master.old.shows }
+        requires seats { master.old.shows.seats < 4294967295 }
+        requires chosen { (C.workers ≡ self.now.workers) × (C.worker ≡ worker) }
+        ensures table { master.new.table ≡ master.old.table }
+        ensures rest { OnOk result (master.new.shows ≡ without self.now.workers worker master.old.shows) }
+        ensures seat { IfOk result (λ s. (s.table ≡ self.now.table) × (s.shows ≡ handed self.now.workers worker master.old.shows)) }
+        ensures unchanged { OnErr result (master.new.shows ≡ master.old.shows) }
+    {
+        let paid = Vec::from_slice(alloc, master.paid.as_slice())?;
+        self.table
+            .shared
+            .store::<Roll>(&mut master.seat, 0, master.seats + 2);
+        let seat = self.table.shared.split_seat::<Part<C>>(&mut master.seat);
+        master.seats += 1;
+        Ok(PaySeat {
+            seat,
+            paid,
+            clock: master.clock,
+            seats: 0,
+            workers: self.workers,
+            worker,
+        })
+    }
+
+    /// Takes a seat back: its banks, and all that it shows of them, are the master's again. The seat owes no ring. Takes
+    /// no memory.
+    ///
+    /// Costs a walk over all debts.
+    pub fn take_back(&self, master: &mut PaySeat, seat: PaySeat)
+        requires master { IsAt self.now master.old }
+        requires is_the_master { master.old.shows.master ≡ true }
+        requires seat { IsAt self.now seat }
+        requires not_the_master { seat.shows.master ≡ false }
+        requires rings { OwesNoRing seat.shows }
+        ensures table { master.new.table ≡ master.old.table }
+        ensures rejoined { master.new.shows ≡ rejoined master.old.shows seat.shows }
+    {
+        let PaySeat {
+            seat,
+            paid,
+            clock,
+            seats: _,
+            workers,
+            worker,
+        } = seat;
+        self.table.shared.join_seat::<Both>(&mut master.seat, seat);
+        master.clock = master.clock.max(clock);
+        bring_back(
+            &mut master.paid,
+            paid.as_slice(),
+            self.debtors.as_slice(),
+            workers,
+            worker,
+        );
+    }
+
+    /// Ends the board: writes down the payments, in file order. Takes no memory.
+    pub fn close(self, master: PaySeat, into: &mut [Payment])
+        requires master { IsAt self master }
+        requires is_the_master { master.shows.master ≡ true }
+        requires banks { HoldsAll master.shows }
+        requires into { length into.old ≡ length self.net.debts }
+        ensures payments { into.new ≡ payments_of master.shows }
+        ensures below_least { IsAtMost (values into.new) (least self.net) }
+        ensures lawful { AreLawful self.net (self.past ++ master.shows.raises) into.new }
+        ensures replays { Replay self.net (self.past ++ master.shows.raises) into.new }
+        ensures low_stamps { HaveLowStamps (self.past ++ master.shows.raises) into.new }
+        ensures after_past { AreAfter self.past master.shows.raises }
+        ensures few_bells { master.shows.taken ≤ length self.net.banks + length master.shows.raises }
+    {
+        let Board {
+            table,
+            debtors: _,
+            past: _,
+            workers: _,
+        } = self;
+        let PaySeat { seat, .. } = master;
+        let closed = table.close_with(seat);
+        for i in 0..into.len() {
+            let word = closed.word(i + 1);
+            into[i] = Payment {
+                value: word % 4294967296,
+                stamp: word / 4294967296,
+            };
+        }
+        closed.free();
+    }
+
+    /// Ends the board as [`close`](Board::close) does, and makes a record of it with the journal of its raises. Takes no memory.
+    pub fn seal(
+        self,
+        master: PaySeat,
+        into: &mut [Payment],
+        net: Network,
+        journal: Journal,
+    ) -> Record
+        requires master { IsAt self master }
+        requires is_the_master { master.shows.master ≡ true }
+        requires banks { HoldsAll master.shows }
+        requires into { length into.old ≡ length self.net.debts }
+        requires net { net ≡ self.net }
+        requires journal { journal.raises ≡ ordered (self.past ++ master.shows.raises) }
+        ensures payments { into.new ≡ payments_of master.shows }
+        ensures below_least { IsAtMost (values into.new) (least self.net) }
+        ensures lawful { AreLawful self.net (self.past ++ master.shows.raises) into.new }
+        ensures replays { Replay self.net (self.past ++ master.shows.raises) into.new }
+        ensures low_stamps { HaveLowStamps (self.past ++ master.shows.raises) into.new }
+        ensures after_past { AreAfter self.past master.shows.raises }
+        ensures few_bells { master.shows.taken ≤ length self.net.banks + length master.shows.raises }
+        ensures record_of { result ≡ record {
+          net = self.net;
+          journal = ordered (self.past ++ master.shows.raises);
+          made = length master.shows.raises;
+          workers = self.workers;
+          seats = master.shows.seats;
+        } }
+    {
+        let made = journal.as_slice().len() - self.past;
+        let workers = self.workers;
+        let seats = master.seats;
+        self.close(master, into);
+        Record {
+            net,
+            journal,
+            made: made as u64,
+            workers,
+            seats,
+        }
+    }
+}
+
+// Of what two seats paid on each debt, what the second did on the debts that a worker's banks owe.
+fn bring_back(into: &mut [u64], from: &[u64], debtors: &[u32], workers: u32, worker: u32)
+    requires workers { 0 < workers }
+    requires from { length from.now ≡ length debtors.now }
+    requires into { length into.old ≡ length debtors.now }
+    ensures size { length into.new ≡ length into.old }
+    ensures each { (x : ℕ) → x < length debtors.now
+        → slice_index into.new x ≡ (if is_of_worker workers worker (slice_index debtors.now x) then slice_index from.now x else slice_index into.old x) }
+{
+    for i in 0..debtors.len() {
+        into[i] = one_of(debtors[i] % workers == worker, from[i], into[i]);
+    }
+}
+
+fn one_of(first: bool, a: u64, b: u64) -> u64
+    ensures { result ≡ (if first then a else b) }
+{
+    if first { a } else { b }
+}

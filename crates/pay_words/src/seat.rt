@@ -1,0 +1,57 @@
+ghost use Rattle.clear_core.specs.Clearing.{least};
+ghost use Rattle.clr_net.specs.Amounts.{IsAtMost};
+ghost use Rattle.clr_net.specs.Net.{debtor_of};
+ghost use Rattle.pay_words.specs.Views.{IsOver, PaysWithin, holds};
+ghost use Rattle.std.specs.Prelude.{◌≡◌, ◌<◌, length, slice_index, true};
+
+use crate::view::View;
+use atomic_table::Seat;
+use clr_net::DebtId;
+use std::marker::Model;
+
+/// A right to work on a board: to look at what is paid to some banks, and to raise what they pay.
+///
+/// Contracts see what the seat shows, as [`Shown`](crate::Shown) lists it.
+#[derive(Drop)]
+pub struct PaySeat {
+    pub(crate) seat: Seat<(), View>,
+    pub(crate) paid: Vec<u64>,
+    pub(crate) clock: u64,
+    pub(crate) seats: u64,
+    pub(crate) workers: u32,
+    pub(crate) worker: u32,
+}
+
+impl Model for PaySeat {
+    ghost use Rattle.std.specs.Prelude.{◌≡◌, []};
+    ghost use Rattle.pay_words.specs.Seats.{IsKeptIn};
+    ghost use Rattle.pay_words.specs.Views.{Chair};
+
+    ghost Value = { Chair };
+
+    ghost view = { λ s. record { table = s.seat.table_id; shows = s.seat.me.0.shown } };
+
+    ghost invariant = { λ s. (s.seat.me.1 ≡ []) × IsKeptIn s.seat.me.0 s.paid.items s.clock s.seats s.workers s.worker };
+}
+
+impl PaySeat {
+    /// The clock: no stamp that the seat saw or gave is greater. Takes no memory.
+    pub fn clock(&self) -> u64
+        ensures clock { result ≡ self.now.shows.clock }
+        ensures over { IsOver self.now.shows }
+        ensures pays_within { PaysWithin self.now.shows }
+        ensures sights_below_least { IsAtMost self.now.shows.sights (least self.now.shows.net) }
+        ensures paid_below_least { IsAtMost self.now.shows.paid (least self.now.shows.net) }
+    {
+        self.clock
+    }
+
+    /// What the seat shows as paid on a debt of one of its banks, in units. No atomic step, and takes no memory.
+    pub fn paid(&self, debt: DebtId) -> u64
+        requires debt { debt.0 < length self.now.shows.net.debts }
+        requires debtor { holds self.now.shows (debtor_of self.now.shows.net debt.0) ≡ true }
+        ensures { result ≡ slice_index self.now.shows.paid debt.0 }
+    {
+        self.paid[debt.0 as usize]
+    }
+}
