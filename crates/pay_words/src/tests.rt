@@ -1,8 +1,9 @@
-ghost use Rattle.clr_net.specs.Net.{creditor_of, with_bank, with_debt};
+ghost use Rattle.clear_core.specs.Clearing.{part, receipts};
+ghost use Rattle.clr_net.specs.Net.{creditor_of, debtor_of, with_bank, with_debt};
 ghost use Rattle.clr_net.specs.Samples.{bank, chain, debt};
 ghost use Rattle.pay_words.specs.Cases.{ring};
-ghost use Rattle.pay_words.specs.Views.{IsAt, holds, looked};
-ghost use Rattle.std.specs.Prelude.{◌≡◌, ◌<◌, IfOk, OnOk, false, length, true};
+ghost use Rattle.pay_words.specs.Views.{IsAt, holds, looked, raised};
+ghost use Rattle.std.specs.Prelude.{◌≡◌, ◌<◌, ◌≤◌, IfOk, OnOk, false, length, slice_index, true};
 
 use crate::{Board, PaySeat, Payment};
 use clear_core::Journal;
@@ -104,6 +105,58 @@ fn look_at_once<R: Threads + Sync>(
             ensures { (two.exit.now.table ≡ two.entry.now.table) × (two.exit.now.shows ≡ looked two.entry.now.shows b.0 result) }
         { board.look(two, b) },
     )
+}
+
+// A seat raises a debt and another looks at one, in threads of their own.
+fn raise_beside_look<R: Threads + Sync>(
+    rt: &R,
+    board: &Board,
+    one: &mut PaySeat,
+    two: &mut PaySeat,
+    a: DebtId,
+    to: u64,
+    b: DebtId,
+) -> (u64, Payment)
+    requires one { IsAt board.now one.old × (one.old.shows.master ≡ false) × (a.0 < length board.now.net.debts) × (holds one.old.shows (debtor_of board.now.net a.0) ≡ true) }
+    requires more { slice_index one.old.shows.paid a.0 < to }
+    requires within { to ≤ part board.now.net a.0 (receipts board.now.net one.old.shows.sights (debtor_of board.now.net a.0)) }
+    requires two { IsAt board.now two.old × (two.old.shows.master ≡ false) × (b.0 < length board.now.net.debts) × (holds two.old.shows (creditor_of board.now.net b.0) ≡ true) }
+    ensures one { (one.new.table ≡ one.old.table) × (one.new.shows ≡ raised one.old.shows a.0 to) }
+    ensures two { (two.new.table ≡ two.old.table) × (two.new.shows ≡ looked two.old.shows b.0 result.1) }
+{
+    join_mut(
+        rt,
+        &mut || -> u64
+            requires { IsAt board.now one.now × (one.now.shows.master ≡ false) × (a.0 < length board.now.net.debts) × (holds one.now.shows (debtor_of board.now.net a.0) ≡ true)
+                × (slice_index one.now.shows.paid a.0 < to) × (to ≤ part board.now.net a.0 (receipts board.now.net one.now.shows.sights (debtor_of board.now.net a.0))) }
+            ensures { (one.exit.now.table ≡ one.entry.now.table) × (one.exit.now.shows ≡ raised one.entry.now.shows a.0 to) }
+        { board.raise(one, a, to) },
+        &mut || -> Payment
+            requires { IsAt board.now two.now × (two.now.shows.master ≡ false) × (b.0 < length board.now.net.debts) × (holds two.now.shows (creditor_of board.now.net b.0) ≡ true) }
+            ensures { (two.exit.now.table ≡ two.entry.now.table) × (two.exit.now.shows ≡ looked two.entry.now.shows b.0 result) }
+        { board.look(two, b) },
+    )
+}
+
+#[test]
+fn a_debt_is_raised_while_it_is_looked_at(rt: HostRuntime) -> Result<(), Fail> {
+    let alloc = rt.alloc();
+    let net = ring_of_two(alloc)?;
+    let (board, mut master) = Board::make(alloc, &net, 2, &[UNPAID, UNPAID], &[])?;
+    let mut first = board.hand(alloc, &mut master, 0)?;
+    let mut second = board.hand(alloc, &mut master, 1)?;
+    let debt = DebtId(0);
+    let (stamp, seen) = raise_beside_look(&rt, &board, &mut first, &mut second, debt, 1, debt);
+    let paid = Payment { value: 1, stamp: 1 };
+    assert_eq!(rt; stamp, 1);
+    assert!(rt; seen == UNPAID || seen == paid);
+    board.ring(&mut first, BankId(1));
+    board.take_back(&mut master, first);
+    board.take_back(&mut master, second);
+    let mut into = [UNPAID, UNPAID];
+    board.close(master, &mut into);
+    assert_eq!(rt; into, [paid, UNPAID]);
+    Ok(())
 }
 
 #[test]
