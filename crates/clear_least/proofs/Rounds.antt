@@ -10,9 +10,9 @@ use Rattle.clr_net.specs.Net.{Net, debt_numbers, debtor_of, place_in_row, row, u
 use Rattle.clr_net.proofs.Lists.{same_from_sum}
 use Rattle.clr_net.proofs.RowsAndColumns.{debt_in_row}
 use Rattle.clear_core.specs.Buffers.{AreInLimit, HasRoom}
-use Rattle.clear_core.specs.Clearing.{division, receipts, pay, zeros, least}
+use Rattle.clear_core.specs.Clearing.{division, receipts, pay, least}
 use Rattle.clear_core.proofs.BankPays.{pay_row}
-use Rattle.clear_core.proofs.Least.{clears_only_at_least, least_clears, zeros_le}
+use Rattle.clear_core.proofs.Least.{clears_only_at_least, least_clears}
 use Rattle.clear_core.proofs.Pay.{length-pay, pay_mono, pay_within, sum-pay_le}
 use Rattle.clear_core.proofs.Rows.{claim_in_limit}
 
@@ -73,17 +73,6 @@ row_written net i j wanted start next g written x l owed =
     ∙ written.done k (omega (arith, stands.within, ap (λ i. length (row net i)) owed))
     ∙ ap (λ y. get_or wanted y 0) at
 
--- one bank more
-pub banks_more : (net : Net) (wanted next after : List ℕ) (n : ℕ)
-    → ((x : ℕ) → x < length net.debts → debtor_of net x ≡ n → get_or after x 0 ≡ get_or wanted x 0)
-    → ((x : ℕ) → debtor_of net x ≢ n → get_or after x 0 ≡ get_or next x 0)
-    → ((x : ℕ) → x < length net.debts → debtor_of net x < n → get_or next x 0 ≡ get_or wanted x 0)
-    → (x : ℕ) → x < length net.debts → debtor_of net x < n + 1 → get_or after x 0 ≡ get_or wanted x 0
-banks_more net wanted next after n in_row others before x l m = ⊎_elim
-    (λ (s : debtor_of net x ≡ n). in_row x l s)
-    (λ (ne : debtor_of net x ≢ n). others x ne ∙ before x l (omega arith))
-    (cases_eq (debtor_of net x) n)
-
 -- all banks
 pub all_written : (net : Net) (P next : List ℕ) (n : ℕ) → IsNetwork net → length next ≡ length net.debts → length net.banks ≤ n
     → ((x : ℕ) → x < length net.debts → debtor_of net x < n → get_or next x 0 ≡ get_or (pay net P) x 0) → next ≡ pay net P
@@ -96,13 +85,6 @@ pub record IsOnTheWay (net : Net) (P : List ℕ) : Type 0 where
   pub as_many : length P ≡ length net.debts
   pub rises : IsAtMost P (pay net P)
   pub below : IsAtMost P (least net)
-
-pub way_from_nothing : (net : Net) (P : List ℕ) → P ≡ zeros net → length P ≡ length net.debts → IsOnTheWay net P
-way_from_nothing net P e l = record {
-  as_many = l;
-  rises = subst (λ Q. IsAtMost Q (pay net P)) (sym e) (zeros_le net (pay net P));
-  below = subst (λ Q. IsAtMost Q (least net)) (sym e) (zeros_le net (least net));
-}
 
 pub way_on : (net : Net) (P Q : List ℕ) → Q ≡ pay net P → IsOnTheWay net P → IsOnTheWay net Q
 way_on net P Q e way = subst (IsOnTheWay net) (sym e) record {

@@ -5,28 +5,16 @@ use Rattle.std.specs.List.{range_with_len}
 use Rattle.std.proofs.lemmas.Bool.{cases_lt, eqb-true, true≢false}
 use Rattle.std.proofs.lemmas.List.{ext_get_or, get_or_past, take_all}
 use Rattle.std.proofs.lemmas.List.FromFn.{fill_by_all, get_or-map-range_with_len, get_or-range_with_len, length-map-range_with_len, length-range_with_len}
-use Rattle.std.proofs.lemmas.List.Sums.{count_by-le-length, fold_more, length-filter}
+use Rattle.std.proofs.lemmas.List.Sums.{fold_more}
 use Rattle.clr_net.specs.Amounts.{IsAtMost}
 use Rattle.clr_net.specs.Limits.{IsNetwork}
-use Rattle.clr_net.specs.Net.{Net, debt_numbers, debtor_of, units_owed}
+use Rattle.clr_net.specs.Net.{Net, debtor_of, units_owed}
 use Rattle.clr_net.proofs.Lists.{sum-le}
-use Rattle.clear_core.specs.Buffers.{HasRoom}
 use Rattle.clear_core.specs.Clearing.{pay, zeros, Clears, least}
 use Rattle.clear_core.proofs.Least.{least_clears, zeros_le}
 use Rattle.clear_core.proofs.Pay.{length-pay, pay_mono, sum-pay_le}
 use Rattle.clear_top.specs.Passes.{visited, passed, after_passes, IsQuietAfter}
 use Rattle.clear_top.proofs.Raises.{AreRaised}
-
--- no row is longer than the list of debts
-pub rows_fit : (net : Net) → HasRoom net (length net.debts)
-rows_fit net i =
-    let owed_by = λ (x : ℕ). debtor_of net x == i in
-    omega (
-      arith,
-      length-filter owed_by (debt_numbers net),
-      count_by-le-length owed_by (debt_numbers net),
-      length-range_with_len 0 (length net.debts),
-    )
 
 chosen : (b : Bool) (v p q : ℕ) → (b ≡ true → v ≡ p) → (b ≡ false → v ≡ q) → v ≡ cond b p q
 chosen true v p q here other = here refl

@@ -1,5 +1,5 @@
 use Rattle.std.proofs.Common.{arith}
-use Rattle.clear_top.proofs.Passes.{rows_fit}
+use Rattle.clear_least.proofs.Rounds.{rows_fit}
 use Rattle.clear_top.proofs.clearing.cleared.Goals as goal
 
 pub settle-passes-requires-clause-places : goal.settle-passes-requires-clause-places

@@ -1,18 +1,13 @@
--- The least payments have a place for each debt.
-use Rattle.std.proofs.Common.{◌≡◌, ℕ, zero, suc, length, ◌∙◌, ap}
-use Rattle.std.proofs.lemmas.List.{length-replicate}
-use Rattle.clr_net.specs.Net.{Net, units_owed}
-use Rattle.clear_core.specs.Clearing.{least, rounds}
+use Rattle.std.proofs.Common.{◌≡◌, length, sym, ◌∙◌, ap}
+use Rattle.clr_net.specs.Net.{Net}
+use Rattle.clear_core.specs.Clearing.{least}
+use Rattle.clear_core.proofs.Least.{least_clears}
 use Rattle.clear_core.proofs.Pay.{length-pay}
 use Rattle.clear_top.proofs.top.text_for.Goals as goal
 
-places : (net : Net) (n : ℕ) → length (rounds net n) ≡ length net.debts
-unfolding rounds
-places net zero = length-replicate (length net.debts) 0
-places net (suc n) = length-pay net (rounds net n)
-
+-- the least payments have a place for each debt
 least_places : (net : Net) → length (least net) ≡ length net.debts
-least_places net = places net (units_owed net)
+least_places net = ap length (sym (least_clears net)) ∙ length-pay net (least net)
 
 pub pay_text-requires : goal.pay_text-requires
 pay_text-requires c = ap length (c.paid.ensures ∙ c.in_ok-cleared-in-Clear.ensures.least) ∙ least_places c.args.net.now
