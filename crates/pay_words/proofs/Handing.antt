@@ -1,4 +1,4 @@
--- Which banks a master holds while seats are handed out and taken back, for callers.
+-- Which banks a master holds while seats are handed out and taken back.
 use Rattle.std.proofs.Common.{◌≡◌, ◌≢◌, ℕ, ◌<◌, length, true, false, sym, ◌∙◌, ⊎_elim, eqb-true}
 use Rattle.std.specs.Prelude.{◌%◌}
 use Rattle.std.proofs.lemmas.Bool.{cases_Bool}

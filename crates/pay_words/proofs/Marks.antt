@@ -1,5 +1,5 @@
 -- Marks of banks, and lists of which one part is chosen from another.
-use Rattle.std.proofs.Common.{◌≡◌, ◌⊎◌, ℕ, suc, ◌+◌, ◌<◌, ◌≤◌, List, [], ◌∷◌, length, get_or, sum_by, Bool, true, false, true≢false, inl, inr, refl, sym, ◌∙◌, subst, ⊎_elim, arith, le_refl}
+use Rattle.std.proofs.Common.{◌≡◌, ◌⊎◌, ℕ, suc, ◌+◌, ◌<◌, ◌≤◌, List, [], ◌∷◌, length, get_or, sum_by, Bool, true, false, true≢false, inl, inr, refl, sym, ◌∙◌, subst, ⊎_elim, arith}
 use Rattle.std.specs.Prelude.{slice_index, if◌then◌else◌, ◌&&◌, ◌||◌, not, slice_index_or}
 use Rattle.std.proofs.lemmas.Bool.{cases_Bool}
 use Rattle.std.proofs.lemmas.List.{get_or_past}
@@ -20,9 +20,6 @@ module _ (n : ℕ) (f : ℕ → Bool) (b : ℕ) where
 
   pub marked : b < n → f b ≡ true → is_marked (tabled n f) b ≡ true
   marked l e = tabled_at n f b false l ∙ e
-
-  pub unmarked : b < n → is_marked (tabled n f) b ≡ false → f b ≡ false
-  unmarked l e = sym (tabled_at n f b false l) ∙ e
 
 -- the first where the test passes
 pub chooses : {A : Type 0} (t : Bool) (x y : A) → t ≡ true → (if t then x else y) ≡ x
@@ -94,10 +91,3 @@ receipts_agree net P Q b h = sum_agree (slice_index P) (slice_index Q) (column n
 
 pub column_agree : (net : Net) (f g : ℕ → ℕ) (b : ℕ) → ((x : ℕ) → x < length net.debts → f x ≡ g x) → sum_by f (column net b) ≡ sum_by g (column net b)
 column_agree net f g b h = sum_agree f g (column net b) (λ k l. h (get_or (column net b) k 0) (column_place net b k l).0)
-
-sum_most : (f g : ℕ → ℕ) (xs : List ℕ) → ((k : ℕ) → k < length xs → f (get_or xs k 0) ≤ g (get_or xs k 0)) → sum_by f xs ≤ sum_by g xs
-sum_most f g [] h = le_refl 0
-sum_most f g (x ∷ xs) h = omega (arith, sum_by-cons f x xs, sum_by-cons g x xs, h 0 (omega arith), sum_most f g xs (λ k l. h (suc k) (omega (arith, l))))
-
-pub column_most : (net : Net) (f g : ℕ → ℕ) (b : ℕ) → ((x : ℕ) → x < length net.debts → f x ≤ g x) → sum_by f (column net b) ≤ sum_by g (column net b)
-column_most net f g b h = sum_most f g (column net b) (λ k l. h (get_or (column net b) k 0) (column_place net b k l).0)

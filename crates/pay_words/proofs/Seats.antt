@@ -60,10 +60,11 @@ module _ (v : View) (paid : List ℕ) (clock seats workers worker : ℕ) (h : Is
   }
 
 -- a raise by the clock in memory
-pub raises_by : (d : Deed) (slots id : ℕ) (me : Me (Unit {0}) View) (x to clock : ℕ) → clock ≡ me.0.shown.clock → me.0.live ≡ true → to < 4294967296 → MayRaise d.net me.0.shown x to
-    → Allows (rule d) slots id me (x + 1) (λ _. (clock + 1) * 4294967296 + to) (λ _. Raises (step slots (x + 1) ((clock + 1) * 4294967296 + to) 0 none) me ((clock + 1) * 4294967296 + to))
-raises_by d slots id me x to clock e on fits may =
-    subst (λ (n : ℕ). Allows (rule d) slots id me (x + 1) (λ _. (n + 1) * 4294967296 + to) (λ _. Raises (step slots (x + 1) ((n + 1) * 4294967296 + to) 0 none) me ((n + 1) * 4294967296 + to))) (sym e)
+pub raises_by : (d : Deed) (slots id : ℕ) (me : Me (Unit {0}) View) (x to word : ℕ)
+    → word ≡ (me.0.shown.clock + 1) * 4294967296 + to → me.0.live ≡ true → to < 4294967296 → MayRaise d.net me.0.shown x to
+    → Allows (rule d) slots id me (x + 1) (λ _. word) (λ _. Raises (step slots (x + 1) word 0 none) me word)
+raises_by d slots id me x to word e on fits may =
+    subst (λ (n : ℕ). Allows (rule d) slots id me (x + 1) (λ _. n) (λ _. Raises (step slots (x + 1) n 0 none) me n)) (sym e)
     (raises d slots id me x to on fits may)
 
 -- what is asked of a seat and its board, seen from within

@@ -62,6 +62,7 @@ impl Board {
         Board::found::<Brand>(alloc, net, workers, start, past)
     }
 
+    // The deed of the new board is a member of a type, so that it can be chosen where the board is made.
     fn found<C: Founding>(
         alloc: Global,
         net: &Network,
@@ -115,10 +116,7 @@ impl Board {
             .table
             .shared
             .load::<Look>(&mut seat.seat, debt.0 as usize + 1);
-        let found = Payment {
-            value: word % 4294967296,
-            stamp: word / 4294967296,
-        };
+        let found = Payment::of_word(word);
         seat.clock = seat.clock.max(found.stamp);
         found
     }
@@ -140,7 +138,7 @@ impl Board {
         self.table.shared.store::<Rise>(
             &mut seat.seat,
             debt.0 as usize + 1,
-            stamp * 4294967296 + to,
+            Payment { value: to, stamp }.word(),
         );
         seat.clock = stamp;
         seat.paid[debt.0 as usize] = to;
@@ -191,6 +189,7 @@ impl Board {
         self.hand_out::<Brand>(alloc, master, worker)
     }
 
+    // The worker is a member of a type, so that the rule can split the master's view by it.
     fn hand_out<C: Chosen>(
         &self,
         alloc: Global,
@@ -279,10 +278,7 @@ impl Board {
         let closed = table.close_with(seat);
         for i in 0..into.len() {
             let word = closed.word(i + 1);
-            into[i] = Payment {
-                value: word % 4294967296,
-                stamp: word / 4294967296,
-            };
+            into[i] = Payment::of_word(word);
         }
         closed.free();
     }

@@ -12,6 +12,7 @@
 
 mod board;
 mod deed;
+pub mod laws;
 mod opening;
 mod payment;
 mod record;

@@ -23,7 +23,7 @@ pub(crate) fn opening_words(
     let mut words = Vec::new(alloc);
     words.push(1)?;
     for payment in start {
-        words.push(payment.stamp * 4294967296 + payment.value)?;
+        words.push(payment.word())?;
     }
     words.resize(1 + start.len() + banks, 1)?;
     Ok(words)

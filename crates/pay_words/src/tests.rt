@@ -1,7 +1,7 @@
 ghost use Rattle.clear_core.specs.Clearing.{part, receipts};
 ghost use Rattle.clr_net.specs.Net.{creditor_of, debtor_of, with_bank, with_debt};
 ghost use Rattle.clr_net.specs.Samples.{bank, chain, debt};
-ghost use Rattle.pay_words.specs.Cases.{ring};
+ghost use Rattle.clear_core.specs.Cases.{ring};
 ghost use Rattle.pay_words.specs.Views.{IsAt, holds, looked, raised};
 ghost use Rattle.std.specs.Prelude.{◌≡◌, ◌<◌, ◌≤◌, IfOk, OnOk, false, length, slice_index, true};
 

@@ -10,8 +10,9 @@ pub loop-i-preserved : goal.loop-i-preserved
 loop-i-preserved c =
     let lt : c.loop-i.i < length c.loop-i.into = omega (arith, c.loop-i-test.true, c.loop-i.auto.into) in
     below_more _ _
-    (λ k h. let ne : k ≢ c.loop-i.i = omega (arith, h) in get_or-set_other c.loop-i.into c.loop-i.i k (payment_of c.word-word.result) unpaid ne ∙ c.loop-i.invariant k h)
-    (get_or-set_same c.loop-i.into c.loop-i.i (payment_of c.word-word.result) unpaid lt
+    (λ k h. let ne : k ≢ c.loop-i.i = omega (arith, h) in get_or-set_other c.loop-i.into c.loop-i.i k c.of_word.result unpaid ne ∙ c.loop-i.invariant k h)
+    (get_or-set_same c.loop-i.into c.loop-i.i c.of_word.result unpaid lt
+    ∙ c.of_word.ensures
     ∙ ap payment_of (sym (get_here (slots_items c.close_with-closed.result.words) (c.loop-i.i + 1) c.word-word.result c.word-word.ensures)))
 
 ended : (c : goal.After-drop-self-inside) → Ends c.args.self.net c.args.self.past c.args.master.shows c.loop-i.into

@@ -10,8 +10,8 @@ use Rattle.pay_words.specs.Views.{Chair, IsSound, raised}
 use Rattle.pay_words.proofs.Seats.{payment_in_limit, clock_in_limit, kept_raise, raises_by, may_within}
 use Rattle.pay_words.proofs.board.Board.raise.Goals as goal
 
-pub overflow_add-stamp-2 : goal.overflow_add-stamp-2
-overflow_add-stamp-2 c =
+pub word-requires : goal.word-requires
+word-requires c =
     let may = may_within _ _ _ _ c.args.debt.0 c.args.to c.self.view_is c.seat.view_is (record { debt = c.requires.debt; not_the_master = c.requires.not_the_master; debtor = c.requires.debtor; more = c.requires.more; within = c.requires.within }) in
     omega (arith, payment_in_limit _ _ _ _ c.self.invariant.0.network may.debt may.within, clock_in_limit _ _ _ _ _ _ c.seat.invariant.1)
 
@@ -19,14 +19,14 @@ pub store-requires : goal.store-requires
 store-requires c =
     let may = may_within _ _ _ _ c.args.debt.0 c.args.to c.self.view_is c.seat.view_is (record { debt = c.requires.debt; not_the_master = c.requires.not_the_master; debtor = c.requires.debtor; more = c.requires.more; within = c.requires.within }) in
     let low : c.args.to ≤ MAX_CLAIM = payment_in_limit _ _ _ _ c.self.invariant.0.network may.debt may.within in
-    (search rules, omega (arith, c.self.invariant.0.words_are, may.debt), raises_by _ _ _ _ _ _ _ c.seat.invariant.1.clock_is c.seat.invariant.1.live (omega (arith, low)) may)
+    (search rules, omega (arith, c.self.invariant.0.words_are, may.debt), raises_by _ _ _ _ _ _ _ (c.word.ensures ∙ ap (λ (n : ℕ). (n + 1) * 4294967296 + c.args.to) c.seat.invariant.1.clock_is) c.seat.invariant.1.live (omega (arith, low)) may)
 
 pub invariant_of-seat : goal.invariant_of-seat
 invariant_of-seat c =
     let may = may_within _ _ _ _ c.args.debt.0 c.args.to c.self.view_is c.seat.view_is (record { debt = c.requires.debt; not_the_master = c.requires.not_the_master; debtor = c.requires.debtor; more = c.requires.more; within = c.requires.within }) in
     let low : c.args.to ≤ MAX_CLAIM = payment_in_limit _ _ _ _ c.self.invariant.0.network may.debt may.within in
     let told = c.store.ensures.2 c.args.debt.0 refl in
-    let value : ((c.seat.inside.clock + 1) * 4294967296 + c.args.to) % 4294967296 ≡ c.args.to = omega (arith, low) in
+    let value : c.word.result % 4294967296 ≡ c.args.to = omega (arith, low, c.word.ensures) in
     let lt : c.args.debt.0 < length c.seat.inside.seat.me.0.shown.net.debts = omega (arith, c.requires.debt, ap (λ (n : Net). length n.debts) c.requires.seat.1, ap (λ (s : Chair). length s.shows.net.debts) c.seat.view_is) in (
       ap (λ (m : Me (Unit {0}) View). m.1) told.0 ∙ c.seat.invariant.0,
       subst (λ (m : Me (Unit {0}) View). IsKeptIn m.0 (slice_set c.seat.inside.paid.items c.args.debt.0 c.args.to) (c.seat.inside.clock + 1) c.seat.inside.seats c.seat.inside.workers c.seat.inside.worker) (sym told.0)
@@ -39,7 +39,7 @@ returns-clause-raised c =
     let may = may_within _ _ _ _ c.args.debt.0 c.args.to c.self.view_is c.seat.view_is (record { debt = c.requires.debt; not_the_master = c.requires.not_the_master; debtor = c.requires.debtor; more = c.requires.more; within = c.requires.within }) in
     let low : c.args.to ≤ MAX_CLAIM = payment_in_limit _ _ _ _ c.self.invariant.0.network may.debt may.within in
     let told = c.store.ensures.2 c.args.debt.0 refl in
-    let value : ((c.seat.inside.clock + 1) * 4294967296 + c.args.to) % 4294967296 ≡ c.args.to = omega (arith, low) in
+    let value : c.word.result % 4294967296 ≡ c.args.to = omega (arith, low, c.word.ensures) in
     ap (λ (m : Me (Unit {0}) View). m.0.shown) told.0
     ∙ ap (raised c.seat.inside.seat.me.0.shown c.args.debt.0) value
     ∙ ap (λ (s : Chair). raised s.shows c.args.debt.0 c.args.to) c.seat.view_is
