@@ -1,19 +1,22 @@
 #!/bin/sh
-# How long the program takes on the largest files that are allowed: 1,000 banks and 20,000 debts.
+# How long the program takes on the largest files that are allowed: 1,000 banks and 20,000 debts, all banks by one rule.
+#
+#   bench/largest.sh [RULE]    RULE is order where none is given
 #
 # Makes its own input in a temporary folder, and prints milliseconds, the least of five runs each:
 #   read     the debts file has one record too many, so that the run ends when both files are read
 #   one pass all claims are 0: the files are read, one pass raises nothing, and the text is written
 #   whole    claims of 1 to 990: the files are read, the network is cleared, and the text is written
 # What the passes take beyond the first is `whole` less `one pass`; a pass and the text are `one pass` less `read`.
+rule=${1:-order}
 root=$(cd "$(dirname "$0")/.." && pwd) || exit 1
 work=$(mktemp -d) || exit 1
 trap 'rm -rf "$work"' EXIT
 "$root/clearing" >/dev/null 2>&1   # builds it, if need be
 
-awk 'BEGIN {
+awk -v rule="$rule" 'BEGIN {
     print "name,cash,rule"
-    for (i = 0; i < 1000; i++) print "bank " i "," (i * 7919) % 5000 ",order"
+    for (i = 0; i < 1000; i++) print "bank " i "," (i * 7919) % 5000 "," rule
 }' >"$work/banks.csv"
 awk 'BEGIN {
     print "debtor,creditor,class,claim"
