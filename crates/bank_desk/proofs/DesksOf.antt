@@ -8,7 +8,7 @@ use Rattle.clr_net.specs.declared.debt.Debt.{Debt}
 use Rattle.clr_net.specs.declared.rule.RuleKind.TheVariants as kind
 use Rattle.clr_net.specs.Division.{AreClasses}
 use Rattle.clr_net.specs.Limits.{IsNetwork}
-use Rattle.clr_net.specs.Net.{Net, cash_of, row, column, claims_of, classes_of}
+use Rattle.clr_net.specs.Net.{Net, cash_of, outside_of, row, column, claims_of, classes_of}
 use Rattle.clr_net.proofs.RowsAndColumns.{length-claims_of, length-classes_of, sum-claims_of_le, classes_of_are}
 use Rattle.clear_core.proofs.Rows.{claims_in_limit}
 use Rattle.bank_desk.specs.Desks.{BankView, IsSound, desk_of}
@@ -19,6 +19,7 @@ desk_of_is_sound net i network l = record {
   a_claim_each = length-claims_of net i;
   a_class_each = length-classes_of net i;
   cash_in_limit = (network.each_bank i l).cash_in_limit;
+  outside_in_limit = (network.each_bank i l).outside_in_limit;
   claims_in_limit = claims_in_limit net i network;
   owed_in_limit = omega (arith, sum-claims_of_le net i, network.owed_in_limit);
   classes_in_limit = classes_of_are net i network;
@@ -26,14 +27,15 @@ desk_of_is_sound net i network l = record {
 
 -- so are those of a desk that has the cash and the row of a bank
 pub sound_as_desk_of : (net : Net) (i : ℕ) (desk : BankView) → IsNetwork net → i < length net.banks
-    → desk.cash ≡ cash_of net i → desk.debts_out ≡ row net i → desk.claims ≡ claims_of net i → desk.classes ≡ classes_of net i
+    → desk.cash ≡ cash_of net i → desk.outside ≡ outside_of net i → desk.debts_out ≡ row net i → desk.claims ≡ claims_of net i → desk.classes ≡ classes_of net i
     → IsSound desk
-sound_as_desk_of net i desk network l cash out claims classes =
+sound_as_desk_of net i desk network l cash outside out claims classes =
     let sound = desk_of_is_sound net i network l in
     record {
       a_claim_each = ap length claims ∙ sound.a_claim_each ∙ sym (ap length out);
       a_class_each = ap length classes ∙ sound.a_class_each ∙ sym (ap length out);
       cash_in_limit = omega (arith, cash, sound.cash_in_limit);
+      outside_in_limit = omega (arith, outside, sound.outside_in_limit);
       claims_in_limit = subst (λ claims. All (λ claim. claim ≤ MAX_CLAIM) claims) (sym claims) sound.claims_in_limit;
       owed_in_limit = omega (arith, ap sum claims, sound.owed_in_limit);
       classes_in_limit = subst (λ classes. AreClasses classes 1 MAX_CLASS) (sym classes) sound.classes_in_limit;
@@ -43,6 +45,10 @@ sound_as_desk_of net i desk network l cash out claims classes =
 pub cash_read : (net : Net) (i : ℕ) (b : Bank) → slice_get net.banks i ≡ Some b → cash_of net i ≡ b.cash
 cash_read net i b e = ap (λ o. option_map_or (λ (b : Bank). b.cash) o 0) e
 
+-- and what it owes outside
+pub outside_read : (net : Net) (i : ℕ) (b : Bank) → slice_get net.banks i ≡ Some b → outside_of net i ≡ b.outside
+outside_read net i b e = ap (λ o. option_map_or (λ (b : Bank). b.outside) o 0) e
+
 -- what the bank i knows where it is this bank, and these are the debts
 abbrev desk_among : ℕ → Option Bank → List Debt → BankView
 desk_among i own debts =
@@ -50,6 +56,7 @@ desk_among i own debts =
     record {
       bank = i;
       cash = option_map_or (λ b. b.cash) own 0;
+      outside = option_map_or (λ b. b.outside) own 0;
       rule = option_map_or (λ b. b.rule) own kind.Order;
       debts_out = row net i;
       claims = claims_of net i;

@@ -8,6 +8,7 @@ abbrev pub view_of : Inside → BankView
 view_of a = record {
   bank = a.bank.0;
   cash = a.cash;
+  outside = a.outside;
   rule = a.rule;
   debts_out = numbers a.debts_out.items;
   claims = a.claims.items;

@@ -1,21 +1,24 @@
 ghost use Rattle.bank_desk.specs.Desks.{IsSound, desk_of, target as target_of};
-ghost use Rattle.clr_net.specs.Net.{claims_of, classes_of, numbers};
+ghost use Rattle.clr_net.specs.Net.{numbers};
 ghost use Rattle.clr_net.specs.declared.TheConstants.{MAX_OWED};
 ghost use Rattle.std.specs.Prelude.{◌≡◌, ◌<◌, ◌≤◌, IfOk, length};
 
-use clear_core::share_of;
+use clear_core::{lay_out_row, spendable};
 use clr_net::{BankId, DebtId, Mem, Network, RuleKind};
+use rule_level::share_by_level;
 use std::alloc::Global;
 use std::marker::Model;
 
-/// What one bank of a network knows: itself, the debts that it owes, and the numbers of those that are owed to it.
+/// What one bank of a network knows: itself, the debts that it owes, and the numbers of those that
+/// are owed to it.
 ///
-/// Contracts see a record of this and nothing else, `BankView`. What a desk holds always is in the limits of a
-/// network (`IsSound`).
+/// Contracts see a record of this and nothing else, `BankView`. What a desk holds always is in the
+/// limits of a network (`IsSound`).
 #[derive(Drop)]
 pub struct Desk {
     bank: BankId,
     cash: u64,
+    outside: u64,
     rule: RuleKind,
     debts_out: Vec<DebtId>,
     claims: Vec<u64>,
@@ -36,21 +39,26 @@ impl Model for Desk {
 }
 
 impl Desk {
-    /// The desk of a bank of a network: copies of what the bank knows. Its costs grow with the bank's own debts.
+    /// The desk of a bank of a network: copies of what the bank knows. Its costs grow with the
+    /// bank's own debts.
     pub fn of(alloc: Global, net: &Network, bank: BankId) -> Result<Desk, Mem>
         requires bank { bank.0 < length net.now.banks }
         ensures { IfOk result (λ desk. desk ≡ desk_of net.now bank.0) }
     {
         prove!(bank.0 < net.banks());
         let known = net.bank(bank);
-        let (cash, rule) = (known.cash, known.rule);
+        let row = net.row(bank);
+        let mut claims = Vec::with_capacity(alloc, row.len())?;
+        let mut classes = Vec::with_capacity(alloc, row.len())?;
+        lay_out_row(net, bank, &mut claims, &mut classes);
         Ok(Desk {
             bank,
-            cash,
-            rule,
-            debts_out: Vec::from_slice(alloc, net.row(bank))?,
-            claims: claims_owed(alloc, net, bank)?,
-            classes: classes_owed(alloc, net, bank)?,
+            cash: known.cash,
+            outside: known.outside,
+            rule: known.rule,
+            debts_out: Vec::from_slice(alloc, row)?,
+            claims,
+            classes,
             debts_in: Vec::from_slice(alloc, net.column(bank))?,
         })
     }
@@ -77,46 +85,22 @@ impl Desk {
         self.debts_in.as_slice()
     }
 
-    /// Writes what the bank's rule gives each of its debts, of its cash and of so many units received.
+    /// Writes what the bank's rule gives each of its debts where the bank receives so many units: of
+    /// its cash and receipts, less what it owes outside the network.
     ///
-    /// `into` has a place for each debt that the bank owes, in file order, in units. Takes no memory.
+    /// `into` has a place for each debt that the bank owes, in file order, in units. Takes no
+    /// memory.
     pub fn target(&self, receipts: u64, into: &mut [u64])
         requires places { length into.old ≡ length self.now.debts_out }
         requires receipts { receipts ≤ MAX_OWED }
         ensures { into.new ≡ target_of self.now receipts }
     {
-        share_of(
+        share_by_level(
             self.rule,
             self.claims.as_slice(),
             self.classes.as_slice(),
-            self.cash + receipts,
+            spendable(self.cash, self.outside, receipts),
             into,
         );
     }
-}
-
-// The claims on a bank, in file order.
-fn claims_owed(alloc: Global, net: &Network, bank: BankId) -> Result<Vec<u64>, Mem>
-    requires { bank.0 < length net.now.banks }
-    ensures { IfOk result (λ claims. claims.items ≡ claims_of net.now bank.0) }
-{
-    let row = net.row(bank);
-    let mut claims = Vec::with_capacity(alloc, row.len())?;
-    for id in row {
-        claims.push_reserved(net.debt(*id).claim);
-    }
-    Ok(claims)
-}
-
-// The classes of the debts that a bank owes, in file order.
-fn classes_owed(alloc: Global, net: &Network, bank: BankId) -> Result<Vec<u8>, Mem>
-    requires { bank.0 < length net.now.banks }
-    ensures { IfOk result (λ classes. classes.items ≡ classes_of net.now bank.0) }
-{
-    let row = net.row(bank);
-    let mut classes = Vec::with_capacity(alloc, row.len())?;
-    for id in row {
-        classes.push_reserved(net.debt(*id).class);
-    }
-    Ok(classes)
 }

@@ -6,12 +6,21 @@ use Rattle.clr_net.specs.Limits.{IsNetwork}
 use Rattle.clr_net.specs.Net.{Net, place_in_row, row, claims_of, classes_of, rule_of}
 use Rattle.clr_net.proofs.RowsAndColumns.{StandsInRow, row_place, length-claims_of, length-classes_of, classes_of_are}
 use Rattle.clr_net.proofs.Share.{length-share, sum_share}
-use Rattle.clear_core.specs.Clearing.{receipts, spend, division, pay, Clears}
+use Rattle.clear_core.specs.Clearing.{receipts, spend, division, part, pay, Clears}
 use Rattle.clear_core.specs.Process.{Progress, allowed}
 use Rattle.clear_core.proofs.Pay.{pay_at}
 
 pub length-division : (net : Net) (i r : ℕ) → length (division net i r) ≡ length (row net i)
 length-division net i r = length-share (rule_of net i) (claims_of net i) (classes_of net i) (spend net i r) ∙ length-claims_of net i
+
+-- the place k of a division is the part of the debt that stands there
+pub division_at : (net : Net) (i r k : ℕ) → k < length (row net i)
+    → get_or (division net i r) k 0 ≡ part net (get_or (row net i) k 0) r
+division_at net i r k l =
+    let stands = row_place net i k l in
+    let x = get_or (row net i) k 0 in
+    sym (ap (λ j. get_or (division net j r) (place_in_row net x) 0) stands.owed
+    ∙ ap (λ m. get_or (division net i r) m 0) stands.in_place)
 
 -- what is allowed on the debts of a row, in its order, is the bank's division of its cash and of what it has seen
 pub allowed_row : (net : Net) (s : Progress) (i : ℕ) → map (allowed net s) (row net i) ≡ division net i (receipts net s.seen i)

@@ -1,12 +1,15 @@
-pub mod OrderFill
-pub mod OrderClasses
 pub mod Rows
 pub mod Pay
 pub mod BankPays
 pub mod Least
+pub mod Settling
+pub mod Richer
 pub mod Legal
 pub mod Journals
+pub mod Within
+pub mod Lawful
 pub mod Runs
 pub mod Ordered
+pub mod OneOrder
 pub mod Applied
 pub mod QuietBanks

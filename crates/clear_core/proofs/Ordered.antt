@@ -1,5 +1,5 @@
 -- A history, put in order, stands, and it replays to the greatest amount of each debt.
-use Rattle.std.proofs.Common.{◌≡◌, ◌≢◌, ◌⊎◌, ℕ, zero, suc, ◌<◌, ◌≤◌, ◌==◌, ◌&&◌, nat_lt, max, Bool, true, false, cond, List, [], ◌∷◌, length, get_or, set, slice_get, Some, sym, refl, ap, ◌∙◌, subst, inl, inr, ⊎_elim, arith, zero-le, le-ltb, eq-eqb, ne_eqb}
+use Rattle.std.proofs.Common.{◌≡◌, ◌≢◌, ◌⊎◌, ℕ, zero, suc, ◌<◌, ◌≤◌, ◌==◌, ◌&&◌, nat_lt, max, Bool, true, false, cond, List, [], ◌∷◌, ◌++◌, All, length, get_or, set, slice_get, Some, sym, refl, ap, ◌∙◌, subst, inl, inr, ⊎_elim, arith, zero-le, le-ltb, eq-eqb, ne_eqb}
 use Rattle.std.proofs.lemmas.Grind.{common_steps}
 use Rattle.std.proofs.lemmas.Bool.{cases_lt, cases_eq}
 use Rattle.std.proofs.lemmas.List.{get_or_past, length-replicate}
@@ -61,7 +61,7 @@ each_two_at D (r ∷ rs) h zero (suc j) a b l e f = let same : r ≡ a = cc in s
 each_two_at D (r ∷ rs) h (suc i) (suc j) a b l e f = each_two_at D rs h.1 i j a b (omega arith) e f
 
 -- a raise that may not precede another may follow it
-follows : (a b : Raise) → may_precede a b ≡ false → may_precede b a ≡ true
+pub follows : (a b : Raise) → may_precede a b ≡ false → may_precede b a ≡ true
 follows a b h = grind (arith, common_steps, h)
 
 precedes_stamp : (a b : Raise) → may_precede a b ≡ true → a.stamp ≤ b.stamp
@@ -363,11 +363,11 @@ module _ (net : Net) (rs : List Raise) (history : IsHistory net rs) where
       )
 
 -- each raise may precede the next one
-abbrev MayFollow : Raise → List Raise → Type 0
+abbrev pub MayFollow : Raise → List Raise → Type 0
 MayFollow q [] = Unit {0}
 MayFollow q (r ∷ rs) = may_precede q r ≡ true
 
-unfoldable InTurn : List Raise → Type 0
+unfoldable pub InTurn : List Raise → Type 0
 InTurn [] = Unit {0}
 InTurn (r ∷ rs) = MayFollow r rs × InTurn rs
 
@@ -388,7 +388,7 @@ turn_put r (q ∷ rs) h = by_test (may_precede r q) refl (turn_put r rs h.1)
     by_test true e turn = (e, h)
     by_test false e turn = (may_follow_put q r rs (follows r q e) h.0, turn)
 
-in_turn : (rs : List Raise) → InTurn (ordered rs)
+pub in_turn : (rs : List Raise) → InTurn (ordered rs)
 unfolding InTurn
 in_turn [] = tt
 in_turn (r ∷ rs) = turn_put r (ordered rs) (in_turn rs)
@@ -405,3 +405,63 @@ turn_kept (r ∷ rs) h = ap (with_raise r) (turn_kept rs h.1) ∙ put_first r rs
 -- so it is once the raises are in order
 pub ordered_again : (rs : List Raise) → ordered (ordered rs) ≡ ordered rs
 ordered_again rs = turn_kept (ordered rs) (in_turn rs)
+
+-- what holds of each raise by its place holds of each, and the other way
+pub each_all : (P : Raise → Type 0) (rs : List Raise) → All P rs → Each P rs
+unfolding Each
+each_all P [] h = tt
+each_all P (r ∷ rs) h = (h 0 r (omega arith), each_all P rs (λ k d l. h (suc k) d (omega arith)))
+
+pub all_each : (P : Raise → Type 0) (rs : List Raise) → Each P rs → All P rs
+unfolding Each
+all_each P [] h k d l = absurd (omega arith)
+all_each P (r ∷ rs) h zero d l = h.0
+all_each P (r ∷ rs) h (suc k) d l = all_each P rs h.1 k d (omega arith)
+
+-- what holds of all raises holds of them in order
+pub all_ordered : (P : Raise → Type 0) (rs : List Raise) → All P rs → All P (ordered rs)
+all_ordered P rs h = all_each P (ordered rs) (each_ordered P rs (each_all P rs h))
+
+length_put : (r : Raise) (rs : List Raise) → length (with_raise r rs) ≡ suc (length rs)
+length_put r [] = refl
+length_put r (q ∷ rs) = by_test (may_precede r q) (length_put r rs)
+  where
+    by_test : (b : Bool) → length (with_raise r rs) ≡ suc (length rs)
+        → length (cond b (r ∷ q ∷ rs) (q ∷ with_raise r rs)) ≡ suc (suc (length rs))
+    by_test true e = refl
+    by_test false e = ap suc e
+
+-- the raises in order are as many
+pub length-ordered : (rs : List Raise) → length (ordered rs) ≡ length rs
+length-ordered [] = refl
+length-ordered (r ∷ rs) = length_put r (ordered rs) ∙ ap suc (length-ordered rs)
+
+-- a raise goes before those of greater stamp
+put_before : (r : Raise) (xs ys : List Raise) → Each (λ q. r.stamp < q.stamp) ys → with_raise r (xs ++ ys) ≡ with_raise r xs ++ ys
+unfolding Each
+put_before r [] [] h = refl
+put_before r [] (q ∷ ys) h =
+    let less = h.0 in
+    let first : may_precede r q ≡ true = grind (arith, common_steps, less) in
+    ap (λ b. cond b (r ∷ q ∷ ys) (q ∷ with_raise r ys)) first
+put_before r (x ∷ xs) ys h = by_test (may_precede r x) (put_before r xs ys h)
+  where
+    by_test : (b : Bool) → with_raise r (xs ++ ys) ≡ with_raise r xs ++ ys
+        → cond b (r ∷ x ∷ xs ++ ys) (x ∷ with_raise r (xs ++ ys)) ≡ cond b (r ∷ x ∷ xs) (x ∷ with_raise r xs) ++ ys
+    by_test true e = refl
+    by_test false e = ap (λ zs. x ∷ zs) e
+
+-- raises all of whose stamps are above those of others stand after them
+pub ordered_after : (xs ys : List Raise) → Each (λ a. Each (λ b. a.stamp < b.stamp) ys) xs
+    → ordered (xs ++ ys) ≡ ordered xs ++ ordered ys
+unfolding Each
+ordered_after [] ys h = refl
+ordered_after (x ∷ xs) ys h =
+    ap (with_raise x) (ordered_after xs ys h.1)
+    ∙ put_before x (ordered xs) (ordered ys) (each_ordered (λ b. x.stamp < b.stamp) ys h.0)
+
+-- so it is where the facts are by place
+pub ordered_after_all : (xs ys : List Raise) → All (λ b. All (λ a. a.stamp < b.stamp) xs) ys
+    → ordered (xs ++ ys) ≡ ordered xs ++ ordered ys
+ordered_after_all xs ys h = ordered_after xs ys (each_all (λ a. Each (λ b. a.stamp < b.stamp) ys) xs
+    (λ k d l. each_all (λ b. (get_or xs k d).stamp < b.stamp) ys (λ m e n. h m e n k d l)))

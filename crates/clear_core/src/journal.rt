@@ -32,6 +32,13 @@ impl Journal {
         }
     }
 
+    /// A journal of these raises, in their order. Takes no memory.
+    pub fn of(raises: Vec<Raise>) -> Journal
+        ensures { result.raises ≡ raises.items }
+    {
+        Journal { raises }
+    }
+
     /// Makes room for so many raises more. `Mem` is want of memory, and the list stays as it is in any case.
     pub fn reserve(&mut self, more: usize) -> Result<(), Mem>
         ensures kept { self.new.raises ≡ self.old.raises }
@@ -58,30 +65,5 @@ impl Journal {
         ensures { result.now ≡ self.now.raises }
     {
         self.raises.as_slice()
-    }
-}
-
-#[cfg(test)]
-mod tests {
-    use super::*;
-    use clr_net::DebtId;
-    use std::test::Fail;
-
-    #[test]
-    fn raises_stand_as_they_were_added(rt: HostRuntime) -> Result<(), Fail> {
-        let mut journal = Journal::empty(rt.alloc());
-        assert_eq!(rt; journal.as_slice().len(), 0);
-        journal.reserve(1)?;
-        for to in [7, 8] {
-            journal.push(Raise {
-                stamp: to - 6,
-                debt: DebtId(0),
-                to,
-            })?;
-        }
-        assert_eq!(rt; journal.as_slice().len(), 2);
-        assert_eq!(rt; journal.as_slice()[1].stamp, 2);
-        assert_eq!(rt; journal.as_slice()[1].to, 8);
-        Ok(())
     }
 }

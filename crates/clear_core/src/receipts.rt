@@ -1,7 +1,7 @@
 ghost use Rattle.clear_core.specs.Buffers.{AreInLimit};
-ghost use Rattle.clear_core.specs.Clearing.{receipts as receipts_in};
+ghost use Rattle.clear_core.specs.Clearing.{receipts as receipts_in, spend as spend_of, spendable as spendable_of};
 ghost use Rattle.clr_net.specs.declared.TheConstants.{MAX_CLAIM, MAX_DEBTS};
-ghost use Rattle.std.specs.Prelude.{◌≡◌, ◌*◌, ◌<◌, ◌≤◌, length};
+ghost use Rattle.std.specs.Prelude.{◌≡◌, ◌+◌, ◌*◌, ◌^◌, ◌<◌, ◌≤◌, length};
 
 use clr_net::{BankId, Network};
 
@@ -21,4 +21,24 @@ pub fn receipts_of(net: &Network, bank: BankId, paid: &[u64]) -> u64
         received += paid[id.0 as usize];
     }
     received
+}
+
+/// What a bank divides among its debts, in units: its cash and its receipts, less what it owes outside the network,
+/// which ranks before all its debts (Eisenberg and Noe 2001), and nothing where that is more. Takes no memory.
+pub fn spendable(cash: u64, outside: u64, receipts: u64) -> u64
+    requires { cash + receipts < 2 ^ 64 }
+    ensures { result ≡ spendable_of cash outside receipts }
+{
+    (cash + receipts).saturating_sub(outside)
+}
+
+/// What a bank of a network divides among its debts when it receives so many units. Takes no memory.
+pub fn spend(net: &Network, bank: BankId, receipts: u64) -> u64
+    requires bank { bank.0 < length net.now.banks }
+    requires receipts { receipts ≤ MAX_DEBTS * MAX_CLAIM }
+    ensures { result ≡ spend_of net.now bank.0 receipts }
+{
+    prove!(bank.0 < net.banks());
+    let bank = net.bank(bank);
+    spendable(bank.cash, bank.outside, receipts)
 }

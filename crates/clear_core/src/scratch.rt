@@ -5,8 +5,9 @@ ghost use Rattle.clr_net.specs.Net.{claims_of, classes_of, row as row_of};
 ghost use Rattle.clr_net.specs.declared.TheConstants.{MAX_CLAIM, MAX_DEBTS};
 ghost use Rattle.std.specs.Prelude.{◌≡◌, ◌*◌, ◌<◌, ◌≤◌, ◌↔◌, IfOk, IsTrue, length, map, slice_index, vec_capacity, vec_len};
 
-use crate::division::share_of;
+use crate::receipts::spend;
 use clr_net::{BankId, Mem, Network};
+use rule_level::share_by_level;
 use std::alloc::Global;
 use std::marker::Model;
 
@@ -55,7 +56,7 @@ impl Scratch {
         ensures room { self.new ≡ self.old }
     {
         prove!(bank.0 < net.banks());
-        lay_out(net, bank, &mut self.claims, &mut self.classes);
+        lay_out_row(net, bank, &mut self.claims, &mut self.classes);
         divide_row(
             net,
             bank,
@@ -126,8 +127,9 @@ fn longest_row(net: &Network) -> usize
     longest
 }
 
-// Lays out the claims and classes of the debts that a bank owes, in file order.
-fn lay_out(net: &Network, bank: BankId, claims: &mut Vec<u64>, classes: &mut Vec<u8>)
+/// Lays out the claims, in units, and the classes of the debts that a bank owes, in file order: writes over two lists
+/// that have the room for them. Takes no memory.
+pub fn lay_out_row(net: &Network, bank: BankId, claims: &mut Vec<u64>, classes: &mut Vec<u8>)
     requires bank { bank.0 < length net.now.banks }
     requires room_for_claims { length (row_of net.now bank.0) ≤ vec_capacity claims.old }
     requires room_for_classes { length (row_of net.now bank.0) ≤ vec_capacity classes.old }
@@ -178,7 +180,7 @@ fn award_row(
     ensures room_of_classes { vec_capacity classes.new ≡ vec_capacity classes.old }
     ensures room_of_awards { vec_capacity awards.new ≡ vec_capacity awards.old }
 {
-    lay_out(net, bank, claims, classes);
+    lay_out_row(net, bank, claims, classes);
     blank(awards, net.row(bank).len());
     divide_row(
         net,
@@ -222,6 +224,11 @@ fn divide_row(
     requires places { length into.old ≡ length (row_of net.now bank.0) }
     ensures { into.new ≡ division net.now bank.0 receipts }
 {
-    let divider = net.bank(bank);
-    share_of(divider.rule, claims, classes, divider.cash + receipts, into);
+    share_by_level(
+        net.bank(bank).rule,
+        claims,
+        classes,
+        spend(net, bank, receipts),
+        into,
+    );
 }

@@ -1,7 +1,6 @@
 ghost use Rattle.clear_core.specs.Buffers.{AreInLimit, HasRoom};
-ghost use Rattle.clear_core.specs.Clearing.{division, part, receipts as receipts_in};
+ghost use Rattle.clear_core.specs.Clearing.{division, part, pay, receipts as receipts_in};
 ghost use Rattle.clear_core.specs.Process.{IsBelowLeast, IsLegal, IsOver, allowed as allowed_on, debt_of, opening, step};
-ghost use Rattle.clr_net.specs.Limits.{IsNetwork};
 ghost use Rattle.clr_net.specs.Net.{debtor_of, place_in_row as place_of, row as row_of};
 ghost use Rattle.clr_net.specs.declared.TheConstants.{MAX_CLAIM, MAX_DEBTS};
 ghost use Rattle.std.specs.Prelude.{◌≡◌, ◌*◌, ◌<◌, ◌≤◌, IfErr, IfOk, IsTrue, OnErr, OnOk, length, map, slice_index};
@@ -122,16 +121,19 @@ impl State {
     }
 }
 
-// The most that may be paid on a debt, by what its debtor has seen paid to itself.
-fn allowed_of(net: &Network, debt: DebtId, seen: &[u64], scratch: &mut Scratch) -> u64
-    requires network { IsNetwork net.now }
+/// The most that may be paid on a debt, in units, by its debtor's rule and by what the debtor has seen paid to itself.
+///
+/// `seen` has a place for each debt, in file order, in units. Takes no memory.
+pub fn allowed_of(net: &Network, debt: DebtId, seen: &[u64], scratch: &mut Scratch) -> u64
     requires debt { debt.0 < length net.now.debts }
     requires over { length seen.now ≡ length net.now.debts }
     requires in_limit { AreInLimit seen.now }
     requires room { HasRoom net.now scratch.old }
     ensures allowed { result ≡ part net.now debt.0 (receipts_in net.now seen.now (debtor_of net.now debt.0)) }
+    ensures pays { result ≡ slice_index (pay net.now seen.now) debt.0 }
     ensures room { scratch.new ≡ scratch.old }
 {
+    prove!(debt.0 < net.debts());
     let debtor = net.debt(debt).debtor;
     let receipts = receipts_of(net, debtor, seen);
     let place = place_in_row(net, debtor, debt);

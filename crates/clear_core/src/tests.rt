@@ -1,54 +1,12 @@
 ghost use Rattle.clear_core.specs.Buffers.{HasRoom};
 ghost use Rattle.clear_core.specs.Process.{IsOver, debt_of};
-ghost use Rattle.clr_net.specs.Net.{claim_of, row, with_bank, with_debt};
-ghost use Rattle.clr_net.specs.Samples.{bank, debt};
-ghost use Rattle.std.specs.Prelude.{◌≡◌, ◌<◌, ◌≤◌, IfOk, IsTrue, OnOk, length, slice_index};
+ghost use Rattle.clr_net.specs.Net.{claim_of, row};
+ghost use Rattle.std.specs.Prelude.{◌≡◌, ◌<◌, ◌≤◌, IfOk, IsTrue, length, slice_index};
 
 use crate::{Event, Illegal, Scratch, State, first_unquiet, is_quiet};
-use clr_net::{
-    Bank, BankId, Debt, DebtId, MAX_BANKS, MAX_CASH, MAX_CLAIM, MAX_DEBTS, MAX_OWED, Mem, Name,
-    Network, RuleKind,
-};
+use clr_net::{BankId, DebtId, Mem, Network};
 use std::alloc::Global;
 use std::test::Fail;
-
-fn add_bank(alloc: Global, net: &mut Network, name: &[u8], cash: u64) -> Result<(), Mem>
-    ensures { OnOk result (net.new ≡ with_bank net.old (bank name.now cash)) }
-{
-    let Ok(name) = Name::of(alloc, name) else {
-        return Err(Mem);
-    };
-    let rule = RuleKind::Order;
-    if net.banks() >= MAX_BANKS || cash > MAX_CASH || net.bank_named(name.bytes()).is_some() {
-        return Err(Mem);
-    }
-    match net.add_bank(Bank { name, cash, rule }) {
-        Ok(_) => Ok(()),
-        Err(_) => Err(Mem),
-    }
-}
-
-fn add_debt(net: &mut Network, debtor: u32, creditor: u32, claim: u64) -> Result<(), Mem>
-    ensures { OnOk result (net.new ≡ with_debt net.old (debt debtor creditor claim)) }
-{
-    let debt = Debt {
-        debtor: BankId(debtor),
-        creditor: BankId(creditor),
-        class: 1,
-        claim,
-    };
-    if debtor == creditor || debtor >= net.banks() || creditor >= net.banks() {
-        return Err(Mem);
-    }
-    if net.debts() >= MAX_DEBTS || claim > MAX_CLAIM || net.owed() > MAX_OWED - claim {
-        return Err(Mem);
-    }
-    if net.has_debt(debt.debtor, debt.creditor, 1) {
-        return Err(Mem);
-    }
-    net.add_debt(debt)?;
-    Ok(())
-}
 
 // A owes B 10, and B owes C 9; A has 7 and B has 1.
 fn chain_of_three(alloc: Global) -> Result<Network, Mem>
@@ -58,13 +16,7 @@ fn chain_of_three(alloc: Global) -> Result<Network, Mem>
     ensures first_claim { IfOk result (λ net. claim_of net 0 ≡ 10) }
     ensures second_claim { IfOk result (λ net. claim_of net 1 ≡ 9) }
 {
-    let mut net = Network::empty(alloc);
-    add_bank(alloc, &mut net, b"A", 7)?;
-    add_bank(alloc, &mut net, b"B", 1)?;
-    add_bank(alloc, &mut net, b"C", 0)?;
-    add_debt(&mut net, 0, 1, 10)?;
-    add_debt(&mut net, 1, 2, 9)?;
-    Ok(net)
+    net_samples::chain(alloc)
 }
 
 // The answer to one event. The steps of a test need no more of it than that the next one may follow.

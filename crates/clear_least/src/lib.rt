@@ -11,6 +11,3 @@ mod repetition;
 mod round;
 
 pub use repetition::central;
-
-#[cfg(test)]
-mod tests;

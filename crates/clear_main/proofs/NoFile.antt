@@ -1,10 +1,17 @@
--- Messages that name no file.
-use Rattle.std.proofs.Common.{◌≡◌, refl, Option, None}
+-- Where memory is wanting before the run, no file is named and nothing is written.
+use Rattle.std.proofs.Common.{◌≡◌, refl, Option, None, Some, inr}
 use Rattle.clear_words.specs.declared.job.Job.{Job}
+use Rattle.clear_top.specs.Ending.{RunEnds, ShelfCall, SinkCall}
 use Rattle.clear_top.specs.Message.{message}
 use Rattle.clear_top.specs.declared.status.Status.{Status}
 use Rattle.clear_top.specs.declared.status.Status.TheVariants as status
 
--- that of want of memory is the same for any job and for none
+-- the message of want of memory is the same for any job and for none
 pub message_of_mem : (ending : Status) → ending ≡ status.Mem → (job : Option Job) → message ending None ≡ message ending job
 message_of_mem ending is_mem job = rw is_mem refl
+
+-- want of memory may end any run in which nothing is written
+pub ends_in_mem : (shelf : ShelfCall) (sink : SinkCall) (job : Option Job) (ending : Status) → ending ≡ status.Mem
+    → sink.new ≡ sink.old → RunEnds shelf sink job ending
+ends_in_mem shelf sink None ending is_mem same = (inr is_mem, same)
+ends_in_mem shelf sink (Some job) ending is_mem same = rw is_mem same

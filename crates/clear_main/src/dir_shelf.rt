@@ -10,7 +10,8 @@ use std::io::{ErrorKind, Read};
 use std::rt::Files;
 use std::{fs, io};
 
-/// The files of the current folder. It tells none of their content, and keeps one count of faults for all names.
+/// The files of the current folder. It tells none of their content, and keeps one count of faults
+/// for all names.
 #[derive(Drop)]
 pub struct DirShelf<'a, R: Files> {
     rt: &'a R,
@@ -35,11 +36,15 @@ impl<'a, R: Files> Shelf for DirShelf<'a, R> {
         requires { limit < 2 ^ 32 }
         ensures fetched { IfOk result (λ bytes. IsFetched None name.now limit bytes.items) }
         ensures faults { NoneFalls (λ _. self.old.faults) (λ _. self.new.faults) }
-        ensures failed { IsErrOf result FetchFault.Failed → HasRisen self.old.faults self.new.faults }
+        ensures failed { IsErrOf result FetchFault.Failed
+            → HasRisen self.old.faults self.new.faults }
 
-        // The bytes are the front of a file that was opened, and the count rises at a failure alone.
-        ensures front { IfOk result (λ bytes. (file : R.File) × IsFront (R.File.remaining file) limit bytes.items) }
-        ensures one { IsErrOf result FetchFault.Failed → self.new.faults ≡ one_more self.old.faults }
+        // The bytes are the front of a file that was opened, and the count rises at a failure
+        // alone.
+        ensures front { IfOk result (λ bytes.
+            (file : R.File) × IsFront (R.File.remaining file) limit bytes.items) }
+        ensures one { IsErrOf result FetchFault.Failed
+            → self.new.faults ≡ one_more self.old.faults }
         ensures ok { OnOk result (self.new.faults ≡ self.old.faults) }
         ensures mem { IsErrOf result FetchFault.Mem → self.new.faults ≡ self.old.faults }
     {
@@ -57,7 +62,8 @@ impl<'a, R: Files> Shelf for DirShelf<'a, R> {
 // The front of the file of this name.
 fn front_of_file<R: Files>(rt: &R, alloc: Global, name: &str, limit: u64) -> io::Result<Vec<u8>>
     requires { limit < 2 ^ 32 }
-    ensures { IfOk result (λ bytes. (file : R.File) × IsFront (R.File.remaining file) limit bytes.items) }
+    ensures { IfOk result (λ bytes.
+        (file : R.File) × IsFront (R.File.remaining file) limit bytes.items) }
 {
     front(alloc, fs::open(rt, name)?, limit)
 }

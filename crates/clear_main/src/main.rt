@@ -1,9 +1,9 @@
 //! The program `clearing`, the trusted edge of the crates below it.
 //!
-//! It collects the words of the command line, lends the files of the current folder, the standard output and the
-//! standard error to [`clear_top::run`], and ends with the code of the status that this answers. What the program
-//! computes and writes is all in `run`; what the system gives and takes is in [`DirShelf`] and [`StdSink`], which count
-//! their faults and tell no content.
+//! It collects the words of the command line, lends the files of the current folder, the standard
+//! output and the standard error to [`clear_top::run`], and ends with the code of the status that
+//! this answers. What the program computes and writes is all in `run`; what the system gives and
+//! takes is in [`DirShelf`] and [`StdSink`], which count their faults and tell no content.
 #![tactic(auto)]
 
 mod dir_shelf;

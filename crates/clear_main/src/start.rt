@@ -1,10 +1,9 @@
 ghost use Rattle.clear_main.specs.Words.{words_of};
-ghost use Rattle.clear_top.specs.Meaning.{Files, Means};
+ghost use Rattle.clear_top.specs.Ending.{RunEnds, shelf_call, sink_call};
 ghost use Rattle.clear_top.specs.Message.{message, TakesText};
 ghost use Rattle.clear_top.specs.declared.status.Status.{Status};
 ghost use Rattle.clear_words.specs.Job.{job_of};
-ghost use Rattle.clr_edge.specs.Sink.{with_bytes, WritesPart};
-ghost use Rattle.std.specs.Prelude.{◌≡◌, ◌≢◌, ◌⊎◌, ◌↔◌, ℕ, List, IfOk, None, Some, map};
+ghost use Rattle.std.specs.Prelude.{◌≡◌, ◌⊎◌, ◌↔◌, IfOk, None, map};
 
 use clear_top::{Status, put_text, run};
 use clr_edge::{OpenGate, Shelf, Sink};
@@ -19,8 +18,9 @@ pub fn arguments<R: Env + AllocGlobal>(rt: &R) -> io::Result<Vec<String>> {
     Ok(env::args(rt)?.collect(rt.alloc())?)
 }
 
-/// Runs the program on the words of the command line, which are the arguments after the program's name, and answers how
-/// it ended. Where there is no memory to list them, it does not run.
+/// Runs the program on the words of the command line, which are the arguments after the program's
+/// name, and answers how it ended. Where there is no memory to list them, it does not run. Of it
+/// holds what holds of [`clear_top::run`].
 pub fn start<R: Threads + Sync + AllocGlobal, F: Shelf, O: Sink, E: Sink>(
     rt: &R,
     args: &[String],
@@ -28,17 +28,14 @@ pub fn start<R: Threads + Sync + AllocGlobal, F: Shelf, O: Sink, E: Sink>(
     out: &mut O,
     err: &mut E,
 ) -> Status
-    ensures usage { result ≡ Status.Usage → job_of (words_of args.now) ≡ None }
-    ensures refuses { job_of (words_of args.now) ≡ None → (result ≡ Status.Usage) ⊎ (result ≡ Status.Mem) }
-    ensures done { result ≡ Status.Done → (told : Files) → F.files files.old ≡ Some told
-        → (text : List ℕ) × Means told (words_of args.now) Status.Done text
-        × (O.written out.new ≡ with_bytes (O.written out.old) text) }
-    ensures part { result ≡ Status.WriteFault → (told : Files) → F.files files.old ≡ Some told
-        → (text : List ℕ) × Means told (words_of args.now) Status.Done text
-        × WritesPart (O.written out.old) (O.written out.new) text }
-    ensures untouched { result ≢ Status.Done → result ≢ Status.WriteFault → O.written out.new ≡ O.written out.old }
-    ensures told { TakesText (E.written err.old) (E.written err.new) (E.faults err.old) (E.faults err.new)
+    ensures ends { RunEnds
+        (shelf_call (F.files files.old) (F.faults files.old) (F.faults files.new))
+        (sink_call (O.written out.old) (O.written out.new) (O.faults out.old) (O.faults out.new))
+        (job_of (words_of args.now)) result }
+    ensures told { TakesText
+        (sink_call (E.written err.old) (E.written err.new) (E.faults err.old) (E.faults err.new))
         (message result (job_of (words_of args.now))) }
+    ensures quiet { result ≡ Status.Done → E.written err.new ≡ E.written err.old }
 {
     let alloc = rt.alloc();
     match words(alloc, args) {
@@ -47,12 +44,14 @@ pub fn start<R: Threads + Sync + AllocGlobal, F: Shelf, O: Sink, E: Sink>(
     }
 }
 
-/// Writes why the words of the command line cannot be collected, and answers the status with which the program ends:
-/// want of memory where that is the cause, and else a command line that is not understood.
+/// Writes why the words of the command line cannot be collected, and answers the status with which
+/// the program ends: want of memory where that is the cause, and else a command line that is not
+/// understood.
 pub fn refuse<E: Sink>(err: &mut E, cause: ErrorKind) -> Status
     ensures mem { (result ≡ Status.Mem) ↔ (cause ≡ ErrorKind.OutOfMemory) }
     ensures usage { (result ≡ Status.Mem) ⊎ (result ≡ Status.Usage) }
-    ensures told { TakesText (E.written err.old) (E.written err.new) (E.faults err.old) (E.faults err.new)
+    ensures told { TakesText
+        (sink_call (E.written err.old) (E.written err.new) (E.faults err.old) (E.faults err.new))
         (message result None) }
 {
     match cause {

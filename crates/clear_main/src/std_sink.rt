@@ -37,8 +37,8 @@ impl<W: Write> Sink for StdSink<W> {
         // The count rises at a failure alone, and the stream holds what the answer says.
         ensures one { OnErr result (self.new.faults ≡ one_more self.old.faults) }
         ensures ok { OnOk result (self.new.faults ≡ self.old.faults) }
-        ensures taken { IfOk result (λ n. Appends (W.contents self.old.stream) (W.contents self.new.stream)
-            (take n piece.now)) }
+        ensures taken { IfOk result (λ n.
+            Appends (W.contents self.old.stream) (W.contents self.new.stream) (take n piece.now)) }
     {
         match write_some(&mut self.stream, piece) {
             Ok(taken) => Ok(taken),

@@ -4,8 +4,9 @@ ghost use Rattle.std.specs.Prelude.{◌≡◌, IfOk, string_bytes};
 use clr_net::{Mem, Network};
 use std::alloc::Global;
 
-/// The text of a network that was checked: the numbers of its banks and debts, the units owed and the cash, a line each,
-/// then the two files of its banks and of its debts, as they were printed, with an empty line before each.
+/// The text of a network that was checked: the numbers of its banks and debts, the units owed and
+/// the cash, a line each, then the two files of its banks and of its debts, as they were printed,
+/// with an empty line before each.
 pub fn check_text(alloc: Global, net: &Network, banks: &[u8], debts: &[u8]) -> Result<Vec<u8>, Mem>
     ensures { IfOk result (λ text. text.items ≡ checked_text net.now banks.now debts.now) }
 {

@@ -6,6 +6,3 @@ mod payments;
 
 pub use check::check_text;
 pub use payments::pay_text;
-
-#[cfg(test)]
-mod tests;

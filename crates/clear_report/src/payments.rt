@@ -18,7 +18,8 @@ pub fn pay_text(alloc: Global, net: &Network, paid: &[u64]) -> Result<Vec<u8>, M
     Ok(text)
 }
 
-// Adds the line of a debt to the text. The numbers of the line are written into a text of their own first.
+// Adds the line of a debt to the text. The numbers of the line are written into a text of their own
+// first.
 fn add_payment_line(
     text: &mut Vec<u8>,
     numbers: &mut String,

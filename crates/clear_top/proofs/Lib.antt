@@ -1,5 +1,5 @@
+pub mod Endings
 pub mod Pieces
-pub mod Completeness
+pub mod Loading
 pub mod Looks
 pub mod Raises
-pub mod Passes

@@ -1,5 +1,6 @@
 -- What a bank sees when it has looked at each debt of its column.
-use Rattle.std.proofs.Common.{◌≡◌, ℕ, suc, ◌+◌, ◌<◌, List, [], ◌∷◌, length, get_or, set, sum_by, Result, OnOk, OnErr, IsOk, Ok, Err, sym, refl, subst, arith}
+use Rattle.std.proofs.Common.{◌≡◌, ℕ, suc, ◌+◌, ◌<◌, List, [], ◌∷◌, length, get_or, set, sum_by}
+use Rattle.std.proofs.Common.{Result, OnOk, OnErr, IsOk, Ok, Err, sym, refl, subst, arith}
 use Rattle.std.proofs.lemmas.Grind.{common_steps}
 use Rattle.std.proofs.lemmas.List.Sums.{sum_by-cons}
 use Rattle.clr_net.specs.Net.{Net, column}

@@ -1,10 +1,14 @@
 -- A sink that takes a text piece by piece.
-use Rattle.std.proofs.Common.{◌≡◌, ℕ, zero, suc, ◌+◌, ◌<◌, ◌≤◌, List, [], ◌∷◌, ◌++◌, length, take, drop, get_or, map, Option, None, Some, refl, sym, ap, ◌∙◌, inl, inr, ⊎_elim, append_assoc, length-append, arith, true, false, true≢false, Result, Ok, Err, Bor}
+use Rattle.std.proofs.Common.{◌≡◌, ℕ, zero, suc, ◌+◌, ◌<◌, ◌≤◌, List, [], ◌∷◌, ◌++◌, length, take}
+use Rattle.std.proofs.Common.{drop, get_or, map, Option, None, Some, refl, sym, ap, ◌∙◌, inl, inr}
+use Rattle.std.proofs.Common.{⊎_elim, append_assoc, length-append, arith, true, false, true≢false}
+use Rattle.std.proofs.Common.{Result, Ok, Err, Bor}
 use Rattle.std.specs.List.{concat}
 use Rattle.std.specs.Result.{is_err, OnOk, OnErr}
 use Rattle.std.proofs.lemmas.List.{append-nil, get_or-map, length-map}
 use Rattle.clr_edge.specs.Faults.{HasRisen}
 use Rattle.clr_edge.specs.Sink.{with_bytes, WritesPart}
+use Rattle.clear_top.specs.Ending.{sink_call}
 use Rattle.clear_top.specs.Message.{TakesText}
 
 -- bytes and then bytes
@@ -12,7 +16,8 @@ pub with_bytes-twice : (w : Option (List ℕ)) (a b : List ℕ) → with_bytes (
 with_bytes-twice None a b = refl
 with_bytes-twice (Some w) a b = ap Some (append_assoc w a b)
 
-risen_since : (a b c : ℕ) → a ≤ b → HasRisen b c → HasRisen a c
+-- a rise since a later moment is one since an earlier
+pub risen_since : (a b c : ℕ) → a ≤ b → HasRisen b c → HasRisen a c
 risen_since a b c l h = ⊎_elim (λ (r : b < c). inl (omega arith)) (λ r. inr r) h
 
 take-past : (a b : List ℕ) (k : ℕ) → take (length a + k) (a ++ b) ≡ a ++ take k b
@@ -79,7 +84,7 @@ module _ (ps : List (Bor (List ℕ))) (i : ℕ) (d : Bor (List ℕ)) (l : i < le
   -- a piece taken in part: a part of all
   pub piece_broken : (old mid new : Option (List ℕ)) (a b c : ℕ) → mid ≡ with_bytes old (concat (take i (map (λ p. p.now) ps)))
       → a ≤ b → WritesPart mid new (get_or ps i d).now → HasRisen b c
-      → TakesText old new a c (concat (map (λ p. p.now) ps))
+      → TakesText (sink_call old new a c) (concat (map (λ p. p.now) ps))
   unfolding texts
   piece_broken old mid new a b c at no_fall part risen = inr (
     part_of_whole old mid new (concat (take i texts)) (get_or ps i d).now (concat (drop (i + 1) texts)) (concat texts) at

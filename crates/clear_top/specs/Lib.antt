@@ -1,7 +1,6 @@
 pub mod Status
-pub mod Job
-pub mod Message
+pub mod Sources
 pub mod Meaning
 pub mod Ending
-pub mod Passes
-pub mod PassCases
+pub mod Message
+pub mod Cases

@@ -1,18 +1,22 @@
-ghost use Rattle.clear_top.specs.Job.{name_in};
+ghost use Rattle.clear_top.specs.Ending.{sink_call};
 ghost use Rattle.clear_top.specs.Message.{message, name_if, TakesText};
+ghost use Rattle.clear_top.specs.Sources.{name_in};
 ghost use Rattle.std.specs.List.{concat};
 ghost use Rattle.std.specs.Option.{option_map};
 ghost use Rattle.std.specs.Prelude.{◌≡◌, ◌∷◌, [], codes, map};
 
+use crate::source::{Source, source_of};
 use crate::status::Status;
 use clear_words::Job;
 use clr_edge::{Sink, put_all};
 use itoa::Buffer;
 use net_check::{Fault, FileKind};
 
-/// Writes the line that tells a person of a status. It takes no memory, and a fault of the sink changes nothing.
+/// Writes the line that tells a person of a status. It takes no memory, and a fault of the sink
+/// changes nothing.
 pub fn tell<E: Sink>(err: &mut E, status: Status, job: Option<&Job>)
-    ensures { TakesText (E.written err.old) (E.written err.new) (E.faults err.old) (E.faults err.new)
+    ensures { TakesText
+        (sink_call (E.written err.old) (E.written err.new) (E.faults err.old) (E.faults err.new))
         (message status (option_map (λ job. job.now) job.entry)) }
 {
     match status {
@@ -27,33 +31,39 @@ pub fn tell<E: Sink>(err: &mut E, status: Status, job: Option<&Job>)
 
 /// Writes a text, up to a fault of the sink. Takes no memory.
 pub fn put_text<S: Sink>(sink: &mut S, text: &str)
-    ensures { TakesText (S.written sink.old) (S.written sink.new) (S.faults sink.old) (S.faults sink.new) text.now }
+    ensures { TakesText
+        (sink_call (S.written sink.old) (S.written sink.new) (S.faults sink.old) (S.faults sink.new))
+        text.now }
 {
     let _ = put_all(sink, text.as_bytes());
 }
 
-// The name of the file of a kind, where there is a job.
+// The name of the file of a kind, where there is a job that has one.
 fn name_of<'a>(job: Option<&'a Job>, kind: FileKind) -> &'a str
     ensures { result.now ≡ name_if (option_map (λ job. job.now) job.entry) kind }
 {
     match job {
-        Some(job) => file_name(job, kind),
+        Some(job) => file_name(job, kind).unwrap_or(""),
         None => "",
     }
 }
 
-// The name of the file of a kind.
-fn file_name(job: &Job, kind: FileKind) -> &str
-    ensures { result.now ≡ name_in job.now kind }
+// The name of the job's file of a kind.
+fn file_name(job: &Job, kind: FileKind) -> Option<&str>
+    ensures { option_map (λ name. name.now) result ≡ name_in job.now kind }
 {
-    match kind {
-        FileKind::Banks => job.banks.as_str(),
-        FileKind::Debts => job.debts.as_str(),
+    match source_of(job.task) {
+        Source::Files => match kind {
+            FileKind::Banks => Some(job.banks.as_str()),
+            FileKind::Debts => Some(job.debts.as_str()),
+            _ => None,
+        },
     }
 }
 
 fn tell_name<E: Sink>(err: &mut E, name: &str)
-    ensures { TakesText (E.written err.old) (E.written err.new) (E.faults err.old) (E.faults err.new)
+    ensures { TakesText
+        (sink_call (E.written err.old) (E.written err.new) (E.faults err.old) (E.faults err.new))
         (concat (codes "clearing: cannot read " ∷ name.now ∷ codes "\n" ∷ [])) }
 {
     let pieces = [
@@ -65,7 +75,8 @@ fn tell_name<E: Sink>(err: &mut E, name: &str)
 }
 
 fn tell_fault<E: Sink>(err: &mut E, fault: Fault)
-    ensures { TakesText (E.written err.old) (E.written err.new) (E.faults err.old) (E.faults err.new)
+    ensures { TakesText
+        (sink_call (E.written err.old) (E.written err.new) (E.faults err.old) (E.faults err.new))
         (message (Status.Refused fault) None) }
 {
     let mut row = Buffer::new();
@@ -86,7 +97,8 @@ fn tell_fault<E: Sink>(err: &mut E, fault: Fault)
 
 // Writes pieces one after another, up to a fault of the sink.
 fn put_pieces<S: Sink>(sink: &mut S, pieces: &[&[u8]])
-    ensures { TakesText (S.written sink.old) (S.written sink.new) (S.faults sink.old) (S.faults sink.new)
+    ensures { TakesText
+        (sink_call (S.written sink.old) (S.written sink.new) (S.faults sink.old) (S.faults sink.new))
         (concat (map (λ piece. piece.now) pieces.now)) }
 {
     for piece in pieces {

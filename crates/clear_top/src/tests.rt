@@ -1,20 +1,35 @@
 mod twelve_banks;
 
 use crate::{Status, run};
+use clear_least::central;
 use clr_edge::{MemShelf, MemSink, OpenGate};
+use clr_net::{BankId, Network};
 use net_check::{Fault, FaultKind, FileKind};
+use net_samples::chain;
+use settle::{Plan, settle};
 use std::alloc::Global;
 use std::process::Abort;
 use std::test::Fail;
 use std::thread::Threads;
 
-const WORDS: [&str; 5] = ["clear", "--banks", "b.csv", "--debts", "d.csv"];
+const CLEAR: &[&str] = &["clear", "--banks", "b.csv", "--debts", "d.csv"];
+
+const CHECK: &[&str] = &["check", "--banks", "b.csv", "--debts", "d.csv"];
+
+const CENTRAL: &[&str] = &["central", "--banks", "b.csv", "--debts", "d.csv"];
+
+const CONVERT: &[&str] = &["convert", "--banks", "b.csv", "--debts", "d.csv"];
 
 const CHAIN_BANKS: &str = "name,cash,rule\nA,7,order\nB,1,order\nC,0,order\n";
 
 const CHAIN_DEBTS: &str = "debtor,creditor,class,claim\nA,B,1,10\nB,C,1,9\n";
 
 const CHAIN_TEXT: &str = "debtor,creditor,class,claim,paid\nA,B,1,10,7\nB,C,1,9,8\n";
+
+// The chain's banks in the second form of their file, with no outside claims and with some.
+const CHAIN_BANKS_2: &str = "name,cash,rule,outside\nA,7,order,0\nB,1,order,0\nC,0,order,0\n";
+
+const CHAIN_OUTSIDE: &str = "name,cash,rule,outside\nA,7,order,3\nB,1,order,0\nC,0,order,2\n";
 
 const TWO_BANKS: &str = "name,cash,rule\nA,0,order\nB,0,order\n";
 
@@ -37,9 +52,14 @@ const CHAIN_CHECKED: &str = "banks,3\ndebts,2\nowed,19\ncash,8\n\n\
 name,cash,rule\nA,7,order\nB,1,order\nC,0,order\n\n\
 debtor,creditor,class,claim\nA,B,1,10\nB,C,1,9\n";
 
-// Two files, and what a run on them comes to.
+const CHAIN_OUTSIDE_CHECKED: &str = "banks,3\ndebts,2\nowed,19\ncash,8\n\n\
+name,cash,rule,outside\nA,7,order,3\nB,1,order,0\nC,0,order,2\n\n\
+debtor,creditor,class,claim\nA,B,1,10\nB,C,1,9\n";
+
+// A command line on two files, and what a run on them comes to.
 #[derive(Drop)]
 struct Case<'a> {
+    words: &'a [&'a str],
     banks: &'a str,
     debts: &'a str,
     status: Status,
@@ -48,8 +68,9 @@ struct Case<'a> {
 }
 
 // A run that ends well.
-fn done<'a>(banks: &'a str, debts: &'a str, out: &'a str) -> Case<'a> {
+fn done<'a>(words: &'a [&'a str], banks: &'a str, debts: &'a str, out: &'a str) -> Case<'a> {
     Case {
+        words,
         banks,
         debts,
         status: Status::Done,
@@ -66,6 +87,7 @@ fn refused<'a>(
     err: &'a str,
 ) -> Case<'a> {
     Case {
+        words: CLEAR,
         banks,
         debts,
         status: Status::Refused(Fault { file, row, kind }),
@@ -74,58 +96,86 @@ fn refused<'a>(
     }
 }
 
-// Runs the words on a shelf with the two files `b.csv` and `d.csv`, and compares.
+// Runs the words of a case on a shelf with its two files, and compares.
 fn check<R: Threads + Sync + Abort>(rt: &R, alloc: Global, case: &Case<'_>) -> Result<(), Fail> {
-    let mut files = MemShelf::make(alloc);
-    files.add("b.csv", case.banks.as_bytes())?;
-    files.add("d.csv", case.debts.as_bytes())?;
+    let mut files = shelf(alloc, case.banks, case.debts)?;
     let mut out = MemSink::with_room(alloc, 2000, 1000, 0)?;
     let mut err = MemSink::with_room(alloc, 1000, 1000, 0)?;
-    let status = run(rt, alloc, &WORDS, &mut files, &mut out, &mut err, &OpenGate);
+    let status = run(
+        rt, alloc, case.words, &mut files, &mut out, &mut err, &OpenGate,
+    );
     assert_eq!(rt; status, case.status);
     assert_eq!(rt; out.written(), case.out.as_bytes());
     assert_eq!(rt; err.written(), case.err.as_bytes());
     Ok(())
 }
 
+// A shelf with the two files `b.csv` and `d.csv`.
+fn shelf(alloc: Global, banks: &str, debts: &str) -> Result<MemShelf, Fail> {
+    let mut files = MemShelf::make(alloc);
+    files.add("b.csv", banks.as_bytes())?;
+    files.add("d.csv", debts.as_bytes())?;
+    Ok(files)
+}
+
 #[test]
 fn payments_of_small_networks(rt: HostRuntime) -> Result<(), Fail> {
     let cases = [
-        done(CHAIN_BANKS, CHAIN_DEBTS, CHAIN_TEXT),
+        done(CLEAR, CHAIN_BANKS, CHAIN_DEBTS, CHAIN_TEXT),
         // One unit goes round until both debts are paid.
         done(
+            CLEAR,
             "name,cash,rule\nA,1,order\nB,0,order\n",
             "debtor,creditor,class,claim\nA,B,1,5\nB,A,1,5\n",
             "debtor,creditor,class,claim,paid\nA,B,1,5,5\nB,A,1,5,5\n",
         ),
         // With no unit to begin with none goes round, though paying all would clear as well.
         done(
+            CLEAR,
             "name,cash,rule\nA,0,order\nB,0,order\n",
             "debtor,creditor,class,claim\nA,B,1,10\nB,A,1,10\n",
             "debtor,creditor,class,claim,paid\nA,B,1,10,0\nB,A,1,10,0\n",
         ),
         done(
+            CLEAR,
             "name,cash,rule\n",
             "debtor,creditor,class,claim\n",
             "debtor,creditor,class,claim,paid\n",
         ),
-        done(TWO_BANKS, TOTAL_AND_NO_MORE, TOTAL_PAYMENTS),
+        done(CLEAR, TWO_BANKS, TOTAL_AND_NO_MORE, TOTAL_PAYMENTS),
         done(
+            CLEAR,
             "name,cash,rule\nA,1000000000000,order\nB,0,order\n",
             "debtor,creditor,class,claim\nA,B,1,1000000\n",
             "debtor,creditor,class,claim,paid\nA,B,1,1000000,1000000\n",
         ),
         // Two debts of two classes between the same banks: the lower class is paid first.
         done(
+            CLEAR,
             CHAIN_BANKS,
             "debtor,creditor,class,claim\nA,B,1,10\nB,C,1,9\nA,B,2,2\n",
             "debtor,creditor,class,claim,paid\nA,B,1,10,7\nB,C,1,9,8\nA,B,2,2,0\n",
         ),
         // A byte order mark, line ends of two bytes, spaces round fields, and none after the last record.
         done(
+            CLEAR,
             "\u{FEFF}name,cash,rule\r\n Crédit A ,7,order\r\nB,1,order\r\nC,0,order",
             "\u{FEFF}debtor,creditor,class,claim\r\n Crédit A ,B,1,10\r\nB,C,1,9",
             "debtor,creditor,class,claim,paid\nCrédit A,B,1,10,7\nB,C,1,9,8\n",
+        ),
+        // A owes 3 outside, and pays B what that leaves of its cash; B owes nothing outside.
+        done(
+            CLEAR,
+            CHAIN_OUTSIDE,
+            CHAIN_DEBTS,
+            "debtor,creditor,class,claim,paid\nA,B,1,10,4\nB,C,1,9,5\n",
+        ),
+        // A owes more outside than it has.
+        done(
+            CLEAR,
+            "name,cash,rule,outside\nA,7,order,8\nB,1,order,0\nC,0,order,2\n",
+            CHAIN_DEBTS,
+            "debtor,creditor,class,claim,paid\nA,B,1,10,0\nB,C,1,9,1\n",
         ),
     ];
     for case in &cases {
@@ -134,70 +184,36 @@ fn payments_of_small_networks(rt: HostRuntime) -> Result<(), Fail> {
     Ok(())
 }
 
-// Runs a task on the two files, and compares what it writes.
-fn writes<R: Threads + Sync + Abort>(
-    rt: &R,
-    alloc: Global,
-    words: &[&str],
-    text: &str,
-) -> Result<(), Fail> {
-    let mut files = chain_shelf(alloc, 0)?;
-    let mut out = MemSink::with_room(alloc, 1000, 1000, 0)?;
-    let mut err = MemSink::with_room(alloc, 1000, 1000, 0)?;
-    let status = run(rt, alloc, words, &mut files, &mut out, &mut err, &OpenGate);
-    assert_eq!(rt; status, Status::Done);
-    assert_eq!(rt; out.written(), text.as_bytes());
-    assert_eq!(rt; err.written(), b"".as_slice());
-    Ok(())
-}
-
 #[test]
 fn tasks_on_the_chain(rt: HostRuntime) -> Result<(), Fail> {
-    let jobs: [(&[&str], &str); 5] = [
-        (
-            &["check", "--banks", "b.csv", "--debts", "d.csv"],
-            CHAIN_CHECKED,
+    let cases = [
+        done(CHECK, CHAIN_BANKS, CHAIN_DEBTS, CHAIN_CHECKED),
+        done(CHECK, CHAIN_BANKS_2, CHAIN_DEBTS, CHAIN_CHECKED),
+        done(CHECK, CHAIN_OUTSIDE, CHAIN_DEBTS, CHAIN_OUTSIDE_CHECKED),
+        done(CLEAR, CHAIN_BANKS, CHAIN_DEBTS, CHAIN_TEXT),
+        done(CLEAR, CHAIN_BANKS_2, CHAIN_DEBTS, CHAIN_TEXT),
+        done(CENTRAL, CHAIN_BANKS, CHAIN_DEBTS, CHAIN_TEXT),
+        // Paying all would clear as well.
+        done(
+            CENTRAL,
+            TWO_BANKS,
+            "debtor,creditor,class,claim\nA,B,1,10\nB,A,1,10\n",
+            "debtor,creditor,class,claim,paid\nA,B,1,10,0\nB,A,1,10,0\n",
         ),
-        (
-            &["clear", "--banks", "b.csv", "--debts", "d.csv"],
-            CHAIN_TEXT,
-        ),
-        (
-            &["central", "--banks", "b.csv", "--debts", "d.csv"],
-            CHAIN_TEXT,
-        ),
+        done(CONVERT, CHAIN_BANKS, CHAIN_DEBTS, CHAIN_BANKS_2),
+        done(CONVERT, CHAIN_BANKS_2, CHAIN_DEBTS, CHAIN_BANKS_2),
+        done(CONVERT, CHAIN_OUTSIDE, CHAIN_DEBTS, CHAIN_OUTSIDE),
         // Options before the task, and with their values in one word.
-        (&["--debts=d.csv", "--banks", "b.csv", "clear"], CHAIN_TEXT),
-        (
-            &["--banks=b.csv", "--debts=d.csv", "--", "check"],
-            CHAIN_CHECKED,
+        done(
+            &["--debts=d.csv", "--banks", "b.csv", "clear"],
+            CHAIN_BANKS,
+            CHAIN_DEBTS,
+            CHAIN_TEXT,
         ),
     ];
-    for (words, text) in jobs {
-        writes(&rt, rt.alloc(), words, text)?;
+    for case in &cases {
+        check(&rt, rt.alloc(), case)?;
     }
-    Ok(())
-}
-
-#[test]
-fn central_gives_the_least(rt: HostRuntime) -> Result<(), Fail> {
-    let alloc = rt.alloc();
-    let mut files = MemShelf::make(alloc);
-    files.add("b.csv", b"name,cash,rule\nA,0,order\nB,0,order\n")?;
-    files.add(
-        "d.csv",
-        b"debtor,creditor,class,claim\nA,B,1,10\nB,A,1,10\n",
-    )?;
-    let mut out = MemSink::with_room(alloc, 1000, 1000, 0)?;
-    let mut err = MemSink::with_room(alloc, 1000, 1000, 0)?;
-    let words = ["central", "--banks", "b.csv", "--debts", "d.csv"];
-    let status = run(
-        &rt, alloc, &words, &mut files, &mut out, &mut err, &OpenGate,
-    );
-    assert_eq!(rt; status, Status::Done);
-    // Paying all would clear as well.
-    let none = "debtor,creditor,class,claim,paid\nA,B,1,10,0\nB,A,1,10,0\n";
-    assert_eq!(rt; out.written(), none.as_bytes());
     Ok(())
 }
 
@@ -207,6 +223,7 @@ fn twelve_banks_by_all_rules(rt: HostRuntime) -> Result<(), Fail> {
         &rt,
         rt.alloc(),
         &done(
+            CLEAR,
             twelve_banks::BANKS,
             twelve_banks::DEBTS,
             twelve_banks::PAYMENTS,
@@ -259,6 +276,19 @@ fn faults_of_files_are_named(rt: HostRuntime) -> Result<(), Fail> {
             (FileKind::Banks, 1, FaultKind::Rule),
             "clearing: banks row 1: rule (5)\n",
         ),
+        // Under the header of the second form each bank has four fields.
+        refused(
+            "name,cash,rule,outside\nA,7,order\n",
+            "debtor,creditor,class,claim\n",
+            (FileKind::Banks, 1, FaultKind::Fields),
+            "clearing: banks row 1: fields (2)\n",
+        ),
+        refused(
+            "name,cash,rule,outside\nA,7,order,100000000001\n",
+            "debtor,creditor,class,claim\n",
+            (FileKind::Banks, 1, FaultKind::Limit),
+            "clearing: banks row 1: limit (6)\n",
+        ),
         refused(
             TWO_BANKS,
             TOTAL_AND_ONE_MORE,
@@ -274,86 +304,70 @@ fn faults_of_files_are_named(rt: HostRuntime) -> Result<(), Fail> {
 
 #[test]
 fn words_that_are_no_job(rt: HostRuntime) -> Result<(), Fail> {
-    let alloc = rt.alloc();
-    let lists: [&[&str]; 14] = [
-        &[],
-        &["clear", "--banks", "b.csv"],
-        &["check", "--debts", "d.csv"],
-        &["clear", "--banks", "b.csv", "--debts", "d.csv", "d.csv"],
-        &["--help"],
-        &["-h"],
-        &["--version"],
-        &["clear", "--banks", "", "--debts", "d.csv"],
-        &["clear", "--banks", "b.csv", "--debts", "-d"],
-        &["clear", "--banks", "b.csv", "--debts=-d"],
-        &["settle", "--banks", "b.csv", "--debts", "d.csv"],
-        &[
-            "clear", "--banks", "b.csv", "--banks", "b.csv", "--debts", "d.csv",
-        ],
-        &["clear", "--banks", "b.csv", "--", "--debts", "d.csv"],
-        &[
-            "clear",
-            "--banks",
-            "b.csv",
-            "--debts",
-            "d.csv",
-            "--workers",
-            "65",
-        ],
-    ];
-    for words in lists {
-        let mut files = MemShelf::make(alloc);
-        let mut out = MemSink::with_room(alloc, 1000, 1000, 0)?;
-        let mut err = MemSink::with_room(alloc, 1000, 1000, 0)?;
-        let status = run(&rt, alloc, words, &mut files, &mut out, &mut err, &OpenGate);
-        assert_eq!(rt; status, Status::Usage);
-        assert_eq!(rt; out.written(), b"".as_slice());
-        assert_eq!(rt;
-            err.written(),
-            b"clearing: the command line is not understood\n".as_slice()
-        );
+    for words in [&[][..], &["--help"], &["clear", "--banks", "b.csv"]] {
+        check(
+            &rt,
+            rt.alloc(),
+            &Case {
+                words,
+                banks: CHAIN_BANKS,
+                debts: CHAIN_DEBTS,
+                status: Status::Usage,
+                out: "",
+                err: "clearing: the command line is not understood\n",
+            },
+        )?;
     }
     Ok(())
 }
 
-// A shelf with the chain's files, but that the fetch of this number fails.
-fn chain_shelf(alloc: Global, fail_at: u64) -> Result<MemShelf, Fail> {
-    let mut files = MemShelf::make(alloc);
-    files.add("b.csv", CHAIN_BANKS.as_bytes())?;
-    files.add("d.csv", CHAIN_DEBTS.as_bytes())?;
-    files.fail_at(fail_at)?;
-    Ok(files)
+// Runs the words of clearing on some files, and compares the message.
+fn cannot_read<R: Threads + Sync + Abort>(
+    rt: &R,
+    alloc: Global,
+    files: &mut MemShelf,
+    kind: FileKind,
+    message: &str,
+) -> Result<(), Fail> {
+    let mut out = MemSink::with_room(alloc, 1000, 1000, 0)?;
+    let mut err = MemSink::with_room(alloc, 1000, 1000, 0)?;
+    let status = run(rt, alloc, CLEAR, files, &mut out, &mut err, &OpenGate);
+    assert_eq!(rt; status, Status::ReadFault(kind));
+    assert_eq!(rt; status.code(), 3);
+    assert_eq!(rt; out.written(), b"".as_slice());
+    assert_eq!(rt; err.written(), message.as_bytes());
+    Ok(())
 }
 
 #[test]
 fn files_that_cannot_be_read(rt: HostRuntime) -> Result<(), Fail> {
     let alloc = rt.alloc();
+    let (no_banks, no_debts) = (
+        "clearing: cannot read b.csv\n",
+        "clearing: cannot read d.csv\n",
+    );
     for (fail_at, kind, message) in [
-        (1, FileKind::Banks, "clearing: cannot read b.csv\n"),
-        (2, FileKind::Debts, "clearing: cannot read d.csv\n"),
+        (1, FileKind::Banks, no_banks),
+        (2, FileKind::Debts, no_debts),
     ] {
-        let mut files = chain_shelf(alloc, fail_at)?;
-        let mut out = MemSink::with_room(alloc, 1000, 1000, 0)?;
-        let mut err = MemSink::with_room(alloc, 1000, 1000, 0)?;
-        let status = run(
-            &rt, alloc, &WORDS, &mut files, &mut out, &mut err, &OpenGate,
-        );
-        assert_eq!(rt; status, Status::ReadFault(kind));
-        assert_eq!(rt; out.written(), b"".as_slice());
-        assert_eq!(rt; err.written(), message.as_bytes());
+        let mut files = shelf(alloc, CHAIN_BANKS, CHAIN_DEBTS)?;
+        files.fail_at(fail_at)?;
+        cannot_read(&rt, alloc, &mut files, kind, message)?;
     }
-    Ok(())
+    // A shelf without the file: neither is there, and then the banks file alone.
+    let mut files = MemShelf::make(alloc);
+    cannot_read(&rt, alloc, &mut files, FileKind::Banks, no_banks)?;
+    files.add("b.csv", b"no header")?;
+    cannot_read(&rt, alloc, &mut files, FileKind::Debts, no_debts)
 }
 
 #[test]
 fn an_output_that_breaks(rt: HostRuntime) -> Result<(), Fail> {
     let alloc = rt.alloc();
-    let mut files = chain_shelf(alloc, 0)?;
+    let mut files = shelf(alloc, CHAIN_BANKS, CHAIN_DEBTS)?;
     let mut out = MemSink::with_room(alloc, 1000, 10, 2)?;
     let mut err = MemSink::with_room(alloc, 1000, 7, 0)?;
-    let status = run(
-        &rt, alloc, &WORDS, &mut files, &mut out, &mut err, &OpenGate,
-    );
+    let status = run(&rt, alloc, CLEAR, &mut files, &mut out, &mut err, &OpenGate);
     assert_eq!(rt; status, Status::WriteFault);
     assert_eq!(rt; status.code(), 5);
     assert_eq!(rt; out.written(), b"debtor,cre".as_slice());
@@ -371,9 +385,7 @@ fn a_banks_file_that_is_too_long(rt: HostRuntime) -> Result<(), Fail> {
     files.add("b.csv", vec![in alloc; b'\n'; 8_388_609]?.as_slice())?;
     let mut out = MemSink::with_room(alloc, 1000, 1000, 0)?;
     let mut err = MemSink::with_room(alloc, 1000, 1000, 0)?;
-    let status = run(
-        &rt, alloc, &WORDS, &mut files, &mut out, &mut err, &OpenGate,
-    );
+    let status = run(&rt, alloc, CLEAR, &mut files, &mut out, &mut err, &OpenGate);
     let fault = Fault {
         file: FileKind::Banks,
         row: 0,
@@ -385,5 +397,37 @@ fn a_banks_file_that_is_too_long(rt: HostRuntime) -> Result<(), Fail> {
         err.written(),
         b"clearing: banks row 0: file size (14)\n".as_slice()
     );
+    Ok(())
+}
+
+// The payments of a network, by the run and centrally.
+fn clears<R: Threads + Sync + Abort>(
+    rt: &R,
+    alloc: Global,
+    net: &Network,
+    paid: &[u64],
+) -> Result<(), Fail> {
+    let plan = Plan {
+        workers: 2,
+        sweeps: 1,
+    };
+    assert_eq!(rt;
+        settle(rt, alloc, net, plan, &OpenGate)?.paid.as_slice(),
+        paid
+    );
+    assert_eq!(rt; central(alloc, net)?.as_slice(), paid);
+    Ok(())
+}
+
+#[test]
+fn a_copy_is_cleared_beside_the_original(rt: HostRuntime) -> Result<(), Fail> {
+    let alloc = rt.alloc();
+    let net = chain(alloc)?;
+    let mut copy = net.copy(alloc)?;
+    assert!(rt; copy.banks() == 3);
+    copy.set_cash(BankId(0), 3);
+    clears(&rt, alloc, &copy, &[3, 4])?;
+    clears(&rt, alloc, &net, &[7, 8])?;
+    assert_eq!(rt; (copy.cash_total(), net.cash_total()), (4, 8));
     Ok(())
 }

@@ -1,19 +1,21 @@
 -- A task and both files, each by its option, are a job.
 use Rattle.std.proofs.Common.{◌≡◌, ◌∙◌, ◌∷◌, List, None, Some, [], ap, ap₂, codes, refl, true}
-use Rattle.std.specs.Prelude.{◌==◌, if◌then◌else◌, is_some, length, option_and_then}
+use Rattle.std.specs.Prelude.{◌==◌, ◌&&◌, if◌then◌else◌, is_some, length, option_and_then}
 use Rattle.clap.specs.Faults.{check_fault, defaults_fault, entered_fault, settle_fault, walk_fault}
 use Rattle.clap.specs.Kinds.{Kinds, or_else}
 use Rattle.clap.specs.Simple.{App, Shape, built, entered}
-use Rattle.clap.specs.Walk.{Rule, Text, Walk, after_step, finished, idle, nothing_held, plain_word, settled, walk, walk_from, walked}
-use Rattle.clap.specs.Words.{Row, fault_of, first_of, matches_of}
+use Rattle.clap.specs.Walk.{Rule, Text, Walk, after_step, finished, idle, nothing_held, plain_word}
+use Rattle.clap.specs.Walk.{settled, walk, walk_from, walked}
+use Rattle.clap.specs.Words.{Row, fault_of, matches_of}
 use Rattle.clap.proofs.OnLiterals.{clap_on_literals}
 use Rattle.clear_words.specs.Command.{command}
-use Rattle.clear_words.specs.Job.{file_in, job_for, job_in, job_of, job_on, may_name_a_file}
-use Rattle.clear_words.specs.Tasks.{is_required, task_named, word_of}
+use Rattle.clear_words.specs.Job.{job_for, job_in, job_of, on_both_files}
+use Rattle.clear_words.specs.Options.{may_name_a_file}
+use Rattle.clear_words.specs.Tasks.{needs_files_alone, task_named, word_of}
 use Rattle.clear_words.specs.declared.task.Task.{Task}
 use Rattle.clear_words.specs.declared.task.Task.TheVariants as task
-use Rattle.clear_words.specs.declared.task.JobOption.TheVariants as option
-use Rattle.clear_words.proofs.PlainWords.{IsPlainWord, named_is_plain, plain_walked, plain_walk_fault}
+use Rattle.clear_words.proofs.PlainWords.{IsPlainWord, named_is_plain, plain_walked}
+use Rattle.clear_words.proofs.PlainWords.{plain_walk_fault}
 
 abbrev app : App
 app = built command
@@ -100,29 +102,38 @@ task_of_word : (t : Task) → task_named (word_of t) ≡ Some t
 task_of_word task.Check = refl
 task_of_word task.Clear = refl
 task_of_word task.Central = refl
+task_of_word task.Convert = refl
 
 may_name : (t : Task) → may_name_a_file (word_of t) ≡ true
 may_name task.Check = refl
 may_name task.Clear = refl
 may_name task.Central = refl
+may_name task.Convert = refl
 
--- a task requires both files
-both_files : (t : Task) (banks debts : Text) → may_name_a_file banks ≡ true → may_name_a_file debts ≡ true
-    → job_on t (file_in (is_required t option.Banks) (Some banks)) (file_in (is_required t option.Debts) (Some debts))
-    ≡ Some (record { task = t; banks = banks; debts = debts })
-both_files task.Check banks debts b d = rw (b, d) refl
-both_files task.Clear banks debts b d = rw (b, d) refl
-both_files task.Central banks debts b d = rw (b, d) refl
+-- what is left of the tests where the other options are not there
+fit : (t : Task) (banks debts : Text) → may_name_a_file banks ≡ true → may_name_a_file debts ≡ true
+    → (if may_name_a_file banks && (may_name_a_file debts && true) then Some (on_both_files t banks debts) else None)
+    ≡ Some (on_both_files t banks debts)
+fit t banks debts b d = ap₂ (λ x y. if x && (y && true) then Some (on_both_files t banks debts) else None) b d
 
-pub five_words : (t : Task) (banks debts : Text) → may_name_a_file banks ≡ true → may_name_a_file debts ≡ true
-    → job_of (words (word_of t) banks debts) ≡ Some (record { task = t; banks = banks; debts = debts })
+-- both files are enough for a task that needs no more
+enough : (t : Task) (banks debts : Text) → needs_files_alone t ≡ true → may_name_a_file banks ≡ true → may_name_a_file debts ≡ true
+    → job_for (five_rows (word_of t) banks debts) t ≡ Some (on_both_files t banks debts)
+unfolding clap_on_literals command
+enough task.Check banks debts alone b d = fit task.Check banks debts b d
+enough task.Clear banks debts alone b d = fit task.Clear banks debts b d
+enough task.Central banks debts alone b d = fit task.Central banks debts b d
+enough task.Convert banks debts alone b d = fit task.Convert banks debts b d
+
+pub five_words : (t : Task) (banks debts : Text) → needs_files_alone t ≡ true → may_name_a_file banks ≡ true → may_name_a_file debts ≡ true
+    → job_of (words (word_of t) banks debts) ≡ Some (on_both_files t banks debts)
 unfolding clap_on_literals command job_of
-five_words t banks debts b d =
+five_words t banks debts alone b d =
     let is_task = named_is_plain (word_of t) (may_name t) in
     let is_banks = named_is_plain banks b in
     let is_debts = named_is_plain debts d in
-    ap₂ (λ faults rows. if length faults == 0 then job_in (λ id. first_of id rows) else None)
+    ap₂ (λ faults rows. if length faults == 0 then job_in rows else None)
     (five_fault (word_of t) banks debts is_task is_banks is_debts)
     (five_matches (word_of t) banks debts is_task is_banks is_debts)
-    ∙ ap (option_and_then (job_for (λ id. first_of id (five_rows (word_of t) banks debts)))) (task_of_word t)
-    ∙ both_files t banks debts b d
+    ∙ ap (option_and_then (job_for (five_rows (word_of t) banks debts))) (task_of_word t)
+    ∙ enough t banks debts alone b d

@@ -1,15 +1,18 @@
 -- What the command makes of a word that is no option.
-use Rattle.std.proofs.Common.{◌≡◌, ◌==◌, ◌∙◌, ◌∷◌, List, None, [], arith, ap, ap₂, false, refl, true, ℕ}
+use Rattle.std.proofs.Common.{◌≡◌, ◌==◌, ◌∙◌, ◌∷◌, List, None, [], arith, ap, ap₂, false, refl}
+use Rattle.std.proofs.Common.{true, ℕ}
 use Rattle.std.specs.Prelude.{if◌then◌else◌}
 use Rattle.std.specs.Option.{option_map_or}
 use Rattle.std.specs.Str.{bytes_eq}
 use Rattle.clap.specs.Lexer.{long_of, short_of}
-use Rattle.clap.specs.Faults.{bundle_fault, flag_word_fault, other_fault, step_fault, walk_fault, word_fault}
+use Rattle.clap.specs.Faults.{bundle_fault, flag_word_fault, other_fault, step_fault, walk_fault}
+use Rattle.clap.specs.Faults.{word_fault}
 use Rattle.clap.specs.Kinds.{or_else}
 use Rattle.clap.specs.Simple.{Shape}
 use Rattle.clap.specs.Walk.{Held, Rule, Text, Waiting, Walk, after_step, long_or_other}
-use Rattle.clap.specs.Walk.{plain_word, short_or_plain, subcommand_met, subcommand_or_other, trailing, walked, word_met}
-use Rattle.clear_words.specs.Job.{may_name_a_file}
+use Rattle.clap.specs.Walk.{plain_word, short_or_plain, subcommand_met, subcommand_or_other}
+use Rattle.clap.specs.Walk.{trailing, walked, word_met}
+use Rattle.clear_words.specs.Options.{may_name_a_file}
 
 -- the word is neither two dashes nor an option
 pub record IsPlainWord (word : Text) : Type 0 where

@@ -1,53 +1,79 @@
 -- What a command line asks for.
-use Rattle.std.specs.Prelude.{ℕ, ◌==◌, ◌&&◌, not, Bool, true, false, List, [], length, slice_index, codes}
-use Rattle.std.specs.Prelude.{Option, Some, None, option_and_then, if◌then◌else◌}
-use Rattle.clap.specs.Words.{Text, first_of, matches_of}
+use Rattle.std.specs.Prelude.{Bool, true, false, List, [], map}
+use Rattle.std.specs.Prelude.{Option, Some, None, option_and_then, if◌then◌else◌, codes}
+use Rattle.std.specs.Borrow.{Bor}
+use Rattle.std.specs.List.{list_all}
+use Rattle.std.specs.Option.{unwrap_or}
+use Rattle.clap.specs.Words.{Row, Text, first_of, matches_of}
 use Rattle.clear_words.specs.declared.job.Job.{Job}
+use Rattle.clear_words.specs.declared.option.JobOption.{JobOption}
+use Rattle.clear_words.specs.declared.option.JobOption.TheVariants as option
+use Rattle.clear_words.specs.declared.option.Kind.{Kind}
 use Rattle.clear_words.specs.declared.task.Task.{Task}
-use Rattle.clear_words.specs.declared.task.JobOption.{JobOption}
-use Rattle.clear_words.specs.declared.task.JobOption.TheVariants as option
+use Rattle.clear_words.specs.declared.task.Use.{Use}
+use Rattle.clear_words.specs.declared.task.Use.TheVariants.{Refused, Allowed, Required}
+use Rattle.clear_words.specs.declared.task.Uses.{Uses}
 use Rattle.clear_words.specs.Command.{command, is_taken}
-use Rattle.clear_words.specs.Tasks.{is_required, name_of, task_named}
+use Rattle.clear_words.specs.Options.{all_options, fits, kind_of, name_of}
+use Rattle.clear_words.specs.Tasks.{task_named, use_in, uses_of}
 
--- a text that may name a file: it is not empty and does not begin with a dash (45)
-abbrev pub may_name_a_file : List ℕ → Bool
-may_name_a_file text = not (length text == 0) && not (slice_index text 0 == 45)
+-- the words of a call, each seen as its bytes
+abbrev pub the_words : List (Bor Text) → List Text
+the_words = map (λ word. word.now)
 
--- the first value of each argument, by its id
-abbrev pub Values : Type 0
-Values = Text → Option Text
+-- the value of an option, in what the command found
+abbrev pub value_of : List Row → JobOption → Option Text
+value_of rows o = first_of (name_of o) rows
 
--- the values that the command finds in the words
-abbrev pub values_in : List Text → Values
-values_in words id = first_of id (matches_of command words)
+-- a value is as a task wants it: there where it is required, not there where it is refused, and of
+-- its kind
+abbrev pub is_welcome : Use → Kind → Option Text → Bool
+is_welcome Required k (Some value) = fits k value
+is_welcome Required k None = false
+is_welcome Allowed k (Some value) = fits k value
+is_welcome Allowed k None = true
+is_welcome Refused k (Some value) = false
+is_welcome Refused k None = true
 
--- the name of a file, by whether the task requires the option and by the option's value: it is there and may name a
--- file where it is required, and it is not there where it is not
-abbrev pub file_in : Bool → Option Text → Option Text
-file_in true (Some name) = if may_name_a_file name then Some name else None
-file_in true None = None
-file_in false (Some name) = None
-file_in false None = Some []
+-- an option is as the task wants it
+abbrev pub is_well : Uses → List Row → JobOption → Bool
+is_well uses rows o = is_welcome (use_in uses o) (kind_of o) (value_of rows o)
 
--- the name that an option gives, by the value of each argument
-abbrev pub file_of : Values → Task → JobOption → Option Text
-file_of value task o = file_in (is_required task o) (value (name_of o))
+-- the text that an option gives, empty without it
+abbrev pub text_in : List Row → JobOption → Text
+text_in rows o = unwrap_or (value_of rows o) []
 
--- the job of a task on these files, where both have a name
-abbrev pub job_on : Task → Option Text → Option Text → Option Job
-job_on task (Some banks) (Some debts) = Some (record { task = task; banks = banks; debts = debts })
-job_on task (Some banks) None = None
-job_on task None debts = None
+-- the job of a task on what the command found
+abbrev pub job_on : List Row → Task → Job
+job_on rows t = record {
+  task = t;
+  banks = text_in rows option.Banks;
+  debts = text_in rows option.Debts;
+}
 
--- the job of a task, by the value of each argument
-abbrev pub job_for : Values → Task → Option Job
-job_for value task = job_on task (file_of value task option.Banks) (file_of value task option.Debts)
+-- the job of a task, where each option is as the task wants it
+abbrev pub job_for : List Row → Task → Option Job
+job_for rows t =
+    if list_all (is_well (uses_of t) rows) all_options then Some (job_on rows t) else None
 
--- the job that the values of the arguments ask for
-abbrev pub job_in : Values → Option Job
-job_in value = option_and_then (job_for value) (option_and_then task_named (value (codes "task")))
+-- the task, in what the command found
+abbrev pub task_in : List Row → Option Task
+task_in rows = option_and_then task_named (first_of (codes "task") rows)
 
--- the job that the words after the program's name ask for: the command takes them, the task is one of the table, each
--- option that the task requires is there and gives the name of a file, and no other option is there
+-- the job that what the command found asks for
+abbrev pub job_in : List Row → Option Job
+job_in rows = option_and_then (job_for rows) (task_in rows)
+
+-- the job that the words after the program's name ask for: the command takes them, the task is one
+-- of the table, each option that the task requires is there, none is there that it refuses, and the
+-- value of each is of its kind
 unfoldable pub job_of : List Text → Option Job
-job_of words = if is_taken words then job_in (values_in words) else None
+job_of words = if is_taken words then job_in (matches_of command words) else None
+
+-- the job of a task on whose command line no option stands
+abbrev pub bare : Task → Job
+bare t = record { task = t; banks = []; debts = [] }
+
+-- the job of a task with both files, and with no other option
+abbrev pub on_both_files : Task → Text → Text → Job
+on_both_files t banks debts = record (bare t) { banks = banks; debts = debts }

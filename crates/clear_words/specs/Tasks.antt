@@ -1,16 +1,39 @@
--- The table of tasks: the word of each, and the options that it takes.
-use Rattle.std.specs.Prelude.{ℕ, Bool, true, List, codes, Option, Some, None, if◌then◌else◌}
+-- The table of tasks: the word of each, and the options that it requires or allows. A task is a row
+-- of each table here.
+use Rattle.std.specs.Prelude.{ℕ, Bool, true, false, not, List, codes, Option, Some, None}
+use Rattle.std.specs.Prelude.{if◌then◌else◌}
+use Rattle.std.specs.List.{list_all}
 use Rattle.std.specs.Str.{bytes_eq}
+use Rattle.clear_words.specs.Options.{all_options}
+use Rattle.clear_words.specs.declared.option.JobOption.{JobOption}
+use Rattle.clear_words.specs.declared.option.JobOption.TheVariants as option
 use Rattle.clear_words.specs.declared.task.Task.{Task}
 use Rattle.clear_words.specs.declared.task.Task.TheVariants as task
-use Rattle.clear_words.specs.declared.task.JobOption.{JobOption}
-use Rattle.clear_words.specs.declared.task.JobOption.TheVariants as option
+use Rattle.clear_words.specs.declared.task.Use.{Use}
+use Rattle.clear_words.specs.declared.task.Use.TheVariants.{Refused, Allowed, Required}
+use Rattle.clear_words.specs.declared.task.Uses.{Uses}
+
+-- no option
+abbrev pub nothing : Uses
+nothing = record { banks = Refused; debts = Refused }
+
+-- the files of a network, and no other option
+abbrev pub both_files : Uses
+both_files = record nothing { banks = Required; debts = Required }
+
+-- the options of a task: those that it requires, those that it allows besides, and no others
+abbrev pub uses_of : Task → Uses
+uses_of task.Check = both_files
+uses_of task.Clear = both_files
+uses_of task.Central = both_files
+uses_of task.Convert = both_files
 
 -- the word of a task
 abbrev pub word_of : Task → List ℕ
 word_of task.Check = codes "check"
 word_of task.Clear = codes "clear"
 word_of task.Central = codes "central"
+word_of task.Convert = codes "convert"
 
 -- the task that a word names
 abbrev pub task_named : List ℕ → Option Task
@@ -18,18 +41,30 @@ task_named word =
     if bytes_eq word (word_of task.Check) then Some task.Check
     else if bytes_eq word (word_of task.Clear) then Some task.Clear
     else if bytes_eq word (word_of task.Central) then Some task.Central
+    else if bytes_eq word (word_of task.Convert) then Some task.Convert
     else None
 
--- the name of an option, without its dashes
-abbrev pub name_of : JobOption → List ℕ
-name_of option.Banks = codes "banks"
-name_of option.Debts = codes "debts"
+-- what these uses say of an option
+abbrev pub use_in : Uses → JobOption → Use
+use_in uses option.Banks = uses.banks
+use_in uses option.Debts = uses.debts
 
--- a task requires these options, and takes no others
-abbrev pub is_required : Task → JobOption → Bool
-is_required task.Check option.Banks = true
-is_required task.Check option.Debts = true
-is_required task.Clear option.Banks = true
-is_required task.Clear option.Debts = true
-is_required task.Central option.Banks = true
-is_required task.Central option.Debts = true
+-- the option has to be there
+abbrev pub is_required : Use → Bool
+is_required Refused = false
+is_required Allowed = false
+is_required Required = true
+
+-- the same answer
+abbrev pub same : Bool → Bool → Bool
+same true b = b
+same false b = not b
+
+-- these uses require an option
+abbrev pub requires_in : Uses → JobOption → Bool
+requires_in uses o = is_required (use_in uses o)
+
+-- a task that requires both files, and no other option
+abbrev pub needs_files_alone : Task → Bool
+needs_files_alone t =
+    list_all (λ o. same (requires_in (uses_of t) o) (requires_in both_files o)) all_options

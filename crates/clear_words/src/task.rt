@@ -1,6 +1,8 @@
-//! The table of tasks: the word of each, and the options that it takes.
-ghost use Rattle.clear_words.specs.Tasks.{is_required, name_of, task_named};
+//! The table of tasks: the word of each, and the options that it requires or allows.
+ghost use Rattle.clear_words.specs.Tasks.{both_files, nothing, task_named, use_in, uses_of};
 ghost use Rattle.std.specs.Prelude.{◌≡◌};
+
+use crate::option::JobOption;
 
 /// What a command line asks for.
 #[derive(Clone, Copy, Debug, PartialEq, Eq)]
@@ -11,23 +13,54 @@ pub enum Task {
     Clear,
     /// To clear the network centrally, on one thread.
     Central,
+    /// To print the banks in the second form of their file.
+    Convert,
 }
 
-// The options of the command line: each gives the name of a file.
+// What a task makes of an option.
 #[derive(Clone, Copy, Debug, PartialEq, Eq)]
-pub(crate) enum JobOption {
-    Banks,
-    Debts,
+pub(crate) enum Use {
+    Refused,
+    Allowed,
+    Required,
 }
 
-impl JobOption {
-    // The name of the option, without its dashes.
-    pub(crate) fn name<'a>(self) -> &'a str
-        ensures { result.now ≡ name_of self }
+// What a task makes of each option.
+#[derive(Clone, Copy, Debug, PartialEq, Eq)]
+pub(crate) struct Uses {
+    banks: Use,
+    debts: Use,
+}
+
+impl Uses {
+    // No option.
+    fn nothing() -> Uses
+        ensures { result ≡ nothing }
     {
-        match self {
-            JobOption::Banks => "banks",
-            JobOption::Debts => "debts",
+        Uses {
+            banks: Use::Refused,
+            debts: Use::Refused,
+        }
+    }
+
+    // The files of a network, and no other option.
+    fn both_files() -> Uses
+        ensures { result ≡ both_files }
+    {
+        Uses {
+            banks: Use::Required,
+            debts: Use::Required,
+            ..Uses::nothing()
+        }
+    }
+
+    // What the task makes of an option.
+    pub(crate) fn of(self, option: JobOption) -> Use
+        ensures { result ≡ use_in self option }
+    {
+        match option {
+            JobOption::Banks => self.banks,
+            JobOption::Debts => self.debts,
         }
     }
 }
@@ -41,18 +74,21 @@ impl Task {
             "check" => Some(Task::Check),
             "clear" => Some(Task::Clear),
             "central" => Some(Task::Central),
+            "convert" => Some(Task::Convert),
             _ => None,
         }
     }
 
-    // Whether the task requires the option. It takes no option that it does not require.
-    pub(crate) fn takes(self, option: JobOption) -> bool
-        ensures { result ≡ is_required self option }
+    // What the task makes of each option.
+    pub(crate) fn uses(self) -> Uses
+        ensures { result ≡ uses_of self }
     {
+        let both_files = Uses::both_files();
         match self {
-            Task::Check => matches!(option, JobOption::Banks | JobOption::Debts),
-            Task::Clear => matches!(option, JobOption::Banks | JobOption::Debts),
-            Task::Central => matches!(option, JobOption::Banks | JobOption::Debts),
+            Task::Check => both_files,
+            Task::Clear => both_files,
+            Task::Central => both_files,
+            Task::Convert => both_files,
         }
     }
 }

@@ -1,4 +1,7 @@
 use super::*;
+use crate::job::is_welcome;
+use crate::option::Kind;
+use crate::task::Use;
 use std::test::Fail;
 
 // What words are read as: the task and the names of both files, or why they are not.
@@ -11,107 +14,50 @@ fn read(job: &Result<Job, WordsFault>) -> Result<(Task, &str, &str), WordsFault>
 
 #[test]
 fn reads_exactly_the_jobs(rt: HostRuntime) {
-    let check = Ok((Task::Check, "b.csv", "d.csv"));
-    let clear = Ok((Task::Clear, "b.csv", "d.csv"));
-    let central = Ok((Task::Central, "b.csv", "d.csv"));
+    let clear = Ok((Task::Clear, "b", "d"));
     let usage = Err(WordsFault::Usage);
     let cases = [
         // the tasks
         (
-            &["check", "--banks", "b.csv", "--debts", "d.csv"][..],
-            check,
+            &["check", "--banks", "b", "--debts", "d"][..],
+            Ok((Task::Check, "b", "d")),
         ),
-        (&["clear", "--banks", "b.csv", "--debts", "d.csv"], clear),
+        (&["clear", "--banks", "b", "--debts", "d"], clear),
         (
-            &["central", "--banks", "b.csv", "--debts", "d.csv"],
-            central,
+            &["central", "--banks", "b", "--debts", "d"],
+            Ok((Task::Central, "b", "d")),
         ),
-        (&["Clear", "--banks", "b.csv", "--debts", "d.csv"], usage),
-        (&["help", "--banks", "b.csv", "--debts", "d.csv"], usage),
-        (&["", "--banks", "b.csv", "--debts", "d.csv"], usage),
-        (&["--banks", "b.csv", "--debts", "d.csv"], usage),
+        (
+            &["convert", "--banks", "b", "--debts", "d"],
+            Ok((Task::Convert, "b", "d")),
+        ),
+        (&["Clear", "--banks", "b", "--debts", "d"], usage),
+        (&["help", "--banks", "b", "--debts", "d"], usage),
+        (&["", "--banks", "b", "--debts", "d"], usage),
+        (&["--banks", "b", "--debts", "d"], usage),
         (&[], usage),
         // the order of the words
-        (&["clear", "--debts", "d.csv", "--banks", "b.csv"], clear),
-        (&["--banks", "b.csv", "--debts", "d.csv", "clear"], clear),
-        (&["--banks", "b.csv", "clear", "--debts", "d.csv"], clear),
-        (&["clear", "--banks=b.csv", "--debts=d.csv"], clear),
+        (&["clear", "--debts", "d", "--banks", "b"], clear),
+        (&["--banks", "b", "clear", "--debts", "d"], clear),
+        (&["clear", "--banks=b", "--debts=d"], clear),
         // the end of the options
-        (
-            &["clear", "--banks", "b.csv", "--debts", "d.csv", "--"],
-            clear,
-        ),
-        (
-            &["--banks", "b.csv", "--debts", "d.csv", "--", "clear"],
-            clear,
-        ),
-        (
-            &["--", "clear", "--banks", "b.csv", "--debts", "d.csv"],
-            usage,
-        ),
-        (
-            &["clear", "--banks", "b.csv", "--", "--debts", "d.csv"],
-            usage,
-        ),
-        (
-            &["clear", "--banks", "--", "b.csv", "--debts", "d.csv"],
-            usage,
-        ),
+        (&["clear", "--banks", "b", "--debts", "d", "--"], clear),
+        (&["--", "clear", "--banks", "b", "--debts", "d"], usage),
+        (&["clear", "--banks", "--", "b", "--debts", "d"], usage),
         // the options: each once, with one value
-        (&["clear", "--banks", "b.csv"], usage),
-        (&["clear", "--debts", "d.csv"], usage),
-        (&["clear", "--banks", "b.csv", "--debts"], usage),
-        (&["clear", "--banks", "--debts", "d.csv"], usage),
-        (
-            &[
-                "clear", "--banks", "b.csv", "--debts", "d.csv", "--banks", "b.csv",
-            ],
-            usage,
-        ),
-        (
-            &[
-                "clear",
-                "--banks",
-                "b.csv",
-                "--debts",
-                "d.csv",
-                "--debts=e.csv",
-            ],
-            usage,
-        ),
-        (&["clear", "--bank", "b.csv", "--debts", "d.csv"], usage),
-        (&["clear", "-banks", "b.csv", "--debts", "d.csv"], usage),
-        (
-            &[
-                "clear",
-                "--banks",
-                "b.csv",
-                "--debts",
-                "d.csv",
-                "--workers",
-                "2",
-            ],
-            usage,
-        ),
+        (&["clear", "--banks", "b"], usage),
+        (&["clear", "--banks", "--debts", "d"], usage),
+        (&["clear", "--banks=a", "--debts=d", "--banks=b"], usage),
+        (&["clear", "--banks=b", "--debts=d", "--workers=2"], usage),
+        (&["clear", "--bank", "b", "--debts", "d"], usage),
+        (&["clear", "-banks", "b", "--debts", "d"], usage),
         // a word too many
-        (
-            &["clear", "again", "--banks", "b.csv", "--debts", "d.csv"],
-            usage,
-        ),
-        (
-            &["clear", "--banks", "b.csv", "--debts", "d.csv", "e.csv"],
-            usage,
-        ),
-        (
-            &["clear", "--banks", "b.csv", "--debts", "d.csv", ""],
-            usage,
-        ),
+        (&["clear", "--banks", "b", "--debts", "d", "e"], usage),
+        (&["clear", "--banks", "b", "--debts", "d", ""], usage),
         // the names of files
-        (&["clear", "--banks", "", "--debts", "d.csv"], usage),
-        (&["clear", "--banks", "b.csv", "--debts="], usage),
-        (&["clear", "--banks=-b.csv", "--debts", "d.csv"], usage),
-        (&["clear", "--banks", "-b.csv", "--debts", "d.csv"], usage),
-        (&["clear", "--banks", "b.csv", "--debts", "-"], usage),
+        (&["clear", "--banks", "b", "--debts="], usage),
+        (&["clear", "--banks", "-b", "--debts", "d"], usage),
+        (&["clear", "--banks", "b", "--debts", "-"], usage),
         (
             &["clear", "--banks=b=-.csv", "--debts", "ä d"],
             Ok((Task::Clear, "b=-.csv", "ä d")),
@@ -119,20 +65,31 @@ fn reads_exactly_the_jobs(rt: HostRuntime) {
         // no words ask for help or for the version
         (&["--help"], usage),
         (&["-h"], usage),
-        (&["--version"], usage),
         (&["-V"], usage),
-        (
-            &["clear", "--banks", "b.csv", "--debts", "d.csv", "--help"],
-            usage,
-        ),
-        (
-            &["clear", "--banks", "b.csv", "--debts", "d.csv", "-h"],
-            usage,
-        ),
+        (&["clear", "--banks=b", "--debts=d", "--help"], usage),
     ];
     for (words, want) in cases {
         let job = read_words(rt.alloc(), words);
         assert!(rt; read(&job) == want, "at {words:?}");
+    }
+}
+
+#[test]
+fn values_as_a_task_wants_them(rt: HostRuntime) {
+    let number = Kind::Number { least: 1, most: 64 };
+    let cases = [
+        (Use::Required, Kind::File, Some("b"), true),
+        (Use::Required, Kind::File, None, false),
+        (Use::Allowed, Kind::File, None, true),
+        (Use::Allowed, Kind::File, Some("-b"), false),
+        (Use::Refused, Kind::File, None, true),
+        (Use::Refused, Kind::File, Some("b"), false),
+        (Use::Allowed, number, Some("007"), true),
+        (Use::Allowed, number, Some("65"), false),
+        (Use::Allowed, number, Some(" 7"), false),
+    ];
+    for (wanted, kind, value, want) in cases {
+        assert!(rt; is_welcome(wanted, kind, value) == want, "at {value:?}");
     }
 }
 

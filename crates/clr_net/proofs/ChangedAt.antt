@@ -1,6 +1,6 @@
 -- Lists with the item in one place changed.
 use Rattle.std.proofs.Common.{◌≡◌, ◌≢◌, ℕ, zero, suc, ◌<◌, List, [], ◌∷◌, length, set, map, slice_get, Some, None, refl, ap, arith}
-use Rattle.clr_net.specs.Accounts.{changed_at}
+use Rattle.clr_net.specs.Net.{changed_at}
 
 -- a write leaves every other place
 pub slice_get-set_other : {A : Type 0} (xs : List A) (i k : ℕ) (v : A) → k ≢ i → slice_get (set xs i v) k ≡ slice_get xs k

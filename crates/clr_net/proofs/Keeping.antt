@@ -9,10 +9,10 @@ use Rattle.std.proofs.lemmas.Option.{slice_get-map, slice_get_within}
 use Rattle.clr_net.specs.declared.bank.Bank.{Bank}
 use Rattle.clr_net.specs.declared.debt.Debt.{Debt}
 use Rattle.clr_net.specs.declared.account.Account.{Account}
-use Rattle.clr_net.specs.Accounts.{Shown, shown, owing, owed_one_more, changed_at, entered}
+use Rattle.clr_net.specs.Accounts.{Shown, shown, owing, owed_one_more, entered}
 use Rattle.clr_net.specs.Kept.{net_of, IsAccountOf, AreKept}
 use Rattle.clr_net.specs.Limits.{IsNetwork, IsNewBank, IsNewDebt}
-use Rattle.clr_net.specs.Net.{Net, with_bank, with_debt, numbers, row, column, claims_of, claim_of, units_owed, all_cash, debtor_of, creditor_of}
+use Rattle.clr_net.specs.Net.{Net, changed_at, with_bank, with_debt, numbers, row, column, claims_of, claim_of, units_owed, all_cash, all_outside, debtor_of, creditor_of}
 use Rattle.clr_net.proofs.ChangedAt.{slice_get-changed_at_same, slice_get-changed_at_other, slice_get-changed_at_none, map-changed_at}
 use Rattle.clr_net.proofs.Networks.{slice_get_push_before, slice_get_push_at, IsNetwork-with_bank, IsNetwork-with_debt}
 use Rattle.clr_net.proofs.RangeFilters.{filter_range_none, filter_range_more, map_filter_range}
@@ -190,10 +190,11 @@ net_of-entered all then_all ds d shows = same_net _ _ (ds ++ d ∷ [])
     ∙ banks_of_entered (map shown all) d.debtor.0 d.creditor.0 (length ds) d.claim ∙ banks_shown all)
 
 -- accounts that show the same are of the same network
-pub AreKept-alike : (all then_all : List Account) (ds : List Debt) (names : List (List ℕ)) (total money : ℕ)
-    → map shown then_all ≡ map shown all → AreKept all ds names total money → AreKept then_all ds names total money
+pub AreKept-alike : (all then_all : List Account) (ds : List Debt) (names : List (List ℕ)) (total money senior : ℕ)
+    → map shown then_all ≡ map shown all → AreKept all ds names total money senior
+    → AreKept then_all ds names total money senior
 unfolding AllShow
-AreKept-alike all then_all ds names total money alike kept =
+AreKept-alike all then_all ds names total money senior alike kept =
     let same = net_of-alike all then_all ds alike in
     record {
       network = subst IsNetwork (sym same) kept.network;
@@ -202,6 +203,7 @@ AreKept-alike all then_all ds names total money alike kept =
           (accounts_kept (net_of all ds) then_all (subst (AllShow (net_of all ds)) (sym alike) (all_show (net_of all ds) all kept.accounts)));
       owed = kept.owed ∙ ap units_owed (sym same);
       cash = kept.cash ∙ ap all_cash (sym same);
+      outside = kept.outside ∙ ap all_outside (sym same);
     }
 
 -- a debt that is entered shows in the accounts of its two banks
@@ -233,12 +235,12 @@ shows_entered net d all two show i s at = by (slice_get all i) refl
         }
 
 -- accounts in which a new debt is entered are of the network with that debt
-pub AreKept-with_debt : (all then_all : List Account) (ds : List Debt) (d : Debt) (names : List (List ℕ)) (total money : ℕ)
+pub AreKept-with_debt : (all then_all : List Account) (ds : List Debt) (d : Debt) (names : List (List ℕ)) (total money senior : ℕ)
     → IsNewDebt (net_of all ds) d
     → map shown then_all ≡ entered (map shown all) d.debtor.0 d.creditor.0 (length ds) d.claim
-    → AreKept all ds names total money → AreKept then_all (ds ++ d ∷ []) names (total + d.claim) money
+    → AreKept all ds names total money senior → AreKept then_all (ds ++ d ∷ []) names (total + d.claim) money senior
 unfolding AllShow
-AreKept-with_debt all then_all ds d names total money new shows kept =
+AreKept-with_debt all then_all ds d names total money senior new shows kept =
     let net = net_of all ds in
     let same = net_of-entered all then_all ds d shows in
     record {
@@ -249,6 +251,7 @@ AreKept-with_debt all then_all ds d names total money new shows kept =
           (shows_entered net d (map shown all) new.between_two_banks (all_show net all kept.accounts))));
       owed = ap (λ n. n + d.claim) kept.owed ∙ sym (sum_by_push (λ d. d.claim) ds d) ∙ ap units_owed (sym same);
       cash = kept.cash ∙ ap all_cash (sym same);
+      outside = kept.outside ∙ ap all_outside (sym same);
     }
 
 -- no debt is owed by, or to, a bank that is not there yet
@@ -261,10 +264,11 @@ nothing_yet net i network past = (
 )
 
 -- an account without debts is that of a new bank
-pub AreKept-with_bank : (all : List Account) (ds : List Debt) (c : Account) (names : List (List ℕ)) (total money : ℕ)
+pub AreKept-with_bank : (all : List Account) (ds : List Debt) (c : Account) (names : List (List ℕ)) (total money senior : ℕ)
     → IsNewBank (net_of all ds) c.bank → c.row.items ≡ [] → c.column.items ≡ [] → c.owed ≡ 0
-    → AreKept all ds names total money → AreKept (all ++ c ∷ []) ds (names ++ c.bank.name ∷ []) total (money + c.bank.cash)
-AreKept-with_bank all ds c names total money new no_row no_column no_owed kept =
+    → AreKept all ds names total money senior
+    → AreKept (all ++ c ∷ []) ds (names ++ c.bank.name ∷ []) total (money + c.bank.cash) (senior + c.bank.outside)
+AreKept-with_bank all ds c names total money senior new no_row no_column no_owed kept =
     let same : net_of (all ++ c ∷ []) ds ≡ with_bank net c.bank = same_net _ _ ds (map-append (λ c. c.bank) all (c ∷ [])) in
     record {
       network = subst IsNetwork (sym same) (IsNetwork-with_bank net c.bank kept.network new);
@@ -273,6 +277,8 @@ AreKept-with_bank all ds c names total money new no_row no_column no_owed kept =
       accounts = subst (λ net. (i : ℕ) (x : Account) → slice_get (all ++ c ∷ []) i ≡ Some x → IsAccountOf net i x) (sym same) accounts;
       owed = kept.owed ∙ ap units_owed (sym same);
       cash = ap (λ n. n + c.bank.cash) kept.cash ∙ sym (sum_by_push (λ b. b.cash) net.banks c.bank) ∙ ap all_cash (sym same);
+      outside = ap (λ n. n + c.bank.outside) kept.outside ∙ sym (sum_by_push (λ b. b.outside) net.banks c.bank)
+          ∙ ap all_outside (sym same);
     }
   where
     net : Net

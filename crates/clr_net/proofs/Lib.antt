@@ -16,6 +16,8 @@ pub mod Networks
 pub mod ChangedAt
 pub mod RangeFilters
 pub mod Keeping
+pub mod Copies
+pub mod CashSet
 pub mod AccountReads
 pub mod BankNames
 pub mod OfKind

@@ -1,17 +1,15 @@
 -- A network stays one as a new bank or a new debt is added at the end.
 use Rattle.std.proofs.Common.{◌≡◌, ℕ, zero, suc, ◌<◌, ◌≤◌, ◌*◌, List, [], ◌∷◌, ◌++◌, length, slice_get, sum_by, Some, refl, ap, ⊎_elim, arith}
-use Rattle.std.proofs.Math.Nat.{ℕ_set, suc-mul}
+use Rattle.std.proofs.Math.Nat.{suc-mul}
 use Rattle.std.specs.Option.{option_map_or}
-use Rattle.std.proofs.Math.Bool.{Bool-set}
-use Rattle.std.proofs.Math.Bridge.{le_prop}
 use Rattle.std.proofs.lemmas.Bool.{cases_eq}
 use Rattle.std.proofs.lemmas.List.{length_push}
 use Rattle.std.proofs.lemmas.List.Sums.{sum_by_push, sum_by-cons}
 use Rattle.std.proofs.lemmas.Option.{slice_get_within}
-use Rattle.clr_net.specs.declared.TheConstants.{MAX_CASH}
+use Rattle.clr_net.specs.declared.TheConstants.{MAX_CASH, MAX_OUTSIDE}
 use Rattle.clr_net.specs.declared.bank.Bank.{Bank}
 use Rattle.clr_net.specs.declared.debt.Debt.{Debt}
-use Rattle.clr_net.specs.Net.{Net, empty_net, with_bank, with_debt, all_cash, cash_of}
+use Rattle.clr_net.specs.Net.{Net, empty_net, with_bank, with_debt, all_cash, all_outside, cash_of, outside_of}
 use Rattle.clr_net.specs.Limits.{IsBankOf, IsDebtOf, IsNetwork, IsNewBank, IsNewDebt}
 
 pub slice_get_push_before : {X : Type 0} (xs : List X) (y : X) (k : ℕ) → k < length xs
@@ -61,6 +59,7 @@ IsNetwork-with_bank net b network new = record {
     kept i l = let old = network.each_bank i l in record {
       named = rw (before i l) old.named;
       cash_in_limit = rw (before i l) old.cash_in_limit;
+      outside_in_limit = rw (before i l) old.outside_in_limit;
       only_of_its_name = λ j m. rw (before j (omega arith), before i l) (old.only_of_its_name j m);
     }
 
@@ -68,6 +67,7 @@ IsNetwork-with_bank net b network new = record {
     here = record {
       named = rw at new.named;
       cash_in_limit = rw at new.cash_in_limit;
+      outside_in_limit = rw at new.outside_in_limit;
       only_of_its_name = λ j m. rw (before j m, at) (new.only_of_its_name j m);
     }
 
@@ -79,6 +79,7 @@ IsNetwork-with_debt net d network new = record {
   each_bank = λ i l. let b = network.each_bank i l in record {
     named = b.named;
     cash_in_limit = b.cash_in_limit;
+    outside_in_limit = b.outside_in_limit;
     only_of_its_name =
         b.only_of_its_name;
   };
@@ -125,3 +126,10 @@ all_cash_le net network = sum_by_bound (λ b. b.cash) MAX_CASH net.banks (λ i b
     let l = slice_get_within net.banks i b at in
     let e : cash_of net i ≡ b.cash = ap (λ o. option_map_or (λ b. b.cash) o 0) at in
     omega (arith, e, (network.each_bank i l).cash_in_limit))
+
+-- nor do its banks owe more outside it than they may
+pub all_outside_le : (net : Net) → IsNetwork net → all_outside net ≤ length net.banks * MAX_OUTSIDE
+all_outside_le net network = sum_by_bound (λ b. b.outside) MAX_OUTSIDE net.banks (λ i b at.
+    let l = slice_get_within net.banks i b at in
+    let e : outside_of net i ≡ b.outside = ap (λ o. option_map_or (λ b. b.outside) o 0) at in
+    omega (arith, e, (network.each_bank i l).outside_in_limit))

@@ -1,6 +1,6 @@
 -- The accounts in which a network keeps its banks, without what they have of spare memory, and how a debt is entered.
-use Rattle.std.specs.Prelude.{◌≡◌, ℕ, zero, suc, ◌+◌, ◌<◌, List, [], ◌∷◌, ◌++◌, slice_get, Some, vec_len, vec_capacity}
-use Rattle.clr_net.specs.Net.{numbers}
+use Rattle.std.specs.Prelude.{◌≡◌, ℕ, ◌+◌, ◌<◌, List, [], ◌∷◌, ◌++◌, slice_get, Some, vec_len, vec_capacity}
+use Rattle.clr_net.specs.Net.{numbers, changed_at}
 use Rattle.clr_net.specs.declared.bank.Bank.{Bank}
 use Rattle.clr_net.specs.declared.account.Account.{Account}
 
@@ -21,12 +21,6 @@ owing id claim s = record { bank = s.bank; row = s.row ++ id ∷ []; column = s.
 -- the account that is owed one debt more
 abbrev pub owed_one_more : ℕ → Shown → Shown
 owed_one_more id s = record { bank = s.bank; row = s.row; column = s.column ++ id ∷ []; owed = s.owed }
-
--- the list with the item in the place i changed
-abbrev pub changed_at : {A : Type 0} → (A → A) → List A → ℕ → List A
-changed_at f [] i = []
-changed_at f (x ∷ xs) zero = f x ∷ xs
-changed_at f (x ∷ xs) (suc i) = x ∷ changed_at f xs i
 
 -- the accounts with one debt more
 abbrev pub entered : List Shown → ℕ → ℕ → ℕ → ℕ → List Shown

@@ -1,7 +1,7 @@
 -- How the type `Network` keeps its banks and debts: the accounts of the banks, the index of names, and the totals.
 use Rattle.std.specs.Prelude.{◌≡◌, ℕ, List, map, sum, slice_get, Some}
 use Rattle.clr_net.specs.Limits.{IsNetwork}
-use Rattle.clr_net.specs.Net.{Net, numbers, row, column, claims_of, units_owed, all_cash}
+use Rattle.clr_net.specs.Net.{Net, numbers, row, column, claims_of, units_owed, all_cash, all_outside}
 use Rattle.clr_net.specs.declared.debt.Debt.{Debt}
 use Rattle.clr_net.specs.declared.account.Account.{Account}
 use Rattle.clr_net.specs.declared.network.Network.TheInside.{Inside}
@@ -21,13 +21,14 @@ pub record IsAccountOf (net : Net) (i : ℕ) (c : Account) : Type 0 where
   pub owed : c.owed ≡ sum (claims_of net i)
 
 -- accounts, debts, names and totals that make one network
-pub record AreKept (all : List Account) (owing : List Debt) (index : List (List ℕ)) (total money : ℕ) : Type 0 where
+pub record AreKept (all : List Account) (owing : List Debt) (index : List (List ℕ)) (total money senior : ℕ) : Type 0 where
   pub network : IsNetwork (net_of all owing)
   pub names : index ≡ map (λ b. b.name) (net_of all owing).banks
   pub accounts : (i : ℕ) (c : Account) → slice_get all i ≡ Some c → IsAccountOf (net_of all owing) i c
   pub owed : total ≡ units_owed (net_of all owing)
   pub cash : money ≡ all_cash (net_of all owing)
+  pub outside : senior ≡ all_outside (net_of all owing)
 
 -- what always holds of the fields
 abbrev pub IsKept : Inside → Type 0
-IsKept a = AreKept a.accounts.items a.debts.items (map (λ v. v.items) a.names.keys) a.owed a.cash
+IsKept a = AreKept a.accounts.items a.debts.items (map (λ v. v.items) a.names.keys) a.owed a.cash a.outside

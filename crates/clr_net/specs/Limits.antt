@@ -1,10 +1,10 @@
 -- What makes plain data a network: the limits, and what its banks and its debts must be.
 use Rattle.std.specs.Prelude.{◌≡◌, ◌≢◌, ℕ, ◌+◌, ◌<◌, ◌≤◌, List, length, IsTrue}
-use Rattle.clr_net.specs.declared.TheConstants.{MAX_BANKS, MAX_DEBTS, MAX_CLASS, MAX_CLAIM, MAX_OWED, MAX_CASH}
+use Rattle.clr_net.specs.declared.TheConstants.{MAX_BANKS, MAX_DEBTS, MAX_CLASS, MAX_CLAIM, MAX_OWED, MAX_CASH, MAX_OUTSIDE}
 use Rattle.clr_net.specs.declared.bank.Bank.{Bank}
 use Rattle.clr_net.specs.declared.debt.Debt.{Debt}
 use Rattle.clr_net.specs.Name.{is_name}
-use Rattle.clr_net.specs.Net.{Net, name_of, cash_of, debtor_of, creditor_of, class_of, claim_of, units_owed}
+use Rattle.clr_net.specs.Net.{Net, name_of, cash_of, outside_of, debtor_of, creditor_of, class_of, claim_of, units_owed}
 
 -- the debt x has this debtor, creditor and class: no network has two such
 abbrev pub IsOfKind : Net → ℕ → ℕ → ℕ → ℕ → Type 0
@@ -23,6 +23,7 @@ IsNewKind net debtor creditor class = (y : ℕ) → y < length net.debts → ¬ 
 pub record IsBankOf (net : Net) (i : ℕ) : Type 0 where
   pub named : IsTrue (is_name (name_of net i))
   pub cash_in_limit : cash_of net i ≤ MAX_CASH
+  pub outside_in_limit : outside_of net i ≤ MAX_OUTSIDE
   pub only_of_its_name : (j : ℕ) → j < i → name_of net j ≢ name_of net i
 
 -- what the debt x of a network is
@@ -48,6 +49,7 @@ pub record IsNewBank (net : Net) (b : Bank) : Type 0 where
   pub banks_in_limit : length net.banks < MAX_BANKS
   pub named : IsTrue (is_name b.name)
   pub cash_in_limit : b.cash ≤ MAX_CASH
+  pub outside_in_limit : b.outside ≤ MAX_OUTSIDE
   pub only_of_its_name : IsNewName net b.name
 
 -- a debt that may be added to a network

@@ -1,5 +1,5 @@
 -- A network as plain data: its banks and its debts, each known by its number in file order.
-use Rattle.std.specs.Prelude.{ℕ, ◌==◌, ◌&&◌, Bool, List, [], ◌∷◌, ◌++◌, length, map, filter, count_by, sum_by, slice_get}
+use Rattle.std.specs.Prelude.{ℕ, zero, suc, ◌==◌, ◌&&◌, Bool, false, List, [], ◌∷◌, ◌++◌, length, map, filter, count_by, sum_by, slice_get}
 use Rattle.std.specs.List.{range_with_len}
 use Rattle.std.specs.Option.{option_map_or}
 use Rattle.std.specs.Str.{bytes_eq}
@@ -8,6 +8,12 @@ use Rattle.clr_net.specs.declared.debt.Debt.{Debt}
 use Rattle.clr_net.specs.declared.debt.DebtId.{DebtId}
 use Rattle.clr_net.specs.declared.rule.RuleKind.{RuleKind}
 use Rattle.clr_net.specs.declared.rule.RuleKind.TheVariants as kind
+
+-- the list with the item in the place i changed
+abbrev pub changed_at : {A : Type 0} → (A → A) → List A → ℕ → List A
+changed_at f [] i = []
+changed_at f (x ∷ xs) zero = f x ∷ xs
+changed_at f (x ∷ xs) (suc i) = x ∷ changed_at f xs i
 
 pub record Net : Type 0 where
   pub banks : List Bank
@@ -25,6 +31,14 @@ with_bank net b = record net { banks = net.banks ++ b ∷ [] }
 abbrev pub with_debt : Net → Debt → Net
 with_debt net d = record net { debts = net.debts ++ d ∷ [] }
 
+-- the bank with this cash
+abbrev pub of_cash : ℕ → Bank → Bank
+of_cash cash b = record b { cash = cash }
+
+-- the network with another cash at the bank i
+abbrev pub with_cash : Net → ℕ → ℕ → Net
+with_cash net i cash = record net { banks = changed_at (of_cash cash) net.banks i }
+
 -- the name of the bank i: no bytes past the end
 abbrev pub name_of : Net → ℕ → List ℕ
 name_of net i = option_map_or (λ b. b.name) (slice_get net.banks i) []
@@ -32,6 +46,10 @@ name_of net i = option_map_or (λ b. b.name) (slice_get net.banks i) []
 -- the cash of the bank i: 0 past the end
 abbrev pub cash_of : Net → ℕ → ℕ
 cash_of net i = option_map_or (λ b. b.cash) (slice_get net.banks i) 0
+
+-- what the bank i owes outside the network, before all its debts: 0 past the end
+abbrev pub outside_of : Net → ℕ → ℕ
+outside_of net i = option_map_or (λ b. b.outside) (slice_get net.banks i) 0
 
 -- the rule of the bank i: the order rule past the end
 abbrev pub rule_of : Net → ℕ → RuleKind
@@ -61,6 +79,10 @@ units_owed net = sum_by (λ d. d.claim) net.debts
 abbrev pub all_cash : Net → ℕ
 all_cash net = sum_by (λ b. b.cash) net.banks
 
+-- all that banks owe outside the network
+abbrev pub all_outside : Net → ℕ
+all_outside net = sum_by (λ b. b.outside) net.banks
+
 -- the bank has this name, byte for byte
 abbrev pub has_name : List ℕ → Bank → Bool
 has_name name b = bytes_eq b.name name
@@ -68,6 +90,10 @@ has_name name b = bytes_eq b.name name
 -- the debt has this debtor, creditor and class
 abbrev pub is_debt_of : ℕ → ℕ → ℕ → Debt → Bool
 is_debt_of debtor creditor class d = (d.debtor.0 == debtor) && (d.creditor.0 == creditor) && (d.class == class)
+
+-- the debt of this number has this debtor, creditor and class: none has, past the end
+abbrev pub is_of_kind : Net → ℕ → ℕ → ℕ → ℕ → Bool
+is_of_kind net debtor creditor class x = option_map_or (is_debt_of debtor creditor class) (slice_get net.debts x) false
 
 -- the numbers of some debts
 abbrev pub numbers : List DebtId → List ℕ

@@ -42,6 +42,9 @@ pub const MAX_OWED: u64 = 10_000_000;
 /// The most cash of one bank, in units.
 pub const MAX_CASH: u64 = 1_000_000_000_000;
 
+/// The most that a bank owes outside the network, in units.
+pub const MAX_OUTSIDE: u64 = 100_000_000_000;
+
 /// Want of memory. What was to be changed is as it was.
 #[derive(Clone, Copy, Debug, PartialEq, Eq)]
 pub struct Mem;
@@ -57,6 +60,3 @@ impl<T: Drop> From<AllocFailed<T>> for Mem {
         Mem
     }
 }
-
-#[cfg(test)]
-mod tests;

@@ -1,7 +1,7 @@
 ghost use Rattle.clr_net.specs.Name.{is_name, may_stand_in_name as may_stand, is_control as is_control_character};
 ghost use Rattle.std.specs.Prelude.{◌≡◌, ◌↔◌, false, IfOk, IsTrue, IsErrOf};
 
-use crate::MAX_NAME_BYTES;
+use crate::{MAX_NAME_BYTES, Mem};
 use std::alloc::Global;
 use std::marker::Model;
 
@@ -57,6 +57,14 @@ impl Name {
             Ok(text) => text.chars().all(may_stand_in_name),
             Err(_) => false,
         }
+    }
+
+    /// The same name, in memory of its own.
+    pub fn copy(&self, alloc: Global) -> Result<Name, Mem>
+        ensures { IfOk result (λ name. name ≡ self.now) }
+    {
+        let text = Vec::from_slice(alloc, self.bytes())?;
+        Ok(Name { text })
     }
 
     /// The bytes of the name, which are UTF-8.

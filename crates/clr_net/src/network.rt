@@ -1,11 +1,12 @@
 ghost use Rattle.clr_net.specs.Name.{is_name};
 ghost use Rattle.clr_net.specs.Limits.{IsNetwork, IsNewDebt, IsNewName, IsNewKind, IsOfKind};
-ghost use Rattle.clr_net.specs.Net.{empty_net, with_bank, with_debt, name_of, numbers, row as row_of, column as column_of, claims_of, units_owed, all_cash, has_name, is_debt_of};
-ghost use Rattle.clr_net.specs.declared.TheConstants.{MAX_BANKS, MAX_CASH};
+ghost use Rattle.clr_net.specs.Net.{empty_net, with_bank, with_cash, with_debt, name_of, numbers, row as row_of, column as column_of, claims_of};
+ghost use Rattle.clr_net.specs.Net.{units_owed, all_cash, all_outside, has_name, is_debt_of, is_of_kind};
+ghost use Rattle.clr_net.specs.declared.TheConstants.{MAX_BANKS, MAX_CASH, MAX_OUTSIDE};
 ghost use Rattle.std.specs.List.{list_any};
 ghost use Rattle.std.specs.Bool.{OnFalse};
 ghost use Rattle.std.specs.Option.{option_map};
-ghost use Rattle.std.specs.Prelude.{◌≡◌, ◌<◌, ◌≤◌, ◌↔◌, Some, length, position, slice_get, sum, IfOk, IfErr, OnOk, OnErr, IfSome, IsNone, IsTrue};
+ghost use Rattle.std.specs.Prelude.{◌≡◌, ◌<◌, ◌≤◌, ◌↔◌, Some, All, length, position, slice_get, sum, IfOk, IfErr, OnOk, OnErr, IfSome, IsNone, IsTrue};
 
 use crate::Mem;
 use crate::account::{Account, enter, make_room};
@@ -25,6 +26,7 @@ pub struct Network {
     names: IndexSet<Vec<u8>>,
     owed: u64,
     cash: u64,
+    outside: u64,
 }
 
 impl Model for Network {
@@ -50,6 +52,7 @@ impl Network {
             names: IndexSet::new(alloc),
             owed: 0,
             cash: 0,
+            outside: 0,
         }
     }
 
@@ -57,6 +60,7 @@ impl Network {
     pub fn add_bank(&mut self, bank: Bank) -> Result<BankId, Bank>
         requires room { length self.old.banks < MAX_BANKS }
         requires cash { bank.cash ≤ MAX_CASH }
+        requires outside { bank.outside ≤ MAX_OUTSIDE }
         requires new_name { IsNewName self.old bank.name }
         ensures number { IfOk result (λ id. id.0 ≡ length self.old.banks) }
         ensures ok { OnOk result (self.new ≡ with_bank self.old bank) }
@@ -75,6 +79,7 @@ impl Network {
         };
         let id = BankId(self.accounts.len() as u32);
         self.cash += bank.cash;
+        self.outside += bank.outside;
         self.accounts.push_reserved(Account {
             bank,
             row: Vec::new(alloc),
@@ -103,6 +108,34 @@ impl Network {
         );
         self.owed += debt.claim;
         Ok(id)
+    }
+
+    /// Changes the cash of a bank, and nothing else.
+    pub fn set_cash(&mut self, bank: BankId, cash: u64)
+        requires bank { bank.0 < length self.old.banks }
+        requires cash { cash ≤ MAX_CASH }
+        ensures { self.new ≡ with_cash self.old bank.0 cash }
+    {
+        let old_cash = self.accounts[bank.0 as usize].bank.cash;
+        self.cash = self.cash - old_cash + cash;
+        self.accounts[bank.0 as usize].bank.cash = cash;
+    }
+
+    /// The same banks and debts in a network of its own, with rows, columns and index.
+    pub fn copy(&self, alloc: Global) -> Result<Network, Mem>
+        ensures { IfOk result (λ net. net ≡ self.now) }
+    {
+        let mut net = Network::empty(alloc);
+        for bank in 0..self.banks() {
+            let bank = self.bank(BankId(bank)).copy(alloc)?;
+            if net.add_bank(bank).is_err() {
+                return Err(Mem);
+            }
+        }
+        for debt in 0..self.debts() {
+            net.add_debt(self.debt(DebtId(debt)))?;
+        }
+        Ok(net)
     }
 
     /// How many banks there are.
@@ -175,6 +208,13 @@ impl Network {
         self.cash
     }
 
+    /// What all banks owe outside the network, in units.
+    pub fn outside_total(&self) -> u64
+        ensures { result ≡ all_outside self.now }
+    {
+        self.outside
+    }
+
     /// The bank that has this name, byte for byte, found by the index of names.
     pub fn bank_named(&self, name: &[u8]) -> Option<BankId>
         ensures place { option_map (λ id. id.0) result ≡ position (has_name name.now) self.now.banks }
@@ -187,7 +227,8 @@ impl Network {
         }
     }
 
-    /// Whether there is a debt of this debtor, creditor and class. Costs a walk of the debtor's row.
+    /// Whether there is a debt of this debtor, creditor and class. Costs a walk of the debtor's row or of the
+    /// creditor's column, whichever is shorter.
     pub fn has_debt(&self, debtor: BankId, creditor: BankId, class: u8) -> bool
         requires debtor { debtor.0 < length self.now.banks }
         requires creditor { creditor.0 < length self.now.banks }
@@ -195,9 +236,21 @@ impl Network {
         ensures none { OnFalse result (IsNewKind self.now debtor.0 creditor.0 class) }
     {
         let row = self.row(debtor);
-        for id in row {
-            let debt = self.debt(*id);
-            if debt.creditor == creditor && debt.class == class {
+        let column = self.column(creditor);
+        if row.len() <= column.len() {
+            self.is_one_of_kind(row, debtor, creditor, class)
+        } else {
+            self.is_one_of_kind(column, debtor, creditor, class)
+        }
+    }
+
+    // Whether one of some debts is of this debtor, creditor and class.
+    fn is_one_of_kind(&self, ids: &[DebtId], debtor: BankId, creditor: BankId, class: u8) -> bool
+        requires { All (λ x. x < length self.now.debts) (numbers ids.now) }
+        ensures { result ≡ list_any (is_of_kind self.now debtor.0 creditor.0 class) (numbers ids.now) }
+    {
+        for id in ids {
+            if self.debt(*id).is_of(debtor, creditor, class) {
                 return true;
             }
         }

@@ -1,5 +1,5 @@
 -- A bank or a debt that a record gives may be added to the network read so far.
-use Rattle.std.proofs.Common.{◌≡◌, ℕ, ◌+◌, ◌<◌, ◌==◌, not, nat_le, List, [], ◌∷◌, length, Result, Ok, Err, IfOk, refl, sym, ◌∙◌, subst, eq-eqb}
+use Rattle.std.proofs.Common.{◌≡◌, ℕ, ◌+◌, ◌<◌, ◌==◌, not, nat_le, true, false, List, [], ◌∷◌, length, Option, Some, None, Result, Ok, Err, IfOk, refl, sym, ap, ◌∙◌, subst, eq-eqb}
 use Rattle.std.specs.List.{list_any}
 use Rattle.std.specs.Option.{ok_or}
 use Rattle.std.proofs.lemmas.Bool.{leb-true, true≢false}
@@ -12,21 +12,26 @@ use Rattle.clr_net.specs.declared.debt.Debt.{Debt}
 use Rattle.clr_net.specs.declared.rule.RuleKind.{RuleKind}
 use Rattle.net_check.specs.Checks.{and_then, fault_unless}
 use Rattle.net_check.specs.Field.{class_in, rule_in}
-use Rattle.net_check.specs.Record.{number_up_to, bank_in, as_bank, bank_from, debt_from, in_row}
+use Rattle.net_check.specs.Record.{number_up_to, bank_in, outside_in, as_bank, new_bank, bank_from, debt_from, in_row}
 use Rattle.net_check.specs.declared.fault.Fault.{Fault}
 use Rattle.net_check.specs.declared.fault.FileKind.{FileKind}
 use Rattle.net_check.specs.declared.fault.FaultKind.{FaultKind}
 use Rattle.net_check.specs.declared.fault.FaultKind.TheVariants as fault
-use Rattle.net_check.proofs.Passed.{fault_unless-ok, and_then-ok, ok_or-ok, number_up_to-ok, bank_in-ok, class_in-some, not-from_true, new_name, new_kind}
+use Rattle.net_check.proofs.Passed.{fault_unless-ok, and_then-ok, ok_or-ok, number_up_to-ok, outside_in-ok, bank_in-ok, class_in-some, not-from_true, new_name, new_kind}
 
--- a bank that a record gives is new, within the limits
-pub bank_from-ok : (net : Net) (fields : List (List ℕ)) (b : Bank) → bank_from net fields ≡ Ok b → length net.banks < MAX_BANKS
-    → IsNewBank net b
-bank_from-ok net [] b h l = cc
-bank_from-ok net (name ∷ []) b h l = cc
-bank_from-ok net (name ∷ cash ∷ []) b h l = cc
-bank_from-ok net (name ∷ cash ∷ rule ∷ []) b h l =
-    let after_rule : ℕ → RuleKind → Result Bank FaultKind = λ n r. Ok (as_bank name (n, r)) in
+-- what the fields of a record passed that give a bank
+pub record IsGiven (net : Net) (name cash : List ℕ) (outside : Option (List ℕ)) (b : Bank) : Type 0 where
+  pub name_is : b.name ≡ name
+  pub named : is_name name ≡ true
+  pub new : list_any (has_name name) net.banks ≡ false
+  pub cash_is : number_up_to MAX_CASH cash ≡ Ok b.cash
+  pub outside_is : outside_in outside ≡ Ok b.outside
+
+pub new_bank-given : (net : Net) (name cash rule : List ℕ) (outside : Option (List ℕ)) (b : Bank)
+    → new_bank net name cash rule outside ≡ Ok b → IsGiven net name cash outside b
+new_bank-given net name cash rule outside b h =
+    let after_outside : ℕ → RuleKind → ℕ → Result Bank FaultKind = λ n r o. Ok (as_bank name (n, r, o)) in
+    let after_rule : ℕ → RuleKind → Result Bank FaultKind = λ n r. and_then (outside_in outside) (after_outside n r) in
     let after_cash = λ (n : ℕ). and_then (ok_or (rule_in rule) fault.Rule) (after_rule n) in
     let after_name = and_then (number_up_to MAX_CASH cash) after_cash in
     let after_named = fault_unless (not (list_any (has_name name) net.banks)) fault.DoubleBank after_name in
@@ -34,14 +39,38 @@ bank_from-ok net (name ∷ cash ∷ rule ∷ []) b h l =
     let is_new = fault_unless-ok (not (list_any (has_name name) net.banks)) fault.DoubleBank after_name b named.1 in
     let the_cash = and_then-ok (number_up_to MAX_CASH cash) after_cash b is_new.1 in
     let the_rule = and_then-ok (ok_or (rule_in rule) fault.Rule) (after_rule the_cash.0) b the_cash.2 in
-    let same : as_bank name (the_cash.0, the_rule.0) ≡ b = cc in
-    subst (IsNewBank net) {x = as_bank name (the_cash.0, the_rule.0)} same (record {
-      banks_in_limit = l;
+    let owed = and_then-ok (outside_in outside) (after_outside the_cash.0 the_rule.0) b the_rule.2 in
+    let same : as_bank name (the_cash.0, the_rule.0, owed.0) ≡ b = cc in
+    record {
+      name_is = sym (ap (λ (x : Bank). x.name) same);
       named = named.0;
-      cash_in_limit = number_up_to-ok MAX_CASH cash the_cash.0 the_cash.1;
-      only_of_its_name = new_name name net.banks (not-from_true (list_any (has_name name) net.banks) is_new.0);
-    })
-bank_from-ok net (name ∷ cash ∷ rule ∷ more ∷ fields) b h l = cc
+      new = not-from_true (list_any (has_name name) net.banks) is_new.0;
+      cash_is = the_cash.1 ∙ ap (λ (x : Bank). Ok x.cash) same;
+      outside_is = owed.1 ∙ ap (λ (x : Bank). Ok x.outside) same;
+    }
+
+-- such a bank is new, within the limits
+pub new_bank-ok : (net : Net) (name cash rule : List ℕ) (outside : Option (List ℕ)) (b : Bank)
+    → new_bank net name cash rule outside ≡ Ok b → length net.banks < MAX_BANKS → IsNewBank net b
+new_bank-ok net name cash rule outside b h l =
+    let given = new_bank-given net name cash rule outside b h in
+    record {
+      banks_in_limit = l;
+      named = rw given.name_is given.named;
+      cash_in_limit = number_up_to-ok MAX_CASH cash b.cash given.cash_is;
+      outside_in_limit = outside_in-ok outside b.outside given.outside_is;
+      only_of_its_name = rw given.name_is (new_name name net.banks given.new);
+    }
+
+-- so does a record
+pub bank_from-ok : (net : Net) (fields : List (List ℕ)) (b : Bank) → bank_from net fields ≡ Ok b → length net.banks < MAX_BANKS
+    → IsNewBank net b
+bank_from-ok net [] b h l = cc
+bank_from-ok net (name ∷ []) b h l = cc
+bank_from-ok net (name ∷ cash ∷ []) b h l = cc
+bank_from-ok net (name ∷ cash ∷ rule ∷ []) b h l = new_bank-ok net name cash rule None b h l
+bank_from-ok net (name ∷ cash ∷ rule ∷ outside ∷ []) b h l = new_bank-ok net name cash rule (Some outside) b h l
+bank_from-ok net (name ∷ cash ∷ rule ∷ outside ∷ more ∷ fields) b h l = cc
 
 -- a debt that a record gives is new, within the limits
 pub debt_from-ok : (net : Net) (fields : List (List ℕ)) (d : Debt) → debt_from net fields ≡ Ok d → length net.debts < MAX_DEBTS

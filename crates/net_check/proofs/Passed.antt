@@ -4,14 +4,14 @@ use Rattle.std.specs.List.{list_any, position, position_or_len}
 use Rattle.std.specs.Option.{ok_or, option_map_or}
 use Rattle.std.proofs.lemmas.Bool.{and_parts, and_from, or_parts, ltb-true, leb-true, true≢false, eq-eqb}
 use Rattle.std.proofs.lemmas.Slice.Eq.{bytes_eq-Decides}
-use Rattle.clr_net.specs.declared.TheConstants.{MAX_CLASS}
+use Rattle.clr_net.specs.declared.TheConstants.{MAX_CLASS, MAX_OUTSIDE}
 use Rattle.clr_net.specs.Name.{is_name}
 use Rattle.clr_net.specs.Net.{Net, has_name, is_debt_of}
 use Rattle.clr_net.specs.declared.bank.Bank.{Bank}
 use Rattle.clr_net.specs.declared.debt.Debt.{Debt}
 use Rattle.net_check.specs.Checks.{and_then, fault_unless}
 use Rattle.net_check.specs.Field.{number_in, class_in}
-use Rattle.net_check.specs.Record.{number_up_to, bank_in}
+use Rattle.net_check.specs.Record.{number_up_to, outside_in, bank_in}
 use Rattle.net_check.specs.declared.fault.FaultKind.TheVariants as fault
 
 pub fault_unless-ok : {A E : Type 0} (test : Bool) (e : E) (rest : Result A E) (a : A) → fault_unless test e rest ≡ Ok a
@@ -34,6 +34,10 @@ number_up_to-ok limit field n h =
     let small = fault_unless-ok (nat_le number.0 limit) fault.Limit (Ok number.0) n number.2 in
     let same : number.0 ≡ n = cc in
     subst (λ n. n ≤ limit) same (leb-true number.0 limit small.0)
+
+pub outside_in-ok : (field : Option (List ℕ)) (n : ℕ) → outside_in field ≡ Ok n → n ≤ MAX_OUTSIDE
+outside_in-ok None n h = let none : 0 ≡ n = cc in omega arith
+outside_in-ok (Some field) n h = number_up_to-ok MAX_OUTSIDE field n h
 
 -- a field that names a bank gives the number of a bank
 pub bank_in-ok : (net : Net) (field : List ℕ) (i : ℕ) → bank_in net field ≡ Ok i → i < length net.banks

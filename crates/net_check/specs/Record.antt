@@ -1,11 +1,12 @@
--- What the fields of one record give, beside the network read so far: a bank, a debt, or the first fault.
-use Rattle.std.specs.Prelude.{ℕ, ◌+◌, ◌==◌, nat_le, not, List, [], ◌∷◌, position, Result, Ok, Err}
+-- What the fields of one record give, beside the network read so far: a bank, a debt, or the first
+-- fault.
+use Rattle.std.specs.Prelude.{ℕ, ◌+◌, ◌==◌, nat_le, not, List, [], ◌∷◌, position, Option, Some, None, Result, Ok, Err}
 use Rattle.std.specs.List.{list_any}
 use Rattle.std.specs.Option.{ok_or}
 use Rattle.std.specs.Result.{result_map_both}
 use Rattle.clr_net.specs.Name.{is_name}
 use Rattle.clr_net.specs.Net.{Net, units_owed, has_name, is_debt_of}
-use Rattle.clr_net.specs.declared.TheConstants.{MAX_CASH, MAX_CLAIM, MAX_OWED}
+use Rattle.clr_net.specs.declared.TheConstants.{MAX_CASH, MAX_CLAIM, MAX_OWED, MAX_OUTSIDE}
 use Rattle.clr_net.specs.declared.bank.Bank.{Bank}
 use Rattle.clr_net.specs.declared.debt.Debt.{Debt}
 use Rattle.clr_net.specs.declared.rule.RuleKind.{RuleKind}
@@ -28,18 +29,29 @@ bank_in net field =
     fault_unless (is_name field) fault.Name (
     ok_or (position (has_name field) net.banks) fault.UnknownBank)
 
--- a bank of this name, with its cash and its rule
-abbrev pub as_bank : List ℕ → ℕ × RuleKind → Bank
-as_bank name p = record { name = name; cash = p.0; rule = p.1 }
+-- what a bank owes outside the network: nothing, where a record has no field for it
+abbrev pub outside_in : Option (List ℕ) → Result ℕ FaultKind
+outside_in None = Ok 0
+outside_in (Some field) = number_up_to MAX_OUTSIDE field
 
--- the bank of the fields name, cash and rule
-abbrev pub bank_from : Net → List (List ℕ) → Result Bank FaultKind
-bank_from net (name ∷ cash ∷ rule ∷ []) =
+-- a bank of this name, with its cash, its rule and what it owes outside
+abbrev pub as_bank : List ℕ → ℕ × RuleKind × ℕ → Bank
+as_bank name p = record { name = name; cash = p.0; rule = p.1; outside = p.2 }
+
+-- the bank of the fields name, cash, rule and, where a record has one, outside
+abbrev pub new_bank : Net → List ℕ → List ℕ → List ℕ → Option (List ℕ) → Result Bank FaultKind
+new_bank net name cash rule outside =
     fault_unless (is_name name) fault.Name (
     fault_unless (not (list_any (has_name name) net.banks)) fault.DoubleBank (
     and_then (number_up_to MAX_CASH cash) (λ n.
     and_then (ok_or (rule_in rule) fault.Rule) (λ r.
-    Ok (as_bank name (n, r))))))
+    and_then (outside_in outside) (λ o.
+    Ok (as_bank name (n, r, o)))))))
+
+-- the bank of a record: outside is its fourth field
+abbrev pub bank_from : Net → List (List ℕ) → Result Bank FaultKind
+bank_from net (name ∷ cash ∷ rule ∷ []) = new_bank net name cash rule None
+bank_from net (name ∷ cash ∷ rule ∷ outside ∷ []) = new_bank net name cash rule (Some outside)
 bank_from net fields = Err fault.Fields
 
 -- the debt of the fields debtor, creditor, class and claim
@@ -52,7 +64,12 @@ debt_from net (debtor ∷ creditor ∷ class ∷ claim ∷ []) =
     and_then (number_up_to MAX_CLAIM claim) (λ n.
     fault_unless (not (list_any (is_debt_of a b c) net.debts)) fault.DoubleDebt (
     fault_unless (nat_le (units_owed net + n) MAX_OWED) fault.Total (
-    Ok (record { debtor = record { 0 = a }; creditor = record { 0 = b }; class = c; claim = n }))))))))
+    Ok (record {
+      debtor = record { 0 = a };
+      creditor = record { 0 = b };
+      class = c;
+      claim = n;
+    }))))))))
 debt_from net fields = Err fault.Fields
 
 -- a fault of a row: the header's is 0

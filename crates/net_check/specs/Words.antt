@@ -1,5 +1,6 @@
--- The word and the number of each kind of fault, and the word of each file.
+-- The word and the number of each kind of fault, and the word and the limit of each file.
 use Rattle.std.specs.Prelude.{ℕ, List, codes}
+use Rattle.net_check.specs.declared.TheConstants.{MAX_FILE_BYTES, MAX_JOURNAL_BYTES}
 use Rattle.net_check.specs.declared.fault.FileKind.{FileKind}
 use Rattle.net_check.specs.declared.fault.FileKind.TheVariants as file
 use Rattle.net_check.specs.declared.fault.FaultKind.{FaultKind}
@@ -9,6 +10,17 @@ use Rattle.net_check.specs.declared.fault.FaultKind.TheVariants as fault
 abbrev pub file_word : FileKind → List ℕ
 file_word file.Banks = codes "banks"
 file_word file.Debts = codes "debts"
+file_word file.Scenarios = codes "scenarios"
+file_word file.Journal = codes "journal"
+file_word file.Words = codes "words"
+
+-- the most bytes of a file. The words of a command line are no file
+abbrev pub file_limit : FileKind → ℕ
+file_limit file.Banks = MAX_FILE_BYTES
+file_limit file.Debts = MAX_FILE_BYTES
+file_limit file.Scenarios = MAX_FILE_BYTES
+file_limit file.Journal = MAX_JOURNAL_BYTES
+file_limit file.Words = 0
 
 -- the word by which a message names a kind of fault
 abbrev pub kind_word : FaultKind → List ℕ
@@ -26,8 +38,11 @@ kind_word fault.DoubleDebt = codes "double debt"
 kind_word fault.TooMany = codes "too many"
 kind_word fault.Total = codes "total"
 kind_word fault.FileSize = codes "file size"
+kind_word fault.UnknownDebt = codes "unknown debt"
+kind_word fault.Toml = codes "toml"
+kind_word fault.Shape = codes "shape"
 
--- the number of a kind of fault: 15 to 17 are those of files that are not read yet, and 18 is not given again
+-- the number of a kind of fault: 18 is not given again
 abbrev pub kind_number : FaultKind → ℕ
 kind_number fault.Header = 1
 kind_number fault.Fields = 2
@@ -43,3 +58,6 @@ kind_number fault.DoubleDebt = 11
 kind_number fault.TooMany = 12
 kind_number fault.Total = 13
 kind_number fault.FileSize = 14
+kind_number fault.UnknownDebt = 15
+kind_number fault.Toml = 16
+kind_number fault.Shape = 17

@@ -10,7 +10,8 @@ use crate::fault::{Fault, FaultKind, FileKind};
 use crate::field::{class, number_up_to, trimmed};
 use clr_net::{BankId, Debt, MAX_CLAIM, MAX_OWED, Name, Network};
 
-/// The debt of a record with these fields, which may then be added to the network, or the first fault of the record.
+/// The debt of a record with these fields, which may then be added to the network, or the first
+/// fault of the record.
 ///
 /// Spaces and tabs at the ends of the fields are dropped. Takes no memory.
 pub fn check_debt(
@@ -22,7 +23,8 @@ pub fn check_debt(
     claim: &[u8],
 ) -> Result<Debt, Fault>
     requires { length net.now.debts < MAX_DEBTS }
-    ensures exact { let fields = map trimmed_field (debtor.now ∷ creditor.now ∷ class.now ∷ claim.now ∷ []) in
+    ensures exact { let given = debtor.now ∷ creditor.now ∷ class.now ∷ claim.now ∷ [] in
+        let fields = map trimmed_field given in
         result ≡ in_row file.Debts row (debt_from net.now fields) }
     ensures new { IfOk result (λ d. IsNewDebt net.now d) }
 {
@@ -48,7 +50,8 @@ fn debt_of(
     class_digit: &[u8],
     claim: &[u8],
 ) -> Result<Debt, FaultKind>
-    ensures { result ≡ debt_from net.now (debtor.now ∷ creditor.now ∷ class_digit.now ∷ claim.now ∷ []) }
+    ensures { let fields = debtor.now ∷ creditor.now ∷ class_digit.now ∷ claim.now ∷ [] in
+        result ≡ debt_from net.now fields }
 {
     let debtor = bank_of(net, debtor)?;
     let creditor = bank_of(net, creditor)?;
@@ -71,13 +74,22 @@ fn debt_of(
     })
 }
 
-// The bank that a field names.
-fn bank_of(net: &Network, field: &[u8]) -> Result<BankId, FaultKind>
+/// The bank that a field names. Spaces and tabs at its ends would be part of the name. Takes no
+/// memory.
+///
+/// The name is looked up first: only one that no bank has is judged.
+pub fn bank_of(net: &Network, field: &[u8]) -> Result<BankId, FaultKind>
     ensures bank { result_map_both (λ id. id.0) (λ k. k) result ≡ bank_in net.now field.now }
     ensures known { IfOk result (λ id. id.0 < length net.now.banks) }
 {
-    if !Name::accepts(field) {
-        return Err(FaultKind::Name);
+    if let Some(id) = net.bank_named(field) {
+        let known = id.0 < net.banks();
+        prove!(known);
+        return Ok(id);
     }
-    net.bank_named(field).ok_or(FaultKind::UnknownBank)
+    if Name::accepts(field) {
+        Err(FaultKind::UnknownBank)
+    } else {
+        Err(FaultKind::Name)
+    }
 }

@@ -1,11 +1,16 @@
-ghost use Rattle.net_check.specs.Words.{file_word, kind_word, kind_number};
+ghost use Rattle.net_check.specs.Words.{file_limit, file_word, kind_word, kind_number};
 ghost use Rattle.std.specs.Prelude.{◌≡◌};
 
-/// The files that are read.
+use crate::{MAX_FILE_BYTES, MAX_JOURNAL_BYTES};
+
+/// The files that are read, and the words of a command line, which may name a bank.
 #[derive(Clone, Copy, Debug, PartialEq, Eq)]
 pub enum FileKind {
     Banks,
     Debts,
+    Scenarios,
+    Journal,
+    Words,
 }
 
 impl FileKind {
@@ -16,6 +21,20 @@ impl FileKind {
         match self {
             FileKind::Banks => "banks",
             FileKind::Debts => "debts",
+            FileKind::Scenarios => "scenarios",
+            FileKind::Journal => "journal",
+            FileKind::Words => "words",
+        }
+    }
+
+    /// The most bytes of such a file. The words of a command line are no file: 0.
+    pub fn limit(self) -> u64
+        ensures { result ≡ file_limit self }
+    {
+        match self {
+            FileKind::Banks | FileKind::Debts | FileKind::Scenarios => MAX_FILE_BYTES,
+            FileKind::Journal => MAX_JOURNAL_BYTES,
+            FileKind::Words => 0,
         }
     }
 }
@@ -33,9 +52,9 @@ pub enum FaultKind {
     Number,
     /// A field is not one of the six rules.
     Rule,
-    /// A number is above its limit.
+    /// A number is outside its limit.
     Limit,
-    /// A bank of this name came before.
+    /// A bank of this name came before, in the file or in the scenario.
     DoubleBank,
     /// No bank has the name.
     UnknownBank,
@@ -45,12 +64,18 @@ pub enum FaultKind {
     Class,
     /// A debt of this debtor, creditor and class came before.
     DoubleDebt,
-    /// One more bank or debt than the limit on their number.
+    /// One more bank, debt, scenario or raise than the limit on their number.
     TooMany,
     /// The claims so far pass the limit on all of them together.
     Total,
     /// The file is longer than its limit.
     FileSize,
+    /// No debt has this debtor, creditor and class.
+    UnknownDebt,
+    /// The document is not UTF-8, or not TOML.
+    Toml,
+    /// The document is not of the shape that its file must have.
+    Shape,
 }
 
 impl FaultKind {
@@ -73,6 +98,9 @@ impl FaultKind {
             FaultKind::TooMany => 12,
             FaultKind::Total => 13,
             FaultKind::FileSize => 14,
+            FaultKind::UnknownDebt => 15,
+            FaultKind::Toml => 16,
+            FaultKind::Shape => 17,
         }
     }
 
@@ -95,6 +123,9 @@ impl FaultKind {
             FaultKind::TooMany => "too many",
             FaultKind::Total => "total",
             FaultKind::FileSize => "file size",
+            FaultKind::UnknownDebt => "unknown debt",
+            FaultKind::Toml => "toml",
+            FaultKind::Shape => "shape",
         }
     }
 }
@@ -107,7 +138,7 @@ pub struct Fault {
     pub kind: FaultKind,
 }
 
-/// Why files give no network.
+/// Why files are not read.
 #[derive(Clone, Copy, Debug, PartialEq, Eq)]
 pub enum ReadNet {
     /// The first fault in the files.

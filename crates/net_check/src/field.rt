@@ -45,7 +45,8 @@ fn is_space_or_tab(byte: u8) -> bool
     byte == b' ' || byte == b'\t'
 }
 
-/// The number that a field of 1 to [`MAX_DIGITS`] digits spells. `None` exactly where the field is not such.
+/// The number that a field of 1 to [`MAX_DIGITS`] digits spells. `None` exactly where the field is
+/// not such.
 pub fn number(field: &[u8]) -> Option<u128>
     ensures { result ≡ number_in field.now }
 {
@@ -63,7 +64,7 @@ pub fn number(field: &[u8]) -> Option<u128>
 }
 
 /// The number in a field, if it is at most the limit.
-pub(crate) fn number_up_to(limit: u64, field: &[u8]) -> Result<u64, FaultKind>
+pub fn number_up_to(limit: u64, field: &[u8]) -> Result<u64, FaultKind>
     ensures { result ≡ number_up_to_in limit field.now }
 {
     let number = number(field).ok_or(FaultKind::Number)?;
@@ -74,7 +75,7 @@ pub(crate) fn number_up_to(limit: u64, field: &[u8]) -> Result<u64, FaultKind>
 }
 
 /// The class in a field: one digit from 1 to [`MAX_CLASS`].
-pub(crate) fn class(field: &[u8]) -> Option<u8>
+pub fn class(field: &[u8]) -> Option<u8>
     ensures { result ≡ class_in field.now }
 {
     match field {

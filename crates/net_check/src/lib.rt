@@ -1,4 +1,5 @@
-//! What is checked of one record of a file: its fields, and what they give beside the network read so far.
+//! What is checked of one record of a file: its fields, and what they give beside the network read
+//! so far. Also what may be wrong with a file, of every kind that is read.
 #![tactic(auto)]
 
 mod bank;
@@ -7,12 +8,15 @@ mod fault;
 mod field;
 
 pub use bank::check_bank;
-pub use debt::check_debt;
+pub use debt::{bank_of, check_debt};
 pub use fault::{Fault, FaultKind, FileKind, ReadNet};
-pub use field::{number, trimmed};
+pub use field::{class, number, number_up_to, trimmed};
 
 /// The most digits of a number in a file.
 pub const MAX_DIGITS: usize = 20;
 
-#[cfg(test)]
-mod tests;
+/// The most bytes of a file of banks, of debts or of scenarios.
+pub const MAX_FILE_BYTES: u64 = 8_388_608;
+
+/// The most bytes of a file with a journal.
+pub const MAX_JOURNAL_BYTES: u64 = 1_600_000_000;

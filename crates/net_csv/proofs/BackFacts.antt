@@ -4,7 +4,7 @@ use Rattle.std.specs.Prelude.{position}
 use Rattle.std.specs.List.{list_any}
 use Rattle.std.specs.Option.{option_map_or}
 use Rattle.std.specs.Str.{bytes_eq}
-use Rattle.std.proofs.lemmas.Bool.{lt-ltb, false_from_ne_true, eqb-true}
+use Rattle.std.proofs.lemmas.Bool.{and_parts, lt-ltb, false_from_ne_true, eqb-true}
 use Rattle.std.proofs.lemmas.List.{length-append}
 use Rattle.std.proofs.lemmas.List.Sums.{position_or_len_is, sum_by-append, sum_by-cons}
 use Rattle.std.proofs.lemmas.Option.{get_or_from_slice_get, slice_get-get_or}
@@ -12,7 +12,7 @@ use Rattle.std.proofs.lemmas.Slice.Eq.{bytes_eq-Decides}
 use Rattle.clr_net.specs.Name.{is_name}
 use Rattle.clr_net.specs.Net.{Net, name_of, has_name, is_debt_of, units_owed}
 use Rattle.clr_net.specs.Limits.{IsNetwork, IsBankOf}
-use Rattle.clr_net.specs.declared.TheConstants.{MAX_BANKS, MAX_CASH, MAX_DEBTS, MAX_CLASS, MAX_CLAIM, MAX_OWED}
+use Rattle.clr_net.specs.declared.TheConstants.{MAX_BANKS, MAX_CASH, MAX_OUTSIDE, MAX_DEBTS, MAX_CLASS, MAX_CLAIM, MAX_OWED}
 use Rattle.clr_net.specs.declared.bank.Bank.{Bank}
 use Rattle.clr_net.specs.declared.debt.Debt.{Debt}
 use Rattle.net_check.specs.Field.{trimmed_field}
@@ -28,15 +28,7 @@ before_end [] rest k l = absurd (omega arith)
 before_end (y ∷ done) rest zero l = refl
 before_end (y ∷ done) rest (suc k) l = before_end done rest k (omega arith)
 
--- the parts of tests
-and_left : (a b : Bool) → (a && b) ≡ true → a ≡ true
-and_left true b e = refl
-and_left false b e = cc e
-
-and_right : (a b : Bool) → (a && b) ≡ true → b ≡ true
-and_right true b e = e
-and_right false b e = cc e
-
+-- neither of two tests passes
 or_both : (a b : Bool) → a ≡ false → b ≡ false → (a || b) ≡ false
 or_both a b e f = rw (e, f) refl
 
@@ -55,12 +47,9 @@ no_name name (b ∷ banks) none =
 other_kind : (debtor creditor class : ℕ) (d : Debt) → ((d.debtor.0 ≡ debtor) × (d.creditor.0 ≡ creditor) × (d.class ≡ class) → ⊥)
     → is_debt_of debtor creditor class d ≡ false
 other_kind debtor creditor class d none = false_from_ne_true (is_debt_of debtor creditor class d) (λ e.
-    let two = and_left ((d.debtor.0 == debtor) && (d.creditor.0 == creditor)) (d.class == class) e in
-    none (
-      eqb-true d.debtor.0 debtor (and_left (d.debtor.0 == debtor) (d.creditor.0 == creditor) two),
-      eqb-true d.creditor.0 creditor (and_right (d.debtor.0 == debtor) (d.creditor.0 == creditor) two),
-      eqb-true d.class class (and_right ((d.debtor.0 == debtor) && (d.creditor.0 == creditor)) (d.class == class) e),
-    ))
+    let all = and_parts ((d.debtor.0 == debtor) && (d.creditor.0 == creditor)) (d.class == class) e in
+    let two = and_parts (d.debtor.0 == debtor) (d.creditor.0 == creditor) all.0 in
+    none (eqb-true d.debtor.0 debtor two.0, eqb-true d.creditor.0 creditor two.1, eqb-true d.class class all.1))
 
 no_kind : (debtor creditor class : ℕ) (debts : List Debt)
     → ((y : ℕ) → y < length debts → (option_map_or (λ d. d.debtor.0) (slice_get debts y) 0 ≡ debtor)
@@ -88,6 +77,7 @@ pub record IsBackBank (done : List Bank) (b : Bank) : Type 0 where
   pub kept : trimmed_field b.name ≡ b.name
   pub new : list_any (has_name b.name) done ≡ false
   pub cash : b.cash ≤ MAX_CASH
+  pub outside : b.outside ≤ MAX_OUTSIDE
 
 pub bank_back : (net : Net) → IsNetwork net → KeepsNames net → (done rest : List Bank) (b : Bank)
     → net.banks ≡ done ++ b ∷ rest → IsBackBank done b
@@ -107,6 +97,7 @@ bank_back net network keeps done rest b banks =
           (ap (λ o. option_map_or (λ b. b.name) o []) (ap (λ l. slice_get l j) banks ∙ before_end done (b ∷ rest) j l) ∙ same
           ∙ sym (ap (λ o. option_map_or (λ b. b.name) o []) here)));
       cash = rw here at fact.cash_in_limit;
+      outside = rw here at fact.outside_in_limit;
     }
 
 -- what a debt of a network is, beside those before it

@@ -2,7 +2,7 @@
 use Rattle.std.proofs.Common.{◌≡◌, ◌≤◌, ◌<◌, ◌+◌, ℕ, zero, suc, Bool, true, false, List, [], ◌∷◌, ◌++◌, length, Option, Some, None, refl, sym, ap, ◌∙◌, inl, arith, add-one, if◌then◌else◌, ◌==◌}
 use Rattle.csv.specs.Machine.{Read, step, in_field, start_field, start_record, after_end, is_end, ends_at_end, next_record, fields_after, field_after, carriage_return}
 use Rattle.std.specs.Borrow.{Bor}
-use Rattle.csv.specs.Reading.{NextIs, ReadsNext, ReadRecord, records, records_from, records_next, default_config, strip_bom, is_bom, pending_of, took_first}
+use Rattle.csv.specs.Reading.{NextIs, ReadsNext, ReadRecord, records, records_from, records_next, default_config, strip_bom, is_bom, pending_of, took_first, is_flexible}
 use Rattle.csv.specs.declared.reader.Reader.{Reader}
 use Rattle.csv.specs.declared.parser.Config.{Config}
 use Rattle.csv.specs.declared.parser.Terminator.{Terminator}
@@ -169,15 +169,16 @@ read-none s xs (Some ys) fields t h = by (next_record default_config s [] [] xs)
 
 -- the same of a reader
 pub found_is_first : (old new : Reader (Bor (List ℕ))) (found : Bool) (fields : List (List ℕ)) → IsReading old
-    → ReadRecord (λ text. Some text.now) old new found fields → took_first new ≡ true → found ≡ true
+    → ReadRecord (λ text. Some text.now) old new found fields → took_first new ≡ true → is_flexible new ≡ is_flexible old → found ≡ true
     → IsReading new × (records_left old ≡ fields ∷ records_left new)
-found_is_first old new found fields reading read first e =
+found_is_first old new found fields reading read first bends e =
     let next = rw (e, reading.by_default, reading.text_is) at read.0 in
     let one = read-found old.state reading.text (pending_of (Some new.rdr.now) new) fields new.state reading.between next in
     let same : pending_of (Some new.rdr.now) new ≡ text_left new = rw read.1 refl in (
       record {
         by_default = read.2 ∙ reading.by_default;
         untrimmed = read.3 ∙ reading.untrimmed;
+        flexible = bends ∙ reading.flexible;
         ready = inl first;
         between = one.between;
         text = one.text;

@@ -1,11 +1,13 @@
 pub mod Left
 pub mod Turns
 pub mod Rows
+pub mod Trimmed
 pub mod Networks
 pub mod Lines
+pub mod Versions
 pub mod PlainFields
 pub mod PrintedRecords
 pub mod BackFacts
 pub mod BackRows
-pub mod ReadBack
 pub mod KeptNames
+pub mod ReadBack

@@ -1,170 +1,260 @@
 -- A printed network is read back as it was.
-use Rattle.std.proofs.Common.{◌≡◌, ◌∙◌, ◌≤◌, ◌+◌, ◌*◌, ℕ, List, [], ◌∷◌, ◌++◌, length, map, Ok, refl, sym, ap, arith, append_assoc}
+use Rattle.std.proofs.Common.{◌≡◌, ◌∙◌, ◌≤◌, ◌+◌, ◌*◌, ◌==◌, ℕ, Bool, true, false, List, [], ◌∷◌, ◌++◌, length, map, Result, Ok, refl, sym, ap, arith, append_assoc, if◌then◌else◌}
 use Rattle.std.specs.Prelude.{codes}
-use Rattle.std.specs.List.{flat_map}
+use Rattle.std.specs.List.{flat_map, list_all}
+use Rattle.std.proofs.lemmas.Bool.{eqb-true, and_parts}
 use Rattle.std.proofs.lemmas.List.{append-nil, length-append}
 use Rattle.std.proofs.lemmas.List.Concat.{flat_map-cons}
 use Rattle.csv.specs.Reading.{strip_bom}
+use Rattle.clr_net.specs.Lines.{line}
 use Rattle.clr_net.specs.Net.{Net, empty_net, with_bank, with_debt}
 use Rattle.clr_net.specs.Limits.{IsNetwork}
 use Rattle.clr_net.specs.declared.bank.Bank.{Bank}
 use Rattle.clr_net.specs.declared.debt.Debt.{Debt}
+use Rattle.net_check.specs.Checks.{and_then}
 use Rattle.net_check.specs.Field.{trimmed_start}
-use Rattle.net_check.specs.declared.fault.FileKind.TheVariants as file
-use Rattle.net_csv.specs.Printing.{bank_line, debt_line, banks_text, debts_text, KeepsNames}
-use Rattle.net_csv.specs.Reading.{Fields, trimmed_fields, is_blank, rows_from, banks_header, debts_header, read_banks, read_debts, bank_in_row, debt_in_row, below_header, with_banks_of, with_debts_of, network_of}
-use Rattle.net_csv.proofs.Networks.{network_of_read}
-use Rattle.net_csv.proofs.Rows.{one_bank-added, one_debt-added, banks-pass, debts-pass, banks-end, debts-end, banks-below, debts-below}
+use Rattle.net_check.specs.declared.fault.Fault.{Fault}
+use Rattle.net_check.proofs.Passed.{and_then-ok}
+use Rattle.net_csv.specs.Printing.{bank_fields, debt_fields, bank_line, debt_line, banks_text_in, banks_text_2, banks_text, debts_text, version_for, KeepsNames}
+use Rattle.net_csv.specs.Reading.{Fields, trimmed_fields, is_blank, rows_from, records_of, banks_header, debts_header, header, file_of, version_of, with_row, bank_in_row, debt_in_row, read_rows, below_header, with_file, with_banks_of, with_debts_of, network_of}
+use Rattle.net_csv.specs.declared.layout.Layout.{Layout}
+use Rattle.net_csv.specs.declared.layout.Layout.TheVariants as layout
+use Rattle.net_csv.specs.declared.layout.Version.{Version}
+use Rattle.net_csv.specs.declared.layout.Version.TheVariants as version
+use Rattle.net_csv.proofs.Networks.{are_read, with_file-keeps, network_of_ok, network_of_read}
+use Rattle.net_csv.proofs.KeptNames.{network_of_names}
+use Rattle.net_csv.proofs.Rows.{one_added, rows-pass, rows-end, file-below}
 use Rattle.net_csv.proofs.PrintedRecords.{ArePlain, IsRow, AreRows, read_printed}
 use Rattle.net_csv.proofs.BackFacts.{IsBackDebt, IsBackName, bank_back, debt_back, name_back}
-use Rattle.net_csv.proofs.BackRows.{bank_fields, debt_fields, bank_row, debt_row, bank_read_back, debt_read_back, short_bank_line, short_debt_line}
+use Rattle.net_csv.proofs.BackRows.{IsKeptRow, SaysAll, bank_row, debt_row, bank_read_back, debt_read_back}
 
--- the network that is printed
-record IsPrinted (net : Net) : Type 0 where
-  network : IsNetwork net
-  names : KeepsNames net
+-- things that a file has line by line, each of which is read back beside those before it
+record IsPrinted (X : Type 0) (l : Layout) (fields_of : X → Fields) (so_far : List X → Net) (all : List X) : Type 0 where
+  kept : (done rest : List X) (x : X) → all ≡ done ++ x ∷ rest → IsKeptRow (fields_of x)
+  read : (done rest : List X) (x : X) (row : ℕ) → all ≡ done ++ x ∷ rest
+      → with_row l (so_far done) (row, fields_of x) ≡ Ok (so_far (done ++ x ∷ []))
+
+-- the file of such things
+abbrev file_text : {X : Type 0} → Layout → (X → Fields) → List X → List ℕ
+file_text l fields_of all = line (header l) ++ flat_map (λ x. line (fields_of x)) all
 
 -- an element more before the rest
 moved : {X : Type 0} (all done rest : List X) (x : X) → all ≡ done ++ x ∷ rest → all ≡ (done ++ x ∷ []) ++ rest
 moved all done rest x e = e ∙ sym (append_assoc done (x ∷ []) rest)
 
-debtor_back : (net : Net) → IsPrinted net → (done : List Debt) (d : Debt) → IsBackDebt net done d → IsBackName net d.debtor.0
-debtor_back net printed done d back = name_back net printed.network printed.names d.debtor.0 back.debtor
+-- what holds of every file
+module _ (X : Type 0) (l : Layout) (fields_of : X → Fields) (so_far : List X → Net) (all : List X)
+    (printed : IsPrinted X l fields_of so_far all) where
+  -- each line is read as a record
+  line_rows : (rest done : List X) → all ≡ done ++ rest → AreRows (map fields_of rest)
+  unfolding AreRows
+  line_rows [] done e = tt
+  line_rows (x ∷ rest) done e = ((printed.kept done rest x e).row, line_rows rest (done ++ x ∷ []) (moved all done rest x e))
 
-creditor_back : (net : Net) → IsPrinted net → (done : List Debt) (d : Debt) → IsBackDebt net done d → IsBackName net d.creditor.0
-creditor_back net printed done d back = name_back net printed.network printed.names d.creditor.0 back.creditor
+  -- the lines are short
+  short_lines : (rest done : List X) → all ≡ done ++ rest → length (flat_map (λ x. line (fields_of x)) rest) ≤ 200 * length rest
+  short_lines [] done e = omega arith
+  short_lines (x ∷ rest) done e =
+      let one = (printed.kept done rest x e).short in
+      let more = short_lines rest (done ++ x ∷ []) (moved all done rest x e) in
+      let both = length-append (line (fields_of x)) (flat_map (λ x. line (fields_of x)) rest) in
+      rw (flat_map-cons (λ x. line (fields_of x)) x rest) (omega arith)
 
--- each line is read as a record
-bank_rows : (net : Net) → IsPrinted net → (rest done : List Bank) → net.banks ≡ done ++ rest → AreRows (map bank_fields rest)
-unfolding AreRows
-bank_rows net printed [] done e = tt
-bank_rows net printed (b ∷ rest) done e = (
-  (bank_row done b (bank_back net printed.network printed.names done rest b e)).row,
-  bank_rows net printed rest (done ++ b ∷ []) (moved net.banks done rest b e),
-)
-
-debt_rows : (net : Net) → IsPrinted net → (rest done : List Debt) → net.debts ≡ done ++ rest → AreRows (map (debt_fields net) rest)
-unfolding AreRows
-debt_rows net printed [] done e = tt
-debt_rows net printed (d ∷ rest) done e =
-    let back = debt_back net printed.network done rest d e in (
-      (debt_row net done d back (debtor_back net printed done d back) (creditor_back net printed done d back)).row,
-      debt_rows net printed rest (done ++ d ∷ []) (moved net.debts done rest d e),
-    )
-
--- the lines are short
-bank_lines : (net : Net) → IsPrinted net → (rest done : List Bank) → net.banks ≡ done ++ rest → length (flat_map bank_line rest) ≤ 100 * length rest
-bank_lines net printed [] done e = omega arith
-bank_lines net printed (b ∷ rest) done e =
-    let one = short_bank_line done b (bank_back net printed.network printed.names done rest b e) in
-    let more = bank_lines net printed rest (done ++ b ∷ []) (moved net.banks done rest b e) in
-    let both = length-append (bank_line b) (flat_map bank_line rest) in
-    rw (flat_map-cons bank_line b rest) (omega arith)
-
-debt_lines : (net : Net) → IsPrinted net → (rest done : List Debt) → net.debts ≡ done ++ rest → length (flat_map (debt_line net) rest) ≤ 200 * length rest
-debt_lines net printed [] done e = omega arith
-debt_lines net printed (d ∷ rest) done e =
-    let back = debt_back net printed.network done rest d e in
-    let one = short_debt_line net done d back (debtor_back net printed done d back) (creditor_back net printed done d back) in
-    let more = debt_lines net printed rest (done ++ d ∷ []) (moved net.debts done rest d e) in
-    let both = length-append (debt_line net d) (flat_map (debt_line net) rest) in
-    rw (flat_map-cons (debt_line net) d rest) (omega arith)
-
--- the rows are read as what was printed
-banks_read_back : (net : Net) → IsPrinted net → (rest done : List Bank) (row : ℕ) → net.banks ≡ done ++ rest
-    → read_banks (record { banks = done; debts = [] }) (rows_from row (map trimmed_fields (map bank_fields rest))) ≡ Ok (record { banks = done ++ rest; debts = [] })
-banks_read_back net printed [] done row e =
-    banks-end (record { banks = done; debts = [] }) row ∙ ap (λ l. Ok (record { banks = l; debts = [] })) (sym (append-nil done))
-banks_read_back net printed (b ∷ rest) done row e =
-    let cur : Net = record { banks = done; debts = [] } in
-    let back = bank_back net printed.network printed.names done rest b e in
-    let kept = bank_row done b back in
-    let fields = trimmed_fields (bank_fields b) in
-    let one = one_bank-added cur row fields b (ap is_blank kept.trimmed ∙ kept.full)
-    (ap (λ f. bank_in_row cur (row, f)) kept.trimmed ∙ bank_read_back done row b back) in
-    banks-pass cur (with_bank cur b) row fields (map trimmed_fields (map bank_fields rest)) one
-    ∙ banks_read_back net printed rest (done ++ b ∷ []) (row + 1) (moved net.banks done rest b e)
-    ∙ ap (λ l. Ok (record { banks = l; debts = [] })) (append_assoc done (b ∷ []) rest)
-
-debts_read_back : (net : Net) → IsPrinted net → (rest done : List Debt) (row : ℕ) → net.debts ≡ done ++ rest
-    → read_debts (record { banks = net.banks; debts = done }) (rows_from row (map trimmed_fields (map (debt_fields net) rest)))
-    ≡ Ok (record { banks = net.banks; debts = done ++ rest })
-debts_read_back net printed [] done row e =
-    debts-end (record { banks = net.banks; debts = done }) row ∙ ap (λ l. Ok (record { banks = net.banks; debts = l })) (sym (append-nil done))
-debts_read_back net printed (d ∷ rest) done row e =
-    let cur : Net = record { banks = net.banks; debts = done } in
-    let back = debt_back net printed.network done rest d e in
-    let debtor = debtor_back net printed done d back in
-    let creditor = creditor_back net printed done d back in
-    let kept = debt_row net done d back debtor creditor in
-    let fields = trimmed_fields (debt_fields net d) in
-    let one = one_debt-added cur row fields d (ap is_blank kept.trimmed ∙ kept.full)
-    (ap (λ f. debt_in_row cur (row, f)) kept.trimmed ∙ debt_read_back net done row d back debtor creditor) in
-    debts-pass cur (with_debt cur d) row fields (map trimmed_fields (map (debt_fields net) rest)) one
-    ∙ debts_read_back net printed rest (done ++ d ∷ []) (row + 1) (moved net.debts done rest d e)
-    ∙ ap (λ l. Ok (record { banks = net.banks; debts = l })) (append_assoc done (d ∷ []) rest)
+  -- the rows are read as what was printed
+  rows_back : (rest done : List X) (row : ℕ) → all ≡ done ++ rest
+      → read_rows l (so_far done) (rows_from row (map trimmed_fields (map fields_of rest))) ≡ Ok (so_far (done ++ rest))
+  rows_back [] done row e = rows-end l (so_far done) row ∙ ap (λ xs. Ok (so_far xs)) (sym (append-nil done))
+  rows_back (x ∷ rest) done row e =
+      let kept = printed.kept done rest x e in
+      let fields = trimmed_fields (fields_of x) in
+      let one = one_added l (so_far done) (so_far (done ++ x ∷ [])) row fields (ap is_blank kept.trimmed ∙ kept.full)
+      (ap (λ f. with_row l (so_far done) (row, f)) kept.trimmed ∙ printed.read done rest x row e) in
+      rows-pass l (so_far done) (so_far (done ++ x ∷ [])) row fields (map trimmed_fields (map fields_of rest)) one
+      ∙ rows_back rest (done ++ x ∷ []) (row + 1) (moved all done rest x e)
+      ∙ ap (λ xs. Ok (so_far xs)) (append_assoc done (x ∷ []) rest)
 
 -- the headers
-plain_words : IsRow banks_header × IsRow debts_header
+header_row : (l : Layout) → IsRow (header l)
 unfolding ArePlain
-plain_words = (
-  record {
-    first = codes "name";
-    second = codes "cash";
-    others = codes "rule" ∷ [];
-    are = refl;
-    plain = (record { unquoted = refl }, (record { unquoted = refl }, (record { unquoted = refl }, tt)));
-  },
-  record {
-    first = codes "debtor";
-    second = codes "creditor";
-    others = codes "class" ∷ codes "claim" ∷ [];
-    are = refl;
-    plain = (record { unquoted = refl }, (record { unquoted = refl }, (record { unquoted = refl }, (record { unquoted = refl }, tt))));
-  },
-)
+header_row (layout.Banks version.One) = record {
+  first = codes "name";
+  second = codes "cash";
+  others = codes "rule" ∷ [];
+  are = refl;
+  plain = (record { unquoted = refl }, (record { unquoted = refl }, (record { unquoted = refl }, tt)));
+}
+header_row (layout.Banks version.Two) = record {
+  first = codes "name";
+  second = codes "cash";
+  others = codes "rule" ∷ codes "outside" ∷ [];
+  are = refl;
+  plain = (record { unquoted = refl }, (record { unquoted = refl }, (record { unquoted = refl }, (record { unquoted = refl }, tt))));
+}
+header_row layout.Debts = record {
+  first = codes "debtor";
+  second = codes "creditor";
+  others = codes "class" ∷ codes "claim" ∷ [];
+  are = refl;
+  plain = (record { unquoted = refl }, (record { unquoted = refl }, (record { unquoted = refl }, (record { unquoted = refl }, tt))));
+}
 
-banks_below : (below : List Fields) → below_header file.Banks banks_header (trimmed_fields banks_header ∷ below) ≡ Ok below
+header_back : (l : Layout) (below : List Fields) → below_header (file_of l) (header l) (trimmed_fields (header l) ∷ below) ≡ Ok below
 unfolding trimmed_start
-banks_below below = refl
+header_back (layout.Banks version.One) below = refl
+header_back (layout.Banks version.Two) below = refl
+header_back layout.Debts below = refl
 
-debts_below : (below : List Fields) → below_header file.Debts debts_header (trimmed_fields debts_header ∷ below) ≡ Ok below
+version_back : (v : Version) (below : List Fields) → version_of (trimmed_fields (banks_header v) ∷ below) ≡ v
 unfolding trimmed_start
-debts_below below = refl
+version_back version.One below = refl
+version_back version.Two below = refl
 
-banks_unmarked : (net : Net) → strip_bom (banks_text net) ≡ banks_text net
+unmarked : (l : Layout) (text : List ℕ) → strip_bom (line (header l) ++ text) ≡ line (header l) ++ text
 unfolding strip_bom
-banks_unmarked net = refl
+unmarked (layout.Banks version.One) text = refl
+unmarked (layout.Banks version.Two) text = refl
+unmarked layout.Debts text = refl
 
-debts_unmarked : (net : Net) → strip_bom (debts_text net) ≡ debts_text net
-unfolding strip_bom
-debts_unmarked net = refl
+short_header : (l : Layout) → length (line (header l)) ≤ 40
+short_header (layout.Banks version.One) = omega arith
+short_header (layout.Banks version.Two) = omega arith
+short_header layout.Debts = omega arith
+
+-- a printed file is read as what it was printed of
+records_back : (X : Type 0) (l : Layout) (fields_of : X → Fields) (so_far : List X → Net) (all : List X) → IsPrinted X l fields_of so_far all
+    → records_of (file_text l fields_of all) ≡ map trimmed_fields (header l ∷ map fields_of all)
+records_back X l fields_of so_far all printed =
+    ap (map trimmed_fields) (read_printed (header l) fields_of (λ x. line (fields_of x)) all (λ x. refl) (header_row l)
+    (line_rows X l fields_of so_far all printed all [] refl) (unmarked l (flat_map (λ x. line (fields_of x)) all)))
+
+file_back : (X : Type 0) (l : Layout) (fields_of : X → Fields) (so_far : List X → Net) (all : List X) → IsPrinted X l fields_of so_far all
+    → with_file l (file_text l fields_of all) (so_far []) ≡ Ok (so_far all)
+file_back X l fields_of so_far all printed =
+    let below = map trimmed_fields (map fields_of all) in
+    file-below l (file_text l fields_of all) (so_far []) (trimmed_fields (header l) ∷ below) below
+    (sym (records_back X l fields_of so_far all printed)) (header_back l below)
+    ∙ rows_back X l fields_of so_far all printed all [] 1 refl
+
+-- the banks of a network without its debts
+abbrev with_banks : List Bank → Net
+with_banks banks = record { banks = banks; debts = [] }
+
+-- a version says all of the banks of a network
+abbrev SaysBanks : Version → Net → Type 0
+SaysBanks v net = (done rest : List Bank) (b : Bank) → net.banks ≡ done ++ b ∷ rest → SaysAll v b
+
+-- the banks of a network are read back
+banks_printed : (v : Version) (net : Net) → IsNetwork net → KeepsNames net → SaysBanks v net
+    → IsPrinted Bank (layout.Banks v) (bank_fields v) with_banks net.banks
+banks_printed v net network names says = record {
+  kept = λ done rest b e. bank_row v done b (bank_back net network names done rest b e);
+  read = λ done rest b row e.
+      ap (λ (r : Result Bank Fault). and_then r (λ b. Ok (with_bank (with_banks done) b)))
+      (bank_read_back v done row b (bank_back net network names done rest b e) (says done rest b e));
+}
+
+-- and its debts
+debts_printed : (net : Net) → IsNetwork net → KeepsNames net
+    → IsPrinted Debt layout.Debts (debt_fields net) (λ debts. record { banks = net.banks; debts = debts }) net.debts
+debts_printed net network names = record {
+  kept = λ done rest d e.
+      let back = debt_back net network done rest d e in debt_row net done d back (debtor back) (creditor back);
+  read = λ done rest d row e.
+      let back = debt_back net network done rest d e in
+      ap (λ (r : Result Debt Fault). and_then r (λ d. Ok (with_debt (record { banks = net.banks; debts = done }) d)))
+      (debt_read_back net done row d back (debtor back) (creditor back));
+}
+  where
+    debtor : {done : List Debt} {d : Debt} → IsBackDebt net done d → IsBackName net d.debtor.0
+    debtor {d = d} back = name_back net network names d.debtor.0 back.debtor
+
+    creditor : {done : List Debt} {d : Debt} → IsBackDebt net done d → IsBackName net d.creditor.0
+    creditor {d = d} back = name_back net network names d.creditor.0 back.creditor
 
 -- the printed banks file gives the banks
-banks_file_back : (net : Net) → IsPrinted net → with_banks_of (banks_text net) empty_net ≡ Ok (record { banks = net.banks; debts = [] })
-banks_file_back net printed =
-    let fields = map bank_fields net.banks in
-    let read = read_printed banks_header bank_fields bank_line net.banks (λ b. refl) plain_words.0 (bank_rows net printed net.banks [] refl) (banks_unmarked net) in
-    banks-below (banks_text net) empty_net (map trimmed_fields (banks_header ∷ fields)) (map trimmed_fields fields)
-    (ap (map trimmed_fields) (sym read)) (banks_below (map trimmed_fields fields))
-    ∙ banks_read_back net printed net.banks [] 1 refl
+banks_back : (v : Version) (net : Net) → IsNetwork net → KeepsNames net → SaysBanks v net
+    → with_banks_of (banks_text_in v net) empty_net ≡ Ok (with_banks net.banks)
+banks_back v net network names says =
+    let printed = banks_printed v net network names says in
+    let text = banks_text_in v net in
+    let version : version_of (records_of text) ≡ v =
+    ap version_of (records_back Bank (layout.Banks v) (bank_fields v) with_banks net.banks printed)
+    ∙ version_back v (map trimmed_fields (map (bank_fields v) net.banks)) in
+    ap (λ w. with_file (layout.Banks w) text empty_net) version ∙ file_back Bank (layout.Banks v) (bank_fields v) with_banks net.banks printed
 
--- and the printed debts file the debts
-debts_file_back : (net : Net) → IsPrinted net → with_debts_of (debts_text net) (record { banks = net.banks; debts = [] }) ≡ Ok net
-debts_file_back net printed =
-    let fields = map (debt_fields net) net.debts in
-    let read = read_printed debts_header (debt_fields net) (debt_line net) net.debts (λ d. refl) plain_words.1 (debt_rows net printed net.debts [] refl) (debts_unmarked net) in
-    debts-below (debts_text net) (record { banks = net.banks; debts = [] }) (map trimmed_fields (debts_header ∷ fields)) (map trimmed_fields fields)
-    (ap (map trimmed_fields) (sym read)) (debts_below (map trimmed_fields fields))
-    ∙ debts_read_back net printed net.debts [] 1 refl
+banks_short : (v : Version) (net : Net) → IsNetwork net → KeepsNames net → SaysBanks v net → length (banks_text_in v net) ≤ 8388608
+banks_short v net network names says =
+    let lines = short_lines Bank (layout.Banks v) (bank_fields v) with_banks net.banks (banks_printed v net network names says) net.banks [] refl in
+    let first = short_header (layout.Banks v) in
+    let few = network.banks_in_limit in
+    let both = length-append (line (banks_header v)) (flat_map (bank_line v) net.banks) in
+    omega arith
+
+debts_short : (net : Net) → IsNetwork net → KeepsNames net → length (debts_text net) ≤ 8388608
+debts_short net network names =
+    let lines = short_lines Debt layout.Debts (debt_fields net) (λ debts. record { banks = net.banks; debts = debts }) net.debts
+    (debts_printed net network names) net.debts [] refl in
+    let first = short_header layout.Debts in
+    let few = network.debts_in_limit in
+    let both = length-append (line debts_header) (flat_map (debt_line net) net.debts) in
+    omega arith
+
+-- the version of a printed banks file says all of the banks
+each_passes : {X : Type 0} (p : X → Bool) (done rest : List X) (x : X) → list_all p (done ++ x ∷ rest) ≡ true → p x ≡ true
+each_passes p [] rest x h = (and_parts (p x) (list_all p rest) h).0
+each_passes p (y ∷ done) rest x h = each_passes p done rest x (and_parts (p y) (list_all p (done ++ x ∷ rest)) h).1
+
+version_says : (net : Net) → SaysBanks (version_for net) net
+version_says net done rest b e = by (list_all (λ b. b.outside == 0) net.banks) refl
+  where
+    by : (t : Bool) → list_all (λ b. b.outside == 0) net.banks ≡ t → SaysAll (if t then version.One else version.Two) b
+    by true h = eqb-true b.outside 0 (each_passes (λ b. b.outside == 0) done rest b (ap (list_all (λ b. b.outside == 0)) (sym e) ∙ h))
+    by false h = tt
 
 -- what is printed of a network is read back as the same network
 pub printed_is_read_back : (net : Net) → IsNetwork net → KeepsNames net → network_of (banks_text net) (debts_text net) ≡ Ok net
 printed_is_read_back net network names =
-    let printed : IsPrinted net = record { network = network; names = names } in
-    let banks = bank_lines net printed net.banks [] refl in
-    let debts = debt_lines net printed net.debts [] refl in
-    let few = network.banks_in_limit in
-    let few_too = network.debts_in_limit in
-    network_of_read (banks_text net) (debts_text net) (record { banks = net.banks; debts = [] }) net
-    (simp length-append (omega arith)) (simp length-append (omega arith)) (banks_file_back net printed) (debts_file_back net printed)
+    let says = version_says net in
+    network_of_read (banks_text net) (debts_text net) net (record {
+      some = with_banks net.banks;
+      small = banks_short (version_for net) net network names says;
+      small_too = debts_short net network names;
+      read = banks_back (version_for net) net network names says;
+      read_too =
+          file_back Debt layout.Debts (debt_fields net) (λ debts. record { banks = net.banks; debts = debts }) net.debts (debts_printed net network names);
+    })
+
+-- rows of banks add no debt, and rows of debts no bank
+no_debt_added : (v : Version) (net : Net) (r : ℕ × Fields) (next : Net) → trimmed_fields r.1 ≡ r.1 → net.debts ≡ []
+    → with_row (layout.Banks v) net r ≡ Ok next → next.debts ≡ []
+no_debt_added v net r next trimmed none h =
+    let read = and_then-ok (bank_in_row v net r) (λ b. Ok (with_bank net b)) next h in
+    let same : with_bank net read.0 ≡ next = cc in
+    ap (λ (n : Net). n.debts) (sym same) ∙ none
+
+no_bank_added : (banks : List Bank) (net : Net) (r : ℕ × Fields) (next : Net) → trimmed_fields r.1 ≡ r.1 → net.banks ≡ banks
+    → with_row layout.Debts net r ≡ Ok next → next.banks ≡ banks
+no_bank_added banks net r next trimmed same h =
+    let read = and_then-ok (debt_in_row net r) (λ d. Ok (with_debt net d)) next h in
+    let still : with_debt net read.0 ≡ next = cc in
+    ap (λ (n : Net). n.banks) (sym still) ∙ same
+
+-- the banks file in version 2 stands for any banks file
+pub converted_is_read_back : (banks debts : List ℕ) (net : Net) → network_of banks debts ≡ Ok net
+    → network_of (banks_text_2 net) debts ≡ Ok net
+converted_is_read_back banks debts net h =
+    let r = are_read banks debts net h in
+    let network = network_of_ok banks debts net h in
+    let names = network_of_names banks debts net h in
+    let v = version_of (records_of banks) in
+    let no_debts = with_file-keeps (λ n. n.debts ≡ []) (layout.Banks v) (no_debt_added v) banks empty_net r.some refl r.read in
+    let same_banks = with_file-keeps (λ n. n.banks ≡ r.some.banks) layout.Debts (no_bank_added r.some.banks) debts r.some net refl r.read_too in
+    let some : r.some ≡ with_banks net.banks =
+    ap (λ ds. record { banks = r.some.banks; debts = ds }) no_debts ∙ ap with_banks (sym same_banks) in
+    network_of_read (banks_text_2 net) debts net (record {
+      some = with_banks net.banks;
+      small = banks_short version.Two net network names (λ done rest b e. tt);
+      small_too = r.small_too;
+      read = banks_back version.Two net network names (λ done rest b e. tt);
+      read_too = ap (with_debts_of debts) (sym some) ∙ r.read_too;
+    })

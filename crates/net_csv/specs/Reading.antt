@@ -1,5 +1,5 @@
 -- What a file of banks and a file of debts mean together: a network, or the first fault.
-use Rattle.std.specs.Prelude.{ℕ, ◌==◌, nat_le, nat_lt, not, Bool, List, [], ◌∷◌, length, map, filter, codes, Result, Ok, Err}
+use Rattle.std.specs.Prelude.{ℕ, ◌==◌, nat_le, nat_lt, not, Bool, List, [], ◌∷◌, length, map, filter, codes, Result, Ok, Err, if◌then◌else◌}
 use Rattle.std.specs.List.{list_all, enumerate_from}
 use Rattle.csv.specs.Reading.{records, default_config, strip_bom}
 use Rattle.clr_net.specs.Net.{Net, empty_net, with_bank, with_debt}
@@ -8,12 +8,16 @@ use Rattle.clr_net.specs.declared.bank.Bank.{Bank}
 use Rattle.clr_net.specs.declared.debt.Debt.{Debt}
 use Rattle.net_check.specs.Checks.{and_then, fault_unless}
 use Rattle.net_check.specs.Field.{trimmed_field, are_words}
+use Rattle.net_check.specs.Words.{file_limit}
 use Rattle.net_check.specs.Record.{bank_from, debt_from, fault_at, in_row}
 use Rattle.net_check.specs.declared.fault.Fault.{Fault}
 use Rattle.net_check.specs.declared.fault.FileKind.{FileKind}
 use Rattle.net_check.specs.declared.fault.FileKind.TheVariants as file
 use Rattle.net_check.specs.declared.fault.FaultKind.TheVariants as fault
-use Rattle.net_csv.specs.declared.TheConstants.{MAX_FILE_BYTES}
+use Rattle.net_csv.specs.declared.layout.Layout.{Layout}
+use Rattle.net_csv.specs.declared.layout.Layout.TheVariants as layout
+use Rattle.net_csv.specs.declared.layout.Version.{Version}
+use Rattle.net_csv.specs.declared.layout.Version.TheVariants as version
 
 -- the fields of a record
 abbrev pub Fields : Type 0
@@ -23,8 +27,8 @@ Fields = List (List ℕ)
 abbrev pub trimmed_fields : Fields → Fields
 trimmed_fields fields = map trimmed_field fields
 
--- the records of a file, after one byte order mark, each field without the spaces and tabs at its ends.
--- A line with no byte is no record
+-- the records of a file, after one byte order mark, each field without the spaces and tabs at its
+-- ends. A line with no byte is no record
 abbrev pub records_of : List ℕ → List Fields
 records_of bytes = map trimmed_fields (records default_config (strip_bom bytes))
 
@@ -32,7 +36,8 @@ records_of bytes = map trimmed_fields (records default_config (strip_bom bytes))
 abbrev pub is_blank : Fields → Bool
 is_blank fields = list_all (λ field. length field == 0) fields
 
--- the records that are not blank, each with its row: the first record is of this row, and blank ones count
+-- the records that are not blank, each with its row: the first record is of this row, and blank
+-- ones count
 abbrev pub rows_from : ℕ → List Fields → List (ℕ × Fields)
 rows_from row below = filter (λ r. not (is_blank r.1)) (enumerate_from row below)
 
@@ -40,50 +45,87 @@ rows_from row below = filter (λ r. not (is_blank r.1)) (enumerate_from row belo
 abbrev pub rows_of : List Fields → List (ℕ × Fields)
 rows_of below = rows_from 1 below
 
--- the bank of a row, which may be added to a network, or the fault of the row
-abbrev pub bank_in_row : Net → ℕ × Fields → Result Bank Fault
-bank_in_row net r = in_row file.Banks r.0 (fault_unless (nat_lt (length net.banks) MAX_BANKS) fault.TooMany (bank_from net r.1))
-
--- the debt of a row, which may be added to a network, or the fault of the row
-abbrev pub debt_in_row : Net → ℕ × Fields → Result Debt Fault
-debt_in_row net r = in_row file.Debts r.0 (fault_unless (nat_lt (length net.debts) MAX_DEBTS) fault.TooMany (debt_from net r.1))
-
--- the network with the banks of some rows, or the first fault
-unfoldable pub read_banks : Net → List (ℕ × Fields) → Result Net Fault
-read_banks net [] = Ok net
-read_banks net (r ∷ rest) = and_then (bank_in_row net r) (λ b. read_banks (with_bank net b) rest)
-
--- the network with the debts of some rows, or the first fault
-unfoldable pub read_debts : Net → List (ℕ × Fields) → Result Net Fault
-read_debts net [] = Ok net
-read_debts net (r ∷ rest) = and_then (debt_in_row net r) (λ d. read_debts (with_debt net d) rest)
-
-abbrev pub banks_header : Fields
-banks_header = codes "name" ∷ codes "cash" ∷ codes "rule" ∷ []
+-- the header of a banks file: what banks owe outside the network came with version 2
+abbrev pub banks_header : Version → Fields
+banks_header version.One = codes "name" ∷ codes "cash" ∷ codes "rule" ∷ []
+banks_header version.Two = codes "name" ∷ codes "cash" ∷ codes "rule" ∷ codes "outside" ∷ []
 
 abbrev pub debts_header : Fields
 debts_header = codes "debtor" ∷ codes "creditor" ∷ codes "class" ∷ codes "claim" ∷ []
 
+-- the header of a file
+abbrev pub header : Layout → Fields
+header (layout.Banks v) = banks_header v
+header layout.Debts = debts_header
+
+-- the kind of a file
+abbrev pub file_of : Layout → FileKind
+file_of (layout.Banks v) = file.Banks
+file_of layout.Debts = file.Debts
+
+-- the bank of a row, which has as many fields as the header and may be added to a network, or the
+-- fault of the row
+abbrev pub bank_in_row : Version → Net → ℕ × Fields → Result Bank Fault
+bank_in_row v net r = in_row file.Banks r.0 (
+    fault_unless (nat_lt (length net.banks) MAX_BANKS) fault.TooMany (
+    fault_unless (length r.1 == length (banks_header v)) fault.Fields (
+    bank_from net r.1)))
+
+-- the debt of a row, which may be added to a network, or the fault of the row
+abbrev pub debt_in_row : Net → ℕ × Fields → Result Debt Fault
+debt_in_row net r = in_row file.Debts r.0 (
+    fault_unless (nat_lt (length net.debts) MAX_DEBTS) fault.TooMany (
+    debt_from net r.1))
+
+-- the network with the bank or the debt of a row, or the fault of the row
+abbrev pub with_row : Layout → Net → ℕ × Fields → Result Net Fault
+with_row (layout.Banks v) net r = and_then (bank_in_row v net r) (λ b. Ok (with_bank net b))
+with_row layout.Debts net r = and_then (debt_in_row net r) (λ d. Ok (with_debt net d))
+
+-- the network with the banks or the debts of some rows, one after the other, or the first fault
+unfoldable pub read_rows : Layout → Net → List (ℕ × Fields) → Result Net Fault
+read_rows l net [] = Ok net
+read_rows l net (r ∷ rest) = and_then (with_row l net r) (λ next. read_rows l next rest)
+
 -- the records below the header, which is the first record
 abbrev pub below_header : FileKind → Fields → List Fields → Result (List Fields) Fault
 below_header f header [] = Err (fault_at f 0 fault.Header)
-below_header f header (fields ∷ below) = fault_unless (are_words header fields) (fault_at f 0 fault.Header) (Ok below)
+below_header f header (fields ∷ below) =
+    fault_unless (are_words header fields) (fault_at f 0 fault.Header) (Ok below)
 
 -- the rows of a file
 abbrev pub rows_in_file : FileKind → Fields → List ℕ → Result (List (ℕ × Fields)) Fault
-rows_in_file f header bytes = and_then (below_header f header (records_of bytes)) (λ below. Ok (rows_of below))
+rows_in_file f header bytes =
+    and_then (below_header f header (records_of bytes)) (λ below. Ok (rows_of below))
+
+-- the network with the banks or the debts of a file, or the first fault of the file
+abbrev pub with_file : Layout → List ℕ → Net → Result Net Fault
+with_file l bytes net =
+    and_then (rows_in_file (file_of l) (header l) bytes) (λ rows. read_rows l net rows)
+
+-- the version of a banks file: the second where its first record is that header, and otherwise the
+-- first
+abbrev pub version_of : List Fields → Version
+version_of [] = version.One
+version_of (first ∷ below) =
+    if are_words (banks_header version.Two) first then version.Two else version.One
 
 -- the network with the banks of a file, or the first fault of the file
 abbrev pub with_banks_of : List ℕ → Net → Result Net Fault
-with_banks_of bytes net = and_then (rows_in_file file.Banks banks_header bytes) (λ rows. read_banks net rows)
+with_banks_of bytes net = with_file (layout.Banks (version_of (records_of bytes))) bytes net
 
 -- the network with the debts of a file, or the first fault of the file
 abbrev pub with_debts_of : List ℕ → Net → Result Net Fault
-with_debts_of bytes net = and_then (rows_in_file file.Debts debts_header bytes) (λ rows. read_debts net rows)
+with_debts_of bytes net = with_file layout.Debts bytes net
 
--- the network that two files give, or their first fault: both sizes are checked first, and then all of the banks
+-- whether a file is within the limit of its kind
+abbrev pub is_within_limit : FileKind → List ℕ → Bool
+is_within_limit f bytes = nat_le (length bytes) (file_limit f)
+
+-- the network that two files give, or their first fault: both sizes are checked first, and then all
+-- of the banks
 abbrev pub network_of : List ℕ → List ℕ → Result Net Fault
 network_of banks debts =
-    fault_unless (nat_le (length banks) MAX_FILE_BYTES) (fault_at file.Banks 0 fault.FileSize) (
-    fault_unless (nat_le (length debts) MAX_FILE_BYTES) (fault_at file.Debts 0 fault.FileSize) (
+    fault_unless (is_within_limit file.Banks banks) (fault_at file.Banks 0 fault.FileSize) (
+    fault_unless (is_within_limit file.Debts debts) (fault_at file.Debts 0 fault.FileSize) (
     and_then (with_banks_of banks empty_net) (λ net. with_debts_of debts net)))

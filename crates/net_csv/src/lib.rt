@@ -3,16 +3,12 @@
 
 mod banks;
 mod debts;
+mod file;
 pub mod laws;
+mod layout;
 mod print;
 mod read;
-mod records;
+pub mod records;
 
-pub use print::{print_banks, print_debts};
+pub use print::{print_banks, print_banks_2, print_debts};
 pub use read::read_network;
-
-/// The most bytes of a banks or debts file.
-pub const MAX_FILE_BYTES: u64 = 8_388_608;
-
-#[cfg(test)]
-mod tests;

@@ -1,19 +1,47 @@
 ghost use Rattle.clr_net.specs.Net.{name_of};
-ghost use Rattle.net_csv.specs.Printing.{bank_line, banks_text, debt_line, debts_text, rule_word as word_of_rule};
+ghost use Rattle.net_csv.specs.Printing.{bank_line, banks_text, banks_text_2, banks_text_in, debt_line, debts_text, rule_word as word_of_rule};
+ghost use Rattle.net_csv.specs.Reading.{network_of};
 ghost use Rattle.std.specs.Fmt.{decimal};
-ghost use Rattle.std.specs.Prelude.{◌≡◌, ◌<◌, ◌∷◌, ◌++◌, [], length, IfOk, OnOk};
+ghost use Rattle.std.specs.Prelude.{◌≡◌, ◌<◌, ◌∷◌, ◌++◌, [], ℕ, List, Ok, length, IfOk, OnOk};
 
+use crate::layout::Version;
 use clr_net::{Bank, BankId, Debt, DebtId, Mem, Network, RuleKind};
 use std::alloc::Global;
 
-/// The banks file of a network: its header, and a line for each bank, in file order.
+/// The banks file of a network: its header, and a line for each bank, in file order. It is of
+/// version 1 where no bank owes anything outside the network, and otherwise of version 2.
 pub fn print_banks(alloc: Global, net: &Network) -> Result<Vec<u8>, Mem>
     ensures { IfOk result (λ text. text.items ≡ banks_text net.now) }
 {
-    let mut text = Vec::from_slice(alloc, b"name,cash,rule\n")?;
+    if net.outside_total() == 0 {
+        banks_file(alloc, net, Version::One)
+    } else {
+        banks_file(alloc, net, Version::Two)
+    }
+}
+
+/// The banks file of a network in version 2, whatever its banks owe outside the network.
+pub fn print_banks_2(alloc: Global, net: &Network) -> Result<Vec<u8>, Mem>
+    ensures text { IfOk result (λ text. text.items ≡ banks_text_2 net.now) }
+
+    // With the debts file that gave the network it gives the same network.
+    ensures read_back { (banks debts : List ℕ) → network_of banks debts ≡ Ok net.now
+        → IfOk result (λ text. network_of text.items debts ≡ Ok net.now) }
+{
+    banks_file(alloc, net, Version::Two)
+}
+
+// The banks file of a network in a version.
+fn banks_file(alloc: Global, net: &Network, version: Version) -> Result<Vec<u8>, Mem>
+    ensures { IfOk result (λ text. text.items ≡ banks_text_in version net.now) }
+{
+    let mut text = match version {
+        Version::One => Vec::from_slice(alloc, b"name,cash,rule\n")?,
+        Version::Two => Vec::from_slice(alloc, b"name,cash,rule,outside\n")?,
+    };
     let mut digits = String::new(alloc);
     for i in 0..net.banks() {
-        push_bank(&mut text, &mut digits, net.bank(BankId(i)))?;
+        push_bank(&mut text, &mut digits, version, net.bank(BankId(i)))?;
     }
     Ok(text)
 }
@@ -31,12 +59,24 @@ pub fn print_debts(alloc: Global, net: &Network) -> Result<Vec<u8>, Mem>
 }
 
 // Appends the line of a bank. `digits` is scratch space.
-fn push_bank(text: &mut Vec<u8>, digits: &mut String, bank: &Bank) -> Result<(), Mem>
-    ensures { OnOk result (text.new.items ≡ text.old.items ++ bank_line bank.now) }
+fn push_bank(
+    text: &mut Vec<u8>,
+    digits: &mut String,
+    version: Version,
+    bank: &Bank,
+) -> Result<(), Mem>
+    ensures { OnOk result (text.new.items ≡ text.old.items ++ bank_line version bank.now) }
 {
     push_field(text, bank.name.bytes(), b',')?;
     push_number(text, digits, bank.cash, b',')?;
-    push_field(text, rule_word(bank.rule).as_bytes(), b'\n')
+    let rule = rule_word(bank.rule).as_bytes();
+    match version {
+        Version::One => push_field(text, rule, b'\n'),
+        Version::Two => {
+            push_field(text, rule, b',')?;
+            push_number(text, digits, bank.outside, b'\n')
+        }
+    }
 }
 
 // Appends the line of a debt. `digits` is scratch space.

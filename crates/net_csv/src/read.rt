@@ -4,30 +4,29 @@ ghost use Rattle.net_csv.specs.Printing.{banks_text, debts_text};
 ghost use Rattle.net_csv.specs.Reading.{network_of};
 ghost use Rattle.std.specs.Prelude.{◌≡◌, Ok, Err, IfOk, IsErrOf};
 
-use crate::MAX_FILE_BYTES;
-use crate::banks::add_banks;
-use crate::debts::add_debts;
+use crate::file::{add_banks, add_debts};
 use crate::records::fault;
 use clr_net::Network;
 use net_check::{FaultKind, FileKind, ReadNet};
 use std::alloc::Global;
 
-/// Reads a network from a banks file and a debts file.
+/// Reads a network from a banks file, of version 1 or 2, and a debts file.
 ///
-/// `Refused` names the first fault: of the sizes, then of the banks file, then of the debts file, each record in
-/// order. Costs one pass over each file.
+/// `Refused` names the first fault: of the sizes, then of the banks file, then of the debts file,
+/// each record in order. Costs one pass over each file.
 pub fn read_network(alloc: Global, banks: &[u8], debts: &[u8]) -> Result<Network, ReadNet>
     ensures network { IfOk result (λ net. network_of banks.now debts.now ≡ Ok net) }
-    ensures refused { (f : Fault) → IsErrOf result (ReadNet.Refused f) → network_of banks.now debts.now ≡ Err f }
+    ensures refused { (f : Fault) → IsErrOf result (ReadNet.Refused f)
+        → network_of banks.now debts.now ≡ Err f }
     ensures lawful { IfOk result IsNetwork }
 
     // What is printed of the network is read as the same network.
     ensures prints { IfOk result (λ net. network_of (banks_text net) (debts_text net) ≡ Ok net) }
 {
-    if banks.len() as u64 > MAX_FILE_BYTES {
+    if banks.len() as u64 > FileKind::Banks.limit() {
         return Err(ReadNet::Refused(fault(FileKind::Banks, 0, FaultKind::FileSize)));
     }
-    if debts.len() as u64 > MAX_FILE_BYTES {
+    if debts.len() as u64 > FileKind::Debts.limit() {
         return Err(ReadNet::Refused(fault(FileKind::Debts, 0, FaultKind::FileSize)));
     }
     let mut net = Network::empty(alloc);

@@ -7,9 +7,9 @@ use lib.ListN.{get_elem?}
 use Rattle.atomic_table.specs.Table.{Final, Seen}
 use Rattle.clr_net.specs.Amounts.{IsAtMost}
 use Rattle.clr_net.specs.Net.{Net, debtor_of, debt_numbers}
-use Rattle.clear_core.specs.Clearing.{least}
+use Rattle.clear_core.specs.Clearing.{least, pay}
 use Rattle.clear_core.specs.History.{IsHistory, ordered, replayed}
-use Rattle.clear_core.proofs.Ordered.{ordered_stands, ordered_is_traced}
+use Rattle.clear_core.proofs.Ordered.{ordered_again, ordered_stands, ordered_is_traced}
 use Rattle.clear_core.specs.declared.event.Raise.{Raise}
 use Rattle.pay_words.specs.declared.deed.Deed.{Deed}
 use Rattle.pay_words.specs.declared.payment.Payment.{Payment}
@@ -24,8 +24,8 @@ use Rattle.pay_words.specs.Kept.{Ledger, Suits, taken_of, made_of, own_raises}
 use Rattle.pay_words.proofs.Tables.{tabled_at, tabled_agree, length-tabled}
 use Rattle.pay_words.proofs.Traces.{among_raises_of, under_ending, read_back}
 use Rattle.pay_words.proofs.Lawful.{value_fits, paid_in_below}
-use Rattle.pay_words.proofs.Pasts.{mapped_twice}
-use Rattle.pay_words.proofs.Orders.{same_of}
+use Rattle.pay_words.proofs.Pasts.{covered, mapped_twice}
+use Rattle.pay_words.proofs.Orders.{in_ordered, same_of}
 use Rattle.pay_words.proofs.Histories.{lawful_agree, history_of, replayed_is}
 use Rattle.pay_words.proofs.Views.{rule, not_both}
 use Rattle.pay_words.proofs.Marks.{chooses}
@@ -54,13 +54,14 @@ module _ (net : Net) (raises : List Raise) (known : (r : Raise) → In r raises 
   values_are : values payments ≡ paid_in net t
   values_are = mapped_twice (λ (p : Payment). p.value) (λ (x : ℕ). last_payment x raises) (debt_numbers net)
 
-  pub low_stamps : All (λ r. r.stamp ≤ sum (values payments)) raises
-  low_stamps k d lt =
-      let r = get_or raises k d in
-      let i = in_at raises k d lt in
+  low_stamp : (r : Raise) → In r raises → r.stamp ≤ sum (values payments)
+  low_stamp r i =
       let l = known r i in
       let u = under_ending unpaid (t r.debt.0) (h.rise r.debt.0 l) r (among_raises_of raises r i) in
       omega (arith, u.0, h.low r.debt.0 l, ap sum values_are)
+
+  pub low_stamps : All (λ r. r.stamp ≤ sum (values payments)) raises
+  low_stamps k d lt = low_stamp (get_or raises k d) (in_at raises k d lt)
 
   pub values_below : IsAtMost (values payments) (least net)
   values_below x = omega (arith, paid_in_below net t h x, ap (λ (ns : List ℕ). slice_index ns x) values_are)
@@ -77,10 +78,13 @@ module _ (net : Net) (raises : List Raise) (known : (r : Raise) → In r raises 
   history = history_of net raises h known
 
   pub belongs : Belongs net payments (ordered raises)
-  belongs = record { stands = ordered_stands net raises history; traced = ordered_is_traced net raises history; start_is = start_same; stamps_low = payment_low }
+  belongs = record { in_order = ordered_again raises; stands = ordered_stands net raises history; traced = ordered_is_traced net raises history; start_is = start_same; stamps_low = payment_low }
 
   pub replays : replayed net (ordered raises) ≡ values payments
   replays = replayed_is net (ordered raises) ∙ ap values (sym start_same)
+
+  pub low_in_order : All (λ r. r.stamp ≤ sum (values payments)) (ordered raises)
+  low_in_order k d lt = low_stamp (get_or (ordered raises) k d) (in_ordered raises _ (in_at (ordered raises) k d lt))
 
 -- a seat that holds no bank of a debtor has made no raise
 made_none : (d : Deed) (k : Ledger) (roll count id j : ℕ) (v u : View) → Suits d k roll count id v → v.shown.master ≡ true → ((x : ℕ) → x < length d.net.debts → holds v.shown (debtor_of d.net x) ≡ true)
@@ -136,9 +140,11 @@ closes d id v ws xs on chief all final =
       ends = record {
         payments_are = refl;
         below_least = subst (λ (ps : List Payment). IsAtMost (values ps) (least net)) (sym shown) (values_below net raises known lawful);
+        covered = subst (λ (ps : List Payment). IsAtMost (values ps) (pay net (values ps))) (sym shown) (covered net _ _ (belongs net raises known lawful));
         lawful = subst (λ (ps : List Payment). Belongs net ps (ordered raises)) (sym shown) (belongs net raises known lawful);
         replays = subst (λ (ps : List Payment). replayed net (ordered raises) ≡ values ps) (sym shown) (replays net raises known lawful);
         low_stamps = subst (λ (ps : List Payment). All (λ r. r.stamp ≤ sum (values ps)) raises) (sym shown) (low_stamps net raises known lawful);
+        low_in_order = subst (λ (ps : List Payment). All (λ r. r.stamp ≤ sum (values ps)) (ordered raises)) (sym shown) (low_in_order net raises known lawful);
         few_bells =
             let r = h.rung in
             let taken = sum_least taken_of s.views id v final.1.1 in

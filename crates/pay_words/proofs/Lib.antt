@@ -9,11 +9,14 @@ pub mod Marks
 pub mod Splits
 pub mod Joins
 pub mod Rings
+pub mod Purses
 pub mod Seats
 pub mod Pasts
 pub mod Openings
 pub mod Orders
 pub mod Histories
+pub mod Starts
+pub mod Places
 pub mod Ends
 pub mod Bells
 pub mod Rung

@@ -56,6 +56,9 @@ module _ {A : Type 0} (none : A) (n : ℕ) (p : ℕ → Bool) (xs ys : List A) w
   abbrev pick : ℕ → A
   pick k = if p k then slice_index_or ys k none else slice_index_or xs k none
 
+  pub chosen_at : (x : ℕ) → x < n → get_or (chosen none n p xs ys) x none ≡ (if p x then slice_index_or ys x none else slice_index_or xs x none)
+  chosen_at x lt = tabled_at n pick x none lt
+
   pub chosen_second : (x : ℕ) → x < n → p x ≡ true → get_or (chosen none n p xs ys) x none ≡ get_or ys x none
   chosen_second x lt e = tabled_at n pick x none lt ∙ chooses (p x) (get_or ys x none) (get_or xs x none) e
 

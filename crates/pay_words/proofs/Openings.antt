@@ -1,6 +1,7 @@
 -- The first state of a board meets its rule.
 use Rattle.std.proofs.Common.{◌≡◌, ℕ, zero, suc, ◌+◌, ◌<◌, ◌≤◌, max, List, [], ◌∷◌, ◌++◌, length, map, take, get_or, Bool, true, false, true≢false, refl, sym, ap, ◌∙◌, subst, arith, le_refl, le_trans, le_of_eq, zero-le, replicate}
-use Rattle.std.specs.Prelude.{slice_index}
+use Rattle.std.specs.Prelude.{◌%◌, slice_index}
+use Rattle.std.proofs.Math.Nat.{mod-lt}
 use Rattle.std.proofs.lemmas.List.{take_more, map-append, get_or-map, length-map, get_or-replicate, length-replicate, append-nil, get_or_past, get_or_append_left, length-append}
 use mathlib.Core.Option.{some, some-ne-none, some-injective}
 use mathlib.Core.Logic.{dite}
@@ -8,7 +9,7 @@ use native.Mathlib.Decide.{dec_lt}
 use lib.ListN.{get_elem?}
 use Rattle.clr_net.specs.Amounts.{IsAtMost}
 use Rattle.clr_net.specs.Limits.{IsNetwork}
-use Rattle.clr_net.specs.Net.{Net}
+use Rattle.clr_net.specs.Net.{Net, debtor_of, debt_numbers}
 use Rattle.clear_core.specs.Clearing.{least}
 use Rattle.pay_words.specs.declared.deed.Deed.{Deed}
 use Rattle.pay_words.specs.declared.payment.Payment.{Payment}
@@ -20,7 +21,7 @@ use Rattle.pay_words.specs.Views.{IsSound, greatest, opening, is_marked}
 use Rattle.pay_words.specs.Kept.{Ledger, Suits, IsKept, Tower, HasBells, taken_of, made_of, bell, opening_view}
 use Rattle.pay_words.proofs.Traces.{ending_stood, among_raises_of, under_ending}
 use Rattle.pay_words.proofs.Lawful.{total_le, value_fits}
-use Rattle.pay_words.specs.Seats.{IsKeptIn}
+use Rattle.pay_words.specs.Seats.{IsKeptIn, Tells, purse}
 use Rattle.pay_words.proofs.Tables.{tabled_at}
 use Rattle.pay_words.proofs.Bells.{sum_of_ones, sum_of_zeros}
 use Rattle.std.proofs.Common.{inl}
@@ -206,15 +207,22 @@ module _ (d : Deed) (start : List Payment) (network : IsNetwork d.net) (h : Belo
       let limit = network.owed_in_limit in
       subst (λ (q : Payment). word_of q < 18446744073709551616) (sym at) (omega (arith, value, stamp, most, limit))
 
+  abbrev values : List ℕ
+  values = map (λ p. p.value) start
+
   -- what the master has in memory at first
-  pub kept_opening : (paid : List ℕ) (clock workers : ℕ) → paid ≡ map (λ p. p.value) start → clock ≡ greatest (map (λ p. p.stamp) start) → 0 < workers → IsKeptIn (opening_view d) paid clock 0 workers 0
-  kept_opening paid clock workers e f some' = subst (λ (ps : List Payment). IsKeptIn (record { live = true; rolled = 1; shown = opening net ps }) paid clock 0 workers 0) h.start_is (record {
+  pub kept_opening : (clock workers : ℕ) (debtors : List ℕ) → debtors ≡ map (debtor_of net) (debt_numbers net) → clock ≡ greatest (map (λ p. p.stamp) start) → 0 < workers
+      → IsKeptIn (opening_view d) (purse [] (replicate workers (map (λ p. p.value) start)) debtors workers 0) clock 0
+  kept_opening clock workers debtors e f some' = subst (λ (ps : List Payment). IsKeptIn (record { live = true; rolled = 1; shown = opening net ps }) (purse [] (replicate workers values) debtors workers 0) clock 0) h.start_is (record {
     live = refl;
     sound = sound_opening;
     clock_is = f;
     seats_are = refl;
-    paid_over = ap length e ∙ over_values;
-    paid_are = λ x _ _. ap (λ (ns : List ℕ). slice_index ns x) e;
     some_workers = some';
-    worker_is = λ b. absurd (true≢false b);
+    at_worker = λ b. absurd (true≢false b);
+    at_master = λ _. record {
+      lists = length-replicate workers values;
+      debtors = e;
+      tells = λ x lt _. subst (λ (l : List ℕ). Tells l values x) (sym (get_or-replicate workers (debtor_of net x % workers) values [] (mod-lt (debtor_of net x) some'))) (omega (arith, lt, over_values), refl);
+    };
   })

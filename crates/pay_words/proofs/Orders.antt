@@ -1,5 +1,5 @@
 -- Raises in order of their stamps keep those of each debt as they are.
-use Rattle.std.proofs.Common.{◌≡◌, ℕ, ◌+◌, ◌≤◌, ◌==◌, List, [], ◌∷◌, length, sum_by, Bool, true, false, inl, inr, refl, sym, ap, ◌∙◌, subst, ⊎_elim, arith, le_refl, le_trans, zero-le}
+use Rattle.std.proofs.Common.{◌≡◌, ℕ, ◌+◌, ◌≤◌, ◌==◌, List, [], ◌∷◌, length, sum_by, Bool, true, false, inl, inr, refl, sym, ap, ◌∙◌, subst, ⊎_elim, arith, le_of_eq, le_refl, le_trans, zero-le}
 use Rattle.std.specs.Prelude.{◌&&◌, if◌then◌else◌, filter, cond}
 use Rattle.std.proofs.lemmas.Bool.{eqb-true, eq-eqb, and_parts, and_from}
 use Rattle.std.proofs.lemmas.List.Sums.{sum_by-cons}
@@ -137,3 +137,7 @@ length-ordered rs = sym (length_is (ordered rs)) ∙ sum_ordered (λ _. 1) rs �
     length_is : (l : List Raise) → sum_by (λ _. 1) l ≡ length l
     length_is [] = refl
     length_is (r ∷ l) = let rest = length_is l in omega (arith, rest, sum_by-cons (λ (_ : Raise). 1) r l)
+
+-- a raise of the raises in order is one of them
+pub in_ordered : (rs : List Raise) (r : Raise) → In r (ordered rs) → In r rs
+in_ordered rs r i = found r rs (le_trans (counted r (ordered rs) i) (le_of_eq (sum_ordered (one r) rs)))

@@ -1,14 +1,15 @@
 -- A past that belongs to a network makes a lawful history, and the first state of a board.
-use Rattle.std.proofs.Common.{◌≡◌, ◌≢◌, ◌⊎◌, ℕ, suc, ◌<◌, ◌≤◌, ◌==◌, max, List, [], ◌∷◌, length, map, set, get_or, sum, slice_get, Some, Bool, true, false, true≢false, inl, inr, refl, sym, ap, ◌∙◌, subst, ⊎_elim, arith, le_trans, le_of_eq, zero-le, length-set, get_or-set_same, get_or-set_other}
+use Rattle.std.proofs.Common.{◌≡◌, ◌≢◌, ◌⊎◌, ℕ, suc, ◌<◌, ◌≤◌, ◌==◌, max, List, [], ◌∷◌, length, map, set, get_or, sum, slice_get, Some, Bool, true, false, true≢false, inl, inr, refl, sym, ap, ◌∙◌, subst, ⊎_elim, All, arith, le_trans, le_of_eq, zero-le, length-set, get_or-set_same, get_or-set_other}
 use Rattle.std.specs.Prelude.{slice_index, if◌then◌else◌, ◌&&◌, nat_lt, cond}
 use Rattle.std.proofs.lemmas.Bool.{eqb-true, eq-eqb}
-use Rattle.std.proofs.lemmas.List.{get_or_past, length-replicate}
+use Rattle.std.proofs.lemmas.List.{get_or_past, get_or-map, length-map, length-replicate}
 use Rattle.std.proofs.lemmas.List.Sums.{sum_by-le-sum_by}
 use mathlib.Core.Logic.{dite}
 use native.Mathlib.Decide.{dec_lt}
+use Rattle.clr_net.specs.Amounts.{IsAtMost}
 use Rattle.clr_net.specs.Net.{Net, debtor_of, column, debt_numbers}
 use Rattle.clear_core.specs.Clearing.{part, pay, receipts, least, zeros}
-use Rattle.clear_core.specs.History.{StandsFrom, raised_before, paid_before}
+use Rattle.clear_core.specs.History.{IsTraced, Stands, StandsFrom, ordered, raised_before, paid_before}
 use Rattle.clear_core.specs.declared.event.Raise.{Raise}
 use Rattle.clear_core.proofs.Pay.{pay_at, pay_past, part_mono}
 use Rattle.clear_core.proofs.Journals.{traced_le_least}
@@ -16,6 +17,7 @@ use Rattle.pay_words.specs.declared.payment.Payment.{Payment}
 use Rattle.pay_words.specs.Traces.{Traces, IsLawful, In, Rise, ending, raises_of, last_payment, start_of, paid_to, total}
 use Rattle.pay_words.specs.Words.{unpaid}
 use Rattle.pay_words.specs.Belongs.{Belongs}
+use Rattle.pay_words.specs.Ends.{HaveLowStamps, values}
 use Rattle.pay_words.proofs.Tables.{tabled_at, length-tabled}
 use Rattle.pay_words.proofs.Traces.{left_by, in_raises_of, ending_cases, under_ending}
 
@@ -177,10 +179,23 @@ module _ (net : Net) (start : List Payment) (past : List Raise) (h : Belongs net
           (λ l. le_trans (before_most stamp y (ending (traces y)).value (traces y) (λ r i. (under_ending unpaid (traces y) (past_rise y).0 r i).1)) (le_of_eq (sym (at y l))))
           (λ ge. le_trans (none_past y (omega arith) stamp) zero-le)
 
+  -- the values are at most what all banks would pay from them
+  pub covered : IsAtMost (values start) (pay net (values start))
+  covered x = dite (dec_lt x (length net.debts))
+      (λ lt. le_trans (le_of_eq (value_at x lt)) (le_trans (start_within x lt (values start) value_at size) (le_of_eq (sym (pay_at net (values start) x lt)))))
+      (λ ge. le_trans (le_of_eq (get_or_past (values start) x 0 (omega (arith, size)))) zero-le)
+    where
+      size : length (values start) ≡ length net.debts
+      size = length-map start (λ p. p.value) ∙ start_over
+
+      value_at : (y : ℕ) → y < length net.debts → slice_index (values start) y ≡ (ending (traces y)).value
+      value_at y lt = get_or-map (λ (p : Payment). p.value) start y unpaid 0 (omega (arith, lt, start_over)) ∙ ap (λ (p : Payment). p.value) (start_at y lt)
+
 -- nothing is paid on a board without a past
 pub belongs_at_first : (net : Net) (start : List Payment) → start ≡ start_of net [] → Belongs net start []
 unfolding StandsFrom
 belongs_at_first net start e = record {
+  in_order = refl;
   stands = tt;
   traced = record { differ = λ i j a b lt f g. absurd (cc); within = λ i r f. absurd (cc) };
   start_is = e;
@@ -188,4 +203,28 @@ belongs_at_first net start e = record {
       let l : k < length net.debts = omega (arith, lt, ap length e, length-tabled (length net.debts) (λ x. last_payment x [])) in
       let at : get_or start k p ≡ unpaid = ap (λ (ps : List Payment). get_or ps k p) e ∙ tabled_at (length net.debts) (λ x. last_payment x []) k p l in
       omega (arith, ap (λ (q : Payment). q.stamp) at);
+}
+
+-- what holds of all raises holds of each
+all_in : (P : Raise → Type 0) (rs : List Raise) (r : Raise) → In r rs → All P rs → P r
+all_in P [] r i h = absurd i
+all_in P (a ∷ rs) r (inl e) h = subst P e (h 0 a (omega arith))
+all_in P (a ∷ rs) r (inr i) h = all_in P rs r i (λ k d lt. h (suc k) d (omega (arith, lt)))
+
+-- a lawful journal in order, with no stamp above the sum of the values, is a past
+pub belongs_of : (net : Net) (rs : List Raise) → Stands net rs → IsTraced net rs → ordered rs ≡ rs → HaveLowStamps rs (start_of net rs) → Belongs net (start_of net rs) rs
+belongs_of net rs stands traced order low = record {
+  in_order = order;
+  stands = stands;
+  traced = traced;
+  start_is = refl;
+  stamps_low = λ k d lt.
+      let l : k < length net.debts = omega (arith, lt, length-tabled (length net.debts) (λ x. last_payment x rs)) in
+      let at : get_or (start_of net rs) k d ≡ last_payment k rs = tabled_at (length net.debts) (λ x. last_payment x rs) k d l in
+      let most : ℕ = sum (values (start_of net rs)) in
+      le_trans (le_of_eq (ap (λ (p : Payment). p.stamp) at)) (⊎_elim
+      (λ (e : ending (raises_of k rs) ≡ unpaid). le_trans (le_of_eq (ap (λ (p : Payment). p.stamp) e)) zero-le)
+      (λ (t : (r : Raise) × In r (raises_of k rs) × (ending (raises_of k rs) ≡ left_by r)).
+      le_trans (le_of_eq (ap (λ (p : Payment). p.stamp) t.2)) (all_in (λ r. r.stamp ≤ most) rs t.0 (in_raises_of k rs t.0 t.1).0 low))
+      (ending_cases unpaid (raises_of k rs)));
 }

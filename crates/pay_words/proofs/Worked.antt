@@ -4,7 +4,7 @@ use Rattle.std.specs.Prelude.{slice_index}
 use Rattle.clr_net.specs.Division.{award, share_from}
 use Rattle.clr_net.specs.Samples.{chain}
 use Rattle.clear_core.specs.Clearing.{part, receipts}
-use Rattle.clear_core.specs.Cases.{ring}
+use Rattle.net_samples.specs.Networks.{ring}
 
 -- what A may pay on the chain, whatever was seen, since nobody pays A
 pub first_of_chain : (seen : List ℕ) → part chain 0 (receipts chain seen 0) ≡ 7

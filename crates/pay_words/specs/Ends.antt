@@ -2,7 +2,7 @@
 use Rattle.std.specs.Prelude.{◌≡◌, ℕ, ◌+◌, ◌<◌, ◌≤◌, ◌++◌, All, List, length, map, sum, slice_index}
 use Rattle.clr_net.specs.Amounts.{IsAtMost}
 use Rattle.clr_net.specs.Net.{Net}
-use Rattle.clear_core.specs.Clearing.{least}
+use Rattle.clear_core.specs.Clearing.{least, pay}
 use Rattle.clear_core.specs.History.{ordered, replayed}
 use Rattle.clear_core.specs.declared.event.Raise.{Raise}
 use Rattle.pay_words.specs.declared.payment.Payment.{Payment}
@@ -12,12 +12,14 @@ use Rattle.pay_words.specs.Views.{tabled}
 
 -- the payments that a seat shows
 abbrev pub payments_of : Shown → List Payment
-payments_of s = tabled (length s.net.debts) (λ x. record { value = slice_index s.paid x; stamp = slice_index s.paid_stamps x })
+payments_of s = tabled (length s.net.debts)
+    (λ x. record { value = slice_index s.paid x; stamp = slice_index s.paid_stamps x })
 
 abbrev pub values : List Payment → List ℕ
 values payments = map (λ p. p.value) payments
 
--- these raises, in order, are lawful where they stand and by their stamps, and what they leave on each debt is its payment
+-- these raises, in order, are lawful where they stand and by their stamps, and what they leave on
+-- each debt is its payment
 abbrev pub AreLawful : Net → List Raise → List Payment → Type 0
 AreLawful net raises payments = Belongs net payments (ordered raises)
 
@@ -37,8 +39,10 @@ AreAfter past raises = All (λ r. All (λ p. p.stamp < r.stamp) past) raises
 pub record Ends (net : Net) (past : List Raise) (s : Shown) (payments : List Payment) : Type 0 where
   pub payments_are : payments ≡ payments_of s
   pub below_least : IsAtMost (values payments) (least net)
+  pub covered : IsAtMost (values payments) (pay net (values payments))
   pub lawful : AreLawful net (past ++ s.raises) payments
   pub replays : Replay net (past ++ s.raises) payments
   pub low_stamps : HaveLowStamps (past ++ s.raises) payments
+  pub low_in_order : HaveLowStamps (ordered (past ++ s.raises)) payments
   pub after_past : AreAfter past s.raises
   pub few_bells : s.taken ≤ length net.banks + length s.raises

@@ -16,8 +16,8 @@ use Rattle.pay_words.specs.Words.{word_of, payment_of}
 use Rattle.pay_words.specs.Traces.{Traces, IsLawful, In, Stood, raises_of, ending, start_of, total}
 use Rattle.pay_words.specs.Views.{IsSound, IsCalm, HasSeenFloor, HasSeenAll, HoldsAll, OwesNoRing, tabled, is_marked, holds, opening, looked, raised, rung, took, handed, without, rejoined}
 
--- what no single seat knows: which seat holds each bank, which one is the master, the raises of the past and of the
--- master, and those of each debt
+-- what no single seat knows: which seat holds each bank, which one is the master, the raises of the
+-- past and of the master, and those of each debt
 pub record Ledger : Type 0 where
   pub owner : ℕ → ℕ
   pub chief : ℕ
@@ -37,8 +37,10 @@ pub record Suits (d : Deed) (k : Ledger) (roll count id : ℕ) (v : View) : Type
   pub mine : (b : ℕ) → holds v.shown b ≡ true → k.owner b ≡ id
   -- the payments that it shows are those of the words
   pub pays : (x : ℕ) → x < length d.net.debts → holds v.shown (debtor_of d.net x) ≡ true
-      → record { value = slice_index v.shown.paid x; stamp = slice_index v.shown.paid_stamps x } ≡ ending (k.trace x)
-  -- of a debt that its banks owe, the raises are those of the past, of the master and its own; it made no other raise
+      → record { value = slice_index v.shown.paid x; stamp = slice_index v.shown.paid_stamps x }
+      ≡ ending (k.trace x)
+  -- of a debt that its banks owe, the raises are those of the past, of the master and its own; it
+  -- made no other raise
   pub told : (x : ℕ) → x < length d.net.debts → holds v.shown (debtor_of d.net x) ≡ true
       → k.trace x ≡ raises_of x k.base ++ raises_of x (own_raises v.shown.master v.shown.raises)
   pub only : (r : Raise) → In r (own_raises v.shown.master v.shown.raises)
@@ -46,10 +48,12 @@ pub record Suits (d : Deed) (k : Ledger) (roll count id : ℕ) (v : View) : Type
   -- each sight stood once, and no floor is above what is paid
   pub stood : (x : ℕ) → x < length d.net.debts
       → Stood (k.trace x) (slice_index v.shown.sights x) (slice_index v.shown.sight_stamps x)
-  pub floor : (x : ℕ) → x < length d.net.debts → slice_index v.shown.floor x ≤ (ending (k.trace x)).value
+  pub floor : (x : ℕ) → x < length d.net.debts
+      → slice_index v.shown.floor x ≤ (ending (k.trace x)).value
   -- its clock is at least each stamp that it knows, and at most all that is paid
   pub seen_by_clock : (x : ℕ) → slice_index v.shown.sight_stamps x ≤ v.shown.clock
-  pub paid_by_clock : (x : ℕ) → x < length d.net.debts → holds v.shown (debtor_of d.net x) ≡ true → (ending (k.trace x)).stamp ≤ v.shown.clock
+  pub paid_by_clock : (x : ℕ) → x < length d.net.debts
+      → holds v.shown (debtor_of d.net x) ≡ true → (ending (k.trace x)).stamp ≤ v.shown.clock
   pub past_by_clock : (r : Raise) → In r d.past → r.stamp ≤ v.shown.clock
   pub late : (r : Raise) → In r v.shown.raises → (p : Raise) → In p d.past → p.stamp < r.stamp
   pub clock_low : v.shown.clock ≤ total d.net k.trace
@@ -62,8 +66,9 @@ pub record Suits (d : Deed) (k : Ledger) (roll count id : ℕ) (v : View) : Type
 abbrev pub Sits : List View → ℕ → (View → Type 0) → Type 0
 Sits views id what = (v : View) × (get_elem? views id ≡ some v) × (v.live ≡ true) × what v
 
--- what no single seat knows of the bells: of each debt what its creditor last saw, whether it is pending there, whether it
--- owes a ring and the greatest floor of any seat, and of each bank whether its bell was never taken
+-- what no single seat knows of the bells: of each debt what its creditor last saw, whether it is
+-- pending there, whether it owes a ring and the greatest floor of any seat, and of each bank
+-- whether its bell was never taken
 pub record Tower : Type 0 where
   pub seen : ℕ → ℕ
   pub pend : ℕ → Bool
@@ -73,17 +78,22 @@ pub record Tower : Type 0 where
 
 -- what the view of a live seat has of that
 pub record HasBells (d : Deed) (w : Tower) (v : View) : Type 0 where
-  pub seen : (x : ℕ) → x < length d.net.debts → holds v.shown (creditor_of d.net x) ≡ true → slice_index v.shown.sights x ≡ w.seen x
-  pub pend : (x : ℕ) → x < length d.net.debts → holds v.shown (creditor_of d.net x) ≡ true → is_marked v.shown.pending x ≡ w.pend x
-  pub owed : (x : ℕ) → x < length d.net.debts → holds v.shown (debtor_of d.net x) ≡ true → is_marked v.shown.owes_ring x ≡ w.owed x
+  pub seen : (x : ℕ) → x < length d.net.debts → holds v.shown (creditor_of d.net x) ≡ true
+      → slice_index v.shown.sights x ≡ w.seen x
+  pub pend : (x : ℕ) → x < length d.net.debts → holds v.shown (creditor_of d.net x) ≡ true
+      → is_marked v.shown.pending x ≡ w.pend x
+  pub owed : (x : ℕ) → x < length d.net.debts → holds v.shown (debtor_of d.net x) ≡ true
+      → is_marked v.shown.owes_ring x ≡ w.owed x
   pub level : (x : ℕ) → x < length d.net.debts → slice_index v.shown.floor x ≤ w.level x
-  pub fresh : (b : ℕ) → b < length d.net.banks → holds v.shown b ≡ true → is_marked v.shown.fresh b ≡ w.fresh b
+  pub fresh : (b : ℕ) → b < length d.net.banks → holds v.shown b ≡ true
+      → is_marked v.shown.fresh b ≡ w.fresh b
 
 -- the bell of the bank b: 1 where it is up, and otherwise 0
 abbrev pub bell : Net → List ℕ → ℕ → ℕ
 bell net words b = slice_index words (length net.debts + 1 + b)
 
--- the creditor of the debt x is called to look at it: its bell is up, or it took the bell and has not looked since
+-- the creditor of the debt x is called to look at it: its bell is up, or it took the bell and has
+-- not looked since
 abbrev pub IsCalled : Net → List ℕ → Tower → ℕ → Type 0
 IsCalled net words w x = (bell net words (creditor_of net x) ≡ 1) ⊎ (w.pend x ≡ true)
 
@@ -105,16 +115,21 @@ made_of v = if v.live then length v.shown.raises else 0
 pub record IsRung (d : Deed) (t : Traces) (words : List ℕ) (views : List View) : Type 0 where
   pub tower : Tower
   pub bells : (b : ℕ) → b < length d.net.banks → bell d.net words b ≤ 1
-  -- what is paid on a debt is what its creditor last saw, or the creditor is called, or the debt owes it a ring
-  pub answered : (x : ℕ) → x < length d.net.debts → (tower.seen x ≡ (ending (t x)).value) ⊎ (IsCalled d.net words tower x ⊎ (tower.owed x ≡ true))
+  -- what is paid on a debt is what its creditor last saw, or the creditor is called, or the debt
+  -- owes it a ring
+  pub answered : (x : ℕ) → x < length d.net.debts
+      → (tower.seen x ≡ (ending (t x)).value) ⊎ (IsCalled d.net words tower x ⊎ (tower.owed x ≡ true))
   -- the creditor has seen at least every floor, or it is called; no floor is above what is paid
-  pub lifted : (x : ℕ) → x < length d.net.debts → (tower.level x ≤ tower.seen x) ⊎ IsCalled d.net words tower x
+  pub lifted : (x : ℕ) → x < length d.net.debts
+      → (tower.level x ≤ tower.seen x) ⊎ IsCalled d.net words tower x
   pub levels : (x : ℕ) → x < length d.net.debts → tower.level x ≤ (ending (t x)).value
   -- a bell that was never taken is up, and no debt to its bank is pending
   pub fresh : (b : ℕ) → b < length d.net.banks → tower.fresh b ≡ true
-      → (bell d.net words b ≡ 1) × ((x : ℕ) → x < length d.net.debts → creditor_of d.net x ≡ b → tower.pend x ≡ false)
+      → (bell d.net words b ≡ 1)
+      × ((x : ℕ) → x < length d.net.debts → creditor_of d.net x ≡ b → tower.pend x ≡ false)
   -- bells that were taken, are up or are owed are no more than banks and raises
-  pub few : sum_by taken_of views + bells_up d.net words + how_many (length d.net.debts) tower.owed ≤ length d.net.banks + sum_by made_of views
+  pub few : sum_by taken_of views + bells_up d.net words + how_many (length d.net.debts) tower.owed
+      ≤ length d.net.banks + sum_by made_of views
   pub has : (id : ℕ) (v : View) → get_elem? views id ≡ some v → v.live ≡ true → HasBells d tower v
 
 pub record IsKept (d : Deed) (words : List ℕ) (views : List View) : Type 0 where
@@ -122,18 +137,21 @@ pub record IsKept (d : Deed) (words : List ℕ) (views : List View) : Type 0 whe
   pub network : IsNetwork d.net
   pub size : length words ≡ 1 + length d.net.debts + length d.net.banks
   -- each payment word is that of the debt's last raise, and all raises are lawful
-  pub stands : (x : ℕ) → x < length d.net.debts → slice_index words (x + 1) ≡ word_of (ending (ledger.trace x))
+  pub stands : (x : ℕ) → x < length d.net.debts
+      → slice_index words (x + 1) ≡ word_of (ending (ledger.trace x))
   pub lawful : IsLawful d.net ledger.trace
   pub known : (r : Raise) → In r ledger.base → r.debt.0 < length d.net.debts
   -- each bank is held by the one seat that owns it, and there is a master
-  pub held : (b : ℕ) → b < length d.net.banks → Sits views (ledger.owner b) (λ v. holds v.shown b ≡ true)
+  pub held : (b : ℕ) → b < length d.net.banks
+      → Sits views (ledger.owner b) (λ v. holds v.shown b ≡ true)
   pub led : Sits views ledger.chief (λ v. v.shown.master ≡ true)
   pub fits : (id : ℕ) (v : View) → get_elem? views id ≡ some v → v.live ≡ true
       → Suits d ledger (slice_index words 0) (length views) id v
   -- and the bells are kept
   pub rung : IsRung d ledger.trace words views
 
--- the first seat is the master. What it shows of each debt is the payment of the debt's last raise in the past
+-- the first seat is the master. What it shows of each debt is the payment of the debt's last raise
+-- in the past
 abbrev pub opening_view : Deed → View
 opening_view d = record { live = true; rolled = 1; shown = opening d.net (start_of d.net d.past) }
 
@@ -141,31 +159,35 @@ opening_view d = record { live = true; rolled = 1; shown = opening d.net (start_
 abbrev pub showing : View → Shown → View
 showing v s = record v { shown = s }
 
--- A look finds no less than was seen before, and no less than the floor, but no more than the least clearing payment.
--- Of a debt that a bank of the seat owes, it finds what the seat pays.
+-- A look finds no less than was seen before, and no less than the floor, but no more than the least
+-- clearing payment. Of a debt that a bank of the seat owes, it finds what the seat pays.
 pub record LookTells (s : Shown) (x : ℕ) (p : Payment) : Type 0 where
   pub sound : IsSound (looked s x p)
   pub at_least_seen : slice_index s.sights x ≤ p.value
   pub at_least_floor : slice_index s.floor x ≤ p.value
   pub below : p.value ≤ slice_index (least s.net) x
-  pub own : holds s (debtor_of s.net x) ≡ true → p ≡ record { value = slice_index s.paid x; stamp = slice_index s.paid_stamps x }
+  pub own : holds s (debtor_of s.net x) ≡ true
+      → p ≡ record { value = slice_index s.paid x; stamp = slice_index s.paid_stamps x }
 
 module _ {S : Type 0} where
   abbrev pub Looks : Step S → Me S View → ℕ → Me S View → Type 0
   Looks s v n w = (x : ℕ) → s.word ≡ x + 1
-      → (w ≡ (showing v.0 (looked v.0.shown x (payment_of n)), v.1)) × LookTells v.0.shown x (payment_of n)
+      → (w ≡ (showing v.0 (looked v.0.shown x (payment_of n)), v.1))
+      × LookTells v.0.shown x (payment_of n)
 
   abbrev pub Raises : Step S → Me S View → ℕ → Me S View → Type 0
   Raises s v n w = (x : ℕ) → s.word ≡ x + 1
-      → (w ≡ (showing v.0 (raised v.0.shown x (payment_of n).value), v.1)) × IsSound (raised v.0.shown x (payment_of n).value)
+      → (w ≡ (showing v.0 (raised v.0.shown x (payment_of n).value), v.1))
+      × IsSound (raised v.0.shown x (payment_of n).value)
 
   -- the master has left a number in the roll word
   abbrev pub Rolls : Step S → Me S View → ℕ → Me S View → Type 0
   Rolls s v n w = w ≡ (record v.0 { rolled = n }, v.1)
 
--- What a take tells, where it found n at the bell of the bank b: n is 1 or 0, and 1 where the bell was never taken.
--- Where it found 0 and none of the debts to the bank is pending, the bank has seen at least the floor of each; and all that
--- is paid, where besides the seat holds all banks and owes no ring.
+-- What a take tells, where it found n at the bell of the bank b: n is 1 or 0, and 1 where the bell
+-- was never taken. Where it found 0 and none of the debts to the bank is pending, the bank has seen
+-- at least the floor of each; and all that is paid, where besides the seat holds all banks and owes
+-- no ring.
 pub record TakeTells (s : Shown) (b n : ℕ) : Type 0 where
   pub up_or_down : n ≤ 1
   pub up_if_fresh : is_marked s.fresh b ≡ true → n ≡ 1
@@ -178,7 +200,8 @@ after_take s b n = if n == 0 then s else took s b
 
 module _ {S : Type 0} where
   abbrev pub Rings : Step S → Me S View → ℕ → Me S View → Type 0
-  Rings s v n w = (b : ℕ) → s.word ≡ length v.0.shown.net.debts + 1 + b → w ≡ (showing v.0 (rung v.0.shown b), v.1)
+  Rings s v n w = (b : ℕ) → s.word ≡ length v.0.shown.net.debts + 1 + b
+      → w ≡ (showing v.0 (rung v.0.shown b), v.1)
 
   abbrev pub Takes : Step S → Me S View → ℕ → Me S View → Type 0
   Takes s v n w = (b : ℕ) → s.word ≡ length v.0.shown.net.debts + 1 + b

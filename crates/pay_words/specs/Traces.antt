@@ -1,4 +1,5 @@
--- The raises of each debt, in the order in which they were made, and what makes them a lawful history.
+-- The raises of each debt, in the order in which they were made, and what makes them a lawful
+-- history.
 use Rattle.std.specs.Prelude.{◌≡◌, ◌⊎◌, ℕ, ◌<◌, ◌≤◌, ◌==◌, List, [], ◌∷◌, length, filter, sum, sum_by, slice_index}
 use Rattle.clr_net.specs.Net.{Net, debtor_of, column}
 use Rattle.clear_core.specs.Clearing.{part, least}
@@ -52,15 +53,18 @@ total net t = sum (paid_in net t)
 abbrev pub paid_to : Net → Traces → ℕ → ℕ → ℕ
 paid_to net t stamp x = sum_by (λ y. raised_before stamp (t y) y) (column net (debtor_of net x))
 
--- of each debt the stamps and amounts rise, and each raise is within what its debtor's rule gives from its cash and
--- from what raises of smaller stamp pay to it; no stamp is above the sum of what is paid
+-- of each debt the stamps and amounts rise, and each raise is within what its debtor's rule gives
+-- from its cash and from what raises of smaller stamp pay to it; no stamp is above the sum of what
+-- is paid
 pub record IsLawful (net : Net) (t : Traces) : Type 0 where
   pub rise : (x : ℕ) → x < length net.debts → Rise (t x)
   pub each : (x : ℕ) → x < length net.debts → (r : Raise) → In r (t x) → (0 < r.to) × (r.debt.0 ≡ x)
-  pub within : (x : ℕ) → x < length net.debts → (r : Raise) → In r (t x) → r.to ≤ part net x (paid_to net t r.stamp x)
+  pub within : (x : ℕ) → x < length net.debts → (r : Raise) → In r (t x)
+      → r.to ≤ part net x (paid_to net t r.stamp x)
   pub most : (x : ℕ) → x < length net.debts → (ending (t x)).value ≤ slice_index (least net) x
   pub low : (x : ℕ) → x < length net.debts → (ending (t x)).stamp ≤ total net t
 
 -- a payment that stood once: none yet, or that of one of the raises
 abbrev pub Stood : List Raise → ℕ → ℕ → Type 0
-Stood rs value stamp = ((value ≡ 0) × (stamp ≡ 0)) ⊎ ((r : Raise) × In r rs × (value ≡ r.to) × (stamp ≡ r.stamp))
+Stood rs value stamp = ((value ≡ 0) × (stamp ≡ 0)) ⊎ ((r : Raise) × In r rs × (value ≡ r.to)
+    × (stamp ≡ r.stamp))

@@ -10,16 +10,22 @@ use Rattle.clear_core.specs.declared.event.Raise.{Raise}
 use Rattle.pay_words.specs.declared.payment.Payment.{Payment}
 use Rattle.pay_words.specs.declared.view.Shown.{Shown}
 
--- a board: which table it is, its network, the raises that were made before it, and the number of its workers
+-- the table of words that boards and seats are at, and for how many workers it was laid out
+pub record Place : Type 0 where
+  pub id : TableId
+  pub workers : ℕ
+
+-- a board: at which table, its network, the raises that were made before it, and the number of its
+-- workers
 pub record Panel : Type 0 where
-  pub table : TableId
+  pub table : Place
   pub net : Net
   pub past : List Raise
   pub workers : ℕ
 
 -- a seat: at which table, and what it shows
 pub record Chair : Type 0 where
-  pub table : TableId
+  pub table : Place
   pub shows : Shown
 
 -- the seat is one of this board
@@ -46,9 +52,11 @@ is_of_worker workers i b = (b % workers) == i
 
 -- the seat holds each bank of the worker i
 abbrev pub HoldsAllOf : ℕ → ℕ → Shown → Type 0
-HoldsAllOf workers i s = (b : ℕ) → b < length s.net.banks → is_of_worker workers i b ≡ true → holds s b ≡ true
+HoldsAllOf workers i s = (b : ℕ) → b < length s.net.banks → is_of_worker workers i b ≡ true
+    → holds s b ≡ true
 
--- what a bank pays on each of its debts is within what its rule gives from its cash and from what the seat last saw
+-- what a bank pays on each of its debts is within what its rule gives from its cash and from what
+-- the seat last saw
 abbrev pub PaysWithin : Shown → Type 0
 PaysWithin s = (x : ℕ) → x < length s.net.debts → holds s (debtor_of s.net x) ≡ true
     → slice_index s.paid x ≤ part s.net x (receipts s.net s.sights (debtor_of s.net x))
@@ -80,8 +88,8 @@ abbrev pub greatest : List ℕ → ℕ
 greatest [] = 0
 greatest (n ∷ ns) = max n (greatest ns)
 
--- what the master shows of a new board on which these payments stand: it holds all banks, and has seen all payments.
--- Each bell is up and was never taken, and no ring is due
+-- what the master shows of a new board on which these payments stand: it holds all banks, and has
+-- seen all payments. Each bell is up and was never taken, and no ring is due
 abbrev pub opening : Net → List Payment → Shown
 opening net start = record {
   net = net;
@@ -131,27 +139,35 @@ owes_ring_to s b x = is_marked s.owes_ring x && (creditor_of s.net x == b)
 
 -- some debt of the seat's banks owes the bank b a ring
 abbrev pub OwesRing : Shown → ℕ → Type 0
-OwesRing s b = (x : ℕ) × (x < length s.net.debts) × (holds s (debtor_of s.net x) ≡ true) × (owes_ring_to s b x ≡ true)
+OwesRing s b = (x : ℕ) × (x < length s.net.debts) × (holds s (debtor_of s.net x) ≡ true)
+    × (owes_ring_to s b x ≡ true)
 
 -- no debt of the seat's banks owes a ring
 abbrev pub OwesNoRing : Shown → Type 0
-OwesNoRing s = (x : ℕ) → x < length s.net.debts → holds s (debtor_of s.net x) ≡ true → is_marked s.owes_ring x ≡ false
+OwesNoRing s = (x : ℕ) → x < length s.net.debts → holds s (debtor_of s.net x) ≡ true
+    → is_marked s.owes_ring x ≡ false
 
 -- no debt to the bank b is pending
 abbrev pub IsCalm : Shown → ℕ → Type 0
-IsCalm s b = (x : ℕ) → x < length s.net.debts → creditor_of s.net x ≡ b → is_marked s.pending x ≡ false
+IsCalm s b = (x : ℕ) → x < length s.net.debts → creditor_of s.net x ≡ b
+    → is_marked s.pending x ≡ false
 
 -- what was last seen of each debt to the bank b is at least the floor
 abbrev pub HasSeenFloor : Shown → ℕ → Type 0
-HasSeenFloor s b = (x : ℕ) → x < length s.net.debts → creditor_of s.net x ≡ b → slice_index s.floor x ≤ slice_index s.sights x
+HasSeenFloor s b = (x : ℕ) → x < length s.net.debts → creditor_of s.net x ≡ b
+    → slice_index s.floor x ≤ slice_index s.sights x
 
 -- what was last seen of each debt to the bank b is what is paid on it
 abbrev pub HasSeenAll : Shown → ℕ → Type 0
-HasSeenAll s b = (x : ℕ) → x < length s.net.debts → creditor_of s.net x ≡ b → slice_index s.sights x ≡ slice_index s.paid x
+HasSeenAll s b = (x : ℕ) → x < length s.net.debts → creditor_of s.net x ≡ b
+    → slice_index s.sights x ≡ slice_index s.paid x
 
 -- the bell of the bank b was rung: no debt owes it a ring any more
 abbrev pub rung : Shown → ℕ → Shown
-rung s b = record s { owes_ring = tabled (length s.net.debts) (λ x. is_marked s.owes_ring x && not (creditor_of s.net x == b)) }
+rung s b = record s {
+  owes_ring = tabled (length s.net.debts)
+      (λ x. is_marked s.owes_ring x && not (creditor_of s.net x == b));
+}
 
 -- the bell of the bank b was taken: each debt to it calls for a look
 abbrev pub took : Shown → ℕ → Shown
@@ -180,9 +196,11 @@ without workers i s = record s {
 
 -- what of two lists counts: the second where the test passes
 abbrev pub chosen : {A : Type 0} → A → ℕ → (ℕ → Bool) → List A → List A → List A
-chosen none n test xs ys = tabled n (λ k. if test k then slice_index_or ys k none else slice_index_or xs k none)
+chosen none n test xs ys = tabled n
+    (λ k. if test k then slice_index_or ys k none else slice_index_or xs k none)
 
--- the master s with all that the seat t shows of its banks, over the network net. What is paid on their debts becomes the floor
+-- the master s with all that the seat t shows of its banks, over the network net. What is paid on
+-- their debts becomes the floor
 abbrev pub rejoined_over : Net → Shown → Shown → Shown
 rejoined_over net s t =
     let owes = λ (x : ℕ). holds t (debtor_of net x) in

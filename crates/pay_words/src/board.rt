@@ -1,14 +1,15 @@
-ghost use Rattle.clear_core.specs.Clearing.{least, part, receipts};
+ghost use Rattle.clear_core.specs.Clearing.{least, part, pay, receipts};
 ghost use Rattle.clear_core.specs.History.{ordered};
 ghost use Rattle.clr_net.specs.Net.{creditor_of, debtor_of};
 ghost use Rattle.clr_net.specs.Amounts.{IsAtMost};
 ghost use Rattle.pay_words.specs.Belongs.{Belongs};
 ghost use Rattle.pay_words.specs.Ends.{AreAfter, AreLawful, HaveLowStamps, Replay, payments_of, values};
-ghost use Rattle.pay_words.specs.Views.{HasSeenAll, HasSeenFloor, HoldsAll, HoldsAllOf, IsAt, IsCalm, OwesNoRing, OwesRing, handed, holds, is_marked, is_of_worker, looked, opening, raised, rejoined, rung, took, without};
+ghost use Rattle.pay_words.specs.Views.{HasSeenAll, HasSeenFloor, HoldsAll, HoldsAllOf, IsAt, IsCalm, OwesNoRing, OwesRing, handed, holds, is_marked, looked, opening, raised, rejoined, rung, took, without};
 ghost use Rattle.std.specs.Prelude.{◌≡◌, ℕ, ◌+◌, ◌<◌, ◌≤◌, ◌++◌, IfOk, OnErr, OnOk, if◌then◌else◌, false, length, slice_index, true};
 
 use crate::deed::{Deed, Founding, deed_of};
-use crate::opening::{debtors_of, greatest_stamp, opening_words, values_of};
+use crate::opening::{debtors_of, greatest_stamp, opening_words};
+use crate::paid::Paid;
 use crate::payment::Payment;
 use crate::record::Record;
 use crate::rule::{Both, Chosen, Clearing, Look, Part, Ring, Rise, Roll, Take};
@@ -19,14 +20,17 @@ use clear_core::{Journal, Raise};
 use clr_net::{BankId, DebtId, Mem, Network};
 use std::alloc::Global;
 use std::marker::{Brand, Model};
+use std::mem;
 
-/// The words of the payments on all debts of a network, on which any number of threads work at once, each by a seat.
+/// The words of the payments on all debts of a network, on which any number of threads work at
+/// once, each by a seat.
 ///
-/// Contracts see its network, its past, which are the raises that were made before it, and its number of workers.
+/// Contracts see its network, its past, which are the raises that were made before it, and its
+/// number of workers.
 #[derive(Drop)]
 pub struct Board {
     table: Table<(), View, Seat<(), Deed>, Clearing, Global>,
-    debtors: Vec<u32>,
+    debts: usize,
     past: usize,
     workers: u32,
 }
@@ -38,15 +42,23 @@ impl Model for Board {
 
     ghost Value = { Panel };
 
-    ghost view = { λ b. record { table = b.table.shared.table_id; net = b.table.shared.key.me.0.net; past = b.table.shared.key.me.0.past; workers = b.workers } };
+    ghost view = { λ b. record {
+      table = record { id = b.table.shared.table_id; workers = b.workers };
+      net = b.table.shared.key.me.0.net;
+      past = b.table.shared.key.me.0.past;
+      workers = b.workers;
+    } };
 
-    ghost invariant = { λ b. IsLaidOut b.table.shared.key.me.0.net b.table.shared.table_id.words b.table.shared.table_id.slots b.debtors.items b.workers × (b.past ≡ length b.table.shared.key.me.0.past) };
+    ghost invariant = { λ b. IsLaidOut b.table.shared.key.me.0.net b.table.shared.table_id.words
+        b.table.shared.table_id.slots b.debts b.workers
+        × (b.past ≡ length b.table.shared.key.me.0.past) };
 }
 
 impl Board {
     /// A board on which the payments of a past stand, and its master, which holds all banks.
     ///
-    /// `start` is over all debts, in file order. Costs a walk over all debts and banks.
+    /// `start` is over all debts, in file order. Costs a walk over all debts for each worker, and
+    /// memory for as much.
     pub fn make(
         alloc: Global,
         net: &Network,
@@ -56,13 +68,16 @@ impl Board {
     ) -> Result<(Board, PaySeat), Mem>
         requires workers { (1 ≤ workers) × (workers ≤ 64) }
         requires belongs { Belongs net.now start.now past.now }
-        ensures board { IfOk result (λ r. (r.0.net ≡ net.now) × (r.0.past ≡ past.now) × (r.0.workers ≡ workers)) }
-        ensures master { IfOk result (λ r. (r.1.table ≡ r.0.table) × (r.1.shows ≡ opening net.now start.now)) }
+        ensures board { IfOk result (λ r. (r.0.net ≡ net.now) × (r.0.past ≡ past.now)
+            × (r.0.workers ≡ workers)) }
+        ensures master { IfOk result (λ r. (r.1.table ≡ r.0.table)
+            × (r.1.shows ≡ opening net.now start.now)) }
     {
         Board::found::<Brand>(alloc, net, workers, start, past)
     }
 
-    // The deed of the new board is a member of a type, so that it can be chosen where the board is made.
+    // The deed of the new board is a member of a type, so that it can be chosen where the board is
+    // made.
     fn found<C: Founding>(
         alloc: Global,
         net: &Network,
@@ -73,23 +88,27 @@ impl Board {
         requires workers { 1 ≤ workers }
         requires belongs { Belongs net.now start.now past.now }
         requires deed { C.deed ≡ record { net = net.now; past = past.now } }
-        ensures board { IfOk result (λ r. (r.0.net ≡ net.now) × (r.0.past ≡ past.now) × (r.0.workers ≡ workers)) }
-        ensures master { IfOk result (λ r. (r.1.table ≡ r.0.table) × (r.1.shows ≡ opening net.now start.now)) }
+        ensures board { IfOk result (λ r. (r.0.net ≡ net.now) × (r.0.past ≡ past.now)
+            × (r.0.workers ≡ workers)) }
+        ensures master { IfOk result (λ r. (r.1.table ≡ r.0.table)
+            × (r.1.shows ≡ opening net.now start.now)) }
     {
         let words = opening_words(alloc, start, net.banks() as usize)?;
-        let paid = values_of(alloc, start)?;
+        let lists = Paid::of_each(alloc, start, workers)?;
         let debtors = debtors_of(alloc, net)?;
         let deed = deed_of::<C>(alloc)?;
         let (table, seat) = Table::of_words(alloc, words.as_slice(), &deed)?;
         let board = Board {
             table,
-            debtors,
+            debts: start.len(),
             past: past.len(),
             workers,
         };
         let master = PaySeat {
             seat,
-            paid,
+            own: Paid::none(alloc),
+            lists,
+            debtors,
             clock: greatest_stamp(start),
             seats: 0,
             workers,
@@ -110,7 +129,10 @@ impl Board {
         ensures never_falls { slice_index seat.old.shows.sights debt.0 ≤ result.value }
         ensures below_least { result.value ≤ slice_index (least self.now.net) debt.0 }
         ensures own { holds seat.old.shows (debtor_of self.now.net debt.0) ≡ true
-            → result ≡ record { value = slice_index seat.old.shows.paid debt.0; stamp = slice_index seat.old.shows.paid_stamps debt.0 } }
+            → result ≡ record {
+              value = slice_index seat.old.shows.paid debt.0;
+              stamp = slice_index seat.old.shows.paid_stamps debt.0;
+            } }
     {
         let word = self
             .table
@@ -121,15 +143,16 @@ impl Board {
         found
     }
 
-    /// Raises what is paid on a debt of a bank of the seat to so many units, by one atomic store, and answers the stamp
-    /// of the raise. Takes no memory.
+    /// Raises what is paid on a debt of a bank of the seat to so many units, by one atomic store,
+    /// and answers the stamp of the raise. Takes no memory.
     pub fn raise(&self, seat: &mut PaySeat, debt: DebtId, to: u64) -> u64
         requires seat { IsAt self.now seat.old }
         requires not_the_master { seat.old.shows.master ≡ false }
         requires debt { debt.0 < length self.now.net.debts }
         requires debtor { holds seat.old.shows (debtor_of self.now.net debt.0) ≡ true }
         requires more { slice_index seat.old.shows.paid debt.0 < to }
-        requires within { to ≤ part self.now.net debt.0 (receipts self.now.net seat.old.shows.sights (debtor_of self.now.net debt.0)) }
+        requires within { to ≤ part self.now.net debt.0
+            (receipts self.now.net seat.old.shows.sights (debtor_of self.now.net debt.0)) }
         ensures stamp { result ≡ seat.old.shows.clock + 1 }
         ensures table { seat.new.table ≡ seat.old.table }
         ensures raised { seat.new.shows ≡ raised seat.old.shows debt.0 to }
@@ -141,40 +164,46 @@ impl Board {
             Payment { value: to, stamp }.word(),
         );
         seat.clock = stamp;
-        seat.paid[debt.0 as usize] = to;
+        seat.own.set(debt.0, to);
         stamp
     }
 
-    /// Rings the bell of a bank to which a debt of the seat owes a ring, by one atomic store. Takes no memory.
+    /// Rings the bell of a bank to which a debt of the seat owes a ring, by one atomic store. Takes
+    /// no memory.
     pub fn ring(&self, seat: &mut PaySeat, bank: BankId)
         requires seat { IsAt self.now seat.old }
         requires owes { OwesRing seat.old.shows bank.0 }
         ensures table { seat.new.table ≡ seat.old.table }
         ensures rung { seat.new.shows ≡ rung seat.old.shows bank.0 }
     {
-        let bell = self.debtors.len() + 1 + bank.0 as usize;
+        let bell = self.debts + 1 + bank.0 as usize;
         self.table.shared.store::<Ring>(&mut seat.seat, bell, 1);
     }
 
-    /// Takes the bell of a bank of the seat down, by one atomic swap, and answers whether it was up. Takes no memory.
+    /// Takes the bell of a bank of the seat down, by one atomic swap, and answers whether it was
+    /// up. Takes no memory.
     pub fn take(&self, seat: &mut PaySeat, bank: BankId) -> bool
         requires seat { IsAt self.now seat.old }
         requires held { holds seat.old.shows bank.0 ≡ true }
         ensures table { seat.new.table ≡ seat.old.table }
-        ensures taken { seat.new.shows ≡ (if result then took seat.old.shows bank.0 else seat.old.shows) }
+        ensures taken { seat.new.shows
+            ≡ (if result then took seat.old.shows bank.0 else seat.old.shows) }
         ensures up_if_fresh { is_marked seat.old.shows.fresh bank.0 ≡ true → result ≡ true }
-        ensures seen_floor { result ≡ false → IsCalm seat.old.shows bank.0 → HasSeenFloor seat.old.shows bank.0 }
-        ensures seen_all { result ≡ false → IsCalm seat.old.shows bank.0 → HoldsAll seat.old.shows → OwesNoRing seat.old.shows
+        ensures seen_floor { result ≡ false → IsCalm seat.old.shows bank.0
+            → HasSeenFloor seat.old.shows bank.0 }
+        ensures seen_all { result ≡ false → IsCalm seat.old.shows bank.0
+            → HoldsAll seat.old.shows → OwesNoRing seat.old.shows
             → HasSeenAll seat.old.shows bank.0 }
     {
-        let bell = self.debtors.len() + 1 + bank.0 as usize;
+        let bell = self.debts + 1 + bank.0 as usize;
         let found = self.table.shared.swap::<Take>(&mut seat.seat, bell, 0);
         found != 0
     }
 
     /// Hands the banks of a worker to a new seat. Where there is no memory nothing has changed.
     ///
-    /// Costs a copy of what the master keeps for each debt.
+    /// What the banks pay goes to the seat as it lies in memory, so the cost does not grow with the
+    /// network.
     pub fn hand(&self, alloc: Global, master: &mut PaySeat, worker: u32) -> Result<PaySeat, Mem>
         requires master { IsAt self.now master.old }
         requires is_the_master { master.old.shows.master ≡ true }
@@ -182,8 +211,10 @@ impl Board {
         requires banks { HoldsAllOf self.now.workers worker master.old.shows }
         requires seats { master.old.shows.seats < 4294967295 }
         ensures table { master.new.table ≡ master.old.table }
-        ensures rest { OnOk result (master.new.shows ≡ without self.now.workers worker master.old.shows) }
-        ensures seat { IfOk result (λ s. (s.table ≡ self.now.table) × (s.shows ≡ handed self.now.workers worker master.old.shows)) }
+        ensures rest { OnOk result (master.new.shows
+            ≡ without self.now.workers worker master.old.shows) }
+        ensures seat { IfOk result (λ s. (s.table ≡ self.now.table)
+            × (s.shows ≡ handed self.now.workers worker master.old.shows)) }
         ensures unchanged { OnErr result (master.new.shows ≡ master.old.shows) }
     {
         self.hand_out::<Brand>(alloc, master, worker)
@@ -198,23 +229,28 @@ impl Board {
     ) -> Result<PaySeat, Mem>
         requires master { IsAt self.now master.old }
         requires is_the_master { master.old.shows.master ≡ true }
+        requires worker { worker < self.now.workers }
         requires banks { HoldsAllOf self.now.workers worker master.old.shows }
         requires seats { master.old.shows.seats < 4294967295 }
         requires chosen { (C.workers ≡ self.now.workers) × (C.worker ≡ worker) }
         ensures table { master.new.table ≡ master.old.table }
-        ensures rest { OnOk result (master.new.shows ≡ without self.now.workers worker master.old.shows) }
-        ensures seat { IfOk result (λ s. (s.table ≡ self.now.table) × (s.shows ≡ handed self.now.workers worker master.old.shows)) }
+        ensures rest { OnOk result (master.new.shows
+            ≡ without self.now.workers worker master.old.shows) }
+        ensures seat { IfOk result (λ s. (s.table ≡ self.now.table)
+            × (s.shows ≡ handed self.now.workers worker master.old.shows)) }
         ensures unchanged { OnErr result (master.new.shows ≡ master.old.shows) }
     {
-        let paid = Vec::from_slice(alloc, master.paid.as_slice())?;
         self.table
             .shared
             .store::<Roll>(&mut master.seat, 0, master.seats + 2);
         let seat = self.table.shared.split_seat::<Part<C>>(&mut master.seat);
+        let own = mem::replace(&mut master.lists[worker as usize], Paid::none(alloc));
         master.seats += 1;
         Ok(PaySeat {
             seat,
-            paid,
+            own,
+            lists: Vec::new(alloc),
+            debtors: Vec::new(alloc),
             clock: master.clock,
             seats: 0,
             workers: self.workers,
@@ -222,10 +258,8 @@ impl Board {
         })
     }
 
-    /// Takes a seat back: its banks, and all that it shows of them, are the master's again. The seat owes no ring. Takes
-    /// no memory.
-    ///
-    /// Costs a walk over all debts.
+    /// Takes a seat back: its banks, and all that it shows of them, are the master's again. The
+    /// seat owes no ring. Takes no memory, and its cost does not grow with the network.
     pub fn take_back(&self, master: &mut PaySeat, seat: PaySeat)
         requires master { IsAt self.now master.old }
         requires is_the_master { master.old.shows.master ≡ true }
@@ -237,21 +271,14 @@ impl Board {
     {
         let PaySeat {
             seat,
-            paid,
+            own,
             clock,
-            seats: _,
-            workers,
             worker,
+            ..
         } = seat;
         self.table.shared.join_seat::<Both>(&mut master.seat, seat);
         master.clock = master.clock.max(clock);
-        bring_back(
-            &mut master.paid,
-            paid.as_slice(),
-            self.debtors.as_slice(),
-            workers,
-            worker,
-        );
+        master.lists[worker as usize] = own;
     }
 
     /// Ends the board: writes down the payments, in file order. Takes no memory.
@@ -262,15 +289,18 @@ impl Board {
         requires into { length into.old ≡ length self.net.debts }
         ensures payments { into.new ≡ payments_of master.shows }
         ensures below_least { IsAtMost (values into.new) (least self.net) }
+        ensures covered { IsAtMost (values into.new) (pay self.net (values into.new)) }
         ensures lawful { AreLawful self.net (self.past ++ master.shows.raises) into.new }
         ensures replays { Replay self.net (self.past ++ master.shows.raises) into.new }
         ensures low_stamps { HaveLowStamps (self.past ++ master.shows.raises) into.new }
+        ensures low_in_order { HaveLowStamps (ordered (self.past ++ master.shows.raises)) into.new }
         ensures after_past { AreAfter self.past master.shows.raises }
-        ensures few_bells { master.shows.taken ≤ length self.net.banks + length master.shows.raises }
+        ensures few_bells { master.shows.taken ≤ length self.net.banks
+            + length master.shows.raises }
     {
         let Board {
             table,
-            debtors: _,
+            debts: _,
             past: _,
             workers: _,
         } = self;
@@ -283,7 +313,8 @@ impl Board {
         closed.free();
     }
 
-    /// Ends the board as [`close`](Board::close) does, and makes a record of it with the journal of its raises. Takes no memory.
+    /// Ends the board as [`close`](Board::close) does, and makes a record of it with the journal of
+    /// its raises. Takes no memory.
     pub fn seal(
         self,
         master: PaySeat,
@@ -299,11 +330,14 @@ impl Board {
         requires journal { journal.raises ≡ ordered (self.past ++ master.shows.raises) }
         ensures payments { into.new ≡ payments_of master.shows }
         ensures below_least { IsAtMost (values into.new) (least self.net) }
+        ensures covered { IsAtMost (values into.new) (pay self.net (values into.new)) }
         ensures lawful { AreLawful self.net (self.past ++ master.shows.raises) into.new }
         ensures replays { Replay self.net (self.past ++ master.shows.raises) into.new }
         ensures low_stamps { HaveLowStamps (self.past ++ master.shows.raises) into.new }
+        ensures low_in_order { HaveLowStamps (ordered (self.past ++ master.shows.raises)) into.new }
         ensures after_past { AreAfter self.past master.shows.raises }
-        ensures few_bells { master.shows.taken ≤ length self.net.banks + length master.shows.raises }
+        ensures few_bells { master.shows.taken ≤ length self.net.banks
+            + length master.shows.raises }
         ensures record_of { result ≡ record {
           net = self.net;
           journal = ordered (self.past ++ master.shows.raises);
@@ -324,24 +358,4 @@ impl Board {
             seats,
         }
     }
-}
-
-// Of what two seats paid on each debt, what the second did on the debts that a worker's banks owe.
-fn bring_back(into: &mut [u64], from: &[u64], debtors: &[u32], workers: u32, worker: u32)
-    requires workers { 0 < workers }
-    requires from { length from.now ≡ length debtors.now }
-    requires into { length into.old ≡ length debtors.now }
-    ensures size { length into.new ≡ length into.old }
-    ensures each { (x : ℕ) → x < length debtors.now
-        → slice_index into.new x ≡ (if is_of_worker workers worker (slice_index debtors.now x) then slice_index from.now x else slice_index into.old x) }
-{
-    for i in 0..debtors.len() {
-        into[i] = one_of(debtors[i] % workers == worker, from[i], into[i]);
-    }
-}
-
-fn one_of(first: bool, a: u64, b: u64) -> u64
-    ensures { result ≡ (if first then a else b) }
-{
-    if first { a } else { b }
 }

@@ -1,10 +1,58 @@
 //! What callers of a board may rely on. A law has nothing to run; its `ensures` is proved.
-ghost use Rattle.clr_net.specs.Net.{Net};
+ghost use Rattle.clear_core.specs.Clearing.{pay};
+ghost use Rattle.clear_core.specs.History.{IsTraced, Stands, ordered, replayed};
+ghost use Rattle.clear_core.specs.declared.event.Raise.{Raise};
+ghost use Rattle.clr_net.specs.Amounts.{IsAtMost};
+ghost use Rattle.clr_net.specs.Net.{Net, creditor_of, debtor_of};
 ghost use Rattle.pay_words.specs.Belongs.{Belongs};
+ghost use Rattle.pay_words.specs.Ends.{HaveLowStamps, payments_of, values};
 ghost use Rattle.pay_words.specs.Traces.{start_of};
-ghost use Rattle.pay_words.specs.Views.{HoldsAll, HoldsAllOf, handed, holds, is_of_worker, rejoined, without};
+ghost use Rattle.pay_words.specs.Views.{HoldsAll, HoldsAllOf, IsOver, handed, holds, is_marked, is_of_worker, rejoined, rung, took, without};
+ghost use Rattle.pay_words.specs.Words.{unpaid};
+ghost use Rattle.pay_words.specs.declared.payment.Payment.{Payment};
 ghost use Rattle.pay_words.specs.declared.view.Shown.{Shown};
-ghost use Rattle.std.specs.Prelude.{◌≡◌, ◌≢◌, ◌<◌, ℕ, [], length, true};
+ghost use Rattle.std.specs.Prelude.{◌≡◌, ◌≢◌, ◌<◌, ◌==◌, ◌&&◌, ◌||◌, ◌++◌, ◌∷◌, not, if◌then◌else◌, ℕ, List, [], false, length, replicate, slice_index, slice_set, true};
+
+/// What a journal replays to are the values of what its raises leave on the debts.
+#[tactic(auto, using(crate::proofs::Histories::replayed_is))]
+pub fn replay_gives_the_values()
+    ensures { (net : Net) (rs : List Raise) → replayed net rs ≡ values (start_of net rs) }
+{}
+
+/// No raise leaves nothing paid.
+#[tactic(auto, using(crate::proofs::Starts::start_none))]
+pub fn nothing_is_paid_at_first()
+    ensures { (net : Net) → start_of net [] ≡ replicate (length net.debts) unpaid }
+{}
+
+/// One more raise is what is paid on its debt, and no other debt changes.
+#[tactic(auto, using(crate::proofs::Starts::start_more))]
+pub fn last_raise_is_paid()
+    ensures { (net : Net) (rs : List Raise) (r : Raise)
+        → start_of net (rs ++ r ∷ [])
+        ≡ slice_set (start_of net rs) r.debt.0 (record { value = r.to; stamp = r.stamp }) }
+{}
+
+/// A lawful journal in order, no stamp of which is above what it pays in all, belongs to the
+/// network.
+#[tactic(auto, using(crate::proofs::Pasts::belongs_of))]
+pub fn lawful_journal_belongs()
+    ensures { (net : Net) (rs : List Raise) → Stands net rs → IsTraced net rs → ordered rs ≡ rs
+        → HaveLowStamps rs (start_of net rs) → Belongs net (start_of net rs) rs }
+{}
+
+/// What a past left is at most what all banks would pay from it.
+#[tactic(auto, using(crate::proofs::Pasts::covered))]
+pub fn past_is_covered()
+    ensures { (net : Net) (start : List Payment) (past : List Raise) → Belongs net start past
+        → IsAtMost (values start) (pay net (values start)) }
+{}
+
+/// The values of the payments that a seat shows are what it shows as paid.
+#[tactic(auto, using(crate::proofs::Starts::values_shown))]
+pub fn values_are_what_is_paid()
+    ensures { (s : Shown) → length s.paid ≡ length s.net.debts → values (payments_of s) ≡ s.paid }
+{}
 
 /// A board may begin with nothing paid: the past without a raise belongs to every network.
 pub fn empty_past_belongs()
@@ -23,7 +71,8 @@ pub fn seat_holds_the_banks_of_its_worker()
 
 /// When the banks of one worker are handed out, the master still holds those of another.
 pub fn banks_of_other_workers_stay()
-    ensures { (workers i j : ℕ) (s : Shown) → i ≢ j → HoldsAllOf workers j s → HoldsAllOf workers j (without workers i s) }
+    ensures { (workers i j : ℕ) (s : Shown) → i ≢ j → HoldsAllOf workers j s
+        → HoldsAllOf workers j (without workers i s) }
 {}
 
 /// When a seat is taken back, its banks are the master's again.
@@ -35,5 +84,96 @@ pub fn banks_come_back()
 
 /// And the master holds what it held before.
 pub fn no_bank_is_lost()
-    ensures { (workers i : ℕ) (s t : Shown) → HoldsAllOf workers i s → HoldsAllOf workers i (rejoined s t) }
+    ensures { (workers i : ℕ) (s t : Shown) → HoldsAllOf workers i s
+        → HoldsAllOf workers i (rejoined s t) }
+{}
+
+/// A seat that holds the banks of each worker holds all banks.
+pub fn banks_of_all_workers_are_all_banks()
+    ensures { (workers : ℕ) (s : Shown) → 0 < workers
+        → ((i : ℕ) → i < workers → HoldsAllOf workers i s) → HoldsAll s }
+{}
+
+/// The seat of a worker holds the worker's banks alone.
+#[tactic(auto, using(crate::proofs::Places::handed_at))]
+pub fn seat_holds_no_other_bank()
+    ensures { (workers i : ℕ) (s : Shown) (b : ℕ) → b < length s.net.banks
+        → holds (handed workers i s) b ≡ is_of_worker workers i b }
+{}
+
+/// Each bank that a seat holds is one of the network.
+#[tactic(auto, using(crate::proofs::Places::held_in_range))]
+pub fn held_bank_is_of_the_network()
+    ensures { (s : Shown) (b : ℕ) → IsOver s → holds s b ≡ true → b < length s.net.banks }
+{}
+
+/// Of the debts that the banks of a seat owe, the master shows what the seat showed. What the seat
+/// paid becomes the floor.
+#[tactic(auto, using(crate::proofs::Places::paid_back, crate::proofs::Places::paid_stamp_back, crate::proofs::Places::floor_back, crate::proofs::Places::ring_back))]
+pub fn payments_come_back()
+    ensures paid { (s t : Shown) (x : ℕ) → x < length s.net.debts
+        → slice_index (rejoined s t).paid x
+        ≡ (if holds t (debtor_of s.net x) then slice_index t.paid x
+        else slice_index s.paid x) }
+    ensures stamps { (s t : Shown) (x : ℕ) → x < length s.net.debts
+        → slice_index (rejoined s t).paid_stamps x
+        ≡ (if holds t (debtor_of s.net x) then slice_index t.paid_stamps x
+        else slice_index s.paid_stamps x) }
+    ensures floor { (s t : Shown) (x : ℕ) → x < length s.net.debts
+        → slice_index (rejoined s t).floor x
+        ≡ (if holds t (debtor_of s.net x) then slice_index t.paid x
+        else slice_index s.floor x) }
+    ensures rings { (s t : Shown) (x : ℕ) → x < length s.net.debts
+        → is_marked (rejoined s t).owes_ring x
+        ≡ (if holds t (debtor_of s.net x) then is_marked t.owes_ring x
+        else is_marked s.owes_ring x) }
+{}
+
+/// Of the debts to the banks of a seat, the master shows what the seat saw.
+#[tactic(auto, using(crate::proofs::Places::sight_back, crate::proofs::Places::sight_stamp_back, crate::proofs::Places::looks_back, crate::proofs::Places::pending_back))]
+pub fn sights_come_back()
+    ensures sights { (s t : Shown) (x : ℕ) → x < length s.net.debts
+        → slice_index (rejoined s t).sights x
+        ≡ (if holds t (creditor_of s.net x) then slice_index t.sights x
+        else slice_index s.sights x) }
+    ensures stamps { (s t : Shown) (x : ℕ) → x < length s.net.debts
+        → slice_index (rejoined s t).sight_stamps x
+        ≡ (if holds t (creditor_of s.net x) then slice_index t.sight_stamps x
+        else slice_index s.sight_stamps x) }
+    ensures looks { (s t : Shown) (x : ℕ) → x < length s.net.debts
+        → slice_index (rejoined s t).looks x
+        ≡ (if holds t (creditor_of s.net x) then slice_index t.looks x
+        else slice_index s.looks x) }
+    ensures pending { (s t : Shown) (x : ℕ) → x < length s.net.debts
+        → is_marked (rejoined s t).pending x
+        ≡ (if holds t (creditor_of s.net x) then is_marked t.pending x
+        else is_marked s.pending x) }
+{}
+
+/// Of the banks of a seat, the master shows as fresh those that the seat showed so.
+#[tactic(auto, using(crate::proofs::Places::fresh_back))]
+pub fn fresh_marks_come_back()
+    ensures { (s t : Shown) (b : ℕ) → b < length s.net.banks
+        → is_marked (rejoined s t).fresh b
+        ≡ (if holds t b then is_marked t.fresh b else is_marked s.fresh b) }
+{}
+
+/// Once the bell of a bank was rung no debt owes it a ring, and the others owe what they owed.
+#[tactic(auto, using(crate::proofs::Places::owes_ring_after))]
+pub fn ring_is_owed_no_more()
+    ensures { (s : Shown) (b x : ℕ) → x < length s.net.debts
+        → is_marked (rung s b).owes_ring x
+        ≡ (is_marked s.owes_ring x && not (creditor_of s.net x == b)) }
+{}
+
+/// Once the bell of a bank was taken each debt to it is pending, and the others are as they were.
+/// The bank is fresh no more.
+#[tactic(auto, using(crate::proofs::Places::pending_after, crate::proofs::Places::fresh_no_more, crate::proofs::Places::fresh_else))]
+pub fn taken_bell_calls()
+    ensures pending { (s : Shown) (b x : ℕ) → x < length s.net.debts
+        → is_marked (took s b).pending x ≡ (is_marked s.pending x || (creditor_of s.net x == b)) }
+    ensures its_bank { (s : Shown) (b : ℕ) → b < length s.fresh
+        → is_marked (took s b).fresh b ≡ false }
+    ensures others { (s : Shown) (b c : ℕ) → c ≢ b
+        → is_marked (took s b).fresh c ≡ is_marked s.fresh c }
 {}

@@ -1,19 +1,24 @@
-//! A lock-free board of payment words: one atomic word for each debt of a network, and seats that read and raise them.
+//! A lock-free board of payment words: one atomic word for each debt of a network, and seats that
+//! read and raise them.
 //!
-//! A [`Board`] is made with one seat, the master, which holds all banks. The master hands banks to further seats, one
-//! for each worker, and takes them back. A seat looks at what is paid to its banks and raises what they pay, from any
-//! thread, by single atomic loads and stores with nothing else between them. A raised debt owes its creditor a ring of
-//! the bell, and a bell that is taken tells its bank to look again.
+//! A [`Board`] is made with one seat, the master, which holds all banks. The master hands banks to
+//! further seats, one for each worker, and takes them back. A seat looks at what is paid to its
+//! banks and raises what they pay, from any thread, by single atomic loads and stores with nothing
+//! else between them. A raised debt owes its creditor a ring of the bell, and a bell that is taken
+//! tells its bank to look again.
 //!
-//! Whatever the threads do, no word passes the least clearing payments, and all raises, put in the order of their stamps,
-//! are a lawful journal that replays to the payments. A look and a raise cost one atomic step, and time that does not grow
-//! with the network; making a board, handing out a seat and taking one back cost a walk over all debts.
+//! Whatever the threads do, no word passes the least clearing payments, and all raises, put in the
+//! order of their stamps, are a lawful journal that replays to the payments. A look and a raise
+//! cost one atomic step. Handing out a seat and taking one back cost no more: time that does not
+//! grow with the network, and no memory. Making a board costs a walk over all debts for each
+//! worker, and closing it one.
 #![tactic(auto)]
 
 mod board;
 mod deed;
 pub mod laws;
 mod opening;
+mod paid;
 mod payment;
 mod record;
 mod rule;

@@ -29,13 +29,6 @@ pub(crate) fn opening_words(
     Ok(words)
 }
 
-/// The value of each payment.
-pub(crate) fn values_of(alloc: Global, start: &[Payment]) -> Result<Vec<u64>, AllocError>
-    ensures { IfOk result (λ values. values.items ≡ map (λ p. p.value) start.now) }
-{
-    start.iter().map(|payment| payment.value).collect(alloc)
-}
-
 /// The greatest of the stamps, or 0.
 pub(crate) fn greatest_stamp(start: &[Payment]) -> u64
     ensures { result ≡ greatest (map (λ p. p.stamp) start.now) }

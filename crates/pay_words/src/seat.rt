@@ -4,6 +4,7 @@ ghost use Rattle.clr_net.specs.Net.{debtor_of};
 ghost use Rattle.pay_words.specs.Views.{IsOver, PaysWithin, holds};
 ghost use Rattle.std.specs.Prelude.{◌≡◌, ◌<◌, length, slice_index, true};
 
+use crate::paid::Paid;
 use crate::view::View;
 use atomic_table::Seat;
 use clr_net::DebtId;
@@ -15,7 +16,12 @@ use std::marker::Model;
 #[derive(Drop)]
 pub struct PaySeat {
     pub(crate) seat: Seat<(), View>,
-    pub(crate) paid: Vec<u64>,
+    // What the worker's banks pay. The master has none.
+    pub(crate) own: Paid,
+    // At the master, what the banks of each worker pay, but of those that were handed out, and the
+    // debtor of each debt.
+    pub(crate) lists: Vec<Paid>,
+    pub(crate) debtors: Vec<u32>,
     pub(crate) clock: u64,
     pub(crate) seats: u64,
     pub(crate) workers: u32,
@@ -24,14 +30,18 @@ pub struct PaySeat {
 
 impl Model for PaySeat {
     ghost use Rattle.std.specs.Prelude.{◌≡◌, []};
-    ghost use Rattle.pay_words.specs.Seats.{IsKeptIn};
+    ghost use Rattle.pay_words.specs.Seats.{IsKeptIn, purse};
     ghost use Rattle.pay_words.specs.Views.{Chair};
 
     ghost Value = { Chair };
 
-    ghost view = { λ s. record { table = s.seat.table_id; shows = s.seat.me.0.shown } };
+    ghost view = { λ s. record {
+      table = record { id = s.seat.table_id; workers = s.workers };
+      shows = s.seat.me.0.shown;
+    } };
 
-    ghost invariant = { λ s. (s.seat.me.1 ≡ []) × IsKeptIn s.seat.me.0 s.paid.items s.clock s.seats s.workers s.worker };
+    ghost invariant = { λ s. (s.seat.me.1 ≡ []) × IsKeptIn s.seat.me.0
+        (purse s.own s.lists.items s.debtors.items s.workers s.worker) s.clock s.seats };
 }
 
 impl PaySeat {
@@ -46,12 +56,17 @@ impl PaySeat {
         self.clock
     }
 
-    /// What the seat shows as paid on a debt of one of its banks, in units. No atomic step, and takes no memory.
+    /// What the seat shows as paid on a debt of one of its banks, in units. No atomic step, and
+    /// takes no memory.
     pub fn paid(&self, debt: DebtId) -> u64
         requires debt { debt.0 < length self.now.shows.net.debts }
         requires debtor { holds self.now.shows (debtor_of self.now.shows.net debt.0) ≡ true }
         ensures { result ≡ slice_index self.now.shows.paid debt.0 }
     {
-        self.paid[debt.0 as usize]
+        if self.lists.is_empty() {
+            return self.own.at(debt.0);
+        }
+        let worker = self.debtors[debt.0 as usize] % self.workers;
+        self.lists[worker as usize].at(debt.0)
     }
 }

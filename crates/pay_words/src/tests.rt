@@ -1,84 +1,16 @@
 ghost use Rattle.clear_core.specs.Clearing.{part, receipts};
-ghost use Rattle.clr_net.specs.Net.{creditor_of, debtor_of, with_bank, with_debt};
-ghost use Rattle.clr_net.specs.Samples.{bank, chain, debt};
-ghost use Rattle.clear_core.specs.Cases.{ring};
+ghost use Rattle.clr_net.specs.Net.{creditor_of, debtor_of};
 ghost use Rattle.pay_words.specs.Views.{IsAt, holds, looked, raised};
-ghost use Rattle.std.specs.Prelude.{◌≡◌, ◌<◌, ◌≤◌, IfOk, OnOk, false, length, slice_index, true};
+ghost use Rattle.std.specs.Prelude.{◌≡◌, ◌<◌, ◌≤◌, false, length, slice_index, true};
 
 use crate::{Board, PaySeat, Payment};
 use clear_core::Journal;
-use clr_net::{
-    Bank, BankId, Debt, DebtId, MAX_BANKS, MAX_CASH, MAX_CLAIM, MAX_DEBTS, MAX_OWED, Mem, Name,
-    Network, RuleKind,
-};
-use std::alloc::Global;
+use clr_net::{BankId, DebtId};
+use net_samples::{chain, ring};
 use std::test::Fail;
 use std::thread::{Threads, join_mut};
 
 const UNPAID: Payment = Payment { value: 0, stamp: 0 };
-
-fn add_bank(alloc: Global, net: &mut Network, name: &[u8], cash: u64) -> Result<(), Mem>
-    ensures { OnOk result (net.new ≡ with_bank net.old (bank name.now cash)) }
-{
-    let Ok(name) = Name::of(alloc, name) else {
-        return Err(Mem);
-    };
-    let rule = RuleKind::Order;
-    if net.banks() >= MAX_BANKS || cash > MAX_CASH || net.bank_named(name.bytes()).is_some() {
-        return Err(Mem);
-    }
-    match net.add_bank(Bank { name, cash, rule }) {
-        Ok(_) => Ok(()),
-        Err(_) => Err(Mem),
-    }
-}
-
-fn add_debt(net: &mut Network, debtor: u32, creditor: u32, claim: u64) -> Result<(), Mem>
-    ensures { OnOk result (net.new ≡ with_debt net.old (debt debtor creditor claim)) }
-{
-    let debt = Debt {
-        debtor: BankId(debtor),
-        creditor: BankId(creditor),
-        class: 1,
-        claim,
-    };
-    if debtor == creditor || debtor >= net.banks() || creditor >= net.banks() {
-        return Err(Mem);
-    }
-    if net.debts() >= MAX_DEBTS || claim > MAX_CLAIM || net.owed() > MAX_OWED - claim {
-        return Err(Mem);
-    }
-    if net.has_debt(debt.debtor, debt.creditor, 1) {
-        return Err(Mem);
-    }
-    net.add_debt(debt)?;
-    Ok(())
-}
-
-// A owes B 10, and B owes C 9; A has 7 and B has 1.
-fn chain_of_three(alloc: Global) -> Result<Network, Mem>
-    ensures { IfOk result (λ net. net ≡ chain) }
-{
-    let mut net = Network::empty(alloc);
-    add_bank(alloc, &mut net, b"A", 7)?;
-    add_bank(alloc, &mut net, b"B", 1)?;
-    add_bank(alloc, &mut net, b"C", 0)?;
-    add_debt(&mut net, 0, 1, 10)?;
-    add_debt(&mut net, 1, 2, 9)?;
-    Ok(net)
-}
-
-// A and B owe each other 5; A has 1.
-fn ring_of_two(alloc: Global) -> Result<Network, Mem>
-    ensures { IfOk result (λ net. net ≡ ring) }
-{
-    let mut net = Network::empty(alloc);
-    add_bank(alloc, &mut net, b"A", 1)?;
-    add_bank(alloc, &mut net, b"B", 0)?;
-    add_debt(&mut net, 0, 1, 5)?;
-    add_debt(&mut net, 1, 0, 5)?;
-    Ok(net)
-}
 
 // Two seats look at a debt each, in threads of their own.
 fn look_at_once<R: Threads + Sync>(
@@ -89,20 +21,32 @@ fn look_at_once<R: Threads + Sync>(
     a: DebtId,
     b: DebtId,
 ) -> (Payment, Payment)
-    requires one { IsAt board.now one.old × (one.old.shows.master ≡ false) × (a.0 < length board.now.net.debts) × (holds one.old.shows (creditor_of board.now.net a.0) ≡ true) }
-    requires two { IsAt board.now two.old × (two.old.shows.master ≡ false) × (b.0 < length board.now.net.debts) × (holds two.old.shows (creditor_of board.now.net b.0) ≡ true) }
-    ensures one { (one.new.table ≡ one.old.table) × (one.new.shows ≡ looked one.old.shows a.0 result.0) }
-    ensures two { (two.new.table ≡ two.old.table) × (two.new.shows ≡ looked two.old.shows b.0 result.1) }
+    requires one { IsAt board.now one.old × (one.old.shows.master ≡ false)
+        × (a.0 < length board.now.net.debts)
+        × (holds one.old.shows (creditor_of board.now.net a.0) ≡ true) }
+    requires two { IsAt board.now two.old × (two.old.shows.master ≡ false)
+        × (b.0 < length board.now.net.debts)
+        × (holds two.old.shows (creditor_of board.now.net b.0) ≡ true) }
+    ensures one { (one.new.table ≡ one.old.table)
+        × (one.new.shows ≡ looked one.old.shows a.0 result.0) }
+    ensures two { (two.new.table ≡ two.old.table)
+        × (two.new.shows ≡ looked two.old.shows b.0 result.1) }
 {
     join_mut(
         rt,
         &mut || -> Payment
-            requires { IsAt board.now one.now × (one.now.shows.master ≡ false) × (a.0 < length board.now.net.debts) × (holds one.now.shows (creditor_of board.now.net a.0) ≡ true) }
-            ensures { (one.exit.now.table ≡ one.entry.now.table) × (one.exit.now.shows ≡ looked one.entry.now.shows a.0 result) }
+            requires { IsAt board.now one.now × (one.now.shows.master ≡ false)
+                × (a.0 < length board.now.net.debts)
+                × (holds one.now.shows (creditor_of board.now.net a.0) ≡ true) }
+            ensures { (one.exit.now.table ≡ one.entry.now.table)
+                × (one.exit.now.shows ≡ looked one.entry.now.shows a.0 result) }
         { board.look(one, a) },
         &mut || -> Payment
-            requires { IsAt board.now two.now × (two.now.shows.master ≡ false) × (b.0 < length board.now.net.debts) × (holds two.now.shows (creditor_of board.now.net b.0) ≡ true) }
-            ensures { (two.exit.now.table ≡ two.entry.now.table) × (two.exit.now.shows ≡ looked two.entry.now.shows b.0 result) }
+            requires { IsAt board.now two.now × (two.now.shows.master ≡ false)
+                × (b.0 < length board.now.net.debts)
+                × (holds two.now.shows (creditor_of board.now.net b.0) ≡ true) }
+            ensures { (two.exit.now.table ≡ two.entry.now.table)
+                × (two.exit.now.shows ≡ looked two.entry.now.shows b.0 result) }
         { board.look(two, b) },
     )
 }
@@ -117,23 +61,36 @@ fn raise_beside_look<R: Threads + Sync>(
     to: u64,
     b: DebtId,
 ) -> (u64, Payment)
-    requires one { IsAt board.now one.old × (one.old.shows.master ≡ false) × (a.0 < length board.now.net.debts) × (holds one.old.shows (debtor_of board.now.net a.0) ≡ true) }
+    requires one { IsAt board.now one.old × (one.old.shows.master ≡ false)
+        × (a.0 < length board.now.net.debts)
+        × (holds one.old.shows (debtor_of board.now.net a.0) ≡ true) }
     requires more { slice_index one.old.shows.paid a.0 < to }
-    requires within { to ≤ part board.now.net a.0 (receipts board.now.net one.old.shows.sights (debtor_of board.now.net a.0)) }
-    requires two { IsAt board.now two.old × (two.old.shows.master ≡ false) × (b.0 < length board.now.net.debts) × (holds two.old.shows (creditor_of board.now.net b.0) ≡ true) }
+    requires within { to ≤ part board.now.net a.0 (receipts board.now.net one.old.shows.sights
+        (debtor_of board.now.net a.0)) }
+    requires two { IsAt board.now two.old × (two.old.shows.master ≡ false)
+        × (b.0 < length board.now.net.debts)
+        × (holds two.old.shows (creditor_of board.now.net b.0) ≡ true) }
     ensures one { (one.new.table ≡ one.old.table) × (one.new.shows ≡ raised one.old.shows a.0 to) }
-    ensures two { (two.new.table ≡ two.old.table) × (two.new.shows ≡ looked two.old.shows b.0 result.1) }
+    ensures two { (two.new.table ≡ two.old.table)
+        × (two.new.shows ≡ looked two.old.shows b.0 result.1) }
 {
     join_mut(
         rt,
         &mut || -> u64
-            requires { IsAt board.now one.now × (one.now.shows.master ≡ false) × (a.0 < length board.now.net.debts) × (holds one.now.shows (debtor_of board.now.net a.0) ≡ true)
-                × (slice_index one.now.shows.paid a.0 < to) × (to ≤ part board.now.net a.0 (receipts board.now.net one.now.shows.sights (debtor_of board.now.net a.0))) }
-            ensures { (one.exit.now.table ≡ one.entry.now.table) × (one.exit.now.shows ≡ raised one.entry.now.shows a.0 to) }
+            requires { IsAt board.now one.now × (one.now.shows.master ≡ false)
+                × (a.0 < length board.now.net.debts)
+                × (holds one.now.shows (debtor_of board.now.net a.0) ≡ true)
+                × (slice_index one.now.shows.paid a.0 < to) × (to ≤ part board.now.net a.0
+                (receipts board.now.net one.now.shows.sights (debtor_of board.now.net a.0))) }
+            ensures { (one.exit.now.table ≡ one.entry.now.table)
+                × (one.exit.now.shows ≡ raised one.entry.now.shows a.0 to) }
         { board.raise(one, a, to) },
         &mut || -> Payment
-            requires { IsAt board.now two.now × (two.now.shows.master ≡ false) × (b.0 < length board.now.net.debts) × (holds two.now.shows (creditor_of board.now.net b.0) ≡ true) }
-            ensures { (two.exit.now.table ≡ two.entry.now.table) × (two.exit.now.shows ≡ looked two.entry.now.shows b.0 result) }
+            requires { IsAt board.now two.now × (two.now.shows.master ≡ false)
+                × (b.0 < length board.now.net.debts)
+                × (holds two.now.shows (creditor_of board.now.net b.0) ≡ true) }
+            ensures { (two.exit.now.table ≡ two.entry.now.table)
+                × (two.exit.now.shows ≡ looked two.entry.now.shows b.0 result) }
         { board.look(two, b) },
     )
 }
@@ -141,7 +98,7 @@ fn raise_beside_look<R: Threads + Sync>(
 #[test]
 fn a_debt_is_raised_while_it_is_looked_at(rt: HostRuntime) -> Result<(), Fail> {
     let alloc = rt.alloc();
-    let net = ring_of_two(alloc)?;
+    let net = ring(alloc)?;
     let (board, mut master) = Board::make(alloc, &net, 2, &[UNPAID, UNPAID], &[])?;
     let mut first = board.hand(alloc, &mut master, 0)?;
     let mut second = board.hand(alloc, &mut master, 1)?;
@@ -162,7 +119,7 @@ fn a_debt_is_raised_while_it_is_looked_at(rt: HostRuntime) -> Result<(), Fail> {
 #[test]
 fn two_threads_work_on_one_board(rt: HostRuntime) -> Result<(), Fail> {
     let alloc = rt.alloc();
-    let net = ring_of_two(alloc)?;
+    let net = ring(alloc)?;
     let (board, mut master) = Board::make(alloc, &net, 2, &[UNPAID, UNPAID], &[])?;
     let mut first = board.hand(alloc, &mut master, 0)?;
     let mut second = board.hand(alloc, &mut master, 1)?;
@@ -183,7 +140,7 @@ fn two_threads_work_on_one_board(rt: HostRuntime) -> Result<(), Fail> {
 #[test]
 fn payments_flow_down_a_chain(rt: HostRuntime) -> Result<(), Fail> {
     let alloc = rt.alloc();
-    let net = chain_of_three(alloc)?;
+    let net = chain(alloc)?;
     let (board, mut master) = Board::make(alloc, &net, 2, &[UNPAID, UNPAID], &[])?;
     let mut first = board.hand(alloc, &mut master, 0)?;
     let mut second = board.hand(alloc, &mut master, 1)?;
@@ -210,7 +167,7 @@ fn payments_flow_down_a_chain(rt: HostRuntime) -> Result<(), Fail> {
 #[test]
 fn a_seat_is_handed_out_again(rt: HostRuntime) -> Result<(), Fail> {
     let alloc = rt.alloc();
-    let net = ring_of_two(alloc)?;
+    let net = ring(alloc)?;
     let (board, mut master) = Board::make(alloc, &net, 2, &[UNPAID, UNPAID], &[])?;
     let mut first = board.hand(alloc, &mut master, 0)?;
     let second = board.hand(alloc, &mut master, 1)?;
@@ -221,6 +178,7 @@ fn a_seat_is_handed_out_again(rt: HostRuntime) -> Result<(), Fail> {
     let mut again = board.hand(alloc, &mut master, 1)?;
     assert_eq!(rt; again.clock(), 1);
     assert!(rt; board.take(&mut again, BankId(1)));
+    assert!(rt; !board.take(&mut again, BankId(1)));
     let seen = board.look(&mut again, DebtId(0));
     assert_eq!(rt; seen, Payment { value: 1, stamp: 1 });
     assert_eq!(rt; board.raise(&mut again, DebtId(1), 1), 2);

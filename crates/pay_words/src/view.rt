@@ -1,4 +1,5 @@
-//! What a seat knows. No value of these types is made: they stand in contracts and in the rule of a board alone.
+//! What a seat knows. No value of these types is made: they stand in contracts and in the rule of a
+//! board alone.
 use clear_core::Raise;
 use clr_net::Network;
 use std::collections::LinkedList;
@@ -11,12 +12,14 @@ pub struct Shown {
     pub master: bool,
     /// Over banks: whether it holds the bank.
     pub banks: LinkedList<bool>,
-    /// Over debts: the value that was last seen, and its stamp. They count for debts owed to a bank that it holds.
+    /// Over debts: the value that was last seen, and its stamp. They count for debts owed to a bank
+    /// that it holds.
     pub sights: LinkedList<u64>,
     pub sight_stamps: LinkedList<u64>,
     /// Over debts: how many looks were made.
     pub looks: LinkedList<u64>,
-    /// Over debts: the value that is paid, and its stamp. They count for debts that a bank owes that it holds.
+    /// Over debts: the value that is paid, and its stamp. They count for debts that a bank owes
+    /// that it holds.
     pub paid: LinkedList<u64>,
     pub paid_stamps: LinkedList<u64>,
     /// Over debts: what is known to be paid at least.

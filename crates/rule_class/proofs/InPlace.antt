@@ -1,19 +1,20 @@
 -- A division over classes in one list of awards, in place: every award is its claim at first, and each class has its turn.
-use Rattle.std.proofs.Common.{◌≡◌, ℕ, zero, suc, ◌+◌, ◌-◌, ◌<◌, ◌≤◌, min, List, length, get_or, sum, Option, sym, refl, ap, ◌∙◌, ⊎_elim, arith}
+use Rattle.std.proofs.Common.{◌≡◌, ℕ, zero, suc, ◌+◌, ◌-◌, ◌<◌, ◌≤◌, min, List, [], length, get_or, sum, Option, sym, refl, ap, ◌∙◌, ⊎_elim, arith}
 use Rattle.std.proofs.lemmas.Bool.{cases_eq, cases_lt}
-use Rattle.std.proofs.lemmas.List.{ext_get_or, get_or_past, length-replicate}
+use Rattle.std.proofs.lemmas.List.{ext_get_or, get_or_past}
 use Rattle.clr_net.specs.declared.TheConstants.{MAX_CLASS}
 use Rattle.clr_net.specs.Division.{class_claims, AreClasses}
 use Rattle.clr_net.specs.InPlace.{cleared_class}
-use Rattle.clr_net.proofs.Lists.{same_from_sum, zeros_at}
-use Rattle.clr_net.proofs.Classes.{length-class_claims, class_claims_here, class_claims_other, length-place_sums, get_or-place_sums}
+use Rattle.clr_net.proofs.Lists.{same_from_sum, sum-le}
+use Rattle.clr_net.proofs.Classes.{length-class_claims, class_claims_here, class_claims_other, get_or-place_sums}
 use Rattle.clr_net.proofs.InPlace.{IsDone}
-use Rattle.clr_net.proofs.Turn.{IsTurn}
+use Rattle.clr_net.proofs.Turn.{IsTurn, cleared_class_other, length-cleared_class}
 use Rattle.rule_unit.specs.Awards.{IsWithin}
 use Rattle.rule_unit.specs.Choice.{IsUnitChoice}
 use Rattle.rule_unit.specs.Units.{awards_after, award}
 use Rattle.rule_unit.proofs.UnitByUnit.{awards_within, award_within, sum_award}
 use Rattle.rule_class.specs.Sharing.{share_by_from, share_by}
+use Rattle.rule_class.proofs.ShareBy.{IsShare, share_by_from_is}
 use Rattle.rule_class.proofs.Turn.{cleared_within, turn_after}
 
 -- the awards once n classes, from the class c on, have had their turns, with e units to give:
@@ -45,39 +46,30 @@ in_place_ends choice claims classes c e awards l =
     let none : 10 - c ≡ 0 = omega arith in
     ap (λ m. in_place_from choice claims classes c m e awards) none
 
+-- nor do turns of classes that have no debt change anything
+pub in_place_past : (choice : List ℕ → List ℕ → Option ℕ) (claims classes : List ℕ) (c n e : ℕ) (awards : List ℕ)
+    → ((k : ℕ) → get_or classes k 0 < c) → in_place_from choice claims classes c n e awards ≡ awards
+unfolding in_place_from awards_after
+in_place_past choice claims classes c zero e awards l = refl
+in_place_past choice claims classes c (suc n) e awards l =
+    let mine = class_claims c claims classes in
+    let given = min (sum mine) e in
+    let cleared = cleared_class c awards classes in
+    let nothing : sum mine ≤ 0 =
+    sum-le mine [] (λ k. omega (arith, class_claims_other c claims classes k (omega (arith, l k)))) in
+    let none : given ≡ 0 = omega (arith, nothing) in
+    in_place_past choice claims classes (c + 1) n (e - given) (awards_after choice claims cleared given) (λ k. omega (arith, l k))
+    ∙ ap (awards_after choice claims cleared) none
+    ∙ ext_get_or 0 cleared awards (length-cleared_class c awards classes)
+    (λ k m. cleared_class_other c awards classes k (omega (arith, l k)))
+
 -- before the turn of the class c: its places and those of later classes are paid in full, and every place while a unit is left
 record IsReady (claims classes : List ℕ) (c e : ℕ) (awards : List ℕ) : Type 0 where
   pub within : IsWithin claims awards
   pub later_met : (k : ℕ) → c ≤ get_or classes k 0 → get_or awards k 0 ≡ get_or claims k 0
   pub all_met : 0 < e → (k : ℕ) → get_or awards k 0 ≡ get_or claims k 0
 
--- shares from the class c on: as many as the claims, and nothing to a class below c
-record IsShare (claims classes : List ℕ) (c : ℕ) (shares : List ℕ) : Type 0 where
-  pub as_many : length shares ≡ length claims
-  pub earlier : (k : ℕ) → get_or classes k 0 < c → get_or shares k 0 ≡ 0
-
 module _ (choice : List ℕ → List ℕ → Option ℕ) (lawful : IsUnitChoice choice) (claims classes : List ℕ) where
-  share_by_from_is : (c n e : ℕ) → IsShare claims classes c (share_by_from choice claims classes c n e)
-  unfolding share_by_from
-  share_by_from_is c zero e = record { as_many = length-replicate (length claims) 0; earlier = λ k l. zeros_at (length claims) k }
-  share_by_from_is c (suc n) e =
-      let mine = class_claims c claims classes in
-      let given = min (sum mine) e in
-      let here = award choice mine given in
-      let w : IsWithin mine here = award_within choice lawful mine given in
-      let rest = share_by_from choice claims classes (c + 1) n (e - given) in
-      let r : IsShare claims classes (c + 1) rest = share_by_from_is (c + 1) n (e - given) in
-      record {
-        as_many = length-place_sums here rest ∙ w.as_many ∙ length-class_claims c claims classes;
-        earlier = λ k l. omega (
-          arith,
-          get_or-place_sums here rest k (w.as_many ∙ length-class_claims c claims classes ∙ sym r.as_many),
-          r.earlier k (omega arith),
-          w.within k,
-          class_claims_other c claims classes k (omega arith),
-        );
-      }
-
   award_full : (mine : List ℕ) (e : ℕ) → sum mine ≤ e → award choice mine e ≡ mine
   award_full mine e l =
       let w : IsWithin mine (award choice mine e) = award_within choice lawful mine e in
@@ -116,7 +108,7 @@ module _ (choice : List ℕ → List ℕ → Option ℕ) (lawful : IsUnitChoice 
       let now_within : IsWithin claims now = awards_within choice lawful claims (cleared_class c had classes) given
       (cleared_within c claims had classes p r.within) in
       let rest = share_by_from choice claims classes (c + 1) n (e - given) in
-      let s : IsShare claims classes (c + 1) rest = share_by_from_is (c + 1) n (e - given) in
+      let s : IsShare claims classes (c + 1) rest = share_by_from_is choice lawful claims classes (c + 1) n (e - given) in
       let t : IsTurn claims classes c had own now = turn_after choice lawful claims classes c p had e given r.within r.all_met (omega arith) in
       let done : IsDone claims classes (c + 1) now rest (in_place_from choice claims classes (c + 1) n (e - given) now) =
       in_place_done (c + 1) n (e - given) now (omega arith) (λ k. omega (arith, h k)) (ready_next c e had now p r now_within t) in
@@ -136,7 +128,7 @@ module _ (choice : List ℕ → List ℕ → Option ℕ) (lawful : IsUnitChoice 
       → in_place_from choice claims classes 1 MAX_CLASS e claims ≡ share_by choice claims classes e
   in_place_is e l h =
       ext_get_or 0 (in_place_from choice claims classes 1 MAX_CLASS e claims) (share_by choice claims classes e)
-      (done.as_many ∙ sym (share_by_from_is 1 MAX_CLASS e).as_many) (λ k m. done.later k (h k (omega (arith, done.as_many))).0)
+      (done.as_many ∙ sym (share_by_from_is choice lawful claims classes 1 MAX_CLASS e).as_many) (λ k m. done.later k (h k (omega (arith, done.as_many))).0)
     where
       below : (k : ℕ) → get_or classes k 0 < 10
       below k = ⊎_elim (λ (m : k < length classes). omega (arith, h k m))

@@ -1,4 +1,5 @@
--- How an estate is divided among the debts of a bank, class by class, by a choice of the debt that gets the next unit.
+-- How an estate is divided among the debts of a bank, class by class, by a choice of the debt that
+-- gets the next unit.
 use Rattle.std.specs.Prelude.{ℕ, zero, suc, ◌+◌, ◌-◌, List, length, sum, min, replicate, Option}
 use Rattle.clr_net.specs.declared.TheConstants.{MAX_CLASS}
 use Rattle.clr_net.specs.Division.{class_claims, place_sums}

@@ -11,10 +11,12 @@ ghost use Rattle.std.specs.Prelude.{◌≡◌, ◌<◌, ◌≤◌, All, length, 
 use clr_net::MAX_CLASS;
 use rule_unit::{UnitRule, award_more};
 
-/// Divides an estate among the debts of a bank, in whole units, and writes over `into` what each debt gets.
+/// Divides an estate among the debts of a bank, in whole units, and writes over `into` what each
+/// debt gets.
 ///
-/// A place in each list is a debt, in file order. Each class, from the first on, gets as much as it claims and there
-/// is left, given out within the class unit by unit, each to the debt that the rule chooses.
+/// A place in each list is a debt, in file order. Each class, from the first on, gets as much as it
+/// claims and there is left, given out within the class unit by unit, each to the debt that the
+/// rule chooses.
 pub fn share<R: UnitRule>(rule: &R, claims: &[u64], classes: &[u8], estate: u64, into: &mut [u64])
     requires a_class_each { length claims.now ≡ length classes.now }
     requires a_place_each { length into.old ≡ length claims.now }
@@ -30,7 +32,8 @@ pub fn share<R: UnitRule>(rule: &R, claims: &[u64], classes: &[u8], estate: u64,
     }
 }
 
-// The turn of one class: its debts lose what they had, and are given as much of `left` as they claim. Answers how much.
+// The turn of one class: its debts lose what they had, and are given as much of `left` as they
+// claim. Answers how much.
 fn one_class<R: UnitRule>(
     rule: &R,
     claims: &[u64],
@@ -44,7 +47,8 @@ fn one_class<R: UnitRule>(
     requires limit { All (λ c. c ≤ MAX_CLAIM) claims.now }
     requires total { sum claims.now ≤ MAX_CLAIMS }
     requires first { 1 ≤ class }
-    ensures given_out { into.new ≡ awards_after (R.choice rule.now) claims.now (cleared_class class into.old classes.now) result }
+    ensures given_out { into.new ≡ awards_after (R.choice rule.now) claims.now
+        (cleared_class class into.old classes.now) result }
     ensures given { result ≡ min (sum (class_claims class claims.now classes.now)) left }
     ensures still_within { IsWithin claims.now into.new }
 {
@@ -54,8 +58,8 @@ fn one_class<R: UnitRule>(
     given
 }
 
-// What the debts of one class claim together.
-fn class_total(claims: &[u64], classes: &[u8], class: u8) -> u64
+/// What the debts of one class claim together.
+pub fn class_total(claims: &[u64], classes: &[u8], class: u8) -> u64
     requires a_class_each { length claims.now ≡ length classes.now }
     requires total { sum claims.now ≤ MAX_CLAIMS }
     ensures { result ≡ sum (class_claims class claims.now classes.now) }

@@ -6,7 +6,8 @@ ghost use Rattle.std.specs.Prelude.{◌≡◌, ◌≤◌};
 
 use rule_unit::UnitRule;
 
-/// What a claim is divided by, once its debt has `k` units. The debt with the greatest quotient gets the next unit.
+/// What a claim is divided by, once its debt has `k` units. The debt with the greatest quotient
+/// gets the next unit.
 #[derive(Clone, Copy, Debug, PartialEq, Eq)]
 pub enum Divisor {
     /// The greatest divisors, `k + 1`.
@@ -33,7 +34,8 @@ impl Divisor {
 
     // Whether a debt goes before an earlier one: whether its quotient is greater.
     fn goes_before(self, claim: u64, units: u64, earlier_claim: u64, earlier_units: u64) -> bool
-        requires { (claim ≤ MAX_CLAIM) × (earlier_claim ≤ MAX_CLAIM) × (units ≤ claim) × (earlier_units ≤ earlier_claim) }
+        requires { (claim ≤ MAX_CLAIM) × (earlier_claim ≤ MAX_CLAIM)
+            × (units ≤ claim) × (earlier_units ≤ earlier_claim) }
         ensures { result ≡ goes_first (kind_of self) claim units earlier_claim earlier_units }
     {
         u128::from(earlier_claim) * self.after(units)

@@ -10,7 +10,9 @@ use Rattle.rule_unit.specs.Choice.{IsUnitChoice}
 
 pub kind_is_unit_choice : (kind : RuleKind) → IsUnitChoice (next_of kind)
 kind_is_unit_choice kind = record {
-  none_where_met = λ claims awards w. next_of-none kind claims awards (record { as_many = w.as_many; within = w.within });
+  none_where_met = λ claims awards w.
+      next_of-none kind claims awards (record { as_many = w.as_many; within = w.within });
   unmet = λ claims awards debt w e. next_of-some kind claims awards debt e;
-  leaves_out_met = λ claims awards i w l e. next_of-remove kind claims awards i l w.as_many (le_of_eq (sym e));
+  leaves_out_met = λ claims awards i w l e.
+      next_of-remove kind claims awards i l w.as_many (le_of_eq (sym e));
 }

@@ -4,7 +4,8 @@ ghost use Rattle.rule_kinds.specs.UnitChoice.{kind_is_unit_choice};
 
 use rule_unit::UnitRule;
 
-/// The rule `equal`: of the debts that are not paid in full, the one with the fewest units gets the next.
+/// The rule `equal`: of the debts that are not paid in full, the one with the fewest units gets the
+/// next.
 #[derive(Clone, Copy, Debug)]
 pub struct EqualRule;
 

@@ -14,5 +14,6 @@ pub fn each_kind_is_a_unit_choice()
 /// What is awarded by the next debt of a kind, unit by unit, is the award of that kind.
 #[tactic(auto, using(crate::proofs::AwardsOfKind::award_is))]
 pub fn awards_are_those_of_the_kind()
-    ensures { (kind : RuleKind) (claims : List ℕ) (e : ℕ) → award (next_of kind) claims e ≡ award_of_kind kind claims e }
+    ensures { (kind : RuleKind) (claims : List ℕ) (e : ℕ)
+        → award (next_of kind) claims e ≡ award_of_kind kind claims e }
 {}

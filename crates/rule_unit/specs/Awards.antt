@@ -1,4 +1,5 @@
--- Claims and awards: what the debts of one bank are owed, and what each has got so far, in file order.
+-- Claims and awards: what the debts of one bank are owed, and what each has got so far, in file
+-- order.
 use Rattle.std.specs.Prelude.{◌≡◌, ℕ, ◌≤◌, List, length, slice_index}
 
 -- no amount of xs is above that of ys in the same place; a place past the end of a list holds 0

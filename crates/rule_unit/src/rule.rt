@@ -5,8 +5,8 @@ ghost use Rattle.std.specs.Prelude.{◌≡◌, ◌≤◌, ℕ, All, List, Option
 
 /// Which debt of a bank gets the next unit of its estate.
 ///
-/// A rule sees the claims of the bank's debts in file order, in whole units, and the awards: what each debt has got
-/// so far. A place in either list is a debt.
+/// A rule sees the claims of the bank's debts in file order, in whole units, and the awards: what
+/// each debt has got so far. A place in either list is a debt.
 pub trait UnitRule {
     /// The debt that is chosen, of claims and awards.
     ghost choice: { Self → List ℕ → List ℕ → Option ℕ };
@@ -17,7 +17,8 @@ pub trait UnitRule {
         requires limit { All (λ c. c ≤ MAX_CLAIM) claims.now }
         ensures { result ≡ choice self.now claims.now awards.now };
 
-    /// None is chosen exactly where every award equals its claim. The debt that is chosen is not yet paid in full.
-    /// A debt that is paid in full can be left out of both lists: of the other debts the same one is chosen.
+    /// None is chosen exactly where every award equals its claim. The debt that is chosen is not
+    /// yet paid in full. A debt that is paid in full can be left out of both lists: of the other
+    /// debts the same one is chosen.
     ghost laws: { (rule : Self) → IsUnitChoice (choice rule) };
 }

@@ -5,8 +5,8 @@ ghost use Rattle.std.specs.Prelude.{◌≡◌, ◌+◌, ◌≤◌, All, sum};
 
 use crate::rule::UnitRule;
 
-/// Gives out `units` one by one, each to the debt that the rule chooses next, and answers how many were left when
-/// all debts were paid in full.
+/// Gives out `units` one by one, each to the debt that the rule chooses next, and answers how many
+/// were left when all debts were paid in full.
 pub fn award_more<R: UnitRule>(rule: &R, claims: &[u64], awards: &mut [u64], units: u64) -> u64
     requires within { IsWithin claims.now awards.old }
     requires limit { All (λ c. c ≤ MAX_CLAIM) claims.now }

@@ -4,9 +4,14 @@ use Rattle.clr_net.specs.Division.{share}
 use Rattle.rule_class.proofs.ShareOfKind.{share_by_is}
 use Rattle.clear_core.proofs.division.share_of.Goals as goal
 
+pub returns-in-Order : goal.returns-in-Order
+returns-in-Order c =
+    c.share.ensures ∙ share_by_is kind.Order c.args.claims.now c.args.classes.now c.args.estate
+    ∙ ap (λ kind. share kind c.args.claims.now c.args.classes.now c.args.estate) (sym c.in-Order.is)
+
 pub returns-in-Equal : goal.returns-in-Equal
 returns-in-Equal c =
-    c.share.ensures ∙ share_by_is kind.Equal c.args.claims.now c.args.classes.now c.args.estate
+    c.share-in-Equal.ensures ∙ share_by_is kind.Equal c.args.claims.now c.args.classes.now c.args.estate
     ∙ ap (λ kind. share kind c.args.claims.now c.args.classes.now c.args.estate) (sym c.in-Equal.is)
 
 pub returns-in-Losses : goal.returns-in-Losses

@@ -1,21 +1,41 @@
-use Rattle.std.proofs.Common.{◌≡◌, ◌∙◌, ap, ap₂, codes, rules, true}
-use Rattle.std.proofs.lemmas.Result.{IfOk-weaker}
-use Rattle.clap.specs.Words.{app_of, new_app, rule_of, with_rule}
+use Rattle.std.proofs.Common.{◌≡◌, ◌∙◌, ap, ap₂, codes, drop, fold, get_or, rules, sym, true, ℕ}
+use Rattle.std.proofs.Common.{◌<◌, ◌+◌, length}
+use Rattle.clap.specs.Words.{App, app_of, new_app, rule_of, with_rule}
 use Rattle.clap.specs.Simple.{app_of_fields, on_top}
-use Rattle.clear_words.specs.Command.{command, option_argument, plain, task_argument}
+use Rattle.clear_words.specs.Command.{command, option_argument, plain, task_argument, with_option}
+use Rattle.clear_words.specs.Options.{all_options, name_of}
+use Rattle.clear_words.specs.declared.option.JobOption.TheVariants as option
+use Rattle.clear_words.proofs.InTurn.{next_left}
 use Rattle.clear_words.proofs.command.command.Goals as goal
 
-pub returns : goal.returns
+-- one option more is added, and one fewer is left
+next : (made : App) (i : ℕ) → i < length all_options
+    → fold with_option made (drop i all_options)
+    ≡ fold with_option (with_option made (get_or all_options i option.Banks)) (drop (i + 1) all_options)
+next made i l = ap (fold with_option made) (next_left all_options i option.Banks l)
+
+-- with the task alone, every option is left
+begins : (made : App) → made ≡ with_rule plain (task_argument (codes "task")) → fold with_option made all_options ≡ command
 unfolding command
-returns c =
+begins made is = ap (λ a. fold with_option a all_options) is
+
+pub loop-job_option-init : goal.loop-job_option-init
+loop-job_option-init c =
     let unnamed : app_of c.no_binary_name.result ≡ on_top (λ s. record s { no_binary_name = true }) (new_app (codes "clearing")) =
     ap app_of_fields c.no_binary_name.ensures ∙ ap (on_top (λ s. record s { no_binary_name = true })) c.new.ensures.app in
     let plain_is : app_of c.disable_help_flag.result ≡ plain =
     ap app_of_fields c.disable_help_flag.ensures ∙ ap (on_top (λ s. record s { disable_help_flag = true })) unnamed in
     let task_is : rule_of c.task.result ≡ task_argument (codes "task") = search rules in
-    let banks_is : rule_of c.option.result ≡ option_argument (codes "banks") = search rules in
-    let debts_is : rule_of c.option-2.result ≡ option_argument (codes "debts") = search rules in
-    let with_task = c.in_ok-arg.ensures.shape c.task.ensures.local ∙ ap₂ with_rule plain_is task_is in
-    let with_banks = c.in_ok-arg-2.ensures.shape c.option.ensures.local ∙ ap₂ with_rule with_task banks_is in
-    IfOk-weaker c.arg-3.result _ _
-    (λ made added. added.shape c.option-2.ensures.local ∙ ap₂ with_rule with_banks debts_is) c.arg-3.ensures
+    let with_task : app_of c.in_ok-command.command ≡ with_rule plain (task_argument (codes "task")) =
+    c.in_ok-command.ensures.shape c.task.ensures.local ∙ ap₂ with_rule plain_is task_is in
+    begins (app_of c.in_ok-command.command) with_task
+
+pub loop-job_option-preserved : goal.loop-job_option-preserved
+loop-job_option-preserved c =
+    let i = c.loop-job_option.job_option-index in
+    let name_is : c.name.result.now ≡ name_of (get_or all_options i option.Banks) = c.name.ensures in
+    let rule_is = c.option.ensures.rule ∙ ap option_argument name_is in
+    let added = c.in_ok-command-2.ensures.shape c.option.ensures.local
+    ∙ ap (with_rule (app_of c.loop-job_option.command)) rule_is in
+    ap (λ a. fold with_option a (drop (i + 1) all_options)) added
+    ∙ sym (next (app_of c.loop-job_option.command) i c.loop-job_option-test.true) ∙ c.loop-job_option.invariant

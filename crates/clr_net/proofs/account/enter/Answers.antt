@@ -2,7 +2,8 @@
 use Rattle.std.proofs.Common.{◌≡◌, slice_get, Some, set, length, ap, ◌∙◌, refl, arith}
 use Rattle.std.proofs.lemmas.List.{length-set}
 use Rattle.std.proofs.lemmas.Option.{slice_get_read}
-use Rattle.clr_net.specs.Accounts.{shown, owing, owed_one_more, changed_at}
+use Rattle.clr_net.specs.Accounts.{shown, owing, owed_one_more}
+use Rattle.clr_net.specs.Net.{changed_at}
 use Rattle.clr_net.proofs.ChangedAt.{map-set_changed}
 use Rattle.clr_net.proofs.account.enter.Goals as goal
 

@@ -1,9 +1,11 @@
-use Rattle.std.proofs.Common.{[], ◌∷◌, map, rules}
+use Rattle.std.proofs.Common.{rules}
+use Rattle.std.specs.Option.{option_map}
 use Rattle.net_check.specs.Field.{trimmed_field}
-use Rattle.net_check.proofs.Additions.{bank_from-ok}
+use Rattle.net_check.proofs.Additions.{new_bank-ok}
 use Rattle.net_check.proofs.bank.check_bank.Goals as goal
 
 pub returns-in-Ok-of-clause-new : goal.returns-in-Ok-of-clause-new
 returns-in-Ok-of-clause-new c =
-    bank_from-ok c.args.net.now (map trimmed_field (c.args.name.now ∷ c.args.cash.now ∷ c.args.rule.now ∷ []))
-    (record { name = c.in-Ok-of.name; cash = c.in-Ok.cash; rule = c.in-Ok.rule }) (search rules) c.requires
+    new_bank-ok c.args.net.now (trimmed_field c.args.name.now) (trimmed_field c.args.cash.now) (trimmed_field c.args.rule.now)
+    (option_map (λ f. trimmed_field f.now) c.args.outside)
+    (record { name = c.in-Ok-of.name; cash = c.in-Ok.cash; rule = c.in-Ok.rule; outside = c.in-Ok.outside }) (search rules) c.requires

@@ -1,11 +1,15 @@
-use Rattle.std.proofs.Common.{arith}
-use Rattle.clr_net.specs.Lines.{line}
-use Rattle.net_csv.specs.Printing.{bank_line}
-use Rattle.net_csv.specs.Reading.{banks_header}
-use Rattle.net_csv.proofs.Lines.{line_more}
+use Rattle.std.proofs.Common.{true, false, arith, eq-eqb}
+use Rattle.std.proofs.lemmas.Bool.{ne_eqb}
+use Rattle.clr_net.specs.Net.{all_outside}
+use Rattle.net_csv.proofs.Versions.{version_by_total}
 use Rattle.net_csv.proofs.print.print_banks.Goals as goal
 
-pub loop-i-preserved : goal.loop-i-preserved
-loop-i-preserved c =
-    line_more bank_line (line banks_header) c.loop-i.text.items c.push_bank.new.text.items c.args.net.now.banks c.loop-i.i c.bank.result.now
-    (omega arith) c.bank.ensures c.loop-i.invariant c.in_ok-push_bank.ensures
+pub returns-then-outside_total-eq0 : goal.returns-then-outside_total-eq0
+returns-then-outside_total-eq0 c =
+    let net = c.args.net.now in
+    rw (version_by_total net true (eq-eqb (all_outside net) 0 (omega arith))) c.banks_file.ensures
+
+pub returns-else-outside_total-eq0 : goal.returns-else-outside_total-eq0
+returns-else-outside_total-eq0 c =
+    let net = c.args.net.now in
+    rw (version_by_total net false (ne_eqb (all_outside net) 0 (λ e. omega arith))) c.banks_file-else-outside_total-eq0.ensures

@@ -9,8 +9,13 @@ use Rattle.net_csv.proofs.read.read_network.Goals.{In_ok-add_debts}
 -- the network that is read is that of the two files
 read : (c : In_ok-add_debts) → network_of c.args.banks.now c.args.debts.now ≡ Ok c.add_debts.new.net
 read c =
-    network_of_read c.args.banks.now c.args.debts.now c.add_banks.new.net c.add_debts.new.net (omega arith) (omega arith)
-    (rw c.empty-net.ensures at c.in_ok-add_banks.ensures.read) c.in_ok-add_debts.ensures.read
+    network_of_read c.args.banks.now c.args.debts.now c.add_debts.new.net (record {
+      some = c.add_banks.new.net;
+      small = omega arith;
+      small_too = omega arith;
+      read = rw c.empty-net.ensures at c.in_ok-add_banks.ensures.read;
+      read_too = c.in_ok-add_debts.ensures.read;
+    })
 
 pub returns-clause-lawful : goal.returns-clause-lawful
 returns-clause-lawful c = network_of_ok c.args.banks.now c.args.debts.now c.add_debts.new.net (read c)

@@ -16,5 +16,5 @@ raise_beside_look-stamp-requires-clause-within g c lifetimes =
     let blank : slice_index c.in_ok-first.first.shows.sights 1 ≡ 0 = search rules in
     subst (λ (n : Net). 1 ≤ part n 0 (receipts n c.in_ok-first.first.shows.sights (debtor_of n 0))) (sym net) (le_of_eq (sym (first_of_ring c.in_ok-first.first.shows.sights blank)))
 
-pub ring-requires-clause-owes : goal.ring-requires-clause-owes
-ring-requires-clause-owes g c = (0, search rules, search rules, search rules)
+pub ring-requires-2-clause-owes : goal.ring-requires-2-clause-owes
+ring-requires-2-clause-owes g c = (0, search rules, search rules, search rules)

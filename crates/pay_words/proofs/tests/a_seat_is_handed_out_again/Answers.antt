@@ -17,13 +17,13 @@ raise-requires-clause-within g c =
     let blank : slice_index c.in_ok-first.first.shows.sights 1 ≡ 0 = search rules in
     subst (λ (n : Net). 1 ≤ part n 0 (receipts n c.in_ok-first.first.shows.sights (debtor_of n 0))) (sym net) (le_of_eq (sym (first_of_ring c.in_ok-first.first.shows.sights blank)))
 
-pub ring-requires-clause-owes : goal.ring-requires-clause-owes
-ring-requires-clause-owes g c = (0, search rules, search rules, search rules)
+pub ring-requires-2-clause-owes : goal.ring-requires-2-clause-owes
+ring-requires-2-clause-owes g c = (0, search rules, search rules, search rules)
 
 pub raise-requires-2-clause-within : goal.raise-requires-2-clause-within
 raise-requires-2-clause-within g c =
     let net = c.in_ok-board.ensures.board.0 ∙ c.in_ok-net.ensures in
-    let there : 0 < length c.take.new.seat.shows.sights = search rules in
+    let there : 0 < length c.take-2.new.seat.shows.sights = search rules in
     let found : c.look-seen.result.value ≡ 1 = search rules in
     let seen : slice_index c.look-seen.new.seat.shows.sights 0 ≡ 1 = sees _ _ 0 _ c.look-seen.ensures.seen there ∙ found in
     subst (λ (n : Net). 1 ≤ part n 1 (receipts n c.look-seen.new.seat.shows.sights (debtor_of n 1))) (sym net) (le_of_eq (sym (second_of_ring c.look-seen.new.seat.shows.sights seen)))

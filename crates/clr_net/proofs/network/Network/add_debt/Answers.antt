@@ -16,7 +16,7 @@ on_err (Ok x) p = tt
 on_err (Err e) p = p
 
 pub invariant_of-self : goal.invariant_of-self
-invariant_of-self c = AreKept-alike _ _ _ _ _ _ c.make_room.ensures.shown c.self.invariant
+invariant_of-self c = AreKept-alike _ _ _ _ _ _ _ c.make_room.ensures.shown c.self.invariant
 
 pub returns-in_err-make_room-clause-err : goal.returns-in_err-make_room-clause-err
 returns-in_err-make_room-clause-err c =
@@ -24,7 +24,7 @@ returns-in_err-make_room-clause-err c =
 
 pub invariant_of-self-in_err-push : goal.invariant_of-self-in_err-push
 invariant_of-self-in_err-push c =
-    rw c.in_err-push.ensures.items (AreKept-alike _ _ _ _ _ _ c.make_room.ensures.shown c.self.invariant)
+    rw c.in_err-push.ensures.items (AreKept-alike _ _ _ _ _ _ _ c.make_room.ensures.shown c.self.invariant)
 
 pub returns-in_err-push-clause-err : goal.returns-in_err-push-clause-err
 returns-in_err-push-clause-err c = on_err c.from_residual-in_err-push.result
@@ -32,7 +32,7 @@ returns-in_err-push-clause-err c = on_err c.from_residual-in_err-push.result
 
 pub enter-requires-clause-fits : goal.enter-requires-clause-fits
 enter-requires-clause-fits c x at =
-    let kept = AreKept-alike _ _ _ _ _ _ c.make_room.ensures.shown c.self.invariant in
+    let kept = AreKept-alike _ _ _ _ _ _ _ c.make_room.ensures.shown c.self.invariant in
     let account = kept.accounts c.args.debt.debtor.0 x at in
     let new = subst (λ net. IsNewDebt net c.args.debt) (sym (net_of-alike _ _ c.self.inside.debts.items c.make_room.ensures.shown ∙ c.self.view_is)) c.requires in
     omega (arith, account.owed, sum-claims_of_le (net_of c.make_room.new.accounts.items c.self.inside.debts.items) c.args.debt.debtor.0, new.owed_in_limit)
@@ -52,7 +52,7 @@ invariant_of-self-2 c =
     let at : c.len.result ≡ length c.self.inside.debts.items = omega arith in
     let shows = shows_debt _ _ _ c.self.inside.debts.items c.args.debt _ c.make_room.ensures.shown at c.enter.ensures in
     let new = subst (λ net. IsNewDebt net c.args.debt) (sym c.self.view_is) c.requires in
-    rw c.in_ok-push.ensures.items (AreKept-with_debt _ _ c.self.inside.debts.items c.args.debt _ _ _ new shows c.self.invariant)
+    rw c.in_ok-push.ensures.items (AreKept-with_debt _ _ c.self.inside.debts.items c.args.debt _ _ _ _ new shows c.self.invariant)
 
 pub returns-clause-ok : goal.returns-clause-ok
 returns-clause-ok c =

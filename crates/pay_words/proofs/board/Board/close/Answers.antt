@@ -15,7 +15,7 @@ loop-i-preserved c =
     ∙ c.of_word.ensures
     ∙ ap payment_of (sym (get_here (slots_items c.close_with-closed.result.words) (c.loop-i.i + 1) c.word-word.result c.word-word.ensures)))
 
-ended : (c : goal.After-drop-self-inside) → Ends c.args.self.net c.args.self.past c.args.master.shows c.loop-i.into
+ended : (c : goal.After-drop-master-inside-3) → Ends c.args.self.net c.args.self.past c.args.master.shows c.loop-i.into
 ended c =
     let d = c.self.inside.table.shared.key.me.0 in
     let own = ap (λ (s : Chair). s.shows.net) c.master.view_is ∙ c.requires.master.1 ∙ sym (ap (λ (p : Panel). p.net) c.self.view_is) in
@@ -32,6 +32,9 @@ returns-clause-payments c = (ended c).payments_are
 pub returns-clause-below_least : goal.returns-clause-below_least
 returns-clause-below_least c = (ended c).below_least
 
+pub returns-clause-covered : goal.returns-clause-covered
+returns-clause-covered c = (ended c).covered
+
 pub returns-clause-lawful : goal.returns-clause-lawful
 returns-clause-lawful c = (ended c).lawful
 
@@ -40,6 +43,9 @@ returns-clause-replays c = (ended c).replays
 
 pub returns-clause-low_stamps : goal.returns-clause-low_stamps
 returns-clause-low_stamps c = (ended c).low_stamps
+
+pub returns-clause-low_in_order : goal.returns-clause-low_in_order
+returns-clause-low_in_order c = (ended c).low_in_order
 
 pub returns-clause-after_past : goal.returns-clause-after_past
 returns-clause-after_past c = (ended c).after_past

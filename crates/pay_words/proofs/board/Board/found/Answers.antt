@@ -4,7 +4,7 @@ use Rattle.clr_net.specs.Net.{Net}
 use Rattle.pay_words.specs.declared.deed.Deed.{Deed}
 use Rattle.pay_words.specs.declared.view.View.{View}
 use Rattle.pay_words.specs.Kept.{IsKept, opening_view}
-use Rattle.pay_words.specs.Seats.{IsKeptIn, IsLaidOut}
+use Rattle.pay_words.specs.Seats.{IsKeptIn, IsLaidOut, purse}
 use Rattle.pay_words.specs.Words.{word_of}
 use Rattle.pay_words.proofs.Openings.{opening_words, opens_past, start_fits, kept_opening}
 use Rattle.pay_words.proofs.Pasts.{start_over}
@@ -30,7 +30,7 @@ invariant_of-board g c =
     let is = c.in_ok-deed.ensures ∙ c.requires.deed in
     let net : c.in_ok-table.table.shared.key.me.0.net ≡ c.args.net.now = ap (λ (s : Rattle.atomic_table.specs.declared.shared.Seat.Seat (Unit {0}) Deed). s.me.0.net) made.5 ∙ ap (λ (d : Deed). d.net) is in
     let words = c.as_slice.ensures.value ∙ c.in_ok-words.ensures in (
-      subst (λ (n : Net). IsLaidOut n c.in_ok-table.table.shared.table_id.words c.in_ok-table.table.shared.table_id.slots c.in_ok-debtors.debtors.items c.args.workers) (sym net) (record {
+      subst (λ (n : Net). IsLaidOut n c.in_ok-table.table.shared.table_id.words c.in_ok-table.table.shared.table_id.slots (length c.args.start.now) c.args.workers) (sym net) (record {
         network = c.banks.ensures.network;
         words_are = omega (
           arith,
@@ -43,7 +43,7 @@ invariant_of-board g c =
           c.banks.ensures.banks,
         );
         no_slots = made.1;
-        debtors_are = c.in_ok-debtors.ensures;
+        debts_are = start_over _ _ _ c.requires.belongs;
         some_workers = omega (arith, c.requires.workers);
       }),
       ap length (sym (ap (λ (s : Rattle.atomic_table.specs.declared.shared.Seat.Seat (Unit {0}) Deed). s.me.0.past) made.5 ∙ ap (λ (d : Deed). d.past) is)),
@@ -54,8 +54,9 @@ invariant_of-master g c =
     let made = c.in_ok-table.ensures in
     let deed : Deed = record { net = c.args.net.now; past = c.args.past.now } in
     let is : c.in_ok-deed.deed.me.0 ≡ deed = c.in_ok-deed.ensures ∙ c.requires.deed in
-    let me : c.in_ok-table.seat.me ≡ (opening_view deed, []) = made.4 ∙ ap (λ (d : Deed). (opening_view d, [])) is in (
+    let me : c.in_ok-table.seat.me ≡ (opening_view deed, []) = made.4 ∙ ap (λ (d : Deed). (opening_view d, [])) is in
+    let kept = kept_opening deed _ c.banks.ensures.network c.requires.belongs c.greatest_stamp.result c.args.workers _ c.in_ok-debtors.ensures c.greatest_stamp.ensures (omega (arith, c.requires.workers)) in (
       ap (λ (m : Me (Unit {0}) View). m.1) me,
-      subst (λ (m : Me (Unit {0}) View). IsKeptIn m.0 c.in_ok-paid.paid.items c.greatest_stamp.result 0 c.args.workers 0) (sym me)
-          (kept_opening deed _ c.banks.ensures.network c.requires.belongs _ _ _ c.in_ok-paid.ensures c.greatest_stamp.ensures (omega (arith, c.requires.workers))),
+      subst (λ (y : Me (Unit {0}) View × List ℕ × List (List ℕ)). IsKeptIn y.0.0 (purse y.1 y.2 c.in_ok-debtors.debtors.items c.args.workers 0) c.greatest_stamp.result 0)
+          (λ i. (sym me i, sym c.none.ensures i, sym c.in_ok-lists.ensures i)) kept,
     )

@@ -1,7 +1,7 @@
 use Rattle.std.proofs.Common.{◌∙◌, ap, refl, sym, subst, rules, arith}
 use Rattle.atomic_table.specs.Table.{Me}
 use Rattle.pay_words.specs.declared.view.View.{View}
-use Rattle.pay_words.specs.Seats.{IsKeptIn}
+use Rattle.pay_words.specs.Seats.{IsKeptIn, purse}
 use Rattle.pay_words.specs.Views.{Panel, Chair, OwesRing, rung}
 use Rattle.pay_words.proofs.Rings.{bank_of_ring, rings}
 use Rattle.pay_words.proofs.Seats.{bell_place, kept_rung}
@@ -12,7 +12,7 @@ store-requires c =
     let laid = c.self.invariant.0 in
     let over = ap (λ (s : Chair). s.shows.net) c.seat.view_is ∙ c.requires.seat.1 ∙ sym (ap (λ (p : Panel). p.net) c.self.view_is) in
     let net = c.self.inside.table.shared.key.me.0.net in
-    let place = bell_place net net _ c.len.result c.args.bank.0 laid.debtors_are (c.len.ensures ∙ c.self.inside.debtors.ok.0) refl in
+    let place = bell_place net net c.self.inside.debts c.args.bank.0 laid.debts_are refl in
     let owes = subst (λ (s : Chair). OwesRing s.shows c.args.bank.0) (sym c.seat.view_is) c.requires.owes in
     let bank = bank_of_ring net c.seat.inside.seat.me.0.shown c.args.bank.0 laid.network over owes in
     (search rules, omega (arith, place, bank, laid.words_are), rings _ _ _ _ _ _ place c.seat.invariant.1.live over owes)
@@ -20,14 +20,14 @@ store-requires c =
 pub invariant_of-seat : goal.invariant_of-seat
 invariant_of-seat c =
     let over = ap (λ (s : Chair). s.shows.net) c.seat.view_is ∙ c.requires.seat.1 ∙ sym (ap (λ (p : Panel). p.net) c.self.view_is) in
-    let told = c.store.ensures.2 c.args.bank.0 (bell_place _ _ _ c.len.result c.args.bank.0 c.self.invariant.0.debtors_are (c.len.ensures ∙ c.self.inside.debtors.ok.0) over) in (
+    let told = c.store.ensures.2 c.args.bank.0 (bell_place _ _ c.self.inside.debts c.args.bank.0 c.self.invariant.0.debts_are over) in (
       ap (λ (m : Me (Unit {0}) View). m.1) told ∙ c.seat.invariant.0,
-      subst (λ (m : Me (Unit {0}) View). IsKeptIn m.0 c.seat.inside.paid.items c.seat.inside.clock c.seat.inside.seats c.seat.inside.workers c.seat.inside.worker) (sym told)
-          (kept_rung _ _ _ _ _ _ c.args.bank.0 c.seat.invariant.1),
+      subst (λ (m : Me (Unit {0}) View). IsKeptIn m.0 (purse c.seat.inside.own c.seat.inside.lists.items c.seat.inside.debtors.items c.seat.inside.workers c.seat.inside.worker) c.seat.inside.clock c.seat.inside.seats) (sym told)
+          (kept_rung _ _ _ _ c.args.bank.0 c.seat.invariant.1),
     )
 
 pub returns-clause-rung : goal.returns-clause-rung
 returns-clause-rung c =
     let over = ap (λ (s : Chair). s.shows.net) c.seat.view_is ∙ c.requires.seat.1 ∙ sym (ap (λ (p : Panel). p.net) c.self.view_is) in
-    let told = c.store.ensures.2 c.args.bank.0 (bell_place _ _ _ c.len.result c.args.bank.0 c.self.invariant.0.debtors_are (c.len.ensures ∙ c.self.inside.debtors.ok.0) over) in
+    let told = c.store.ensures.2 c.args.bank.0 (bell_place _ _ c.self.inside.debts c.args.bank.0 c.self.invariant.0.debts_are over) in
     ap (λ (m : Me (Unit {0}) View). m.0.shown) told ∙ ap (λ (s : Chair). rung s.shows c.args.bank.0) c.seat.view_is

@@ -1,0 +1,10 @@
+pub mod Basics
+pub mod Looking
+pub mod Raising
+pub mod Ringing
+pub mod Filtered
+pub mod Visiting
+pub mod Manned
+pub mod Rooms
+pub mod Sweeping
+pub mod Alone

@@ -1,0 +1,22 @@
+//! A worker and its visits: it owns a seat of a board and a desk for each bank of that seat, and
+//! makes a bank pay what its rule gives from its cash and from what the worker has just seen paid
+//! to it.
+//!
+//! A [`Worker`] takes the bell of each of its banks in turn, and visits those whose bell was up.
+//! Whatever the other workers do meanwhile, after a round each of its banks pays its rule's
+//! division at what the worker last saw, and each debt to them was seen at least at the floor.
+#![tactic(auto)]
+
+mod looks;
+mod office;
+mod raises;
+mod rings;
+mod visit;
+mod worker;
+
+pub use office::Office;
+pub use visit::Visit;
+pub use worker::{SeatBack, Worker};
+
+#[cfg(test)]
+mod tests;

@@ -1,0 +1,54 @@
+ghost use Rattle.bank_worker.specs.Raises.{AreOwedBy, IsNotBelow, IsRaised, IsWithin};
+ghost use Rattle.clr_net.specs.Net.{numbers};
+ghost use Rattle.pay_words.specs.Views.{IsAt, IsOver};
+ghost use Rattle.std.specs.Prelude.{◌≡◌, ◌+◌, ◌<◌, ◌≤◌, ◌^◌, false, length, slice_index, sum, sum_by};
+
+use clear_core::{Journal, Raise};
+use clr_net::DebtId;
+use pay_words::{Board, PaySeat};
+
+// Raises each of these debts that is to be paid more than before, in order, and adds each raise to
+// the journal. Answers by how many units payments rose.
+pub(crate) fn raise_all(
+    board: &Board,
+    seat: &mut PaySeat,
+    debts: &[DebtId],
+    targets: &[u64],
+    journal: &mut Journal,
+) -> u64
+    requires seat { IsAt board.now seat.old }
+    requires not_the_master { seat.old.shows.master ≡ false }
+    requires over { IsOver seat.old.shows }
+    requires debts { AreOwedBy seat.old.shows (numbers debts.now) }
+    requires targets { length targets.now ≡ length debts.now }
+    requires rise { IsNotBelow seat.old.shows (numbers debts.now) targets.now }
+    requires within { IsWithin seat.old.shows (numbers debts.now) targets.now }
+    requires few { sum targets.now < 2 ^ 63 }
+    requires room { length debts.now ≤ journal.old.spare }
+    requires noted { journal.old.raises ≡ seat.old.shows.raises }
+    ensures table { seat.new.table ≡ seat.old.table }
+    ensures raised { IsRaised seat.old.shows seat.new.shows (numbers debts.now) targets.now
+        (length debts.now) }
+    ensures noted { journal.new.raises ≡ seat.new.shows.raises }
+    ensures units { sum_by (slice_index seat.old.shows.paid) (numbers debts.now) + result
+        ≡ sum targets.now }
+{
+    let mut units = 0;
+    for (place, id) in debts.iter().enumerate() {
+        let to = targets[place];
+        let before = seat.paid(*id);
+        if before < to {
+            let stamp = board.raise(seat, *id, to);
+            let raise = Raise {
+                stamp,
+                debt: *id,
+                to,
+            };
+            let Ok(()) = journal.push(raise) else {
+                unreachable!()
+            };
+            units += to - before;
+        }
+    }
+    units
+}

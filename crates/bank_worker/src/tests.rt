@@ -1,0 +1,93 @@
+ghost use Rattle.bank_worker.specs.Views.{desks_held};
+ghost use Rattle.bank_worker.specs.Visits.{IsAllCalm, MayRest};
+ghost use Rattle.pay_words.specs.Views.{HoldsAll, IsAt, OwesNoRing};
+ghost use Rattle.std.specs.Prelude.{◌≡◌, ◌+◌, ◌<◌, ◌≤◌, OnOk, true};
+
+use crate::{SeatBack, Visit, Worker};
+use clear_core::Journal;
+use clr_edge::OpenGate;
+use clr_net::{Mem, Network};
+use net_samples::{chain, ring};
+use pay_words::{Board, PaySeat, Payment};
+use std::alloc::Global;
+use std::test::Fail;
+
+const UNPAID: Payment = Payment { value: 0, stamp: 0 };
+
+// A round of the only worker of a board: the units by which payments rose, its visits and its
+// journal.
+fn round_alone(
+    alloc: Global,
+    net: &Network,
+    board: &Board,
+    master: &mut PaySeat,
+    sweeps: u32,
+) -> Result<(u64, u64, Journal), Mem>
+    requires board { (net.now ≡ board.now.net) × (board.now.workers ≡ 1) }
+    requires sweeps { (1 ≤ sweeps) × (sweeps ≤ 1000) }
+    requires master { IsAt board.now master.old × (master.old.shows.master ≡ true) }
+    requires seats { master.old.shows.seats < 4294967295 }
+    requires all { HoldsAll master.old.shows }
+    requires idle { OwesNoRing master.old.shows × IsAllCalm master.old.shows
+        × MayRest master.old.shows (desks_held master.old.shows) }
+    ensures master { IsAt board.now master.new }
+    ensures is_the_master { OnOk result (master.new.shows.master ≡ true) }
+    ensures seats { OnOk result (master.new.shows.seats ≡ master.old.shows.seats + 1) }
+    ensures all { OnOk result (HoldsAll master.new.shows) }
+    ensures idle { OnOk result (OwesNoRing master.new.shows × IsAllCalm master.new.shows
+        × MayRest master.new.shows (desks_held master.new.shows)) }
+{
+    let seat = board.hand(alloc, master, 0)?;
+    let mut worker = match Worker::make(alloc, net, seat, 0, 1) {
+        Ok(worker) => worker,
+        Err(SeatBack { seat: _ }) => return Err(Mem),
+    };
+    let Visit::Raised(units) = worker.round(board, sweeps, &OpenGate) else {
+        return Err(Mem);
+    };
+    let visits = worker.visits();
+    let (seat, journal) = worker.finish();
+    board.take_back(master, seat);
+    Ok((units, visits, journal))
+}
+
+#[test]
+fn payments_flow_down_a_chain(rt: HostRuntime) -> Result<(), Fail> {
+    let alloc = rt.alloc();
+    let net = chain(alloc)?;
+    let (board, mut master) = Board::make(alloc, &net, 1, &[UNPAID, UNPAID], &[])?;
+    let (units, visits, journal) = round_alone(alloc, &net, &board, &mut master, 1)?;
+    assert_eq!(rt; (units, visits), (15, 3));
+    assert_eq!(rt; journal.as_slice().len(), 2);
+    for (place, raise) in journal.as_slice().iter().enumerate() {
+        let found = (raise.stamp, raise.debt.0, raise.to);
+        assert_eq!(rt; found, if place == 0 { (1, 0, 7) } else { (2, 1, 8) });
+    }
+    let (units, visits, journal) = round_alone(alloc, &net, &board, &mut master, 1)?;
+    assert_eq!(rt; (units, visits, journal.as_slice().len()), (0, 0, 0));
+    Ok(())
+}
+
+#[test]
+fn one_unit_goes_round_a_ring(rt: HostRuntime) -> Result<(), Fail> {
+    let alloc = rt.alloc();
+    let net = ring(alloc)?;
+    let (board, mut master) = Board::make(alloc, &net, 1, &[UNPAID, UNPAID], &[])?;
+    // Two visits in each of five rounds, and one more that finds nothing to raise.
+    for round in 0..6u32 {
+        let (units, visits, journal) = round_alone(alloc, &net, &board, &mut master, 1)?;
+        let told = (units, visits, journal.as_slice().len());
+        assert_eq!(rt; told, if round < 5 { (2, 2, 2) } else { (0, 1, 0) });
+    }
+    Ok(())
+}
+
+#[test]
+fn sweeps_find_it_all_in_one_round(rt: HostRuntime) -> Result<(), Fail> {
+    let alloc = rt.alloc();
+    let net = ring(alloc)?;
+    let (board, mut master) = Board::make(alloc, &net, 1, &[UNPAID, UNPAID], &[])?;
+    let (units, visits, journal) = round_alone(alloc, &net, &board, &mut master, 7)?;
+    assert_eq!(rt; (units, visits, journal.as_slice().len()), (10, 11, 10));
+    Ok(())
+}

@@ -1,0 +1,385 @@
+ghost use Rattle.bank_worker.specs.Raises.{debts_of};
+ghost use Rattle.bank_worker.specs.Rings.{AreMarksBelow, AreMarksUpTo, creditors_of};
+ghost use Rattle.bank_worker.specs.Offices.{IsOfficeFor};
+ghost use Rattle.bank_worker.specs.Views.{desk_at, desks_held, banks_held};
+ghost use Rattle.bank_worker.specs.Visits.{AreNoted, IsAllCalm, IsRounded, IsSameCrew, IsSameSeat, IsVisited, LooksOnce, MayRest, PaysOut, RingsAll, VisitsByBells, WhenMem, WhenRaised};
+ghost use Rattle.clear_core.specs.Buffers.{HasRoom};
+ghost use Rattle.bank_desk.specs.Desks.{desk_of, target};
+ghost use Rattle.clr_net.specs.Limits.{IsNetwork};
+ghost use Rattle.clr_net.specs.declared.TheConstants.{MAX_BANKS, MAX_OWED};
+ghost use Rattle.pay_words.specs.Views.{HasSeenFloor, IsAt, IsCalm, OwesNoRing, holds, is_marked, is_of_worker, took};
+ghost use Rattle.std.specs.List.{range_with_len};
+ghost use Rattle.std.specs.Prelude.{◌≡◌, ◌+◌, ◌*◌, ◌^◌, ◌<◌, ◌≤◌, ℕ, [], IfErr, IfOk, false, filter, if◌then◌else◌, length, map, replicate, true, vec_capacity, vec_len};
+
+use crate::looks::look_at_all;
+use crate::office::{Office, unmark};
+use crate::raises::raise_all;
+use crate::rings::ring_all;
+use crate::visit::Visit;
+use bank_desk::Desk;
+use clear_core::Journal;
+use clr_edge::Gate;
+use clr_net::{BankId, DebtId, MAX_BANKS, Mem, Network};
+use pay_words::{Board, PaySeat};
+use std::alloc::Global;
+use std::marker::Model;
+
+/// Want of memory, with the seat for which there was none.
+#[derive(Drop)]
+pub struct SeatBack {
+    pub seat: PaySeat,
+}
+
+/// One of the workers of a board: a seat, a desk for each bank of the seat, and a journal of the
+/// seat's raises.
+///
+/// Contracts see the seat as it shows itself, the desks, the worker's number, its visits and its
+/// journal. The journal always is the seat's raises, and the seat owes no ring.
+#[derive(Drop)]
+pub struct Worker {
+    seat: PaySeat,
+    desks: Vec<Desk>,
+    worker: u32,
+    visits: u64,
+    journal: Journal,
+    // The creditor of each debt, in file order.
+    creditors: Vec<u32>,
+    // For each bank the number of the last visit that rang it, or 0.
+    marks: Vec<u64>,
+    // What the bank that is visited should pay on each of its debts.
+    targets: Vec<u64>,
+}
+
+impl Model for Worker {
+    ghost use Rattle.std.specs.Prelude.{vec_capacity};
+    ghost use Rattle.bank_worker.specs.Views.{Crew};
+    ghost use Rattle.bank_worker.specs.Staff.{IsStaffed};
+
+    ghost Value = { Crew };
+
+    ghost view = { λ w. record {
+      seat = w.seat;
+      desks = w.desks.items;
+      worker = w.worker;
+      visits = w.visits;
+      journal = w.journal.raises;
+    } };
+
+    ghost invariant = { λ w. IsStaffed (record {
+      seat = w.seat;
+      desks = w.desks.items;
+      worker = w.worker;
+      visits = w.visits;
+      journal = w.journal.raises;
+    }) w.creditors.items w.marks.items (vec_capacity w.targets) };
+}
+
+impl Worker {
+    /// The worker of this number, with a seat that holds its banks and has made no raise.
+    /// `SeatBack` is want of memory.
+    ///
+    /// Costs a walk over all banks and debts.
+    pub fn make(
+        alloc: Global,
+        net: &Network,
+        seat: PaySeat,
+        worker: u32,
+        workers: u32,
+    ) -> Result<Worker, SeatBack>
+        requires workers { (1 ≤ workers) × (workers ≤ 64) }
+        requires net { net.now ≡ seat.shows.net }
+        requires not_the_master { seat.shows.master ≡ false }
+        requires banks { (b : ℕ) → b < length net.now.banks
+            → holds seat.shows b ≡ is_of_worker workers worker b }
+        requires no_raise { seat.shows.raises ≡ [] }
+        requires idle { OwesNoRing seat.shows × IsAllCalm seat.shows
+            × MayRest seat.shows (desks_held seat.shows) }
+        ensures worker { IfOk result (λ w. w ≡ record {
+          seat = seat;
+          desks = desks_held seat.shows;
+          worker = worker;
+          visits = 0;
+          journal = [];
+        }) }
+        ensures seat_back { IfErr result (λ e. e.seat ≡ seat) }
+    {
+        match Office::of(alloc, net, worker, workers) {
+            Ok(office) => Ok(Worker::with(alloc, office, seat)),
+            Err(Mem) => Err(SeatBack { seat }),
+        }
+    }
+
+    /// The worker of an office, with a seat for the same banks of the same network. Takes no
+    /// memory, and costs a walk over one number for each bank.
+    pub fn with(alloc: Global, office: Office, seat: PaySeat) -> Worker
+        requires office { IsOfficeFor seat.shows.net (banks_held seat.shows) office }
+        requires not_the_master { seat.shows.master ≡ false }
+        requires no_raise { seat.shows.raises ≡ [] }
+        requires no_rings { OwesNoRing seat.shows }
+        ensures { result ≡ record {
+          seat = seat;
+          desks = desks_held seat.shows;
+          worker = office.worker;
+          visits = 0;
+          journal = [];
+        } }
+    {
+        let Office {
+            desks,
+            worker,
+            creditors,
+            mut marks,
+            targets,
+        } = office;
+        unmark(&mut marks);
+        Worker {
+            seat,
+            desks,
+            worker,
+            visits: 0,
+            journal: Journal::empty(alloc),
+            creditors,
+            marks,
+            targets,
+        }
+    }
+
+    /// How many desks there are: one for each bank of the seat.
+    pub fn desks(&self) -> usize
+        ensures desks { result ≡ length self.now.desks }
+        ensures held { self.now.desks ≡ desks_held self.now.seat.shows }
+        ensures few { result ≤ MAX_BANKS }
+        ensures no_rings { OwesNoRing self.now.seat.shows }
+    {
+        self.desks.len()
+    }
+
+    /// How many visits were made.
+    pub fn visits(&self) -> u64
+        ensures { result ≡ self.now.visits }
+    {
+        self.visits
+    }
+
+    /// Visits the bank of one desk: passes the gate, looks at each debt that is owed to the bank,
+    /// makes it pay what its rule gives from its cash and these values, and rings each creditor
+    /// that is paid more. Answers by how many units it pays more.
+    ///
+    /// `Mem` is want of memory, and comes before the first look.
+    pub fn visit<G: Gate>(&mut self, board: &Board, place: usize, gate: &G) -> Visit
+        requires seat { IsAt board.now self.old.seat }
+        requires place { place < length self.old.desks }
+        requires visits { self.old.visits < 2 ^ 63 }
+        ensures same { IsSameCrew self.old self.new }
+        ensures visits { self.new.visits ≡ self.old.visits + 1 }
+        ensures raised { WhenRaised result
+            (λ n. IsVisited (desk_at self.old.desks place) n self.old self.new) }
+        ensures few { WhenRaised result (λ n. n ≤ MAX_OWED) }
+        ensures no_rings { OwesNoRing self.new.seat.shows }
+        ensures mem { WhenMem result ((self.new.seat ≡ self.old.seat)
+            × (self.new.journal ≡ self.old.journal)) }
+    {
+        self.visits += 1;
+        gate.at(self.worker, self.visits);
+        let desk = &self.desks[place];
+        let Ok(()) = self.journal.reserve(desk.debts_out().len()) else {
+            return Visit::Mem;
+        };
+        let units = visit_bank(
+            board,
+            &mut self.seat,
+            desk,
+            &mut self.journal,
+            self.creditors.as_slice(),
+            &mut self.marks,
+            &mut self.targets,
+            self.visits,
+        );
+        Visit::Raised(units)
+    }
+
+    /// Goes over the desks in order, so many times: takes each desk's bell, and visits the desk
+    /// where it was up. Ends early after a sweep that found no bell up. Answers the units of all
+    /// visits, or `Mem` at the first visit that answers so, and then does no more.
+    pub fn round<G: Gate>(&mut self, board: &Board, sweeps: u32, gate: &G) -> Visit
+        requires seat { IsAt board.now self.old.seat }
+        requires sweeps { (1 ≤ sweeps) × (sweeps ≤ 1000) }
+        requires visits { self.old.visits ≤ 2 ^ 62 }
+        requires idle { OwesNoRing self.old.seat.shows × IsAllCalm self.old.seat.shows
+            × MayRest self.old.seat.shows self.old.desks }
+        ensures same { IsSameCrew self.old self.new }
+        ensures visits { VisitsByBells sweeps self.old self.new }
+        ensures raised { WhenRaised result (λ n. IsRounded n self.old self.new) }
+        ensures few { WhenRaised result (λ n. n ≤ 1000000 * MAX_OWED) }
+    {
+        let desks = self.desks();
+        prove!(desks <= MAX_BANKS as usize);
+        let mut units = 0;
+        for _ in 0..sweeps {
+            let visits = self.visits;
+            match self.sweep(board, gate) {
+                Visit::Raised(more) => units += more,
+                Visit::Mem => return Visit::Mem,
+            }
+            if self.visits == visits {
+                break;
+            }
+        }
+        Visit::Raised(units)
+    }
+
+    /// The seat, and the journal of its raises. Takes no memory.
+    pub fn finish(self) -> (PaySeat, Journal)
+        ensures seat { result.0 ≡ self.seat }
+        ensures journal { result.1.raises ≡ self.journal }
+        ensures same { result.1.raises ≡ result.0.shows.raises }
+    {
+        let Worker { seat, journal, .. } = self;
+        (seat, journal)
+    }
+
+    /// The seat, the journal of its raises, and the office, which may be given another seat for
+    /// the same banks. Takes no memory.
+    pub fn leave(self) -> (PaySeat, Journal, Office)
+        ensures seat { result.0 ≡ self.seat }
+        ensures journal { result.1.raises ≡ self.journal }
+        ensures same { result.1.raises ≡ result.0.shows.raises }
+        ensures office { IsOfficeFor self.seat.shows.net (banks_held self.seat.shows) result.2 }
+        ensures worker { result.2.worker ≡ self.worker }
+    {
+        let Worker {
+            seat,
+            desks,
+            worker,
+            journal,
+            creditors,
+            marks,
+            targets,
+            ..
+        } = self;
+        let office = Office {
+            desks,
+            worker,
+            creditors,
+            marks,
+            targets,
+        };
+        (seat, journal, office)
+    }
+
+    // One sweep over the desks.
+    fn sweep<G: Gate>(&mut self, board: &Board, gate: &G) -> Visit
+        requires seat { IsAt board.now self.old.seat }
+        requires visits { self.old.visits < 2 ^ 62 + 2 ^ 61 }
+        requires idle { IsAllCalm self.old.seat.shows
+            × MayRest self.old.seat.shows self.old.desks }
+        ensures same { IsSameCrew self.old self.new }
+        ensures visits { VisitsByBells 1 self.old self.new }
+        ensures raised { WhenRaised result (λ n. IsRounded n self.old self.new) }
+        ensures few { WhenRaised result (λ n. n ≤ length self.old.desks * MAX_OWED) }
+    {
+        let mut units = 0;
+        for place in 0..self.desks() {
+            if self.take(board, place) {
+                match self.visit(board, place, gate) {
+                    Visit::Raised(more) => units += more,
+                    Visit::Mem => return Visit::Mem,
+                }
+            }
+        }
+        Visit::Raised(units)
+    }
+
+    // Takes the bell of a desk's bank, and answers whether it was up.
+    fn take(&mut self, board: &Board, place: usize) -> bool
+        requires seat { IsAt board.now self.old.seat }
+        requires place { place < length self.old.desks }
+        ensures taken { self.new ≡ record self.old {
+          seat = record self.old.seat {
+            shows = if result
+                then took self.old.seat.shows (desk_at self.old.desks place).bank
+                else self.old.seat.shows;
+          };
+        } }
+        ensures up_if_fresh { is_marked self.old.seat.shows.fresh (desk_at self.old.desks place).bank ≡ true
+            → result ≡ true }
+        ensures seen_floor { result ≡ false
+            → IsCalm self.old.seat.shows (desk_at self.old.desks place).bank
+            → HasSeenFloor self.old.seat.shows (desk_at self.old.desks place).bank }
+    {
+        let bank = self.desks[place].bank();
+        board.take(&mut self.seat, bank)
+    }
+}
+
+// Visits the bank of a desk, whose raises have room in the journal. The visit has a number that no
+// mark has yet.
+fn visit_bank(
+    board: &Board,
+    seat: &mut PaySeat,
+    desk: &Desk,
+    journal: &mut Journal,
+    creditors: &[u32],
+    marks: &mut [u64],
+    targets: &mut Vec<u64>,
+    visit: u64,
+) -> u64
+    requires seat { IsAt board.now seat.old }
+    requires not_the_master { seat.old.shows.master ≡ false }
+    requires network { IsNetwork board.now.net }
+    requires bank { (desk.now.bank < length board.now.net.banks)
+        × (holds seat.old.shows desk.now.bank ≡ true) }
+    requires desk { desk.now ≡ desk_of board.now.net desk.now.bank }
+    requires noted { journal.old.raises ≡ seat.old.shows.raises }
+    requires spare { length desk.now.debts_out ≤ journal.old.spare }
+    requires no_rings { OwesNoRing seat.old.shows }
+    requires creditors { creditors.now ≡ creditors_of board.now.net }
+    requires marks { (length marks.old ≡ length board.now.net.banks)
+        × AreMarksBelow visit marks.old }
+    requires room { HasRoom board.now.net (vec_capacity targets.old) }
+    ensures table { seat.new.table ≡ seat.old.table }
+    ensures same { IsSameSeat seat.old.shows seat.new.shows }
+    ensures looks { LooksOnce desk.now seat.old.shows seat.new.shows }
+    ensures pays { PaysOut desk.now result seat.old.shows seat.new.shows }
+    ensures notes { AreNoted desk.now seat.old.shows seat.new.shows }
+    ensures noted { journal.new.raises ≡ seat.new.shows.raises }
+    ensures rings { RingsAll desk.now seat.old.shows seat.new.shows }
+    ensures no_rings { OwesNoRing seat.new.shows }
+    ensures few { result ≤ MAX_OWED }
+    ensures marks { AreMarksUpTo visit marks.new }
+    ensures room { vec_capacity targets.new ≡ vec_capacity targets.old }
+{
+    let _clock = seat.clock();
+    let received = look_at_all(board, seat, desk.debts_in());
+    let _clock = seat.clock();
+    lay_out(desk, received, targets);
+    let debts = desk.debts_out();
+    let from = journal.as_slice().len();
+    let units = raise_all(board, seat, debts, targets.as_slice(), journal);
+    let (_, made) = journal.as_slice().split_at(from);
+    ring_all(board, seat, made, creditors, marks, visit);
+    units
+}
+
+// Lays out what the desk's bank should pay on each of its debts when it receives so many units.
+fn lay_out(desk: &Desk, received: u64, targets: &mut Vec<u64>)
+    requires received { received ≤ MAX_OWED }
+    requires room { length desk.now.debts_out ≤ vec_capacity targets.old }
+    ensures targets { targets.new.items ≡ target desk.now received }
+    ensures room { vec_capacity targets.new ≡ vec_capacity targets.old }
+{
+    blank(targets, desk.debts_out().len());
+    desk.target(received, targets.as_mut_slice());
+}
+
+// As many targets of nothing as there are places.
+fn blank(targets: &mut Vec<u64>, places: usize)
+    requires { places ≤ vec_capacity targets.old }
+    ensures places { vec_len targets.new ≡ places }
+    ensures room { vec_capacity targets.new ≡ vec_capacity targets.old }
+{
+    targets.clear();
+    for _ in 0..places {
+        targets.push_reserved(0);
+    }
+}

@@ -1,0 +1,5 @@
+pub mod Sums
+pub mod Limits
+pub mod PayingOut
+pub mod Healths
+pub mod Equities

@@ -1,0 +1,28 @@
+/// Whether a bank pays all that it owes, on its debts and outside the network, and why not.
+#[derive(Clone, Copy, Debug, PartialEq, Eq)]
+pub enum Health {
+    /// It pays all.
+    Sound,
+    /// It is in default, and would be if all its debtors paid it in full.
+    Fundamental,
+    /// It is in default, and would have enough if all its debtors paid it in full.
+    Contagion,
+}
+
+/// How a bank stands under payments that clear. All numbers are units.
+#[derive(Clone, Copy, Debug)]
+pub struct Standing {
+    /// What it has: its cash and its receipts.
+    pub estate: u64,
+    /// What it owes outside the network, before all its debts.
+    pub outside: u64,
+    /// What it pays on this.
+    pub outside_paid: u64,
+    /// What it pays on its debts.
+    pub paid: u64,
+    /// What it owes on its debts.
+    pub owed: u64,
+    /// What is left of its estate.
+    pub equity: u64,
+    pub health: Health,
+}

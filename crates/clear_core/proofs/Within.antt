@@ -1,0 +1,42 @@
+-- What is paid is within the claims, and in all within what is owed.
+use Rattle.std.proofs.Common.{ℕ, ◌<◌, ◌≤◌, ◌==◌, List, length, get_or, sum, ap, arith}
+use Rattle.std.proofs.lemmas.List.Sums.{sum_by-le-sum_by}
+use Rattle.clr_net.specs.Amounts.{IsAtMost}
+use Rattle.clr_net.specs.Limits.{IsNetwork}
+use Rattle.clr_net.specs.Net.{Net, debtor_of, creditor_of, claim_of, column, debt_numbers, units_owed}
+use Rattle.clr_net.specs.declared.TheConstants.{MAX_CLAIM}
+use Rattle.clr_net.proofs.Filters.{sum_by-filter_le}
+use Rattle.clr_net.proofs.Lists.{sum-le}
+use Rattle.clr_net.proofs.RowsAndColumns.{units_owed_is}
+use Rattle.clear_core.specs.Clearing.{receipts, part, least}
+use Rattle.clear_core.specs.Quiet.{IsWithinClaims}
+use Rattle.clear_core.proofs.Journals.{pay_le_least}
+use Rattle.clear_core.proofs.Least.{least_clears}
+use Rattle.clear_core.proofs.Pay.{pay_at, pay_within, sum-pay_le}
+use Rattle.clear_core.proofs.Rows.{claim_in_limit}
+
+-- no debt is paid more than its claim in the least clearing payments
+pub least_within : (net : Net) → IsWithinClaims net (least net)
+least_within net x = omega (arith, ap (λ P. get_or P x 0) (least_clears net), pay_within net (least net) x)
+
+-- nor more than a claim may be
+pub least_in_limit : (net : Net) (x : ℕ) → IsNetwork net → get_or (least net) x 0 ≤ MAX_CLAIM
+least_in_limit net x network = omega (arith, least_within net x, claim_in_limit net x network)
+
+-- payments at or below the least are in all at most what is owed
+pub sum_low : (net : Net) (P : List ℕ) → IsAtMost P (least net) → sum P ≤ units_owed net
+sum_low net P low = omega (arith, sum-le P (least net) low, ap sum (least_clears net), sum-pay_le net (least net))
+
+-- no bank receives more than is owed, where no debt is paid more than its claim
+pub receipts_le_owed : (net : Net) (P : List ℕ) (i : ℕ) → IsWithinClaims net P → receipts net P i ≤ units_owed net
+receipts_le_owed net P i within = omega (
+  arith,
+  sum_by-le-sum_by (λ x. get_or P x 0) (claim_of net) (column net i) within,
+  sum_by-filter_le (λ x. creditor_of net x == i) (claim_of net) (debt_numbers net),
+  units_owed_is net,
+)
+
+-- what a bank's rule gives from what is at most the least clearing payments is at most the least clearing payment
+pub part_le_least : (net : Net) (P : List ℕ) (x : ℕ) → x < length net.debts → IsAtMost P (least net)
+    → part net x (receipts net P (debtor_of net x)) ≤ get_or (least net) x 0
+part_le_least net P x lt h = omega (arith, pay_at net P x lt, pay_le_least net P h x)

@@ -1,0 +1,86 @@
+-- A network is made again bank by bank, and then debt by debt.
+use Rattle.std.proofs.Common.{◌≡◌, ℕ, zero, suc, ◌+◌, ◌<◌, ◌≤◌, List, [], ◌∷◌, ◌++◌, take, length, get_or, slice_get, Result, Ok, Err, false, true≢false, Option, Some, refl, sym, ap, ◌∙◌, arith}
+use Rattle.std.specs.Option.{option_map_or}
+use Rattle.std.specs.Result.{OnOk, is_err}
+use Rattle.std.proofs.lemmas.List.{take_more, take_all, length-take-le}
+use Rattle.std.proofs.lemmas.List.Sums.{sum_by_more_le}
+use Rattle.std.proofs.lemmas.Option.{slice_get_within, get_or_from_slice_get}
+use Rattle.clr_net.specs.declared.bank.Bank.{Bank}
+use Rattle.clr_net.specs.declared.debt.Debt.{Debt}
+use Rattle.clr_net.specs.Limits.{IsNetwork, IsNewBank, IsNewDebt}
+use Rattle.clr_net.specs.Net.{Net, with_bank, with_debt}
+
+pub ok_told : {T E P : Type 0} (r : Result T E) → is_err r ≡ false → OnOk r P → P
+ok_told (Ok x) e p = p
+ok_told (Err x) e p = absurd (true≢false e)
+
+-- the first n banks, and no debt
+abbrev pub first_banks : Net → ℕ → Net
+first_banks net n = record { banks = take n net.banks; debts = [] }
+
+-- all banks, and the first n debts
+abbrev pub first_debts : Net → ℕ → Net
+first_debts net n = record { banks = net.banks; debts = take n net.debts }
+
+pub slice_get-take : {X : Type 0} (xs : List X) (n j : ℕ) → j < n → n ≤ length xs → slice_get (take n xs) j ≡ slice_get xs j
+slice_get-take [] n j l m = absurd (omega arith)
+slice_get-take (x ∷ xs) zero j l m = absurd (omega arith)
+slice_get-take (x ∷ xs) (suc n) zero l m = refl
+slice_get-take (x ∷ xs) (suc n) (suc j) l m = slice_get-take xs n j (omega arith) (omega arith)
+
+take_next : {X : Type 0} (xs : List X) (n : ℕ) (x : X) → slice_get xs n ≡ Some x → take (n + 1) xs ≡ take n xs ++ x ∷ []
+take_next xs n x at =
+    take_more xs n x (slice_get_within xs n x at) ∙ ap (λ y. take n xs ++ y ∷ []) (get_or_from_slice_get xs n x x at)
+
+name_at : {o p : Option Bank} → o ≡ p → option_map_or (λ b. b.name) o [] ≡ option_map_or (λ b. b.name) p []
+name_at e = ap (λ o. option_map_or (λ b. b.name) o []) e
+
+module _ (net : Net) (network : IsNetwork net) where
+  pub next_bank_is_new : (n : ℕ) (b : Bank) → slice_get net.banks n ≡ Some b → IsNewBank (first_banks net n) b
+  next_bank_is_new n b at =
+      let l = slice_get_within net.banks n b at in
+      let len : length (take n net.banks) ≡ n = length-take-le n net.banks (omega arith) in
+      let old = network.each_bank n l in
+      let named = old.named in
+      let cash = old.cash_in_limit in
+      let outside = old.outside_in_limit in
+      let only = old.only_of_its_name in
+      record {
+        banks_in_limit = omega (arith, network.banks_in_limit);
+        named = rw at at named;
+        cash_in_limit = rw at at cash;
+        outside_in_limit = rw at at outside;
+        only_of_its_name = λ j m e. only j (omega arith)
+            (name_at (sym (slice_get-take net.banks n j (omega arith) (omega arith))) ∙ e ∙ name_at (sym at));
+      }
+
+  pub next_debt_is_new : (n : ℕ) (d : Debt) → slice_get net.debts n ≡ Some d → IsNewDebt (first_debts net n) d
+  next_debt_is_new n d at =
+      let l = slice_get_within net.debts n d at in
+      let len : length (take n net.debts) ≡ n = length-take-le n net.debts (omega arith) in
+      let old = network.each_debt n l in
+      let sums = sum_by_more_le (λ (d : Debt). d.claim) net.debts n d l in
+      let here : get_or net.debts n d ≡ d = get_or_from_slice_get net.debts n d d at in
+      record {
+        debts_in_limit = omega (arith, network.debts_in_limit);
+        owed_in_limit = omega (arith, network.owed_in_limit, ap (λ d. d.claim) here);
+        debtor_known = rw at at old.debtor_known;
+        creditor_known = rw at at old.creditor_known;
+        between_two_banks = rw at at old.between_two_banks;
+        class_at_least_1 = rw at at old.class_at_least_1;
+        class_in_limit = rw at at old.class_in_limit;
+        claim_in_limit = rw at at old.claim_in_limit;
+        only_of_its_kind = λ y m. rw (slice_get-take net.debts n y (omega arith) (omega arith)) (rw at at old.only_of_its_kind y (omega arith));
+      }
+
+pub bank_copied : (net : Net) (n : ℕ) (b : Bank) → slice_get net.banks n ≡ Some b → with_bank (first_banks net n) b ≡ first_banks net (n + 1)
+bank_copied net n b at = rw (take_next net.banks n b at)
+
+pub debt_copied : (net : Net) (n : ℕ) (d : Debt) → slice_get net.debts n ≡ Some d → with_debt (first_debts net n) d ≡ first_debts net (n + 1)
+debt_copied net n d at = rw (take_next net.debts n d at)
+
+pub banks_copied : (net : Net) (n : ℕ) → length net.banks ≤ n → first_banks net n ≡ first_debts net 0
+banks_copied net n l = rw (take_all n net.banks l)
+
+pub debts_copied : (net : Net) (n : ℕ) → length net.debts ≤ n → first_debts net n ≡ net
+debts_copied net n l = rw (take_all n net.debts l)

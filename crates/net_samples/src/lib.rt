@@ -1,0 +1,102 @@
+//! Small networks for the tests of other crates, which are the same plain data that worked cases are about.
+//!
+//! No program calls this crate.
+#![tactic(auto)]
+
+ghost use Rattle.clr_net.specs.Net.{with_bank, with_debt};
+ghost use Rattle.clr_net.specs.Samples.{bank, chain as chain_net, debt};
+ghost use Rattle.net_samples.specs.Networks.{ring as ring_net, ruled};
+ghost use Rattle.std.specs.Prelude.{◌≡◌, IfOk, OnOk};
+
+use clr_net::{
+    Bank, BankId, Debt, MAX_BANKS, MAX_CASH, MAX_CLAIM, MAX_DEBTS, MAX_OUTSIDE, MAX_OWED, Mem,
+    Name, Network, RuleKind,
+};
+use std::alloc::Global;
+
+/// Adds a bank that divides by the order rule and owes nothing outside. `Mem` also where it may not be added.
+pub fn add_bank(alloc: Global, net: &mut Network, name: &[u8], cash: u64) -> Result<(), Mem>
+    ensures { OnOk result (net.new ≡ with_bank net.old (bank name.now cash)) }
+{
+    add_ruled(alloc, net, name, cash, RuleKind::Order, 0)
+}
+
+/// Adds a bank with a rule and an outside claim of its own. `Mem` also where it may not be added.
+pub fn add_ruled(
+    alloc: Global,
+    net: &mut Network,
+    name: &[u8],
+    cash: u64,
+    rule: RuleKind,
+    outside: u64,
+) -> Result<(), Mem>
+    ensures { OnOk result (net.new ≡ with_bank net.old (ruled name.now cash rule outside)) }
+{
+    let Ok(name) = Name::of(alloc, name) else {
+        return Err(Mem);
+    };
+    if net.banks() >= MAX_BANKS || net.bank_named(name.bytes()).is_some() {
+        return Err(Mem);
+    }
+    if cash > MAX_CASH || outside > MAX_OUTSIDE {
+        return Err(Mem);
+    }
+    let bank = Bank {
+        name,
+        cash,
+        rule,
+        outside,
+    };
+    match net.add_bank(bank) {
+        Ok(_) => Ok(()),
+        Err(_) => Err(Mem),
+    }
+}
+
+/// Adds a debt of class 1. `Mem` also where it may not be added.
+pub fn add_debt(net: &mut Network, debtor: u32, creditor: u32, claim: u64) -> Result<(), Mem>
+    ensures { OnOk result (net.new ≡ with_debt net.old (debt debtor creditor claim)) }
+{
+    let debt = Debt {
+        debtor: BankId(debtor),
+        creditor: BankId(creditor),
+        class: 1,
+        claim,
+    };
+    if debtor == creditor || debtor >= net.banks() || creditor >= net.banks() {
+        return Err(Mem);
+    }
+    if net.debts() >= MAX_DEBTS || claim > MAX_CLAIM || net.owed() > MAX_OWED - claim {
+        return Err(Mem);
+    }
+    if net.has_debt(debt.debtor, debt.creditor, 1) {
+        return Err(Mem);
+    }
+    net.add_debt(debt)?;
+    Ok(())
+}
+
+/// A owes B 10, and B owes C 9; A has 7 and B has 1.
+pub fn chain(alloc: Global) -> Result<Network, Mem>
+    ensures { IfOk result (λ net. net ≡ chain_net) }
+{
+    let mut net = Network::empty(alloc);
+    add_bank(alloc, &mut net, b"A", 7)?;
+    add_bank(alloc, &mut net, b"B", 1)?;
+    add_bank(alloc, &mut net, b"C", 0)?;
+    add_debt(&mut net, 0, 1, 10)?;
+    add_debt(&mut net, 1, 2, 9)?;
+    Ok(net)
+}
+
+/// A and B owe each other 5; A has 1.
+pub fn ring(alloc: Global) -> Result<Network, Mem>
+    ensures { IfOk result (λ net. net ≡ ring_net) }
+{
+    let mut net = Network::empty(alloc);
+    add_bank(alloc, &mut net, b"A", 1)?;
+    add_bank(alloc, &mut net, b"B", 0)?;
+    add_debt(&mut net, 0, 1, 5)?;
+    add_debt(&mut net, 1, 0, 5)?;
+    Ok(net)
+}

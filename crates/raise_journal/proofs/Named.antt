@@ -1,0 +1,74 @@
+-- The debt of a debtor, a creditor and a class, by its number.
+use Rattle.std.proofs.Common.{◌≡◌, ℕ, ◌<◌, ◌==◌, ◌&&◌, true, List, [], ◌∷◌, length, get_or, slice_get, Some, None, refl, sym, ap, ◌∙◌, arith, eq-eqb}
+use Rattle.std.specs.Prelude.{position}
+use Rattle.std.specs.Option.{option_map_or}
+use Rattle.std.proofs.lemmas.Bool.{lt-ltb, le-ltb, false_from_ne_true, eqb-true, and_from, and_parts}
+use Rattle.std.proofs.lemmas.List.Sums.{position_or_len_is}
+use Rattle.std.proofs.lemmas.Option.{get_or_from_slice_get, slice_get-get_or}
+use Rattle.csv.specs.Records.{field_at}
+use Rattle.clr_net.specs.Limits.{IsNetwork, IsOfKind, IsNewKind}
+use Rattle.clr_net.specs.Net.{Net, is_debt_of}
+use Rattle.clr_net.specs.declared.debt.Debt.{Debt}
+
+-- a debt of a kind passes the test of the kind, and back
+kind-passes : (a b c : ℕ) (d : Debt) → d.debtor.0 ≡ a → d.creditor.0 ≡ b → d.class ≡ c → is_debt_of a b c d ≡ true
+kind-passes a b c d e f g =
+    and_from ((d.debtor.0 == a) && (d.creditor.0 == b)) (d.class == c)
+    (and_from (d.debtor.0 == a) (d.creditor.0 == b) (eq-eqb d.debtor.0 a e) (eq-eqb d.creditor.0 b f)) (eq-eqb d.class c g)
+
+-- the test of a kind tells what the debt is of
+pub passes-kind : (net : Net) (a b c k : ℕ) (d : Debt) → slice_get net.debts k ≡ Some d → is_debt_of a b c d ≡ true → IsOfKind net k a b c
+passes-kind net a b c k d at h =
+    let both = and_parts ((d.debtor.0 == a) && (d.creditor.0 == b)) (d.class == c) h in
+    let two = and_parts (d.debtor.0 == a) (d.creditor.0 == b) both.0 in (
+      ap (λ o. option_map_or (λ d. d.debtor.0) o 0) at ∙ eqb-true d.debtor.0 a two.0,
+      ap (λ o. option_map_or (λ d. d.creditor.0) o 0) at ∙ eqb-true d.creditor.0 b two.1,
+      ap (λ o. option_map_or (λ d. d.class) o 0) at ∙ eqb-true d.class c both.1,
+    )
+
+-- in a network the debt of a kind is the first of its kind
+pub kind_found : (net : Net) (a b c x : ℕ) (d : Debt) → IsNetwork net → x < length net.debts → slice_get net.debts x ≡ Some d → IsOfKind net x a b c
+    → position (is_debt_of a b c) net.debts ≡ Some x
+kind_found net a b c x d network below at kind =
+    let p = is_debt_of a b c in
+    let debtor : d.debtor.0 ≡ a = sym (ap (λ o. option_map_or (λ d. d.debtor.0) o 0) at) ∙ kind.0 in
+    let creditor : d.creditor.0 ≡ b = sym (ap (λ o. option_map_or (λ d. d.creditor.0) o 0) at) ∙ kind.1 in
+    let class : d.class ≡ c = sym (ap (λ o. option_map_or (λ d. d.class) o 0) at) ∙ kind.2 in
+    let first = position_or_len_is p net.debts x d (omega arith)
+    (λ k l. false_from_ne_true (p (get_or net.debts k d)) (λ h.
+    let other = passes-kind net a b c k (get_or net.debts k d) (slice_get-get_or net.debts k d (omega arith)) h in
+    (network.each_debt x below).only_of_its_kind k l (other.0 ∙ sym kind.0, other.1 ∙ sym kind.1, other.2 ∙ sym kind.2)))
+    (λ l. rw (get_or_from_slice_get net.debts x d d at) (kind-passes a b c d debtor creditor class)) in
+    rw (first, lt-ltb x (length net.debts) below) refl
+
+-- and where no debt is of the kind, none is found
+pub kind_not_found : (net : Net) (a b c : ℕ) → IsNewKind net a b c → position (is_debt_of a b c) net.debts ≡ None
+kind_not_found net a b c none =
+    let p = is_debt_of a b c in
+    let d : Debt = record { debtor = record { 0 = 0 }; creditor = record { 0 = 0 }; class = 0; claim = 0 } in
+    let n = length net.debts in
+    let last = position_or_len_is p net.debts n d (omega arith)
+    (λ k l. false_from_ne_true (p (get_or net.debts k d)) (λ h.
+    none k l (passes-kind net a b c k (get_or net.debts k d) (slice_get-get_or net.debts k d l) h)))
+    (λ l. absurd (omega arith)) in
+    rw (last, le-ltb n n (omega arith)) refl
+
+-- a record of two fields, and of five, by its fields
+pub two_are : (fields : List (List ℕ)) (a b : List ℕ) → length fields ≡ 2 → field_at fields 0 ≡ Some a → field_at fields 1 ≡ Some b
+    → fields ≡ a ∷ b ∷ []
+unfolding field_at
+two_are [] a b e p q = absurd (omega (arith, e))
+two_are (x ∷ []) a b e p q = absurd (omega (arith, e))
+two_are (x ∷ y ∷ []) a b e p q = cc
+two_are (x ∷ y ∷ z ∷ rest) a b e p q = absurd (omega (arith, e))
+
+pub five_are : (fields : List (List ℕ)) (a b c d e : List ℕ) → length fields ≡ 5 → field_at fields 0 ≡ Some a → field_at fields 1 ≡ Some b
+    → field_at fields 2 ≡ Some c → field_at fields 3 ≡ Some d → field_at fields 4 ≡ Some e → fields ≡ a ∷ b ∷ c ∷ d ∷ e ∷ []
+unfolding field_at
+five_are [] a b c d e l p q r s t = absurd (omega (arith, l))
+five_are (x ∷ []) a b c d e l p q r s t = absurd (omega (arith, l))
+five_are (x ∷ y ∷ []) a b c d e l p q r s t = absurd (omega (arith, l))
+five_are (x ∷ y ∷ z ∷ []) a b c d e l p q r s t = absurd (omega (arith, l))
+five_are (x ∷ y ∷ z ∷ w ∷ []) a b c d e l p q r s t = absurd (omega (arith, l))
+five_are (x ∷ y ∷ z ∷ w ∷ v ∷ []) a b c d e l p q r s t = cc
+five_are (x ∷ y ∷ z ∷ w ∷ v ∷ u ∷ rest) a b c d e l p q r s t = absurd (omega (arith, l))

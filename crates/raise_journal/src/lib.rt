@@ -1,0 +1,27 @@
+//! Journals of raises: gathered, printed, read, and replayed on a network.
+//!
+//! A [`Verdict`] says whether a journal is a lawful and complete history of payments, whoever made it. What is lawful
+//! and leaves every bank quiet pays the least clearing payments.
+#![tactic(auto)]
+
+mod gathering;
+pub mod laws;
+mod printing;
+mod reading;
+mod replaying;
+mod verdict;
+
+pub use gathering::gather;
+pub use printing::print_journal;
+pub use reading::read_journal;
+pub use replaying::replay;
+pub use verdict::Verdict;
+
+/// The most raises of a journal that is read.
+pub const MAX_RAISES: usize = 10_000_000;
+
+/// The greatest stamp of a journal that is read.
+pub const MAX_STAMP: u64 = 4_294_967_295;
+
+#[cfg(test)]
+mod tests;

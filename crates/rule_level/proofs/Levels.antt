@@ -1,0 +1,121 @@
+-- The awards at a level are given in turn.
+use Rattle.std.proofs.Common.{◌≡◌, ℕ, zero, suc, ◌+◌, ◌-◌, ◌*◌, ◌/◌, ◌<◌, ◌≤◌, true, List, [], ◌∷◌, get_or, sum, min, sym, refl, ap, arith, mul-le-mul_left, ⊎_elim}
+use Rattle.std.proofs.Math.Nat.{lt_of_mul-lt-mul_left, mul-lt-mul_of_pos_left, lt-mul-div-succ, le-mul_of_pos_right}
+use Rattle.std.proofs.lemmas.Bool.{cases_lt, lt-ltb}
+use Rattle.std.proofs.lemmas.List.{length-map}
+use Rattle.rule_level.specs.declared.TheConstants.{MAX_LEVEL}
+use Rattle.rule_unit.specs.declared.TheConstants.{MAX_CLAIM}
+use Rattle.clr_net.specs.declared.rule.RuleKind.{RuleKind}
+use Rattle.clr_net.specs.declared.rule.RuleKind.TheVariants as kind
+use Rattle.clr_net.specs.Division.{goes_before}
+use Rattle.clr_net.specs.InPlace.{IsWithin}
+use Rattle.clr_net.proofs.Lists.{sum-cons}
+use Rattle.rule_level.specs.Levels.{at_level, level_awards}
+
+-- ratios on the two sides of a level t / n: c / u is at least the level and d / v below it, or c / u above it and d / v at most the level
+cross_below : (t n c u d v : ℕ) → 0 < u → n * u ≤ t * c → t * d < n * v → d * u < c * v
+cross_below t n c u d v p a b =
+    let low : u * (t * d) < u * (n * v) = mul-lt-mul_of_pos_left b p in
+    let high : v * (n * u) ≤ v * (t * c) = mul-le-mul_left v a in
+    lt_of_mul-lt-mul_left t (omega (arith, low, high))
+
+cross_above : (t n c u d v : ℕ) → 0 < v → n * u < t * c → t * d ≤ n * v → d * u < c * v
+cross_above t n c u d v p a b =
+    let low : u * (t * d) ≤ u * (n * v) = mul-le-mul_left u b in
+    let high : v * (n * u) < v * (t * c) = mul-lt-mul_of_pos_left a p in
+    lt_of_mul-lt-mul_left t (omega (arith, low, high))
+
+-- quotients and their products
+pub within_quotient : (k x n : ℕ) → 0 < n → k ≤ x / n → n * k ≤ x
+within_quotient k x n p l = omega (arith, mul-le-mul_left n l)
+
+pub past_quotient : (x n m : ℕ) → 0 < n → x / n ≤ m → x < n * (m + 1)
+past_quotient x n m p l = omega (arith, lt-mul-div-succ x p, mul-le-mul_left n l)
+
+module _ (t c k d m : ℕ) where
+  rounded_down : (n : ℕ) → 0 < n → k + 1 ≤ t * c / n → t * d / n ≤ m → d * (k + 1) < c * (m + 1)
+  rounded_down n p g l =
+      cross_below t n c (k + 1) d (m + 1) (omega arith) (within_quotient (k + 1) (t * c) n p g) (past_quotient (t * d) n m p l)
+
+  rounded_to_nearest : (n : ℕ) → 0 < n → k + 1 ≤ (2 * t * c + n) / (2 * n) → (2 * t * d + n) / (2 * n) ≤ m → d * (2 * k + 1) < c * (2 * m + 1)
+  rounded_to_nearest n p g l =
+      cross_below (2 * t) n c (2 * k + 1) d (2 * m + 1) (omega arith)
+      (omega (arith, within_quotient (k + 1) (2 * t * c + n) (2 * n) (omega arith) g))
+      (omega (arith, past_quotient (2 * t * d + n) (2 * n) m (omega arith) l))
+
+  rounded_up : (n : ℕ) → 0 < n → 0 < d → k + 1 ≤ (t * c + (n - 1)) / n → (t * d + (n - 1)) / n ≤ m → d * k < c * m
+  rounded_up n p q g l =
+      let high : n * k < t * c = omega (arith, within_quotient (k + 1) (t * c + (n - 1)) n p g) in
+      let low : t * d ≤ n * m = omega (arith, past_quotient (t * d + (n - 1)) n m p l) in
+      cross_above t n c k d m (⊎_elim (λ (h : 0 < m). h) (λ (z : m ≤ 0). absurd (none n low high q (omega arith))) (cases_lt 0 m)) high low
+    where
+      none : (n : ℕ) → t * d ≤ n * m → n * k < t * c → 0 < d → m ≡ 0 → ⊥
+      none n low high q e =
+          let nothing : t ≡ 0 = omega (arith, ap (λ x. n * x) e, le-mul_of_pos_right t q, low) in
+          omega (arith, ap (λ x. x * c) nothing, high)
+
+-- at a level, the last unit that the one debt has got goes before the next unit of the other
+pub last_before_next : (kind : RuleKind) (t c d : ℕ) → 0 < at_level kind t c → at_level kind t d < d
+    → goes_before kind c (at_level kind t c - 1) d (at_level kind t d) ≡ true
+last_before_next kind.Order t c d s l = absurd (omega arith)
+last_before_next kind.Equal t c d s l = lt-ltb (min c t - 1) (min d t) (omega arith)
+last_before_next kind.Losses t c d s l =
+    lt-ltb (d - (d - (MAX_CLAIM - t))) (c - (c - (MAX_CLAIM - t) - 1)) (omega arith)
+last_before_next kind.Jefferson t c d s l =
+    let a = min c (t * c / MAX_LEVEL) in
+    let b = min d (t * d / MAX_LEVEL) in
+    lt-ltb (d * (a - 1 + 1)) (c * (b + 1)) (rounded_down t c (a - 1) d b MAX_LEVEL (omega arith) (omega arith) (omega arith))
+last_before_next kind.Webster t c d s l =
+    let a = min c ((2 * t * c + MAX_LEVEL) / (2 * MAX_LEVEL)) in
+    let b = min d ((2 * t * d + MAX_LEVEL) / (2 * MAX_LEVEL)) in
+    lt-ltb (d * (2 * (a - 1) + 1)) (c * (2 * b + 1)) (rounded_to_nearest t c (a - 1) d b MAX_LEVEL (omega arith) (omega arith) (omega arith))
+last_before_next kind.Adams t c d s l =
+    let a = min c ((t * c + (MAX_LEVEL - 1)) / MAX_LEVEL) in
+    let b = min d ((t * d + (MAX_LEVEL - 1)) / MAX_LEVEL) in
+    lt-ltb (d * (a - 1)) (c * b) (rounded_up t c (a - 1) d b MAX_LEVEL (omega arith) (omega arith) (omega arith) (omega arith))
+
+pub at_level_of_none : (kind : RuleKind) (t : ℕ) → at_level kind t 0 ≡ 0
+at_level_of_none kind.Order t = refl
+at_level_of_none kind.Equal t = omega arith
+at_level_of_none kind.Losses t = omega arith
+at_level_of_none kind.Jefferson t = omega arith
+at_level_of_none kind.Webster t = omega arith
+at_level_of_none kind.Adams t = omega arith
+
+pub at_level_within : (kind : RuleKind) (t c : ℕ) → at_level kind t c ≤ c
+at_level_within kind.Order t c = omega arith
+at_level_within kind.Equal t c = omega arith
+at_level_within kind.Losses t c = omega arith
+at_level_within kind.Jefferson t c = omega arith
+at_level_within kind.Webster t c = omega arith
+at_level_within kind.Adams t c = omega arith
+
+pub level_awards_at : (kind : RuleKind) (t : ℕ) (claims : List ℕ) (k : ℕ)
+    → get_or (level_awards kind t claims) k 0 ≡ at_level kind t (get_or claims k 0)
+level_awards_at kind t [] k = sym (at_level_of_none kind t)
+level_awards_at kind t (x ∷ claims) zero = refl
+level_awards_at kind t (x ∷ claims) (suc k) = level_awards_at kind t claims k
+
+pub level_awards_within : (kind : RuleKind) (t : ℕ) (claims : List ℕ) → IsWithin claims (level_awards kind t claims)
+level_awards_within kind t claims = record {
+  as_many = length-map claims (at_level kind t);
+  within = λ k. omega (arith, level_awards_at kind t claims k, at_level_within kind t (get_or claims k 0));
+}
+
+-- at the level 0 no claim within the limit gets anything
+at_level_0 : (kind : RuleKind) (c : ℕ) → c ≤ MAX_CLAIM → at_level kind 0 c ≡ 0
+at_level_0 kind.Order c l = refl
+at_level_0 kind.Equal c l = omega arith
+at_level_0 kind.Losses c l = omega arith
+at_level_0 kind.Jefferson c l = omega arith
+at_level_0 kind.Webster c l = omega arith
+at_level_0 kind.Adams c l = omega arith
+
+pub no_units_at_0 : (kind : RuleKind) (claims : List ℕ) → ((k : ℕ) → get_or claims k 0 ≤ MAX_CLAIM) → sum (level_awards kind 0 claims) ≡ 0
+no_units_at_0 kind [] h = refl
+no_units_at_0 kind (x ∷ claims) h = omega (
+  arith,
+  sum-cons (at_level kind 0 x) (level_awards kind 0 claims),
+  at_level_0 kind x (h 0),
+  no_units_at_0 kind claims (λ k. h (suc k)),
+)

@@ -1,0 +1,10 @@
+pub mod GoesOn
+pub mod InTurn
+pub mod Levels
+pub mod Ties
+pub mod Steps
+pub mod Above
+pub mod LevelUnits
+pub mod ClassSets
+pub mod Limits
+pub mod ClassTurns

@@ -1,0 +1,75 @@
+use Rattle.std.proofs.Common.{◌≡◌, ◌+◌, get_or, map, sum, take, ap, sym, subst, ◌∙◌, arith}
+use Rattle.std.proofs.lemmas.List.{length-map}
+use Rattle.std.proofs.lemmas.List.Sums.{sum_by_more}
+use Rattle.clr_net.specs.Division.{class_claims}
+use Rattle.clr_net.proofs.Classes.{class_claims_here, class_claims_other, length-class_claims}
+use Rattle.rule_level.specs.Levels.{at_level, awards_above, step_at}
+use Rattle.rule_level.proofs.Above.{above_at}
+use Rattle.rule_level.proofs.ClassSets.{IsClassSetTo, all_set, none_set, set_here, set_not_here}
+use Rattle.rule_level.proofs.Limits.{class_claim_in_limit}
+use Rattle.rule_level.proofs.Steps.{step_of_none, steps_at}
+use Rattle.rule_level.proofs.level.set_awards.Goals.{then-classes-debt, else-classes-debt}
+use Rattle.rule_level.proofs.level.set_awards.Goals as goal
+
+pub loop-debt-init : goal.loop-debt-init
+loop-debt-init c = record {
+  set = none_set c.args.class c.args.classes.now
+      (awards_above c.args.kind c.args.level c.args.above (class_claims c.args.class c.args.claims.now c.args.classes.now)) c.args.into.now;
+  left = omega arith;
+}
+
+pub loop-debt-preserved : goal.loop-debt-preserved
+loop-debt-preserved c =
+    let class = c.args.class in
+    let kind = c.args.kind in
+    let level = c.args.level in
+    let claims = c.args.claims.now in
+    let classes = c.args.classes.now in
+    let mine = class_claims class claims classes in
+    let own = awards_above kind level c.args.above mine in
+    let had = c.args.into.now in
+    let debt = c.loop-debt.debt in
+    let steps = map (step_at kind level) mine in
+    let left_is = c.loop-debt.invariant.left in
+    let mine_step = steps_at kind level mine debt in
+    let more_taken : sum (take (debt + 1) steps) ≡ sum (take debt steps) + get_or steps debt 0 =
+    sum_by_more (λ n. n) steps debt 0 (omega (arith, length-map mine (step_at kind level), length-class_claims class claims classes)) in
+    elim c.if-classes-debt.branch [
+      | then-classes-debt w ↦
+          let claim : get_or mine debt 0 ≡ get_or claims debt 0 =
+          class_claims_here class claims classes debt c.requires.first w.if-classes-debt.true in
+          let step : w.step_of.result ≡ get_or steps debt 0 =
+          w.step_of.ensures.step ∙ ap (step_at kind level) (sym claim) ∙ sym mine_step in
+          let base : w.award_at.result ≡ at_level kind level (get_or mine debt 0) =
+          w.award_at.ensures ∙ ap (at_level kind level) (sym claim) in
+          let award : w.award_at.result + w.min-more.result ≡ get_or own debt 0 = omega (
+            arith,
+            above_at kind level c.args.above mine (class_claim_in_limit class claims classes c.requires.limit) debt,
+            base,
+            step,
+            mine_step,
+            w.min-more.ensures,
+            left_is,
+          ) in
+          record {
+            set = subst (IsClassSetTo class classes own had (debt + 1)) (sym w.into-is)
+                (set_here class classes own had debt c.loop-debt.into (omega (arith, c.requires.a_place_each))
+                c.loop-debt.invariant.set w.if-classes-debt.true (w.award_at.result + w.min-more.result) award);
+            left = omega (arith, w.left-is, w.min-more.ensures, step, left_is, more_taken);
+          }
+      | else-classes-debt w ↦
+          let none = class_claims_other class claims classes debt w.if-classes-debt.false in
+          let no_step : get_or steps debt 0 ≡ 0 =
+          mine_step ∙ ap (step_at kind level) none ∙ step_of_none kind level in
+          record {
+            set = subst (IsClassSetTo class classes own had (debt + 1)) (sym w.into-is)
+                (set_not_here class classes own had debt c.loop-debt.into c.loop-debt.invariant.set w.if-classes-debt.false);
+            left = omega (arith, w.left-is, left_is, more_taken, no_step);
+          }
+    ]
+
+pub returns : goal.returns
+returns c =
+    all_set c.args.class c.args.classes.now
+    (awards_above c.args.kind c.args.level c.args.above (class_claims c.args.class c.args.claims.now c.args.classes.now)) c.args.into.now
+    c.loop-debt.debt c.loop-debt.into c.requires.first (omega (arith, c.requires.a_class_each)) c.loop-debt.invariant.set

@@ -1,0 +1,126 @@
+ghost use Rattle.clr_net.specs.Division.{class_claims};
+ghost use Rattle.clr_net.specs.declared.rule.RuleKind.TheVariants.{Order};
+ghost use Rattle.rule_class.specs.declared.TheConstants.{MAX_CLAIMS};
+ghost use Rattle.rule_level.specs.ClassSet.{IsClassSet};
+ghost use Rattle.rule_level.specs.Levels.{at_level, awards_above, class_units, step_at};
+ghost use Rattle.rule_level.specs.Levels.{top_level as top_level_of};
+ghost use Rattle.rule_level.specs.declared.TheConstants.{MAX_LEVEL};
+ghost use Rattle.rule_unit.specs.declared.TheConstants.{MAX_CLAIM};
+ghost use Rattle.std.specs.Prelude.{◌≡◌, ◌≢◌, ◌+◌, ◌<◌, ◌≤◌, All, length, sum};
+
+use crate::MAX_LEVEL;
+use clr_net::RuleKind;
+use rule_unit::MAX_CLAIM;
+
+// The level at which each claim is met.
+fn top_level(kind: RuleKind) -> u64
+    ensures { result ≡ top_level_of kind }
+{
+    match kind {
+        RuleKind::Order => 0,
+        RuleKind::Equal | RuleKind::Losses => MAX_CLAIM,
+        RuleKind::Jefferson | RuleKind::Webster | RuleKind::Adams => MAX_LEVEL,
+    }
+}
+
+// What a debt gets at a level.
+fn award_at(kind: RuleKind, level: u64, claim: u64) -> u64
+    requires level { level ≤ MAX_LEVEL }
+    requires claim { claim ≤ MAX_CLAIM }
+    ensures { result ≡ at_level kind level claim }
+{
+    match kind {
+        RuleKind::Order => 0,
+        RuleKind::Equal => claim.min(level),
+        RuleKind::Losses => claim.saturating_sub(MAX_CLAIM.saturating_sub(level)),
+        RuleKind::Jefferson => claim.min(level * claim / MAX_LEVEL),
+        RuleKind::Webster => claim.min((2 * level * claim + MAX_LEVEL) / (2 * MAX_LEVEL)),
+        RuleKind::Adams => claim.min((level * claim + (MAX_LEVEL - 1)) / MAX_LEVEL),
+    }
+}
+
+// What a debt gets at the next level and not yet at this one.
+#[tactic(auto, using(crate::proofs::Steps::level_rises))]
+fn step_of(kind: RuleKind, level: u64, claim: u64) -> u64
+    requires level { level < MAX_LEVEL }
+    requires claim { claim ≤ MAX_CLAIM }
+    ensures step { result ≡ step_at kind level claim }
+    ensures small { at_level kind level claim + result ≤ claim }
+{
+    award_at(kind, level + 1, claim) - award_at(kind, level, claim)
+}
+
+// What the debts of one class get together at a level.
+pub fn units_at(kind: RuleKind, claims: &[u64], classes: &[u8], class: u8, level: u64) -> u64
+    requires a_class_each { length claims.now ≡ length classes.now }
+    requires limit { All (λ c. c ≤ MAX_CLAIM) claims.now }
+    requires total { sum claims.now ≤ MAX_CLAIMS }
+    requires level { level ≤ MAX_LEVEL }
+    ensures { result ≡ class_units kind level class claims.now classes.now }
+{
+    let mut units = 0;
+    for debt in 0..claims.len() {
+        if classes[debt] == class {
+            units += award_at(kind, level, claims[debt]);
+        }
+    }
+    units
+}
+
+// The level at which the units for one class end: at it the debts get no more than these, and at
+// the next no less. Where the debts get just these at a level that is looked at, the search ends
+// there.
+pub fn level_for(kind: RuleKind, claims: &[u64], classes: &[u8], class: u8, units: u64) -> u64
+    requires has_levels { kind ≢ Order }
+    requires a_class_each { length claims.now ≡ length classes.now }
+    requires limit { All (λ c. c ≤ MAX_CLAIM) claims.now }
+    requires total { sum claims.now ≤ MAX_CLAIMS }
+    requires short { units ≤ sum (class_claims class claims.now classes.now) }
+    ensures level { result < MAX_LEVEL }
+    ensures low { class_units kind result class claims.now classes.now ≤ units }
+    ensures high { units ≤ class_units kind (result + 1) class claims.now classes.now }
+{
+    let mut low = 0;
+    let mut high = if units == 0 { 0 } else { top_level(kind) };
+    while low + 1 < high {
+        let middle = (low + high) / 2;
+        let given = units_at(kind, claims, classes, class, middle);
+        if given <= units {
+            low = middle;
+        }
+        if units <= given {
+            high = middle;
+        }
+    }
+    low
+}
+
+// Gives the debts of one class what they get at a level, and so many units of the next level: to
+// the earliest of those that get one there.
+pub fn set_awards(
+    kind: RuleKind,
+    claims: &[u64],
+    classes: &[u8],
+    class: u8,
+    level: u64,
+    above: u64,
+    into: &mut [u64],
+)
+    requires a_class_each { length claims.now ≡ length classes.now }
+    requires a_place_each { length into.old ≡ length claims.now }
+    requires limit { All (λ c. c ≤ MAX_CLAIM) claims.now }
+    requires level { level < MAX_LEVEL }
+    requires first { 1 ≤ class }
+    ensures { IsClassSet class classes.now
+        (awards_above kind level above (class_claims class claims.now classes.now))
+        into.old into.new }
+{
+    let mut left = above;
+    for (debt, claim) in claims.iter().enumerate() {
+        if classes[debt] == class {
+            let more = left.min(step_of(kind, level, *claim));
+            into[debt] = award_at(kind, level, *claim) + more;
+            left -= more;
+        }
+    }
+}

@@ -1,0 +1,62 @@
+-- All bells down at a master that holds all banks: the payments are the least that clear.
+use Rattle.std.proofs.Common.{◌≡◌, ◌≢◌, ℕ, ◌+◌, ◌<◌, ◌≤◌, true, List, length, ap, ◌∙◌, subst, ⊎_elim, arith}
+use Rattle.std.proofs.lemmas.Bool.{cases_lt}
+use Rattle.clr_net.specs.Amounts.{IsAtMost}
+use Rattle.clr_net.specs.Limits.{IsNetwork}
+use Rattle.clr_net.specs.Net.{Net, creditor_of, debtor_of}
+use Rattle.clear_core.specs.Clearing.{least}
+use Rattle.bank_desk.specs.Desks.{desk_of}
+use Rattle.bank_worker.specs.Views.{Divides}
+use Rattle.pay_words.specs.declared.view.Shown.{Shown}
+use Rattle.pay_words.specs.Views.{HasSeenAll, IsOver, is_marked, opening}
+use Rattle.settle.specs.Bells.{IsIdle}
+use Rattle.settle.specs.Between.{IsBetween}
+use Rattle.pay_words.specs.Traces.{start_of}
+use Rattle.clear_core.specs.declared.event.Raise.{Raise}
+use Rattle.settle.proofs.Driving.{driven_none}
+use Rattle.settle.proofs.Quiet.{part_of_desk, quiet_end}
+
+-- so it is between two rounds
+pub idle_between : (net : Net) (s : Shown) → IsBetween net s → IsIdle net s
+idle_between net s h = record {
+  net_is = h.net_is;
+  holds_all = h.holds_all;
+  no_rings = λ x lx held. h.no_rings x (omega (arith, lx, ap (λ (m : Net). length m.debts) h.net_is));
+  calm = h.calm;
+  rest = h.rest;
+}
+
+-- an opened board stands between two rounds
+pub opened_between : (net : Net) (past : List Raise) (s : Shown) → IsNetwork net → s ≡ opening net (start_of net past) → IsOver s → IsAtMost s.paid (least s.net) → IsBetween net s
+opened_between net past s network opened over low =
+    (driven_none net past 1 s network opened over (subst (λ m. IsAtMost s.paid (least m)) (ap (λ (u : Shown). u.net) opened) low)).between
+
+-- the bells of the first n banks were found down: none of them is fresh, and what is paid to them was seen
+pub record AreDown (s : Shown) (n : ℕ) : Type 0 where
+  pub worn : (b : ℕ) → b < n → is_marked s.fresh b ≢ true
+  pub seen : (b : ℕ) → b < n → HasSeenAll s b
+
+-- one more bell was down
+pub one_more_down : (s : Shown) (n : ℕ) → is_marked s.fresh n ≢ true → HasSeenAll s n → AreDown s n → AreDown s (n + 1)
+one_more_down s n worn seen h = record {
+  worn = λ b lt. ⊎_elim (λ (l : b < n). h.worn b l)
+      (λ (ge : n ≤ b). let e : n ≡ b = omega (arith, lt, ge) in subst (λ k. is_marked s.fresh k ≢ true) e worn) (cases_lt b n);
+  seen = λ b lt. ⊎_elim (λ (l : b < n). h.seen b l)
+      (λ (ge : n ≤ b). let e : n ≡ b = omega (arith, lt, ge) in subst (HasSeenAll s) e seen) (cases_lt b n);
+}
+
+-- where all are down, each bank divides, and has seen what is paid to it
+pub all_down : (net : Net) (s : Shown) → IsNetwork net → IsIdle net s → length s.paid ≡ length s.net.debts
+    → IsAtMost s.paid (least s.net) → IsAtMost s.sights (least s.net) → AreDown s (length net.banks) → s.paid ≡ least net
+all_down net s network idle over low_paid low_seen down =
+    let debts : length s.net.debts ≡ length net.debts = ap (λ (m : Net). length m.debts) idle.net_is in
+    let divides = λ (b : ℕ) (lb : b < length net.banks). ⊎_elim
+    (λ (f : is_marked s.fresh b ≡ true). let d : Divides s (desk_of net b) = absurd (down.worn b lb f) in d)
+    (λ (d : Divides s (desk_of net b)). d)
+    (idle.rest b lb) in
+    (quiet_end net s.paid s.sights (over ∙ debts) (subst (λ m. IsAtMost s.paid (least m)) idle.net_is low_paid) (subst (λ m. IsAtMost s.sights (least m)) idle.net_is low_seen)
+    (λ x lx. part_of_desk net s x lx (divides (debtor_of net x) (network.each_debt x lx).debtor_known))
+    (λ x lx.
+    let c = creditor_of net x in
+    let here : creditor_of s.net x ≡ c = ap (λ (m : Net). creditor_of m x) idle.net_is in
+    omega (arith, down.seen c (network.each_debt x lx).creditor_known x (omega (arith, lx, debts)) here))).paid

@@ -1,0 +1,10 @@
+pub mod Joined
+pub mod Quiet
+pub mod Offices
+pub mod Handed
+pub mod Returned
+pub mod Rounded
+pub mod Driving
+pub mod Shares
+pub mod Finished
+pub mod AllDown

@@ -1,0 +1,275 @@
+-- What a round of all workers leaves, once the seats are back.
+use Rattle.std.proofs.Common.{◌≡◌, ◌≢◌, ℕ, suc, ◌+◌, ◌*◌, ◌<◌, ◌≤◌, true, List, [], ◌∷◌, length, get_or, map, sum, inr, refl, sym, ap, ◌∙◌, subst, ⊎_elim, arith, eq-eqb, eqb-true}
+use Rattle.std.specs.Prelude.{◌%◌, sum_by, slice_index}
+use Rattle.std.proofs.lemmas.Bool.{cases_lt}
+use Rattle.std.proofs.lemmas.List.{get_or-map, get_or_past, length-map}
+use Rattle.std.proofs.lemmas.List.Sums.{sum-map, sum_by-cons, sum_by-le-sum_by}
+use Rattle.clr_net.specs.Amounts.{IsAtMost}
+use Rattle.clr_net.specs.Net.{Net, row, debtor_of, creditor_of}
+use Rattle.clr_net.proofs.Lists.{same_from_sum}
+use Rattle.bank_desk.specs.Desks.{BankView, desk_of}
+use Rattle.pay_words.specs.declared.view.Shown.{Shown}
+use Rattle.pay_words.specs.Views.{Panel, IsOver, handed, holds, is_marked, is_of_worker, tabled}
+use Rattle.bank_worker.specs.Views.{Crew, Divides, banks_held, desk_at, desks_held, no_desk, paid_by, paid_by_all}
+use Rattle.bank_worker.proofs.Filtered.{filter_finds, row_finds}
+use Rattle.bank_worker.proofs.Manned.{desk_is, few_desks}
+use Rattle.bank_worker.proofs.Sweeping.{divides_kept, few_in_all, paid_by_kept}
+use Rattle.settle.specs.Between.{AreOfBoard, IsBack, IsBetween, crew_of, crews, shown_by}
+use Rattle.settle.specs.Rounds.{AreRounded, MadeRound, crew_at, no_crew, paid_by_crew}
+use Rattle.std.specs.Prelude.{take}
+use Rattle.std.proofs.Math.Seq.{take-length}
+use Rattle.std.proofs.Math.Nat.{mul-le-mul_left}
+use Rattle.bank_worker.proofs.Rooms.{filter_agree}
+use Rattle.settle.proofs.Shares.{all_banks, banks_of, sum_below_times, sum_by_below}
+use Rattle.settle.proofs.Quiet.{raises_a_unit}
+use Rattle.settle.proofs.Handed.{crew_there, handed_holds, length-crews}
+
+-- sums of two functions, of which one is nowhere below the other, are equal only where they agree
+agree_where_sums_do : {A : Type 0} (d : A) (f g : A → ℕ) (xs : List A) → ((k : ℕ) → k < length xs → f (get_or xs k d) ≤ g (get_or xs k d)) → sum_by g xs ≤ sum_by f xs
+    → (k : ℕ) → k < length xs → f (get_or xs k d) ≡ g (get_or xs k d)
+agree_where_sums_do d f g xs below sums k lk =
+    let at_most : IsAtMost (map f xs) (map g xs) = λ j. ⊎_elim
+    (λ (lt : j < length xs). omega (arith, get_or-map f xs j d 0 lt, get_or-map g xs j d 0 lt, below j lt))
+    (λ (ge : length xs ≤ j). omega (arith, get_or_past (map f xs) j 0 (omega (arith, length-map xs f))))
+    (cases_lt j (length xs)) in
+    let same = same_from_sum (map f xs) (map g xs) (length-map xs f ∙ sym (length-map xs g)) at_most (omega (arith, sum-map f xs, sum-map g xs)) in
+    sym (get_or-map f xs k d 0 lk) ∙ ap (λ ys. get_or ys k 0) same ∙ get_or-map g xs k d 0 lk
+
+-- and equal where they agree
+sums_agree : {A : Type 0} (d : A) (f g : A → ℕ) (xs : List A) → ((k : ℕ) → k < length xs → f (get_or xs k d) ≡ g (get_or xs k d)) → sum_by f xs ≡ sum_by g xs
+sums_agree d f g [] h = refl
+sums_agree d f g (x ∷ xs) h = omega (arith, sum_by-cons f x xs, sum_by-cons g x xs, h 0 (omega arith), sums_agree d f g xs (λ k lk. h (suc k) (omega (arith, lk))))
+
+-- the same, of one function over two lists
+lists_agree : {A : Type 0} (d : A) (f : A → ℕ) (xs ys : List A) → length ys ≡ length xs → ((k : ℕ) → k < length xs → f (get_or xs k d) ≤ f (get_or ys k d)) → sum_by f ys ≤ sum_by f xs
+    → (k : ℕ) → k < length xs → f (get_or xs k d) ≡ f (get_or ys k d)
+lists_agree d f xs ys l below sums k lk =
+    let at_most : IsAtMost (map f xs) (map f ys) = λ j. ⊎_elim
+    (λ (lt : j < length xs). omega (arith, get_or-map f xs j d 0 lt, get_or-map f ys j d 0 (omega arith), below j lt))
+    (λ (ge : length xs ≤ j). omega (arith, get_or_past (map f xs) j 0 (omega (arith, length-map xs f))))
+    (cases_lt j (length xs)) in
+    let same = same_from_sum (map f xs) (map f ys) (length-map xs f ∙ sym l ∙ sym (length-map ys f)) at_most (omega (arith, sum-map f xs, sum-map f ys)) in
+    sym (get_or-map f xs k d 0 lk) ∙ ap (λ zs. get_or zs k 0) same ∙ get_or-map f ys k d 0 (omega (arith, lk, l))
+
+lists_equal_sums : {A : Type 0} (d : A) (f : A → ℕ) (xs ys : List A) → length ys ≡ length xs → ((k : ℕ) → k < length xs → f (get_or xs k d) ≡ f (get_or ys k d)) → sum_by f xs ≡ sum_by f ys
+lists_equal_sums d f [] [] l h = refl
+lists_equal_sums d f [] (y ∷ ys) l h = absurd (omega (arith, l))
+lists_equal_sums d f (x ∷ xs) [] l h = absurd (omega (arith, l))
+lists_equal_sums d f (x ∷ xs) (y ∷ ys) l h = omega (arith, sum_by-cons f x xs, sum_by-cons f y ys, h 0 (omega arith), lists_equal_sums d f xs ys (omega (arith, l)) (λ k lk. h (suc k) (omega (arith, lk))))
+
+module _ (board : Panel) (net : Net) (s : Shown) (w sweeps n : ℕ) (news : List Crew) (here : net ≡ board.net) (workers : w ≡ board.workers) (some : 1 ≤ w) (few_sweeps : sweeps ≤ 1000)
+    (between : IsBetween net s) (rounded : AreRounded sweeps n (crews w board.table s w) news) where
+  as_many : length news ≡ w
+  as_many = rounded.as_many ∙ length-crews w board.table s w
+
+  pub made_round : (i : ℕ) → i < w → MadeRound sweeps (crew_of w board.table s i) (crew_at news i)
+  made_round i lt = subst (λ (o : Crew). MadeRound sweeps o (crew_at news i)) (crew_there w board.table s w i lt) (rounded.each i (omega (arith, lt, length-crews w board.table s w)))
+
+  net_of : (i : ℕ) → i < w → (crew_at news i).seat.shows.net ≡ net
+  net_of i lt = (made_round i lt).same.seat.net ∙ between.net_is
+
+  -- each worker may give its seat back
+  pub of_board : AreOfBoard board news
+  of_board i li =
+      let lt : i < w = omega (arith, li, as_many) in
+      let m = made_round i lt in
+      let desks = few_desks (handed w i s) (desks_held (handed w i s)) refl in
+      let banks : length s.net.banks ≤ 1000 = omega (arith, between.network.banks_in_limit, ap (λ (m : Net). length m.banks) between.net_is) in
+      record {
+        at = (m.same.table, net_of i lt ∙ here);
+        worker = m.same.worker;
+        not_the_master = m.same.seat.master;
+        banks =
+            m.same.seat.banks
+            ∙ ap (λ (m : Net). tabled (length m.banks) (is_of_worker w i)) (between.net_is ∙ here)
+            ∙ ap (λ k. tabled (length board.net.banks) (is_of_worker k i)) workers;
+        no_rings = m.rounded.no_rings;
+        by_bells = omega (arith, m.visits.by_bells);
+        few_visits = omega (arith, m.visits.at_most, few_in_all sweeps (length (desks_held (handed w i s))) few_sweeps (omega arith));
+      }
+
+  -- all visits are at most so many sweeps over all banks
+  pub few_in_round : sum_by (λ (k : Crew). k.visits) news ≤ sweeps * length net.banks
+  few_in_round =
+      let nb = length net.banks in
+      let visits_of = λ (k : Crew). k.visits in
+      let each : (i : ℕ) → i < w → visits_of (crew_at news i) ≤ sweeps * banks_of w nb i = λ i li.
+      let h = handed w i s in
+      let m = made_round i li in
+      let same_banks : length s.net.banks ≡ nb = ap (λ (m : Net). length m.banks) between.net_is in
+      let filtered : length (banks_held h) ≡ banks_of w nb i =
+      ap length (filter_agree (is_of_worker w i) (holds h) (length s.net.banks) (length s.net.banks) (omega arith) (λ k lk. handed_holds net w i s k between.net_is (omega arith)))
+      ∙ ap (λ n. banks_of w n i) same_banks in
+      let desks : length (desks_held h) ≡ banks_of w nb i = length-map (banks_held h) (desk_of s.net) ∙ filtered in
+      omega (arith, m.visits.at_most, ap (λ n. sweeps * n) desks) in
+      omega (
+        arith,
+        ap (sum_by visits_of) (take-length news),
+        ap (λ n. sum_by visits_of (take n news)) as_many,
+        sum_by_below no_crew visits_of (λ i. sweeps * banks_of w nb i) news w (omega (arith, as_many)) each,
+        sum_below_times sweeps (banks_of w nb) w,
+        mul-le-mul_left sweeps (all_banks w nb),
+      )
+
+  -- the worker of the bank b has settled it
+  module _ (b : ℕ) (lb : b < length net.banks) where
+    pub worker_of : b % w < w
+    worker_of = omega arith
+
+    pub shown : Shown
+    shown = (crew_at news (b % w)).seat.shows
+
+    place : (k : ℕ) × (k < length (crew_at news (b % w)).desks) × (desk_at (crew_at news (b % w)).desks k ≡ desk_of net b)
+    place =
+        let i = b % w in
+        let h = handed w i s in
+        let lb' : b < length s.net.banks = omega (arith, lb, ap (λ (m : Net). length m.banks) between.net_is) in
+        let f = filter_finds (holds h) (length s.net.banks) b lb' (handed_holds net w i s b between.net_is lb ∙ eq-eqb i i refl) in
+        let same : (crew_at news i).desks ≡ desks_held h = (made_round i worker_of).same.desks in (
+          f.0,
+          omega (arith, ap length same, length-map (banks_held h) (desk_of s.net), f.1),
+          ap (λ ds. desk_at ds f.0) same ∙ get_or-map (desk_of s.net) (banks_held h) f.0 0 no_desk f.1 ∙ ap (desk_of s.net) f.2 ∙ ap (λ (m : Net). desk_of m b) between.net_is,
+        )
+
+    pub divides_there : Divides (crew_at news (b % w)).seat.shows (desk_of net b)
+    divides_there = subst (Divides (crew_at news (b % w)).seat.shows) place.2 ((made_round (b % w) worker_of).rounded.settled.divide place.0 place.1)
+
+    -- each debt to the bank is seen at no less than was paid before the round
+    pub seen_there : (x : ℕ) → x < length net.debts → creditor_of net x ≡ b → get_or s.paid x 0 ≤ get_or (crew_at news (b % w)).seat.shows.sights x 0
+    seen_there x lx owed =
+        let i = b % w in
+        let m = made_round i worker_of in
+        let seen = m.rounded.settled.seen place.0 place.1 x (omega (arith, lx, ap (λ (m : Net). length m.debts) (net_of i worker_of)))
+        (ap (λ (m : Net). creditor_of m x) (net_of i worker_of) ∙ owed ∙ sym (ap (λ (d : BankView). d.bank) place.2)) in
+        omega (arith, seen, ap (λ fs. get_or fs x 0) m.same.seat.floor, between.floor x lx)
+
+    pub not_fallen : (x : ℕ) → x < length net.debts → get_or s.paid x 0 ≤ get_or (crew_at news (b % w)).seat.shows.paid x 0
+    not_fallen x lx = (made_round (b % w) worker_of).rounded.none_fell x (omega (arith, lx, ap (λ (m : Net). length m.debts) between.net_is))
+
+  -- once all seats are back
+  module _ (m t : Shown) (over : IsOver t) (back : IsBack board.workers board.net m news t 0) where
+    back' : IsBack w net m news t 0
+    back' = subst (λ (k : ℕ). IsBack k net m news t 0) (sym workers) (subst (λ (n : Net). IsBack board.workers n m news t 0) (sym here) back)
+
+    lw : (b : ℕ) → b % w < length news
+    lw b = omega (arith, as_many)
+
+    debtor : (x : ℕ) → x < length net.debts → debtor_of net x < length net.banks
+    debtor x lx = (between.network.each_debt x lx).debtor_known
+
+    creditor : (x : ℕ) → x < length net.debts → creditor_of net x < length net.banks
+    creditor x lx = (between.network.each_debt x lx).creditor_known
+
+    paid_is : (x : ℕ) → x < length net.debts → get_or t.paid x 0 ≡ get_or (shown_by w news (debtor_of net x)).paid x 0
+    paid_is x lx = back'.paid x lx (omega arith) (lw (debtor_of net x))
+
+    sight_is : (x : ℕ) → x < length net.debts → get_or t.sights x 0 ≡ get_or (shown_by w news (creditor_of net x)).sights x 0
+    sight_is x lx = back'.sights x lx (omega arith) (lw (creditor_of net x))
+
+    pub all_divide : (b : ℕ) → b < length net.banks → Divides t (desk_of net b)
+    all_divide b lb = divides_kept net (desk_of net b) (shown_by w news b) t refl
+        (λ x lx e. paid_is x lx ∙ ap (λ c. get_or (shown_by w news c).paid x 0) e)
+        (λ x lx e. sight_is x lx ∙ ap (λ c. get_or (shown_by w news c).sights x 0) e)
+        (divides_there b lb)
+
+    pub all_seen : (x : ℕ) → x < length net.debts → get_or s.paid x 0 ≤ get_or t.sights x 0
+    all_seen x lx = omega (arith, sight_is x lx, seen_there (creditor_of net x) (creditor x lx) x lx refl)
+
+    pub none_fell : (x : ℕ) → x < length net.debts → get_or s.paid x 0 ≤ get_or t.paid x 0
+    none_fell x lx = omega (arith, paid_is x lx, not_fallen (debtor_of net x) (debtor x lx) x lx)
+
+    pub between_again : t.master ≡ true → IsBetween net t
+    between_again master = record {
+      network = between.network;
+      net_is = back'.net_is;
+      master = master;
+      over = over;
+      holds_all = λ b lb. back'.held b (omega (arith, lb, ap (λ (m : Net). length m.banks) back'.net_is)) (omega arith) (lw b);
+      no_rings = λ x lx.
+          let b = debtor_of net x in
+          let i = b % w in
+          let lb = debtor x lx in
+          let li = worker_of b lb in
+          let same = net_of i li in
+          back'.rings x lx (omega arith) (lw b)
+          ∙ (made_round i li).rounded.no_rings x (omega (arith, lx, ap (λ (m : Net). length m.debts) same))
+          (ap (λ (m : Net). holds (crew_at news i).seat.shows (debtor_of m x)) same ∙ ap (λ bs. is_marked bs b) (made_round i li).same.seat.banks ∙ handed_holds net w i s b between.net_is lb ∙ eq-eqb i i refl);
+      calm = λ x lx.
+          let b = creditor_of net x in
+          let i = b % w in
+          let lb = creditor x lx in
+          let li = worker_of b lb in
+          let same = net_of i li in
+          back'.pending x lx (omega arith) (lw b)
+          ∙ (made_round i li).rounded.calm b (omega (arith, lb, ap (λ (m : Net). length m.banks) same))
+          (ap (λ bs. is_marked bs b) (made_round i li).same.seat.banks ∙ handed_holds net w i s b between.net_is lb ∙ eq-eqb i i refl)
+          x (omega (arith, lx, ap (λ (m : Net). length m.debts) same)) (ap (λ (m : Net). creditor_of m x) same);
+      rest = λ b lb. inr (all_divide b lb);
+      floor = λ x lx. back'.floor x lx (omega arith) (lw (debtor_of net x)) ∙ sym (paid_is x lx);
+    }
+
+    -- what a worker's debts are paid more than before
+    fell_nowhere : (i : ℕ) → i < w → (x : ℕ) → get_or s.paid x 0 ≤ get_or (crew_at news i).seat.shows.paid x 0
+    fell_nowhere i li x = ⊎_elim
+        (λ (lx : x < length s.net.debts). (made_round i li).rounded.none_fell x lx)
+        (λ (ge : length s.net.debts ≤ x). omega (arith, get_or_past s.paid x 0 (omega (arith, ge, between.over.paid))))
+        (cases_lt x (length s.net.debts))
+
+    crew_rose : (i : ℕ) → i < w → paid_by_crew (crew_of w board.table s i) ≤ paid_by_crew (crew_at news i)
+    crew_rose i li = omega (arith, (made_round i li).rounded.rose)
+
+    -- a round that raised nothing left all payments as they were
+    pub none_rose : n ≡ 0 → (x : ℕ) → x < length net.debts → get_or t.paid x 0 ≡ get_or s.paid x 0
+    none_rose zero_units x lx =
+        let b = debtor_of net x in
+        let lb = debtor x lx in
+        let i = b % w in
+        let li = worker_of b lb in
+        let olds = crews w board.table s w in
+        let u = (crew_at news i).seat.shows in
+        let crew_same : paid_by_crew (crew_at olds i) ≡ paid_by_crew (crew_at news i) =
+        lists_agree no_crew paid_by_crew olds news rounded.as_many
+        (λ k lk. let lk' : k < w = omega (arith, lk, length-crews w board.table s w) in omega (arith, ap paid_by_crew (crew_there w board.table s w k lk'), crew_rose k lk'))
+        (omega (arith, rounded.rose)) i (omega (arith, li, length-crews w board.table s w)) in
+        let desks = (crew_at news i).desks in
+        let all_same : paid_by_all u desks ≡ paid_by_all s desks = sym crew_same ∙ ap paid_by_crew (crew_there w board.table s w i li) ∙ ap (λ ds. paid_by_all s ds) (sym (made_round i li).same.desks) in
+        let p = place b lb in
+        let desk_same : paid_by s (desk_of net b) ≡ paid_by u (desk_of net b) =
+        ap (paid_by s) (sym p.2)
+        ∙ agree_where_sums_do no_desk (paid_by s) (paid_by u) desks
+        (λ k lk. sum_by-le-sum_by (slice_index s.paid) (slice_index u.paid) (desk_at desks k).debts_out (fell_nowhere i li)) (omega (arith, all_same)) p.0 p.1
+        ∙ ap (paid_by u) p.2 in
+        let f = row_finds net b x lx refl in
+        let here_same = agree_where_sums_do 0 (slice_index s.paid) (slice_index u.paid) (row net b) (λ k lk. fell_nowhere i li (get_or (row net b) k 0)) (omega (arith, desk_same)) f.0 f.1 in
+        paid_is x lx ∙ ap (slice_index u.paid) (sym f.2) ∙ sym here_same ∙ ap (slice_index s.paid) f.2
+
+    -- where all payments stayed, the round raised nothing
+    pub raised_nothing : ((x : ℕ) → x < length net.debts → get_or t.paid x 0 ≡ get_or s.paid x 0) → n ≡ 0
+    raised_nothing same =
+        let olds = crews w board.table s w in
+        let each : (i : ℕ) → i < length olds → paid_by_crew (crew_at olds i) ≡ paid_by_crew (crew_at news i) = λ i lo.
+        let li : i < w = omega (arith, lo, length-crews w board.table s w) in
+        let h = handed w i s in
+        let u = (crew_at news i).seat.shows in
+        let ds = desks_held h in
+        let desks_same : sum_by (paid_by s) ds ≡ sum_by (paid_by u) ds = sums_agree no_desk (paid_by s) (paid_by u) ds (λ k lk.
+        let f = desk_is h ds k refl lk in
+        let b = (desk_at ds k).bank in
+        let known : desk_at ds k ≡ desk_of net b = f.known ∙ ap (λ (m : Net). desk_of m b) between.net_is in
+        let lb : b < length net.banks = omega (arith, f.bank, ap (λ (m : Net). length m.banks) between.net_is) in
+        let mine : b % w ≡ i = eqb-true (b % w) i (sym (handed_holds net w i s b between.net_is lb) ∙ f.held) in
+        sym (paid_by_kept net (desk_at ds k) s u known (λ x lx e.
+        ap (λ j. get_or (crew_at news j).seat.shows.paid x 0) (sym mine) ∙ ap (λ c. get_or (shown_by w news c).paid x 0) (sym e) ∙ sym (paid_is x lx) ∙ same x lx))) in
+        ap paid_by_crew (crew_there w board.table s w i li) ∙ desks_same ∙ ap (λ es. paid_by_all u es) (sym (made_round i li).same.desks) in
+        omega (arith, rounded.rose, lists_equal_sums no_crew paid_by_crew olds news rounded.as_many each)
+
+    pub some_rose : n ≢ 0 → sum s.paid + 1 ≤ sum t.paid
+    some_rose some_units =
+        let same_debts : length t.net.debts ≡ length s.net.debts = ap (λ (m : Net). length m.debts) (back'.net_is ∙ sym between.net_is) in
+        raises_a_unit s.paid t.paid n (omega (arith, between.over.paid, over.paid, same_debts))
+        (λ x. ⊎_elim
+        (λ (lx : x < length net.debts). none_fell x lx)
+        (λ (ge : length net.debts ≤ x). omega (arith, get_or_past s.paid x 0 (omega (arith, ge, between.over.paid, ap (λ (m : Net). length m.debts) between.net_is))))
+        (cases_lt x (length net.debts)))
+        (λ e. raised_nothing (λ x lx. ap (λ P. get_or P x 0) (sym e)))
+        some_units

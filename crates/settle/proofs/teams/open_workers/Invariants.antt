@@ -1,0 +1,12 @@
+use Rattle.std.proofs.Common.{◌≡◌, ◌-◌}
+use Rattle.settle.specs.Offices.{AreOffices}
+use Rattle.settle.specs.Between.{crews, without_first}
+use Rattle.settle.proofs.teams.open_workers.Given as goal
+
+abbrev pub invariant-loop-number : goal.invariant-loop-number
+invariant-loop-number l = record {
+  table : l.master.table ≡ l.fn.master.table;
+  rest : l.master.shows ≡ without_first l.workers l.number l.fn.master.shows;
+  offices : AreOffices l.net l.workers (l.workers - l.number) l.offices.items;
+  crew : l.crew.items ≡ crews l.workers l.board.table l.fn.master.shows l.number;
+}

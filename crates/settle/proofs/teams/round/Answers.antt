@@ -1,0 +1,93 @@
+use Rattle.std.proofs.Common.{◌≡◌, length, sym, ap, ◌∙◌, subst, arith}
+use Rattle.clr_net.specs.Amounts.{IsAtMost}
+use Rattle.clr_net.specs.Limits.{IsNetwork}
+use Rattle.clr_net.specs.Net.{Net}
+use Rattle.clear_core.specs.Clearing.{least}
+use Rattle.pay_words.specs.declared.view.Shown.{Shown}
+use Rattle.settle.specs.Between.{HaveGrownAlike, crews}
+use Rattle.settle.specs.Offices.{AreOffices}
+use Rattle.settle.specs.Rounds.{AreReady, AreRounded}
+use Rattle.settle.proofs.Handed.{crews_ready, first_net, first_master, first_seats, first_raises, first_taken, length-crews}
+use Rattle.settle.proofs.Rounded.{few_in_round, of_board, between_again, all_divide, all_seen, none_fell, none_rose, some_rose}
+use Rattle.settle.proofs.teams.round.Goals as goal
+
+pub work_all-requires-clause-some : goal.work_all-requires-clause-some
+work_all-requires-clause-some g c κs within =
+    let w = c.args.plan.workers in
+    let s = c.args.master.now.shows in
+    let board = c.args.board.now in
+    let made = c.in_ok-workers.ensures.crews in
+    (omega (arith, ap length made, length-crews w board.table s w, c.requires.plan.some_workers), omega (arith, ap length made, length-crews w board.table s w, c.requires.plan.few_workers))
+
+pub work_all-requires-clause-ready : goal.work_all-requires-clause-ready
+work_all-requires-clause-ready g c κs within =
+    let w = c.args.plan.workers in
+    let s = c.args.master.now.shows in
+    let board = c.args.board.now in
+    subst (AreReady board) (sym c.in_ok-workers.ensures.crews) (crews_ready board c.args.net.now w s w c.requires.net c.requires.between)
+
+pub close_workers-requires : goal.close_workers-requires
+close_workers-requires g c =
+    let w = c.args.plan.workers in
+    let s = c.args.master.now.shows in
+    let board = c.args.board.now in
+    let net = c.args.net.now in
+    let news = c.work_all.new.workers.items in
+    let olds = crews w board.table s w in
+    let rounded = subst (λ os. AreRounded c.args.plan.sweeps c.in-Raised.units os news) c.in_ok-workers.ensures.crews c.in-Raised.ensures.rounded in
+    let rest = c.in_ok-workers.ensures.rest in
+    record {
+      workers = (
+        omega (arith, c.requires.plan.some_workers, c.requires.workers),
+        omega (arith, c.requires.plan.few_workers, c.requires.workers),
+        omega (arith, rounded.as_many, length-crews w board.table s w, c.requires.workers, c.work_all.new.workers.ok),
+      );
+      network = subst IsNetwork c.requires.net c.requires.between.network;
+      master = (
+        (c.open_workers.ensures.table ∙ c.requires.table, ap (λ (u : Shown). u.net) rest ∙ first_net w w s ∙ c.requires.between.net_is ∙ c.requires.net),
+        ap (λ (u : Shown). u.master) rest ∙ first_master w w s ∙ c.requires.between.master,
+      );
+      offices = c.in_ok-workers.ensures.offices;
+      crew = of_board board net s w c.args.plan.sweeps c.in-Raised.units news c.requires.net c.requires.workers c.requires.plan.some_workers c.requires.plan.few_sweeps c.requires.between rounded;
+    }
+
+pub returns : goal.returns
+returns g c =
+    let w = c.args.plan.workers in
+    let s = c.args.master.now.shows in
+    let board = c.args.board.now in
+    let net = c.args.net.now in
+    let sweeps = c.args.plan.sweeps in
+    let units = c.in-Raised.units in
+    let news = c.work_all.new.workers.items in
+    let m = c.open_workers.new.master.shows in
+    let t = c.close_workers.new.master.shows in
+    let rounded = subst (λ os. AreRounded sweeps units os news) c.in_ok-workers.ensures.crews c.in-Raised.ensures.rounded in
+    let rest = c.in_ok-workers.ensures.rest in
+    let back = c.in_ok-visits.ensures.back in
+    let over = c.clock-clock.ensures.over in
+    let here = c.requires.net in
+    let between = c.requires.between in
+    let some = c.requires.plan.some_workers in
+    let few = c.requires.plan.few_sweeps in
+    let same_net : t.net ≡ net = back.net_is ∙ sym here in
+    record {
+      table = c.close_workers.ensures.table ∙ c.open_workers.ensures.table;
+      between = between_again board net s w sweeps units news here c.requires.workers some few between rounded m t over back (back.master ∙ ap (λ (u : Shown). u.master) rest ∙ first_master w w s ∙ between.master);
+      offices = subst (λ k. AreOffices net k k c.close_workers.new.offices.items) (sym c.requires.workers)
+          (subst (λ (m : Net). AreOffices m board.workers board.workers c.close_workers.new.offices.items) (sym here) c.in_ok-visits.ensures.offices);
+      round = record {
+        none_fell = none_fell board net s w sweeps units news here c.requires.workers some few between rounded m t over back;
+        some_rose = some_rose board net s w sweeps units news here c.requires.workers some few between rounded m t over back;
+        none_rose = none_rose board net s w sweeps units news here c.requires.workers some few between rounded m t over back;
+        divide = all_divide board net s w sweeps units news here c.requires.workers some few between rounded m t over back;
+        seen = all_seen board net s w sweeps units news here c.requires.workers some few between rounded m t over back;
+        visits_are = omega (arith, c.in_ok-visits.ensures.visits, ap (λ (u : Shown). u.taken) rest, first_taken w w s);
+        few_visits = c.in_ok-visits.ensures.few;
+        visits_by_banks = omega (arith, c.in_ok-visits.ensures.sum, few_in_round board net s w sweeps units news here c.requires.workers some few between rounded);
+        seats = omega (arith, back.seats, ap (λ (u : Shown). u.seats) rest, first_seats w w s);
+        paid_low = subst (λ (n : Net). IsAtMost t.paid (least n)) same_net c.clock-clock.ensures.paid_below_least;
+        sights_low = subst (λ (n : Net). IsAtMost t.sights (least n)) same_net c.clock-clock.ensures.sights_below_least;
+      };
+      noted = subst (λ rs. HaveGrownAlike c.args.journal.now.raises c.close_workers.new.journal.raises rs t.raises) (ap (λ (u : Shown). u.raises) rest ∙ first_raises w w s) c.in_ok-visits.ensures.noted;
+    }

@@ -1,0 +1,49 @@
+-- What the rounds on a board come to.
+use Rattle.std.specs.Prelude.{◌≡◌, ℕ, ◌+◌, ◌*◌, ◌<◌, ◌≤◌, ◌++◌, true, false, List, length, slice_index, sum}
+use Rattle.clr_net.specs.Net.{Net, units_owed}
+use Rattle.clear_core.specs.Clearing.{Clears, least}
+use Rattle.clear_core.specs.History.{ordered, replayed}
+use Rattle.clear_core.specs.declared.event.Raise.{Raise}
+use Rattle.pay_words.specs.declared.view.Shown.{Shown}
+use Rattle.pay_words.specs.Views.{Panel, HoldsAll, OwesNoRing, is_marked}
+use Rattle.settle.specs.declared.plan.Driven.{Driven}
+use Rattle.settle.specs.declared.plan.Plan.{Plan}
+
+-- the limits of a plan
+pub record IsPlan (plan : Plan) : Type 0 where
+  pub some_workers : 1 ≤ plan.workers
+  pub few_workers : plan.workers ≤ 64
+  pub some_sweeps : 1 ≤ plan.sweeps
+  pub few_sweeps : plan.sweeps ≤ 1000
+
+-- the network, the past and the workers are those of the board
+pub record IsOf (board : Panel) (net : Net) (past : List Raise) (plan : Plan) : Type 0 where
+  pub net_is : net ≡ board.net
+  pub past_is : past ≡ board.past
+  pub workers_are : plan.workers ≡ board.workers
+
+-- the master shows the least clearing payments: each bank pays them, and has seen them, and nothing
+-- is left to be seen
+pub record IsSettled (net : Net) (s : Shown) : Type 0 where
+  pub net_is : s.net ≡ net
+  pub master : s.master ≡ true
+  pub holds_all : HoldsAll s
+  pub paid : s.paid ≡ least net
+  pub clears : Clears net s.paid
+  pub sights : (x : ℕ) → x < length net.debts → slice_index s.sights x ≡ slice_index s.paid x
+  pub calm : (x : ℕ) → x < length net.debts → is_marked s.pending x ≡ false
+  pub no_rings : OwesNoRing s
+
+-- at least one round, and at most one for each unit that the past left unpaid, and one more
+pub record InBounds (net : Net) (past : List Raise) (rounds : ℕ) : Type 0 where
+  pub some_round : 1 ≤ rounds
+  pub few_rounds : rounds + sum (replayed net past) ≤ units_owed net + 1
+
+-- the rounds on a board, from the master that shows s to the one that shows t
+pub record IsDriven (net : Net) (past : List Raise) (plan : Plan) (s t : Shown) (d : Driven)
+    : Type 0 where
+  pub settled : IsSettled net t
+  pub journal : d.journal.raises ≡ ordered (past ++ t.raises)
+  pub bounds : InBounds net past d.rounds
+  pub seats : t.seats ≡ d.rounds * plan.workers
+  pub visits : t.taken ≡ s.taken + d.visits

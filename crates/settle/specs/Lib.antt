@@ -1,0 +1,6 @@
+pub mod Rounds
+pub mod Drives
+pub mod Between
+pub mod Runs
+pub mod Offices
+pub mod Bells

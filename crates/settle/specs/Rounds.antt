@@ -1,0 +1,66 @@
+-- What a round of all workers asks and does.
+use Rattle.std.specs.Prelude.{◌≡◌, ℕ, ◌+◌, ◌*◌, ◌^◌, ◌<◌, ◌≤◌, All, List, [], length, sum_by, slice_index_or}
+use Rattle.clr_net.specs.declared.TheConstants.{MAX_OWED}
+use Rattle.pay_words.specs.Views.{Panel, Place, IsAt, OwesNoRing, opening}
+use Rattle.bank_worker.specs.Views.{Crew, paid_by_all}
+use Rattle.bank_worker.specs.Visits.{IsAllCalm, IsRounded, IsSameCrew, MayRest, VisitsByBells}
+
+-- the worker may make a round on the board
+pub record IsReady (board : Panel) (w : Crew) : Type 0 where
+  pub at : IsAt board w.seat
+  pub visits : w.visits ≤ 2 ^ 62
+  pub no_rings : OwesNoRing w.seat.shows
+  pub calm : IsAllCalm w.seat.shows
+  pub rest : MayRest w.seat.shows w.desks
+
+abbrev pub AreReady : Panel → List Crew → Type 0
+AreReady board ws = All (IsReady board) ws
+
+-- a worker that made a round
+pub record MadeRound (sweeps : ℕ) (old new : Crew) : Type 0 where
+  pub units : ℕ
+  pub same : IsSameCrew old new
+  pub visits : VisitsByBells sweeps old new
+  pub rounded : IsRounded units old new
+
+-- the table of no board
+abbrev pub no_place : Place
+no_place = record {
+  id = record {
+    words = 0;
+    slots = 0;
+    views_name = 0;
+    atom = 0;
+    block = 0;
+    offset = 0;
+    slot_names = [];
+  };
+  workers = 0;
+}
+
+-- the worker of no board
+abbrev pub no_crew : Crew
+no_crew = record {
+  seat = record {
+    table = no_place;
+    shows = opening (record { banks = []; debts = [] }) [];
+  };
+  desks = [];
+  worker = 0;
+  visits = 0;
+  journal = [];
+}
+
+abbrev pub crew_at : List Crew → ℕ → Crew
+crew_at ws i = slice_index_or ws i no_crew
+
+-- what the banks of a worker pay, in all
+abbrev pub paid_by_crew : Crew → ℕ
+paid_by_crew w = paid_by_all w.seat.shows w.desks
+
+-- each worker made a round, and together they raised n units
+pub record AreRounded (sweeps n : ℕ) (olds news : List Crew) : Type 0 where
+  pub as_many : length news ≡ length olds
+  pub each : (i : ℕ) → i < length olds → MadeRound sweeps (crew_at olds i) (crew_at news i)
+  pub rose : sum_by paid_by_crew news ≡ sum_by paid_by_crew olds + n
+  pub few : n ≤ length olds * (1000000 * MAX_OWED)

@@ -1,0 +1,78 @@
+ghost use Rattle.clear_core.specs.Clearing.{least};
+ghost use Rattle.clr_net.specs.Amounts.{IsAtMost};
+ghost use Rattle.pay_words.specs.Traces.{start_of};
+ghost use Rattle.pay_words.specs.Views.{opening};
+ghost use Rattle.settle.specs.Bells.{IsIdle};
+ghost use Rattle.settle.specs.Drives.{IsDriven, IsOf, IsPlan};
+ghost use Rattle.std.specs.Prelude.{◌≡◌, ◌*◌, ◌≤◌, IfOk, length};
+
+use crate::plan::{Driven, Plan};
+use crate::teams::{offices_of, round};
+use clear_core::{Journal, Raise};
+use clr_edge::Gate;
+use clr_net::{MAX_BANKS, Mem, Network};
+use pay_words::{Board, PaySeat};
+use raise_journal::gather;
+use std::alloc::Global;
+use std::thread::Threads;
+
+/// Makes rounds on a board that was just opened, until a round raises nothing. Each round hands a
+/// seat to each worker, lets all workers make their rounds side by side, and takes the seats back.
+///
+/// After Ok [`nobody_can_pay_more`](crate::nobody_can_pay_more) may be called. After `Mem` the
+/// master may hold fewer banks, and the caller drops the board.
+pub fn drive<R: Threads + Sync, G: Gate + Sync>(
+    rt: &R,
+    alloc: Global,
+    net: &Network,
+    plan: Plan,
+    past: &[Raise],
+    board: &Board,
+    master: &mut PaySeat,
+    gate: &G,
+) -> Result<Driven, Mem>
+    requires plan { IsPlan plan }
+    requires board { IsOf board.now net.now past.now plan }
+    requires table { master.old.table ≡ board.now.table }
+    requires opened { master.old.shows ≡ opening net.now (start_of net.now past.now) }
+    ensures table { master.new.table ≡ master.old.table }
+    ensures driven { IfOk result (λ d.
+        IsDriven net.now past.now plan master.old.shows master.new.shows d) }
+    ensures idle { IfOk result (λ _. IsIdle net.now master.new.shows) }
+    ensures few_visits { IfOk result (λ d.
+        d.visits ≤ d.rounds * (plan.sweeps * length net.now.banks)) }
+{
+    let mut journal = Journal::empty(alloc);
+    for raise in past {
+        journal.push(*raise)?;
+    }
+    let _clock = master.clock();
+    prove!(net.banks() <= MAX_BANKS);
+    let mut offices = offices_of(alloc, net, plan.workers)?;
+    let mut rounds = 0;
+    let mut visits = 0;
+    loop {
+        let (units, more) = round(
+            rt,
+            alloc,
+            net,
+            plan,
+            board,
+            master,
+            gate,
+            &mut journal,
+            &mut offices,
+        )?;
+        rounds += 1;
+        visits += more;
+        if units == 0 {
+            break;
+        }
+    }
+    let journal = gather(alloc, &[journal])?;
+    Ok(Driven {
+        journal,
+        rounds,
+        visits,
+    })
+}

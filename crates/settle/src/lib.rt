@@ -1,0 +1,17 @@
+//! The run: rounds of all workers of a board, side by side, until a round raises nothing.
+#![tactic(auto)]
+
+mod bells;
+mod drives;
+mod plan;
+mod runs;
+mod teams;
+mod work;
+
+pub use bells::nobody_can_pay_more;
+pub use drives::drive;
+pub use plan::{Driven, Plan};
+pub use runs::{Settled, settle};
+
+#[cfg(test)]
+mod tests;

@@ -1,0 +1,93 @@
+ghost use Rattle.clear_core.specs.Clearing.{least};
+ghost use Rattle.clear_core.specs.History.{IsTraced, Stands, ordered, replayed};
+ghost use Rattle.clr_net.specs.Net.{units_owed};
+ghost use Rattle.pay_words.specs.Ends.{values};
+ghost use Rattle.pay_words.specs.Words.{unpaid as unpaid_word};
+ghost use Rattle.settle.specs.Drives.{IsPlan};
+ghost use Rattle.settle.specs.Runs.{IsRecordOf, IsWithin};
+ghost use Rattle.std.specs.Prelude.{◌≡◌, ◌≤◌, All, IfOk, length, replicate, sum};
+
+use crate::drives::drive;
+use crate::plan::{Driven, Plan};
+use clr_edge::Gate;
+use clr_net::{Amounts, Mem, Network};
+use pay_words::{Board, Payment, Record};
+use std::alloc::Global;
+use std::thread::Threads;
+
+/// What a run came to: what is paid on each debt, in units and file order, the record of the board,
+/// how many rounds there were, and how many visits.
+#[derive(Drop)]
+pub struct Settled {
+    pub paid: Amounts,
+    pub sealed: Record,
+    pub rounds: u64,
+    pub visits: u64,
+}
+
+/// Clears a network by rounds of workers on one board, until a round raises nothing. `Mem` is want
+/// of memory.
+pub fn settle<R: Threads + Sync, G: Gate + Sync>(
+    rt: &R,
+    alloc: Global,
+    net: &Network,
+    plan: Plan,
+    gate: &G,
+) -> Result<Settled, Mem>
+    requires plan { IsPlan plan }
+    ensures paid { IfOk result (λ s. s.paid ≡ least net.now) }
+    ensures lawful { IfOk result (λ s. Stands net.now s.sealed.journal
+        × IsTraced net.now s.sealed.journal) }
+    ensures replays { IfOk result (λ s. replayed net.now s.sealed.journal ≡ s.paid) }
+    ensures in_order { IfOk result (λ s. ordered s.sealed.journal ≡ s.sealed.journal) }
+    ensures low_stamps { IfOk result (λ s. All (λ r. r.stamp ≤ sum s.paid) s.sealed.journal) }
+    ensures record_is { IfOk result (λ s. IsRecordOf net.now plan s.rounds s.sealed) }
+    ensures bounds { IfOk result (λ s.
+        IsWithin net.now plan s.rounds s.visits (length s.sealed.journal)) }
+{
+    let mut payments = unpaid(alloc, net.debts() as usize)?;
+    let copy = net.copy(alloc)?;
+    let (board, mut master) = Board::make(alloc, net, plan.workers, payments.as_slice(), &[])?;
+    let Driven {
+        journal,
+        rounds,
+        visits,
+    } = drive(rt, alloc, net, plan, &[], &board, &mut master, gate)?;
+    let sealed = board.seal(master, payments.as_mut_slice(), copy, journal);
+    let paid = values_of(alloc, payments.as_slice())?;
+    Ok(Settled {
+        paid,
+        sealed,
+        rounds,
+        visits,
+    })
+}
+
+// As many payments of nothing.
+pub(crate) fn unpaid(alloc: Global, debts: usize) -> Result<Vec<Payment>, Mem>
+    ensures { IfOk result (λ ps. ps.items ≡ replicate debts unpaid_word) }
+{
+    let nothing = Payment { value: 0, stamp: 0 };
+    let mut payments = Vec::new(alloc);
+    payments.resize(debts, nothing)?;
+    Ok(payments)
+}
+
+// The values of payments.
+fn values_of(alloc: Global, payments: &[Payment]) -> Result<Amounts, Mem>
+    ensures { IfOk result (λ paid. paid ≡ values payments.now) }
+{
+    let mut paid = Amounts::zeros(alloc, payments.len())?;
+    write_values(paid.as_mut_slice(), payments);
+    Ok(paid)
+}
+
+// Writes down the values of payments.
+fn write_values(into: &mut [u64], payments: &[Payment])
+    requires { length into.old ≡ length payments.now }
+    ensures { into.new ≡ values payments.now }
+{
+    for (place, payment) in payments.iter().enumerate() {
+        into[place] = payment.value;
+    }
+}

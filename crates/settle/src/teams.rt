@@ -1,0 +1,163 @@
+ghost use Rattle.bank_worker.specs.Visits.{WhenRaised};
+ghost use Rattle.clr_net.specs.Limits.{IsNetwork};
+ghost use Rattle.clr_net.specs.declared.TheConstants.{MAX_OWED};
+ghost use Rattle.pay_words.specs.Views.{IsAt};
+ghost use Rattle.settle.specs.Between.{AreOfBoard, HaveGrownAlike, IsBack, IsBetween, IsRoundOf, crews, without_first};
+ghost use Rattle.settle.specs.Drives.{IsPlan};
+ghost use Rattle.settle.specs.Offices.{AreOffices};
+ghost use Rattle.settle.specs.Rounds.{AreReady, AreRounded};
+ghost use Rattle.std.specs.Prelude.{◌≡◌, ◌+◌, ◌*◌, ◌++◌, ◌^◌, ◌<◌, ◌≤◌, ℕ, [], IfOk, OnOk, length, sum_by, true, vec_len};
+
+use crate::plan::Plan;
+use crate::work::work;
+use bank_worker::{Office, Visit, Worker};
+use clear_core::{Journal, Raise};
+use clr_edge::Gate;
+use clr_net::{Mem, Network};
+use pay_words::{Board, PaySeat};
+use std::alloc::Global;
+use std::thread::Threads;
+
+// The offices of all workers, the last worker's first.
+pub(crate) fn offices_of(alloc: Global, net: &Network, workers: u32) -> Result<Vec<Office>, Mem>
+    requires workers { 1 ≤ workers }
+    ensures { IfOk result (λ os. AreOffices net.now workers workers os.items) }
+{
+    let mut offices = Vec::with_capacity(alloc, workers as usize)?;
+    for made in 0..workers {
+        offices.push(Office::of(alloc, net, workers - 1 - made, workers)?)?;
+    }
+    Ok(offices)
+}
+
+// Hands a seat to each worker, from the first one on, which takes it to its office.
+fn open_workers(
+    alloc: Global,
+    net: &Network,
+    workers: u32,
+    board: &Board,
+    master: &mut PaySeat,
+    offices: &mut Vec<Office>,
+) -> Result<Vec<Worker>, Mem>
+    requires workers { (1 ≤ workers) × (workers ≤ 64) × (workers ≡ board.now.workers) }
+    requires net { net.now ≡ board.now.net }
+    requires offices { AreOffices net.now workers workers offices.old.items }
+    requires table { master.old.table ≡ board.now.table }
+    requires between { IsBetween net.now master.old.shows }
+    requires seats { master.old.shows.seats + workers < 4294967295 }
+    ensures table { master.new.table ≡ master.old.table }
+    ensures rest { OnOk result (master.new.shows ≡ without_first workers workers master.old.shows) }
+    ensures crews { IfOk result (λ ws.
+        ws.items ≡ crews workers board.now.table master.old.shows workers) }
+    ensures offices { OnOk result (offices.new.items ≡ []) }
+{
+    let mut crew = Vec::with_capacity(alloc, workers as usize)?;
+    for number in 0..workers {
+        let seat = board.hand(alloc, master, number)?;
+        let Some(office) = offices.pop() else {
+            unreachable!()
+        };
+        crew.push(Worker::with(alloc, office, seat))?;
+    }
+    Ok(crew)
+}
+
+// Takes the seats of the workers back, from the last one on, adds their journals, and keeps their
+// offices. Answers how many visits they made.
+fn close_workers(
+    board: &Board,
+    master: &mut PaySeat,
+    mut workers: Vec<Worker>,
+    journal: &mut Journal,
+    offices: &mut Vec<Office>,
+) -> Result<u64, Mem>
+    requires offices { offices.old.items ≡ [] }
+    requires workers { (1 ≤ board.now.workers) × (board.now.workers ≤ 64)
+        × (vec_len workers ≡ board.now.workers) }
+    requires network { IsNetwork board.now.net }
+    requires master { IsAt board.now master.old × (master.old.shows.master ≡ true) }
+    requires crew { AreOfBoard board.now workers.items }
+    ensures table { master.new.table ≡ master.old.table }
+    ensures back { OnOk result (IsBack board.now.workers board.now.net master.old.shows
+        workers.items master.new.shows 0) }
+    ensures noted { OnOk result (HaveGrownAlike journal.old.raises journal.new.raises
+        master.old.shows.raises master.new.shows.raises) }
+    ensures visits { IfOk result (λ n. master.new.shows.taken ≡ master.old.shows.taken + n) }
+    ensures few { IfOk result (λ n. n ≤ 64000000) }
+    ensures sum { IfOk result (λ n. n ≡ sum_by (λ w. w.visits) workers.items) }
+    ensures offices { OnOk result (AreOffices board.now.net board.now.workers board.now.workers
+        offices.new.items) }
+{
+    let mut visits = 0;
+    while let Some(worker) = workers.pop() {
+        visits += worker.visits();
+        let (seat, made, office) = worker.leave();
+        board.take_back(master, seat);
+        add_all(journal, made.as_slice())?;
+        offices.push(office)?;
+    }
+    Ok(visits)
+}
+
+// Adds these raises at the end of a journal.
+fn add_all(journal: &mut Journal, raises: &[Raise]) -> Result<(), Mem>
+    ensures { OnOk result (journal.new.raises ≡ journal.old.raises ++ raises.now) }
+{
+    for raise in raises {
+        journal.push(*raise)?;
+    }
+    Ok(())
+}
+
+// The rounds of these workers, side by side.
+fn work_all<R: Threads + Sync, G: Gate + Sync>(
+    rt: &R,
+    board: &Board,
+    sweeps: u32,
+    gate: &G,
+    workers: &mut Vec<Worker>,
+) -> Visit
+    requires sweeps { (1 ≤ sweeps) × (sweeps ≤ 1000) }
+    requires some { (1 ≤ length workers.old.items) × (length workers.old.items ≤ 64) }
+    requires ready { AreReady board.now workers.old.items }
+    ensures rounded { WhenRaised result (λ n.
+        AreRounded sweeps n workers.old.items workers.new.items) }
+{
+    work(rt, board, sweeps, gate, workers.as_mut_slice())
+}
+
+// A round of all workers. Answers by how many units payments rose, and how many visits there were.
+pub(crate) fn round<R: Threads + Sync, G: Gate + Sync>(
+    rt: &R,
+    alloc: Global,
+    net: &Network,
+    plan: Plan,
+    board: &Board,
+    master: &mut PaySeat,
+    gate: &G,
+    journal: &mut Journal,
+    offices: &mut Vec<Office>,
+) -> Result<(u64, u64), Mem>
+    requires offices { AreOffices net.now plan.workers plan.workers offices.old.items }
+    requires plan { IsPlan plan }
+    requires workers { plan.workers ≡ board.now.workers }
+    requires net { net.now ≡ board.now.net }
+    requires table { master.old.table ≡ board.now.table }
+    requires between { IsBetween net.now master.old.shows }
+    requires seats { master.old.shows.seats + plan.workers < 4294967295 }
+    ensures table { master.new.table ≡ master.old.table }
+    ensures between { OnOk result (IsBetween net.now master.new.shows) }
+    ensures offices { OnOk result (AreOffices net.now plan.workers plan.workers offices.new.items) }
+    ensures round { IfOk result (λ r.
+        IsRoundOf net.now plan r.0 r.1 master.old.shows master.new.shows) }
+    ensures noted { OnOk result (HaveGrownAlike journal.old.raises journal.new.raises
+        master.old.shows.raises master.new.shows.raises) }
+{
+    let mut workers = open_workers(alloc, net, plan.workers, board, master, offices)?;
+    let Visit::Raised(units) = work_all(rt, board, plan.sweeps, gate, &mut workers) else {
+        return Err(Mem);
+    };
+    let visits = close_workers(board, master, workers, journal, offices)?;
+    let _clock = master.clock();
+    Ok((units, visits))
+}
