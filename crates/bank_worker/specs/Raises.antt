@@ -18,7 +18,8 @@ abbrev pub IsNotBelow : Shown → List ℕ → List ℕ → Type 0
 IsNotBelow s xs ts = (k : ℕ) → k < length xs
     → slice_index s.paid (slice_index xs k) ≤ slice_index ts k
 
--- each target is within what the debtor's rule gives from its cash and from what the seat last saw
+-- each target is within what the debtor's rule gives from its cash and from what the seat last
+-- saw, less what it owes outside
 abbrev pub IsWithin : Shown → List ℕ → List ℕ → Type 0
 IsWithin s xs ts = (k : ℕ) → k < length xs
     → slice_index ts k ≤ part s.net (slice_index xs k)

@@ -47,7 +47,8 @@ paid_by s desk = sum_by (slice_index s.paid) desk.debts_out
 abbrev pub paid_by_all : Shown → List BankView → ℕ
 paid_by_all s desks = sum_by (paid_by s) desks
 
--- the bank pays what its rule gives from its cash and from what the seat last saw
+-- the bank pays what its rule gives from its cash and from what the seat last saw, less what it
+-- owes outside
 abbrev pub Divides : Shown → BankView → Type 0
 Divides s desk = map (slice_index s.paid) desk.debts_out
     ≡ target desk (sum_by (slice_index s.sights) desk.debts_in)

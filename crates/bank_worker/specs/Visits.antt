@@ -45,7 +45,7 @@ pub record LooksOnce (desk : BankView) (s t : Shown) : Type 0 where
       → HasSameSight s t x
 
 -- the bank's payments rose by n units in all to what its rule gives from its cash and these sights,
--- and no other changed
+-- less what it owes outside, and no other changed
 pub record PaysOut (desk : BankView) (n : ℕ) (s t : Shown) : Type 0 where
   pub divides : Divides t desk
   pub rose : paid_by t desk ≡ paid_by s desk + n

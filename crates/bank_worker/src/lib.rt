@@ -1,6 +1,6 @@
 //! A worker and its visits: it owns a seat of a board and a desk for each bank of that seat, and
 //! makes a bank pay what its rule gives from its cash and from what the worker has just seen paid
-//! to it.
+//! to it, less what it owes outside the network.
 //!
 //! A [`Worker`] takes the bell of each of its banks in turn, and visits those whose bell was up.
 //! Whatever the other workers do meanwhile, after a round each of its banks pays its rule's

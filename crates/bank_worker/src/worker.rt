@@ -162,8 +162,9 @@ impl Worker {
     }
 
     /// Visits the bank of one desk: passes the gate, looks at each debt that is owed to the bank,
-    /// makes it pay what its rule gives from its cash and these values, and rings each creditor
-    /// that is paid more. Answers by how many units it pays more.
+    /// makes it pay what its rule gives from its cash and these values, less what it owes outside
+    /// the network, and rings each creditor that is paid more. Answers by how many units it pays
+    /// more.
     ///
     /// `Mem` is want of memory, and comes before the first look.
     pub fn visit<G: Gate>(&mut self, board: &Board, place: usize, gate: &G) -> Visit

@@ -7,7 +7,7 @@ use Rattle.clear_core.specs.Clearing.{division, receipts}
 abbrev pub IsWithinClaims : Net → List ℕ → Type 0
 IsWithinClaims net P = (x : ℕ) → slice_index P x ≤ claim_of net x
 
--- the payments on the row of the bank i are its rule's division of its cash and receipts
+-- the payments on the row of the bank i are its rule's division of what it may spend
 abbrev pub IsQuietAt : Net → List ℕ → ℕ → Type 0
 IsQuietAt net P i = map (slice_index P) (row net i) ≡ division net i (receipts net P i)
 

@@ -1,5 +1,5 @@
 ghost use Rattle.clear_core.specs.Buffers.{HasRoom};
-ghost use Rattle.clear_core.specs.Clearing.{division};
+ghost use Rattle.clear_core.specs.Clearing.{division, division_of};
 ghost use Rattle.clr_net.specs.Limits.{IsNetwork};
 ghost use Rattle.clr_net.specs.Net.{claims_of, classes_of, row as row_of};
 ghost use Rattle.clr_net.specs.declared.TheConstants.{MAX_CLAIM, MAX_DEBTS};
@@ -61,6 +61,26 @@ impl Scratch {
             net,
             bank,
             receipts,
+            self.claims.as_slice(),
+            self.classes.as_slice(),
+            into,
+        );
+    }
+
+    /// Writes what a bank's rule gives each debt of its row, in file order, of so many units. Takes no memory.
+    pub fn divide_units(&mut self, net: &Network, bank: BankId, units: u64, into: &mut [u64])
+        requires bank { bank.0 < length net.now.banks }
+        requires room { HasRoom net.now self.old }
+        requires places { length into.old ≡ length (row_of net.now bank.0) }
+        ensures division { into.new ≡ division_of net.now bank.0 units }
+        ensures room { self.new ≡ self.old }
+    {
+        prove!(bank.0 < net.banks());
+        lay_out_row(net, bank, &mut self.claims, &mut self.classes);
+        divide_laid_out(
+            net,
+            bank,
+            units,
             self.claims.as_slice(),
             self.classes.as_slice(),
             into,
@@ -224,11 +244,25 @@ fn divide_row(
     requires places { length into.old ≡ length (row_of net.now bank.0) }
     ensures { into.new ≡ division net.now bank.0 receipts }
 {
-    share_by_level(
-        net.bank(bank).rule,
-        claims,
-        classes,
-        spend(net, bank, receipts),
-        into,
-    );
+    let units = spend(net, bank, receipts);
+    divide_laid_out(net, bank, units, claims, classes, into);
+}
+
+// Divides so many units among the debts of a bank that are laid out, by its rule.
+fn divide_laid_out(
+    net: &Network,
+    bank: BankId,
+    units: u64,
+    claims: &[u64],
+    classes: &[u8],
+    into: &mut [u64],
+)
+    requires network { IsNetwork net.now }
+    requires bank { bank.0 < length net.now.banks }
+    requires claims { claims.now ≡ claims_of net.now bank.0 }
+    requires classes { classes.now ≡ classes_of net.now bank.0 }
+    requires places { length into.old ≡ length (row_of net.now bank.0) }
+    ensures { into.new ≡ division_of net.now bank.0 units }
+{
+    share_by_level(net.bank(bank).rule, claims, classes, units, into);
 }

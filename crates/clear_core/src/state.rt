@@ -46,7 +46,8 @@ impl State {
     /// Makes one event happen, if it is legal, and else leaves the state as it was.
     ///
     /// A load is always legal, and shows a debt's creditor what is paid on it. A raise is legal if it pays more on a
-    /// debt, and no more than its debtor's rule gives it from cash and from what the debtor has seen paid to itself.
+    /// debt, and no more than its debtor's rule gives it from cash and from what the debtor has seen paid to itself,
+    /// less what it owes outside the network.
     /// Takes no memory.
     pub fn apply(
         &mut self,
@@ -90,7 +91,8 @@ impl State {
     }
 
     /// Writes what the rule of a bank gives each debt of its row, in file order, from cash and from what the bank has
-    /// seen paid to itself, in units: the most to which a raise may lift each of them. Takes no memory.
+    /// seen paid to itself, less what it owes outside, in units: the most to which a raise may lift each of them. Takes
+    /// no memory.
     pub fn targets(&self, net: &Network, bank: BankId, scratch: &mut Scratch, into: &mut [u64])
         requires over { IsOver net.now self.now }
         requires bank { bank.0 < length net.now.banks }

@@ -56,7 +56,7 @@ HoldsAllOf workers i s = (b : ℕ) → b < length s.net.banks → is_of_worker w
     → holds s b ≡ true
 
 -- what a bank pays on each of its debts is within what its rule gives from its cash and from what
--- the seat last saw
+-- the seat last saw, less what it owes outside
 abbrev pub PaysWithin : Shown → Type 0
 PaysWithin s = (x : ℕ) → x < length s.net.debts → holds s (debtor_of s.net x) ≡ true
     → slice_index s.paid x ≤ part s.net x (receipts s.net s.sights (debtor_of s.net x))

@@ -4,8 +4,8 @@ use Rattle.clr_net.specs.Net.{Net, units_owed}
 use Rattle.pay_words.specs.Sealed.{Sealed}
 use Rattle.settle.specs.declared.plan.Plan.{Plan}
 
--- the record is of this network and plan: each raise of its journal was made on the board, by seats
--- that were handed to each worker in each round
+-- the record is of this network and plan: as many raises were made on the board as its journal has,
+-- and as many seats were handed out as rounds times workers
 pub record IsRecordOf (net : Net) (plan : Plan) (rounds : ℕ) (r : Sealed) : Type 0 where
   pub net_is : r.net ≡ net
   pub made : r.made ≡ length r.journal
