@@ -11,10 +11,11 @@ use Rattle.pay_words.specs.Views.{HoldsAll, OwesNoRing, handed, holds, is_marked
 use Rattle.pay_words.proofs.Joins.{held_second}
 use Rattle.pay_words.proofs.Marks.{chosen_second}
 use Rattle.pay_words.proofs.Tables.{tabled_at, length-tabled}
-use Rattle.bank_worker.specs.Views.{Crew, Divides, desk_at, desks_held}
+use Rattle.bank_worker.specs.Offices.{IsOfficeFor, OfficeView, banks_of_worker}
+use Rattle.bank_worker.specs.Views.{Crew, Divides, banks_held, desk_at, desks_held}
 use Rattle.bank_worker.specs.Visits.{IsAllCalm, IsRounded, IsSameCrew, MayRest}
 use Rattle.bank_worker.proofs.Manned.{desk_is}
-use Rattle.bank_worker.proofs.Rooms.{filter_agree}
+use Rattle.bank_worker.proofs.Rooms.{banks_of_seat, filter_agree}
 use Rattle.bank_worker.proofs.Sweeping.{divides_kept, held_kept}
 
 -- what is marked has a place
@@ -121,3 +122,24 @@ idle_after s m r w u n em ew desks same round er =
     ∙ one_holds s b (omega (arith, lt, ap (λ (v : Shown). length v.net.banks) em)) in
     subst IsIdle (sym er) (idle_again m t net all round.no_rings round.calm (λ k lk.
     subst (λ (ds : List BankView). Divides t (desk_at ds k)) held (round.settled.divide k (omega (arith, lk, ap length held)))))
+
+-- the office of the only worker serves its seat, once it has been handed one
+pub office_alone : (net : Net) (s : Shown) (o : OfficeView) → net ≡ s.net → IsOfficeFor net (banks_of_worker net 1 0) o
+    → IsOfficeFor s.net (banks_held (handed 1 0 s)) o
+office_alone net s o e h =
+    let held = λ (b : ℕ) (lt : b < length net.banks).
+    tabled_at (length s.net.banks) (is_of_worker 1 0) b false (omega (arith, lt, ap (λ (m : Net). length m.banks) e)) in
+    subst (λ (m : Net). IsOfficeFor m (banks_held (handed 1 0 s)) o) e
+    (subst (λ banks. IsOfficeFor net banks o) (banks_of_seat net (handed 1 0 s) 1 0 e held) h)
+
+-- and when it leaves the seat after a round, the office is that of the only worker again
+pub office_of_one : (net : Net) (s : Shown) (w u : Crew) (o : OfficeView) → net ≡ s.net → w.seat.shows ≡ handed 1 0 s
+    → IsSameCrew w u → IsOfficeFor u.seat.shows.net (banks_held u.seat.shows) o → IsOfficeFor net (banks_of_worker net 1 0) o
+office_of_one net s w u o e ew same h =
+    let t = u.seat.shows in
+    let here : net ≡ t.net = e ∙ sym (same.seat.net ∙ ap (λ (v : Shown). v.net) ew) in
+    let held = λ (b : ℕ) (lt : b < length net.banks).
+    ap (λ (bs : List Bool). is_marked bs b) (same.seat.banks ∙ ap (λ (v : Shown). v.banks) ew)
+    ∙ tabled_at (length s.net.banks) (is_of_worker 1 0) b false (omega (arith, lt, ap (λ (m : Net). length m.banks) e)) in
+    subst (λ banks. IsOfficeFor net banks o) (sym (banks_of_seat net t 1 0 here held))
+    (subst (λ (m : Net). IsOfficeFor m (banks_held t) o) (sym here) h)

@@ -1,12 +1,13 @@
+ghost use Rattle.bank_worker.specs.Offices.{IsOfficeFor, banks_of_worker};
 ghost use Rattle.bank_worker.specs.Views.{desks_held};
 ghost use Rattle.bank_worker.specs.Visits.{IsAllCalm, MayRest};
 ghost use Rattle.pay_words.specs.Views.{HoldsAll, IsAt, OwesNoRing};
-ghost use Rattle.std.specs.Prelude.{◌≡◌, ◌+◌, ◌<◌, ◌≤◌, OnOk, true};
+ghost use Rattle.std.specs.Prelude.{◌≡◌, ◌+◌, ◌<◌, ◌≤◌, IfOk, OnOk, true};
 
-use crate::{SeatBack, Visit, Worker};
+use crate::{Office, SeatBack, Visit, Worker};
 use clear_core::Journal;
 use clr_edge::OpenGate;
-use clr_net::{Mem, Network};
+use clr_net::{DebtId, Mem, Network};
 use net_samples::{chain, ring};
 use pay_words::{Board, PaySeat, Payment};
 use std::alloc::Global;
@@ -89,5 +90,94 @@ fn sweeps_find_it_all_in_one_round(rt: HostRuntime) -> Result<(), Fail> {
     let (board, mut master) = Board::make(alloc, &net, 1, &[UNPAID, UNPAID], &[])?;
     let (units, visits, journal) = round_alone(alloc, &net, &board, &mut master, 7)?;
     assert_eq!(rt; (units, visits, journal.as_slice().len()), (10, 11, 10));
+    Ok(())
+}
+
+// A round of the only worker of a board, who takes a seat to this office and leaves it again: the
+// units by which payments rose, the visits and raises of this seat, and the office.
+fn round_at(
+    alloc: Global,
+    net: &Network,
+    board: &Board,
+    master: &mut PaySeat,
+    office: Office,
+) -> Result<(u64, u64, usize, Office), Mem>
+    requires board { (net.now ≡ board.now.net) × (board.now.workers ≡ 1) }
+    requires office { IsOfficeFor net.now (banks_of_worker net.now 1 0) office }
+    requires master { IsAt board.now master.old × (master.old.shows.master ≡ true) }
+    requires seats { master.old.shows.seats < 4294967295 }
+    requires all { HoldsAll master.old.shows }
+    requires idle { OwesNoRing master.old.shows × IsAllCalm master.old.shows
+        × MayRest master.old.shows (desks_held master.old.shows) }
+    ensures office { IfOk result (λ r. IsOfficeFor net.now (banks_of_worker net.now 1 0) r.3) }
+    ensures master { IsAt board.now master.new }
+    ensures is_the_master { OnOk result (master.new.shows.master ≡ true) }
+    ensures seats { OnOk result (master.new.shows.seats ≡ master.old.shows.seats + 1) }
+    ensures all { OnOk result (HoldsAll master.new.shows) }
+    ensures idle { OnOk result (OwesNoRing master.new.shows × IsAllCalm master.new.shows
+        × MayRest master.new.shows (desks_held master.new.shows)) }
+{
+    let seat = board.hand(alloc, master, 0)?;
+    let mut worker = Worker::with(alloc, office, seat);
+    let Visit::Raised(units) = worker.round(board, 1, &OpenGate) else {
+        return Err(Mem);
+    };
+    let visits = worker.visits();
+    let (seat, journal, office) = worker.leave();
+    board.take_back(master, seat);
+    Ok((units, visits, journal.as_slice().len(), office))
+}
+
+#[test]
+fn a_worker_takes_another_seat(rt: HostRuntime) -> Result<(), Fail> {
+    let alloc = rt.alloc();
+    let net = ring(alloc)?;
+    let (board, mut master) = Board::make(alloc, &net, 1, &[UNPAID, UNPAID], &[])?;
+    let office = Office::of(alloc, &net, 0, 1)?;
+    let (units, visits, raises, office) = round_at(alloc, &net, &board, &mut master, office)?;
+    assert_eq!(rt; (units, visits, raises), (2, 2, 2));
+    // Visits and raises begin anew with the seat.
+    let (units, visits, raises, _) = round_at(alloc, &net, &board, &mut master, office)?;
+    assert_eq!(rt; (units, visits, raises), (2, 2, 2));
+    Ok(())
+}
+
+#[test]
+fn a_worker_without_banks_makes_no_visit(rt: HostRuntime) -> Result<(), Fail> {
+    let alloc = rt.alloc();
+    let net = ring(alloc)?;
+    let (board, mut master) = Board::make(alloc, &net, 3, &[UNPAID, UNPAID], &[])?;
+    let seat = board.hand(alloc, &mut master, 2)?;
+    let mut worker = match Worker::make(alloc, &net, seat, 2, 3) {
+        Ok(worker) => worker,
+        Err(SeatBack { seat: _ }) => return Err(Mem.into()),
+    };
+    let Visit::Raised(units) = worker.round(&board, 7, &OpenGate) else {
+        return Err(Mem.into());
+    };
+    assert_eq!(rt; (worker.desks(), units, worker.visits()), (0, 0, 0));
+    Ok(())
+}
+
+#[test]
+fn a_visit_without_memory_pays_nothing(rt: HostRuntime) -> Result<(), Fail> {
+    let alloc = rt.alloc();
+    let net = chain(alloc)?;
+    let (board, mut master) = Board::make(alloc, &net, 2, &[UNPAID, UNPAID], &[])?;
+    let seat = board.hand(alloc, &mut master, 0)?;
+    let mut other = board.hand(alloc, &mut master, 1)?;
+    let mut worker = match Worker::make(alloc, &net, seat, 0, 2) {
+        Ok(worker) => worker,
+        Err(SeatBack { seat: _ }) => return Err(Mem.into()),
+    };
+    assert_eq!(rt; worker.desks(), 2);
+    let answer = worker.visit(&board, 0, &OpenGate);
+    let (_, journal) = worker.finish();
+    let seen = board.look(&mut other, DebtId(0));
+    let told = (seen.value, seen.stamp, journal.as_slice().len());
+    match answer {
+        Visit::Raised(units) => assert_eq!(rt; (units, told), (7, (7, 1, 1))),
+        Visit::Mem => assert_eq!(rt; told, (0, 0, 0)),
+    }
     Ok(())
 }

@@ -7,8 +7,12 @@ ghost use Rattle.std.specs.Prelude.{◌≡◌, ◌≢◌, ◌<◌, ℕ, length, 
 use clear_core::{Scratch, receipts_of};
 use clr_net::{BankId, Network};
 
-// All banks pay at once what they have received by `paid`; what each pays is written into `next`. Takes no memory.
-pub(crate) fn pay_round(
+/// All banks pay at once from what they have received by `paid`, and what each pays is written into
+/// `next`.
+///
+/// Both have a place for each debt, in file order, in units. `awards` has a place at least for each
+/// debt of the longest row. Takes no memory.
+pub fn pay_round(
     net: &Network,
     paid: &[u64],
     next: &mut [u64],
@@ -46,7 +50,8 @@ fn pay_bank(
     requires room { HasRoom net.now scratch.old }
     ensures in_row { (x : ℕ) → x < length net.now.debts → debtor_of net.now x ≡ bank.0
         → slice_index next.new x ≡ slice_index (pay net.now paid.now) x }
-    ensures others { (x : ℕ) → debtor_of net.now x ≢ bank.0 → slice_index next.new x ≡ slice_index next.old x }
+    ensures others { (x : ℕ) → debtor_of net.now x ≢ bank.0
+        → slice_index next.new x ≡ slice_index next.old x }
     ensures room { scratch.new ≡ scratch.old }
 {
     let receipts = receipts_of(net, bank, paid);

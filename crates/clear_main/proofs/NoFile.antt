@@ -11,7 +11,8 @@ pub message_of_mem : (ending : Status) → ending ≡ status.Mem → (job : Opti
 message_of_mem ending is_mem job = rw is_mem refl
 
 -- want of memory may end any run in which nothing is written
-pub ends_in_mem : (shelf : ShelfCall) (sink : SinkCall) (job : Option Job) (ending : Status) → ending ≡ status.Mem
-    → sink.new ≡ sink.old → RunEnds shelf sink job ending
-ends_in_mem shelf sink None ending is_mem same = (inr is_mem, same)
-ends_in_mem shelf sink (Some job) ending is_mem same = rw is_mem same
+pub ends_in_mem : (shelf : ShelfCall) (sink : SinkCall) (job : Option Job) (ending : Status)
+    → ending ≡ status.Mem → sink.new ≡ sink.old
+    → RunEnds shelf sink job (record { status = ending; sealed = None })
+ends_in_mem shelf sink None ending is_mem same = (inr is_mem, same, refl)
+ends_in_mem shelf sink (Some job) ending is_mem same = rw is_mem (same, refl)

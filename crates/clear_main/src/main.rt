@@ -23,7 +23,7 @@ fn main(rt: HostRuntime) -> ExitCode {
     let mut out = StdSink::new(rt.stdout());
     let mut err = StdSink::new(rt.stderr());
     let status = match arguments(&rt) {
-        Ok(args) => start(&rt, &args, &mut files, &mut out, &mut err),
+        Ok(args) => start(&rt, &args, &mut files, &mut out, &mut err).status,
         Err(fault) => refuse(&mut err, fault.kind()),
     };
     ExitCode::from(status.code())

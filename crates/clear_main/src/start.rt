@@ -5,7 +5,7 @@ ghost use Rattle.clear_top.specs.declared.status.Status.{Status};
 ghost use Rattle.clear_words.specs.Job.{job_of};
 ghost use Rattle.std.specs.Prelude.{◌≡◌, ◌⊎◌, ◌↔◌, IfOk, None, map};
 
-use clear_top::{Status, put_text, run};
+use clear_top::{Ended, Status, put_text, run};
 use clr_edge::{OpenGate, Shelf, Sink};
 use std::alloc::{AllocError, Global};
 use std::env::Env;
@@ -27,20 +27,23 @@ pub fn start<R: Threads + Sync + AllocGlobal, F: Shelf, O: Sink, E: Sink>(
     files: &mut F,
     out: &mut O,
     err: &mut E,
-) -> Status
+) -> Ended
     ensures ends { RunEnds
         (shelf_call (F.files files.old) (F.faults files.old) (F.faults files.new))
         (sink_call (O.written out.old) (O.written out.new) (O.faults out.old) (O.faults out.new))
         (job_of (words_of args.now)) result }
     ensures told { TakesText
         (sink_call (E.written err.old) (E.written err.new) (E.faults err.old) (E.faults err.new))
-        (message result (job_of (words_of args.now))) }
-    ensures quiet { result ≡ Status.Done → E.written err.new ≡ E.written err.old }
+        (message result.status (job_of (words_of args.now))) }
+    ensures quiet { result.status ≡ Status.Done → E.written err.new ≡ E.written err.old }
 {
     let alloc = rt.alloc();
     match words(alloc, args) {
         Ok(words) => run(rt, alloc, words.as_slice(), files, out, err, &OpenGate),
-        Err(_) => refuse(err, ErrorKind::OutOfMemory),
+        Err(_) => Ended {
+            status: refuse(err, ErrorKind::OutOfMemory),
+            sealed: None,
+        },
     }
 }
 

@@ -1,5 +1,5 @@
 use super::*;
-use clear_top::Status;
+use clear_top::{Ended, Status};
 use clr_edge::{FetchFault, MemShelf, MemSink, Shelf, Sink, SinkFault};
 use std::fs;
 use std::io::ErrorKind;
@@ -64,7 +64,7 @@ fn the_name_of_the_program_is_no_word(rt: HostRuntime) -> Result<(), Fail> {
     let mut files = MemShelf::make(alloc);
     let mut out = MemSink::with_room(alloc, 100, 100, 0)?;
     let mut err = MemSink::with_room(alloc, 100, 100, 0)?;
-    let status = start(&rt, args.as_slice(), &mut files, &mut out, &mut err);
+    let Ended { status, .. } = start(&rt, args.as_slice(), &mut files, &mut out, &mut err);
     assert_eq!(rt; status.code(), 3);
     assert_eq!(rt; err.written(), b"clearing: cannot read b.csv\n".as_slice());
     Ok(())

@@ -1,1 +1,4 @@
 pub mod Lines
+pub mod Adding
+pub mod Standings
+pub mod Verdicts

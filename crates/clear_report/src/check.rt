@@ -1,6 +1,7 @@
 ghost use Rattle.clear_report.specs.Text.{checked_text, totals_text};
-ghost use Rattle.std.specs.Prelude.{◌≡◌, IfOk, string_bytes};
+ghost use Rattle.std.specs.Prelude.{◌≡◌, ◌++◌, IfOk, OnOk};
 
+use crate::line::{push_below, push_number_line};
 use clr_net::{Mem, Network};
 use std::alloc::Global;
 
@@ -10,24 +11,19 @@ use std::alloc::Global;
 pub fn check_text(alloc: Global, net: &Network, banks: &[u8], debts: &[u8]) -> Result<Vec<u8>, Mem>
     ensures { IfOk result (λ text. text.items ≡ checked_text net.now banks.now debts.now) }
 {
-    let mut text = totals(alloc, net)?.into_bytes();
-    text.push(b'\n')?;
-    text.extend_from_slice(banks)?;
-    text.push(b'\n')?;
-    text.extend_from_slice(debts)?;
+    let mut text = Vec::new(alloc);
+    push_totals(&mut text, net)?;
+    push_below(&mut text, banks)?;
+    push_below(&mut text, debts)?;
     Ok(text)
 }
 
-// The lines of the totals.
-fn totals(alloc: Global, net: &Network) -> Result<String, Mem>
-    ensures { IfOk result (λ text. string_bytes text ≡ totals_text net.now) }
+// Appends the lines of the totals.
+pub fn push_totals(text: &mut Vec<u8>, net: &Network) -> Result<(), Mem>
+    ensures { OnOk result (text.new.items ≡ text.old.items ++ totals_text net.now) }
 {
-    let text = format!(in alloc;
-        "banks,{}\ndebts,{}\nowed,{}\ncash,{}\n",
-        net.banks(),
-        net.debts(),
-        net.owed(),
-        net.cash_total()
-    )?;
-    Ok(text)
+    push_number_line(text, "banks", net.banks())?;
+    push_number_line(text, "debts", net.debts())?;
+    push_number_line(text, "owed", net.owed())?;
+    push_number_line(text, "cash", net.cash_total())
 }

@@ -1,8 +1,33 @@
 //! The texts that the program writes, as bytes.
+//!
+//! Each call gives the text of values that are there already, exactly as a definition says it, or
+//! answers want of memory. Sums over all banks are taken in 128 bits, so no call has a condition on
+//! how great the numbers are.
 #![tactic(auto)]
 
+mod bounds;
 mod check;
+mod compression;
+mod defaults;
+mod journals;
+pub mod laws;
+mod line;
 mod payments;
+mod rescues;
+mod scenarios;
+mod summary;
+mod sums;
+#[cfg(test)]
+mod tests;
+mod with_costs;
 
+pub use bounds::bounds_text;
 pub use check::check_text;
+pub use compression::compress_text;
+pub use defaults::default_text;
+pub use journals::{journal_text, lawful_text, pay_and_journal_text, verdict_text};
 pub use payments::pay_text;
+pub use rescues::rescue_text;
+pub use scenarios::{add_block, scenario_text};
+pub use summary::summary_text;
+pub use with_costs::cost_text;

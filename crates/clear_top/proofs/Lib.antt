@@ -1,5 +1,8 @@
 pub mod Endings
 pub mod Pieces
 pub mod Loading
-pub mod Looks
-pub mod Raises
+pub mod Runs
+pub mod Answering
+pub mod Stacking
+pub mod Rescuing
+pub mod Writing

@@ -2,10 +2,11 @@
 use Rattle.std.proofs.Common.{◌≡◌, ℕ, zero, suc, ◌+◌, ◌<◌, ◌≤◌, List, [], ◌∷◌, ◌++◌, length, take}
 use Rattle.std.proofs.Common.{drop, get_or, map, Option, None, Some, refl, sym, ap, ◌∙◌, inl, inr}
 use Rattle.std.proofs.Common.{⊎_elim, append_assoc, length-append, arith, true, false, true≢false}
-use Rattle.std.proofs.Common.{Result, Ok, Err, Bor}
+use Rattle.std.proofs.Common.{Result, Ok, Err}
 use Rattle.std.specs.List.{concat}
 use Rattle.std.specs.Result.{is_err, OnOk, OnErr}
-use Rattle.std.proofs.lemmas.List.{append-nil, get_or-map, length-map}
+use Rattle.std.proofs.lemmas.List.{append-nil, get_or-map, length-map, map-append}
+use Rattle.std.proofs.lemmas.List.Folds.{concat-append}
 use Rattle.clr_edge.specs.Faults.{HasRisen}
 use Rattle.clr_edge.specs.Sink.{with_bytes, WritesPart}
 use Rattle.clear_top.specs.Ending.{sink_call}
@@ -60,37 +61,43 @@ concat_more (p ∷ ps) zero l = let e : zero + 1 ≡ suc zero = omega arith in a
 concat_more (p ∷ ps) (suc i) l = let e : suc i + 1 ≡ suc (i + 1) = omega arith in
     ap (λ n. concat (take n (p ∷ ps))) e ∙ ap (λ xs. p ++ xs) (concat_more ps i (omega arith)) ∙ sym (append_assoc p (concat (take i ps)) (get_or ps i []))
 
-module _ (ps : List (Bor (List ℕ))) (i : ℕ) (d : Bor (List ℕ)) (l : i < length ps) where
+-- pieces, each of which has a text: the piece i of them
+module _ {A : Type 0} (text : A → List ℕ) (ps : List A) (i : ℕ) (d : A) (l : i < length ps) where
   texts : List (List ℕ)
-  texts = map (λ p. p.now) ps
+  texts = map text ps
 
   in_texts : i < length texts
   unfolding texts
-  in_texts = omega (arith, length-map ps (λ p. p.now))
+  in_texts = omega (arith, length-map ps text)
 
-  at_texts : (get_or ps i d).now ≡ get_or texts i []
+  at_texts : text (get_or ps i d) ≡ get_or texts i []
   unfolding texts
-  at_texts = sym (get_or-map (λ p. p.now) ps i d [] l)
+  at_texts = sym (get_or-map text ps i d [] l)
 
   -- one piece more, taken whole
-  pub piece_taken : (old mid new : Option (List ℕ)) → mid ≡ with_bytes old (concat (take i (map (λ p. p.now) ps)))
-      → new ≡ with_bytes mid (get_or ps i d).now → new ≡ with_bytes old (concat (take (i + 1) (map (λ p. p.now) ps)))
+  pub piece_taken : (old mid new : Option (List ℕ)) → mid ≡ with_bytes old (concat (take i (map text ps)))
+      → new ≡ with_bytes mid (text (get_or ps i d)) → new ≡ with_bytes old (concat (take (i + 1) (map text ps)))
   unfolding texts
   piece_taken old mid new at then =
-      then ∙ ap (λ w. with_bytes w (get_or ps i d).now) at ∙ with_bytes-twice old (concat (take i texts)) (get_or ps i d).now
+      then ∙ ap (λ w. with_bytes w (text (get_or ps i d))) at
+      ∙ with_bytes-twice old (concat (take i texts)) (text (get_or ps i d))
       ∙ ap (λ p. with_bytes old (concat (take i texts) ++ p)) at_texts
       ∙ ap (with_bytes old) (sym (concat_more texts i in_texts))
 
   -- a piece taken in part: a part of all
-  pub piece_broken : (old mid new : Option (List ℕ)) (a b c : ℕ) → mid ≡ with_bytes old (concat (take i (map (λ p. p.now) ps)))
-      → a ≤ b → WritesPart mid new (get_or ps i d).now → HasRisen b c
-      → TakesText (sink_call old new a c) (concat (map (λ p. p.now) ps))
+  pub piece_part : (old mid new : Option (List ℕ)) → mid ≡ with_bytes old (concat (take i (map text ps)))
+      → WritesPart mid new (text (get_or ps i d)) → WritesPart old new (concat (map text ps))
   unfolding texts
-  piece_broken old mid new a b c at no_fall part risen = inr (
-    part_of_whole old mid new (concat (take i texts)) (get_or ps i d).now (concat (drop (i + 1) texts)) (concat texts) at
-        (pieces_split texts i in_texts ∙ ap (λ p. concat (take i texts) ++ (p ++ concat (drop (i + 1) texts))) (sym at_texts)) part,
-    risen_since a b c no_fall risen,
-  )
+  piece_part old mid new at part =
+      part_of_whole old mid new (concat (take i texts)) (text (get_or ps i d)) (concat (drop (i + 1) texts)) (concat texts) at
+      (pieces_split texts i in_texts ∙ ap (λ p. concat (take i texts) ++ (p ++ concat (drop (i + 1) texts))) (sym at_texts)) part
+
+  -- and so, where the sink failed, all that is seen of them
+  pub piece_broken : (old mid new : Option (List ℕ)) (a b c : ℕ) → mid ≡ with_bytes old (concat (take i (map text ps)))
+      → a ≤ b → WritesPart mid new (text (get_or ps i d)) → HasRisen b c
+      → TakesText (sink_call old new a c) (concat (map text ps))
+  piece_broken old mid new a b c at no_fall part risen =
+      inr (piece_part old mid new at part, risen_since a b c no_fall risen)
 
 pub on_ok_of : {T E P : Type 0} (r : Result T E) → is_err r ≡ false → OnOk r P → P
 on_ok_of (Ok x) e p = p
@@ -99,3 +106,10 @@ on_ok_of (Err y) e p = absurd (true≢false e)
 pub on_err_of : {T E P : Type 0} (r : Result T E) → is_err r ≡ true → OnErr r P → P
 on_err_of (Ok x) e p = absurd (true≢false (sym e))
 on_err_of (Err y) e p = p
+
+-- one piece more at the end
+pub one_more : {A : Type 0} (text : A → List ℕ) (ps : List A) (p : A)
+    → concat (map text (ps ++ p ∷ [])) ≡ concat (map text ps) ++ text p
+one_more text ps p =
+    ap concat (map-append text ps (p ∷ [])) ∙ concat-append (map text ps) (text p ∷ [])
+    ∙ ap (λ t. concat (map text ps) ++ t) (append-nil (text p))

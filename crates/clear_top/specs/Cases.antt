@@ -12,7 +12,7 @@ use Rattle.net_check.specs.declared.fault.FileKind.TheVariants as file
 use Rattle.net_check.specs.declared.fault.FaultKind.TheVariants as fault
 use Rattle.net_csv.specs.Reading.{is_within_limit}
 use Rattle.net_csv.specs.Cases.{chain_banks, chain_debts, reading_on_literals}
-use Rattle.clear_top.specs.Meaning.{Files, reading}
+use Rattle.clear_top.specs.Reading.{Files, alone, reading}
 use Rattle.clear_top.specs.Message.{message}
 use Rattle.clear_top.specs.declared.status.Status.TheVariants as status
 
@@ -29,7 +29,7 @@ two_files banks debts name =
 
 pub chain_is_read :
     reading (two_files (Some chain_banks) (Some chain_debts)) on_files
-    ≡ Some (Ok (record { net = chain }))
+    ≡ Some (Ok (alone chain))
 unfolding reading_on_literals
 chain_is_read = refl
 

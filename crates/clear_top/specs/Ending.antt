@@ -1,5 +1,6 @@
 -- How a run ends, status by status, and what is seen of the outside in it.
-use Rattle.std.specs.Prelude.{◌≡◌, ◌⊎◌, ℕ, List, Option, None, Some, Result, Ok, Err}
+use Rattle.std.specs.Prelude.{◌≡◌, ◌⊎◌, ◌<◌, ℕ, List, length, All, Option, None, Some}
+use Rattle.std.specs.Prelude.{Result, Ok, Err}
 use Rattle.std.specs.Borrow.{Bor}
 use Rattle.clr_edge.specs.Faults.{HasRisen}
 use Rattle.clr_edge.specs.Sink.{with_bytes, WritesPart}
@@ -8,11 +9,17 @@ use Rattle.clear_words.specs.declared.job.Job.{Job}
 use Rattle.net_check.specs.declared.fault.Fault.{Fault}
 use Rattle.net_check.specs.declared.fault.FileKind.{FileKind}
 use Rattle.net_check.specs.declared.fault.FileKind.TheVariants as file
+use Rattle.stress.specs.Shocks.{IsScenarioOf}
 use Rattle.clear_top.specs.Sources.{name_in}
-use Rattle.clear_top.specs.Meaning.{ComesTo, Files, Means, reading, whole}
-use Rattle.clear_top.specs.declared.load.Input.{Input}
+use Rattle.pay_words.specs.Sealed.{Sealed}
+use Rattle.clear_top.specs.Meaning.{ComesTo, Means}
+use Rattle.clear_top.specs.Reading.{Files, Given, reading, whole}
 use Rattle.clear_top.specs.declared.load.Stop.{Stop}
 use Rattle.clear_top.specs.declared.load.Stop.TheVariants as stop
+use Rattle.clear_top.specs.declared.outcome.Outcome.{Outcome}
+use Rattle.clear_top.specs.declared.source.Source.{Source}
+use Rattle.clear_top.specs.declared.source.Source.TheVariants as source
+use Rattle.clear_top.specs.declared.status.Ended.{Ended}
 use Rattle.clear_top.specs.declared.status.Status.{Status}
 use Rattle.clear_top.specs.declared.status.Status.TheVariants as status
 
@@ -74,8 +81,22 @@ abbrev pub GivesWhole : Option Files → FileKind → List ℕ → Result (List 
 GivesWhole files k name read = IfTold files (λ told. whole told k name ≡ Some read)
 
 -- where the shelf tells its files, this is what those of the job give
-abbrev pub Gives : Option Files → Job → Result Input Fault → Type 0
+abbrev pub Gives : Option Files → Job → Result Given Fault → Type 0
 Gives files job read = IfTold files (λ told. reading told job ≡ Some read)
+
+-- where the shelf tells its files, the banks file and the debts file of the job are these
+abbrev pub GivesBoth : Option Files → Job → List ℕ → List ℕ → Type 0
+GivesBoth files job banks debts =
+    GivesWhole files file.Banks job.banks (Ok banks)
+    × GivesWhole files file.Debts job.debts (Ok debts)
+
+-- what a job works on can be worked on: its scenarios, its journal or its bank are of its network
+abbrev pub IsUsable : Source → Given → Type 0
+IsUsable source.Files on = Unit {0}
+IsUsable source.FilesAndScenarios on = All (IsScenarioOf on.net) on.scenarios
+IsUsable source.FilesAndJournal on = All (λ r. r.debt.0 < length on.net.debts) on.journal
+IsUsable source.FilesAndBank on = on.bank < length on.net.banks
+IsUsable source.Generated on = Unit {0}
 
 -- the file of a kind cannot be read: a fault of its name is counted, and the files before it are
 -- there
@@ -95,31 +116,48 @@ Stops shelf job (stop.ReadFault k) = IsUnread shelf job k
 Stops shelf job (stop.Refused f) = Gives shelf.files job (Err f)
 Stops shelf job stop.Mem = Unit {0}
 
--- the job was done on what its files give, and comes to this status and this text
-abbrev pub Works : Option Files → Job → Status → List ℕ → Type 0
-Works files job ending text =
-    (on : Input) × Gives files job (Ok on) × ComesTo job.task job on ending text
+-- the work on what the job's files give came to this
+abbrev pub Works : Option Files → Job → Outcome → Type 0
+Works files job o = (on : Given) × Gives files job (Ok on) × ComesTo job.task job on o
 
--- how the work on a job ends
-abbrev pub JobEnds : ShelfCall → SinkCall → Job → Status → Type 0
-JobEnds shelf sink job status.Done =
-    (text : List ℕ) × Works shelf.files job status.Done text × (sink.new ≡ with_bytes sink.old text)
-JobEnds shelf sink job status.Usage = ⊥
-JobEnds shelf sink job (status.ReadFault k) = IsUnread shelf job k × (sink.new ≡ sink.old)
-JobEnds shelf sink job (status.Refused f) = Gives shelf.files job (Err f) × (sink.new ≡ sink.old)
-JobEnds shelf sink job status.WriteFault =
-    (text : List ℕ) × Works shelf.files job status.Done text
+-- nothing was written, and there is no record
+abbrev pub IsUntouched : SinkCall → Option Sealed → Type 0
+IsUntouched sink sealed = (sink.new ≡ sink.old) × (sealed ≡ None)
+
+-- an outcome of the work, with this status and record, whose text was written whole
+abbrev pub IsWritten : Option Files → SinkCall → Job → Status → Option Sealed → Type 0
+IsWritten files sink job ending sealed =
+    (text : List ℕ) × Works files job (record { status = ending; sealed = sealed; text = text })
+    × (sink.new ≡ with_bytes sink.old text)
+
+-- an outcome of the work, with this record, of whose text a part was written before the sink failed
+abbrev pub IsPartWritten : Option Files → SinkCall → Job → Option Sealed → Type 0
+IsPartWritten files sink job sealed =
+    (ending : Status) × (text : List ℕ)
+    × Works files job (record { status = ending; sealed = sealed; text = text })
     × WritesPart sink.old sink.new text × SinkRose sink
-JobEnds shelf sink job status.Mem = sink.new ≡ sink.old
+
+-- how the work on a job ends: a row for each status
+abbrev pub JobEnds : ShelfCall → SinkCall → Job → Status → Option Sealed → Type 0
+JobEnds shelf sink job status.Done sealed = IsWritten shelf.files sink job status.Done sealed
+JobEnds shelf sink job (status.Unlawful v) sealed =
+    IsWritten shelf.files sink job (status.Unlawful v) sealed
+JobEnds shelf sink job status.WriteFault sealed = IsPartWritten shelf.files sink job sealed
+JobEnds shelf sink job status.Usage sealed = ⊥
+JobEnds shelf sink job (status.ReadFault k) sealed =
+    IsUnread shelf job k × IsUntouched sink sealed
+JobEnds shelf sink job (status.Refused f) sealed =
+    Gives shelf.files job (Err f) × IsUntouched sink sealed
+JobEnds shelf sink job status.Mem sealed = IsUntouched sink sealed
 
 -- a usage fault, or want of memory
 abbrev pub IsUsageOrMem : Status → Type 0
 IsUsageOrMem ending = (ending ≡ status.Usage) ⊎ (ending ≡ status.Mem)
 
 -- how a run ends, by the job that its words ask for
-abbrev pub RunEnds : ShelfCall → SinkCall → Option Job → Status → Type 0
-RunEnds shelf sink None ending = IsUsageOrMem ending × (sink.new ≡ sink.old)
-RunEnds shelf sink (Some job) ending = JobEnds shelf sink job ending
+abbrev pub RunEnds : ShelfCall → SinkCall → Option Job → Ended → Type 0
+RunEnds shelf sink None e = IsUsageOrMem e.status × IsUntouched sink e.sealed
+RunEnds shelf sink (Some job) e = JobEnds shelf sink job e.status e.sealed
 
 -- the job that the words of a call ask for
 abbrev pub asked : List (Bor (List ℕ)) → Option Job
@@ -129,7 +167,26 @@ asked words = job_of (the_words words)
 abbrev pub IsRefusedOrMem : Fault → Status → Type 0
 IsRefusedOrMem f ending = (ending ≡ status.Refused f) ⊎ (ending ≡ status.Mem)
 
--- a text that the job comes to, with this status, was written whole
-abbrev pub WasDone : Files → SinkCall → Job → Status → Type 0
-WasDone told sink job ending =
-    (text : List ℕ) × Means told job ending text × (sink.new ≡ with_bytes sink.old text)
+-- the statuses of a text that was written whole
+abbrev pub WritesText : Status → Type 0
+WritesText status.Done = Unit {0}
+WritesText (status.Unlawful v) = Unit {0}
+WritesText status.Usage = ⊥
+WritesText (status.ReadFault k) = ⊥
+WritesText (status.Refused f) = ⊥
+WritesText status.WriteFault = ⊥
+WritesText status.Mem = ⊥
+
+-- what the job comes to, with this status and record, was written whole
+abbrev pub WasWritten : Files → SinkCall → Job → Ended → Type 0
+WasWritten told sink job e =
+    (text : List ℕ)
+    × Means told job (record { status = e.status; sealed = e.sealed; text = text })
+    × (sink.new ≡ with_bytes sink.old text)
+
+-- of what the job comes to, with this record, a part from its front was written
+abbrev pub WasPartWritten : Files → SinkCall → Job → Ended → Type 0
+WasPartWritten told sink job e =
+    (ending : Status) × (text : List ℕ)
+    × Means told job (record { status = ending; sealed = e.sealed; text = text })
+    × WritesPart sink.old sink.new text

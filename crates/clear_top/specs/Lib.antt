@@ -1,5 +1,6 @@
 pub mod Status
 pub mod Sources
+pub mod Reading
 pub mod Meaning
 pub mod Ending
 pub mod Message

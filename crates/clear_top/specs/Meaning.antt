@@ -1,83 +1,177 @@
--- What a job comes to: from the files, the status and the text that is written.
-use Rattle.std.specs.Prelude.{◌≡◌, ℕ, List, Option, None, Some, Result, Ok, Err}
-use Rattle.std.specs.Option.{option_map}
+-- What a job comes to: from what it works on, how the run ends and the text that is written.
+use Rattle.std.specs.Prelude.{◌≡◌, ℕ, ◌+◌, ◌*◌, ◌≤◌, ◌++◌, List, length, map, Option, None, Some, Ok}
+use Rattle.clr_net.specs.Net.{Net, units_owed}
+use Rattle.cascade.specs.Standings.{standings}
+use Rattle.cascade.specs.declared.standing.Standing.{Standing}
 use Rattle.clear_core.specs.Clearing.{least}
+use Rattle.clear_core.specs.History.{IsTraced, ordered}
+use Rattle.clear_core.specs.declared.event.Raise.{Raise}
+use Rattle.clear_report.specs.Blocks.{scenario_block, stress_text}
+use Rattle.clear_report.specs.Bounds.{bounds_tables}
+use Rattle.clear_report.specs.Compression.{compressed_text}
+use Rattle.clear_report.specs.Costs.{costs_text}
+use Rattle.clear_report.specs.Defaults.{defaults_text}
+use Rattle.clear_report.specs.Journals.{journal_and_rounds, lawful_and_payments}
+use Rattle.clear_report.specs.Journals.{payments_and_journal}
+use Rattle.clear_report.specs.Rescues.{rescued_text}
+use Rattle.clear_report.specs.Summary.{summary_lines}
 use Rattle.clear_report.specs.Text.{checked_text, payments_text}
 use Rattle.clear_words.specs.declared.job.Job.{Job}
+use Rattle.clear_words.specs.declared.show.Show.{Show}
+use Rattle.clear_words.specs.declared.show.Show.TheVariants as show
 use Rattle.clear_words.specs.declared.task.Task.{Task}
 use Rattle.clear_words.specs.declared.task.Task.TheVariants as task
-use Rattle.net_check.specs.Checks.{and_then, fault_unless}
-use Rattle.net_check.specs.Record.{fault_at}
-use Rattle.net_check.specs.declared.fault.Fault.{Fault}
-use Rattle.net_check.specs.declared.fault.FileKind.{FileKind}
-use Rattle.net_check.specs.declared.fault.FileKind.TheVariants as file
-use Rattle.net_check.specs.declared.fault.FaultKind.TheVariants as fault
+use Rattle.compress.specs.Compression.{Compression}
+use Rattle.costs.specs.Costs.{cost_least}
+use Rattle.costs.specs.CostStandings.{cost_standings}
 use Rattle.net_csv.specs.Printing.{banks_text, banks_text_2, debts_text}
-use Rattle.net_csv.specs.Reading.{is_within_limit, network_of}
-use Rattle.clear_top.specs.Sources.{source_of}
-use Rattle.clear_top.specs.declared.load.Input.{Input}
-use Rattle.clear_top.specs.declared.source.Source.{Source}
-use Rattle.clear_top.specs.declared.source.Source.TheVariants as source
+use Rattle.pay_words.specs.Sealed.{Sealed}
+use Rattle.raise_journal.specs.Texts.{verdict_line}
+use Rattle.raise_journal.specs.Verdicts.{judged}
+use Rattle.raise_journal.specs.declared.verdict.Verdict.{Verdict}
+use Rattle.raise_journal.specs.declared.verdict.Verdict.TheVariants as verdict
+use Rattle.rescue.specs.Rescue.{added, rescue, short_of}
+use Rattle.settle.specs.Runs.{IsRecordAfter, IsRecordOf}
+use Rattle.settle.specs.declared.plan.Plan.{Plan}
+use Rattle.stress.specs.Shocks.{shocked}
+use Rattle.stress.specs.declared.scenario.Scenario.{Scenario}
+use Rattle.upper.specs.Bounds.{greatest, waves}
+use Rattle.clear_top.specs.Reading.{Files, Given, reading}
+use Rattle.clear_top.specs.declared.outcome.Outcome.{Outcome}
 use Rattle.clear_top.specs.declared.status.Status.{Status}
 use Rattle.clear_top.specs.declared.status.Status.TheVariants as status
 
--- the bytes of each file that is there
-abbrev pub Files : Type 0
-Files = List ℕ → Option (List ℕ)
+-- done, with this text, and without a record
+abbrev pub IsPlain : List ℕ → Outcome → Type 0
+IsPlain text o = o ≡ record { status = status.Done; sealed = None; text = text }
 
--- what reading comes to: a value or the first fault, or nothing where a file is not there to be
--- read
-abbrev pub Read : Type 0 → Type 0
-Read A = Option (Result A Fault)
+-- the workers and sweeps of a job
+abbrev pub plan_of : Job → Plan
+plan_of job = record { workers = job.workers; sweeps = job.sweeps }
 
--- the next step, where this one found no fault
-abbrev pub then_read : {A B : Type 0} → Read A → (A → Read B) → Read B
-then_read None next = None
-then_read (Some (Err f)) next = Some (Err f)
-then_read (Some (Ok a)) next = next a
+-- a journal of raises that clears a network, each lawful where it stands, as it may be shown after
+-- so many rounds: it replays to the least list, its raises differ and stand in order, and the
+-- rounds are at most the units owed, and one more
+pub record IsRun (net : Net) (journal : List Raise) (rounds : ℕ) : Type 0 where
+  pub lawful : (judged net journal).verdict ≡ verdict.Lawful
+  pub replays : (judged net journal).paid ≡ least net
+  pub traced : IsTraced net journal
+  pub in_order : ordered journal ≡ journal
+  pub some_round : 1 ≤ rounds
+  pub few_rounds : rounds ≤ units_owed net + 1
 
--- these bytes, or the fault of a file of this kind that is longer than it may be
-abbrev pub in_size : FileKind → List ℕ → Result (List ℕ) Fault
-in_size k bytes =
-    fault_unless (is_within_limit k bytes) (fault_at k 0 fault.FileSize) (Ok bytes)
+-- done after a run of the job's workers on one board, whose record is answered; the text may show
+-- the record's journal, and the rounds
+pub record Settles (net : Net) (job : Job) (shown : List Raise → ℕ → List ℕ) (o : Outcome)
+    : Type 0 where
+  pub sealed : Sealed
+  pub rounds : ℕ
+  pub record_is : IsRecordOf net (plan_of job) rounds sealed
+  pub run : IsRun net sealed.journal rounds
+  pub comes : o ≡ record {
+    status = status.Done;
+    sealed = Some sealed;
+    text = shown sealed.journal rounds;
+  }
 
--- a file whole: where it is there, its size is looked at before anything else is done
-abbrev pub whole : Files → FileKind → List ℕ → Read (List ℕ)
-whole files k name = option_map (in_size k) (files name)
+-- what clearing writes, by what is to be shown
+abbrev pub clear_text : Show → Net → List Raise → ℕ → List ℕ
+clear_text show.Payments net journal rounds = payments_text net (least net)
+clear_text show.Journal net journal rounds = journal_and_rounds net journal rounds
+clear_text show.Both net journal rounds = payments_and_journal net (least net) journal rounds
 
--- the banks file and then the debts file, both whole
-abbrev pub both_whole : Files → Job → Read (List ℕ × List ℕ)
-both_whole files job =
-    then_read (whole files file.Banks job.banks) (λ banks.
-    then_read (whole files file.Debts job.debts) (λ debts. Some (Ok (banks, debts))))
+-- what is answered of a journal, by the verdict on it
+abbrev pub answer_to : Net → List Raise → Verdict → Outcome
+answer_to net journal verdict.Lawful = record {
+  status = status.Done;
+  sealed = None;
+  text = lawful_and_payments net (length journal) (least net);
+}
+answer_to net journal v = record {
+  status = status.Unlawful v;
+  sealed = None;
+  text = verdict_line net (length journal) v;
+}
 
--- the contents of both files: their network, or their first fault
-abbrev pub contents : List ℕ × List ℕ → Result Input Fault
-contents both = and_then (network_of both.0 both.1) (λ net. Ok (record { net = net }))
+-- how the banks stand under the least payments
+abbrev pub least_standings : Net → List Standing
+least_standings net = standings net (least net)
 
--- what a job works on, by its source: each file whole, one after another, and then the contents in
--- the same order
-abbrev pub reading_by : Source → Files → Job → Read Input
-reading_by source.Files files job = then_read (both_whole files job) (λ both. Some (contents both))
+-- who defaults under the least payments, and why
+abbrev pub defaults_report : Net → List ℕ
+defaults_report net = defaults_text net (least_standings net)
 
--- what a job works on, or the first fault of its files
-abbrev pub reading : Files → Job → Read Input
-reading files job = reading_by (source_of job.task) files job
+-- a network in numbers, and what its least payments come to
+abbrev pub summary_report : Net → List ℕ
+summary_report net = summary_lines net (least net) (least_standings net)
 
--- done, with this text
-abbrev pub IsDoneWith : List ℕ → Status → List ℕ → Type 0
-IsDoneWith t ending text = (ending ≡ status.Done) × (text ≡ t)
+-- the least and the greatest payments that clear, and the waves and equities of the banks
+abbrev pub bounds_report : Net → List ℕ
+bounds_report net =
+    bounds_tables net (least net) (greatest net) (waves net) (least_standings net)
 
--- the status and the text of each task: a row for each. To check a network is to print its counts
--- and both its files; to clear it, in whatever way, is to print the payments of its least clearing
--- list; to convert it is to print its banks in the second form of their file
-abbrev pub ComesTo : Task → Job → Input → Status → List ℕ → Type 0
-ComesTo task.Check job on = IsDoneWith (checked_text on.net (banks_text on.net) (debts_text on.net))
-ComesTo task.Clear job on = IsDoneWith (payments_text on.net (least on.net))
-ComesTo task.Central job on = IsDoneWith (payments_text on.net (least on.net))
-ComesTo task.Convert job on = IsDoneWith (banks_text_2 on.net)
+-- what one scenario leaves: its name, the least payments and who defaults
+abbrev pub block_of : Net → Scenario → List ℕ
+block_of net s =
+    scenario_block s.name
+    (payments_text (shocked net s) (least (shocked net s)))
+    (defaults_report (shocked net s))
 
--- with these files the job is accepted, and this is a status and a text that it comes to
-abbrev pub Means : Files → Job → Status → List ℕ → Type 0
-Means files job ending text =
-    (on : Input) × (reading files job ≡ Some (Ok on)) × ComesTo job.task job on ending text
+-- some claims, ranks and units cancelled that compress the network, and their text
+abbrev pub IsCompressed : Net → Outcome → Type 0
+IsCompressed net o =
+    (claims : List ℕ) × (ranks : List ℕ) × (cancelled : ℕ)
+    × Compression net claims ranks cancelled
+    × IsPlain (compressed_text net claims ranks cancelled) o
+
+-- the least payments where so many thousandths are kept on default, and how the banks stand then
+abbrev pub costs_report : Net → ℕ → List ℕ
+costs_report net keep =
+    costs_text net (cost_least net keep) (cost_standings net keep (cost_least net keep))
+
+-- the network with the least sum that saves the bank added to its cash
+abbrev pub rescued_net : Net → ℕ → Net
+rescued_net net bank = added net bank (rescue net bank)
+
+-- what saves the bank, and the least payments then
+abbrev pub rescue_report : Net → ℕ → List ℕ
+rescue_report net bank =
+    rescued_text net bank (rescue net bank) (short_of net bank (rescue net bank))
+    (least (rescued_net net bank))
+
+-- done after a run on the network as it is, and one that goes on from it once the bank is saved: on
+-- a board whose record is answered, and whose journal begins with that of the first run
+pub record Rescues (net : Net) (job : Job) (bank : ℕ) (o : Outcome) : Type 0 where
+  pub sealed : Sealed
+  pub past : List Raise
+  pub rounds : ℕ
+  pub record_is : IsRecordAfter (rescued_net net bank) past (plan_of job) rounds sealed
+  pub before : (judged net past).verdict ≡ verdict.Lawful
+  pub run : IsRun (rescued_net net bank) sealed.journal rounds
+  pub comes : o ≡ record {
+    status = status.Done;
+    sealed = Some sealed;
+    text = rescue_report net bank;
+  }
+
+-- what each task comes to: a row for each
+abbrev pub ComesTo : Task → Job → Given → Outcome → Type 0
+ComesTo task.Check job on =
+    IsPlain (checked_text on.net (banks_text on.net) (debts_text on.net))
+ComesTo task.Clear job on = Settles on.net job (clear_text job.show on.net)
+ComesTo task.Central job on = IsPlain (payments_text on.net (least on.net))
+ComesTo task.Defaults job on = Settles on.net job (λ journal rounds. defaults_report on.net)
+ComesTo task.Stress job on = IsPlain (stress_text (map (block_of on.net) on.scenarios))
+ComesTo task.Replay job on =
+    λ o. o ≡ answer_to on.net on.journal (judged on.net on.journal).verdict
+ComesTo task.Gen job on = Settles on.net job (λ journal rounds. summary_report on.net)
+ComesTo task.Convert job on = IsPlain (banks_text_2 on.net)
+ComesTo task.Bounds job on = Settles on.net job (λ journal rounds. bounds_report on.net)
+ComesTo task.Rescue job on = Rescues on.net job on.bank
+ComesTo task.Compress job on = IsCompressed on.net
+ComesTo task.Costs job on = IsPlain (costs_report on.net job.keep)
+
+-- with these files the job is accepted, and this is what it comes to
+abbrev pub Means : Files → Job → Outcome → Type 0
+Means files job o =
+    (on : Given) × (reading files job ≡ Some (Ok on)) × ComesTo job.task job on o

@@ -28,6 +28,8 @@ message (status.Refused f) job = concat (
     ∷ kind_word f.kind ∷ codes " (" ∷ decimal (kind_number f.kind) ∷ codes ")\n" ∷ [])
 message status.WriteFault job = codes "clearing: cannot write the output\n"
 message status.Mem job = codes "clearing: out of memory\n"
+message (status.Unlawful v) job =
+    codes "clearing: the journal is not a lawful complete history\n"
 
 -- a sink took a text whole; or it failed in the call, and took of it a part from its front
 abbrev pub TakesText : SinkCall → List ℕ → Type 0

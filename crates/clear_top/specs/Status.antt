@@ -11,3 +11,4 @@ code_of (status.ReadFault k) = 3
 code_of (status.Refused f) = 4
 code_of status.WriteFault = 5
 code_of status.Mem = 6
+code_of (status.Unlawful v) = 7

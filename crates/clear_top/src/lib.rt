@@ -1,18 +1,28 @@
 //! The top call of the program: all that a command line does, from the bytes in to the bytes out.
 //!
 //! [`run`] takes the words of the command line, the files, the sinks for the output and for
-//! messages, and answers how it ended. Its contract is the program's theorem.
+//! messages, and answers how it ended, with the record of the board on which it cleared. Its
+//! contract is the program's theorem.
 #![tactic(auto)]
 
+mod clear;
+mod contents;
+mod judge;
 pub mod laws;
 mod load;
 mod message;
+mod outcome;
+mod plain;
+mod reports;
+mod saving;
+mod scenarios;
 mod source;
 mod status;
 mod top;
+mod work;
 
 pub use message::put_text;
-pub use status::Status;
+pub use status::{Ended, Status};
 pub use top::run;
 
 #[cfg(test)]

@@ -1,6 +1,7 @@
 ghost use Rattle.clear_top.specs.Ending.{sink_call};
 ghost use Rattle.clear_top.specs.Message.{message, name_if, TakesText};
-ghost use Rattle.clear_top.specs.Sources.{name_in};
+ghost use Rattle.clear_top.specs.Sources.{name_by, name_in};
+ghost use Rattle.clear_top.specs.declared.source.Source.{Source};
 ghost use Rattle.std.specs.List.{concat};
 ghost use Rattle.std.specs.Option.{option_map};
 ghost use Rattle.std.specs.Prelude.{◌≡◌, ◌∷◌, [], codes, map};
@@ -26,6 +27,10 @@ pub fn tell<E: Sink>(err: &mut E, status: Status, job: Option<&Job>)
         Status::Refused(fault) => tell_fault(err, fault),
         Status::WriteFault => put_text(err, "clearing: cannot write the output\n"),
         Status::Mem => put_text(err, "clearing: out of memory\n"),
+        Status::Unlawful(_) => put_text(
+            err,
+            "clearing: the journal is not a lawful complete history\n",
+        ),
     }
 }
 
@@ -53,11 +58,28 @@ fn file_name(job: &Job, kind: FileKind) -> Option<&str>
     ensures { option_map (λ name. name.now) result ≡ name_in job.now kind }
 {
     match source_of(job.task) {
-        Source::Files => match kind {
-            FileKind::Banks => Some(job.banks.as_str()),
-            FileKind::Debts => Some(job.debts.as_str()),
-            _ => None,
+        Source::Files => net_file(job, kind),
+        Source::FilesAndScenarios => match kind {
+            FileKind::Scenarios => Some(job.third.as_str()),
+            _ => net_file(job, kind),
         },
+        Source::FilesAndJournal => match kind {
+            FileKind::Journal => Some(job.third.as_str()),
+            _ => net_file(job, kind),
+        },
+        Source::FilesAndBank => net_file(job, kind),
+        Source::Generated => None,
+    }
+}
+
+// The name of one of the two files of a network.
+fn net_file(job: &Job, kind: FileKind) -> Option<&str>
+    ensures { option_map (λ name. name.now) result ≡ name_by Source.Files job.now kind }
+{
+    match kind {
+        FileKind::Banks => Some(job.banks.as_str()),
+        FileKind::Debts => Some(job.debts.as_str()),
+        _ => None,
     }
 }
 

@@ -9,6 +9,14 @@ use clear_words::Task;
 pub enum Source {
     /// The network of a banks file and a debts file.
     Files,
+    /// This network, and the scenarios of a third file.
+    FilesAndScenarios,
+    /// This network, and the journal of a third file.
+    FilesAndJournal,
+    /// This network, and one of its banks, by name.
+    FilesAndBank,
+    /// A network that is made from numbers.
+    Generated,
 }
 
 /// What a task works on: a row for each task.
@@ -19,6 +27,14 @@ pub fn source_of(task: Task) -> Source
         Task::Check => Source::Files,
         Task::Clear => Source::Files,
         Task::Central => Source::Files,
+        Task::Defaults => Source::Files,
+        Task::Stress => Source::FilesAndScenarios,
+        Task::Replay => Source::FilesAndJournal,
+        Task::Gen => Source::Generated,
         Task::Convert => Source::Files,
+        Task::Bounds => Source::Files,
+        Task::Rescue => Source::FilesAndBank,
+        Task::Compress => Source::Files,
+        Task::Costs => Source::Files,
     }
 }

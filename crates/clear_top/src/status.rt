@@ -2,6 +2,8 @@ ghost use Rattle.clear_top.specs.Status.{code_of};
 ghost use Rattle.std.specs.Prelude.{◌≡◌};
 
 use net_check::{Fault, FileKind};
+use pay_words::Record;
+use raise_journal::Verdict;
 
 /// How a run ended.
 #[derive(Clone, Copy, Debug, PartialEq, Eq)]
@@ -18,6 +20,16 @@ pub enum Status {
     WriteFault,
     /// Want of memory.
     Mem,
+    /// The journal that was read is not a lawful and complete history; the verdict is written.
+    Unlawful(Verdict),
+}
+
+/// What a run answers: how it ended, and the record of the board on which the printed payments were
+/// made, for a task that clears on a board and whose text was written, or a part of it.
+#[derive(Drop)]
+pub struct Ended {
+    pub status: Status,
+    pub sealed: Option<Record>,
 }
 
 impl Status {
@@ -32,6 +44,7 @@ impl Status {
             Status::Refused(_) => 4,
             Status::WriteFault => 5,
             Status::Mem => 6,
+            Status::Unlawful(_) => 7,
         }
     }
 }

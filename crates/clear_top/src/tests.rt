@@ -1,6 +1,9 @@
+mod hostile;
+mod records;
+mod tasks;
 mod twelve_banks;
 
-use crate::{Status, run};
+use crate::{Ended, Status, run};
 use clear_least::central;
 use clr_edge::{MemShelf, MemSink, OpenGate};
 use clr_net::{BankId, Network};
@@ -56,23 +59,25 @@ const CHAIN_OUTSIDE_CHECKED: &str = "banks,3\ndebts,2\nowed,19\ncash,8\n\n\
 name,cash,rule,outside\nA,7,order,3\nB,1,order,0\nC,0,order,2\n\n\
 debtor,creditor,class,claim\nA,B,1,10\nB,C,1,9\n";
 
-// A command line on two files, and what a run on them comes to.
+// A command line on some files, and what a run on them comes to.
 #[derive(Drop)]
 struct Case<'a> {
     words: &'a [&'a str],
     banks: &'a str,
     debts: &'a str,
+    third: &'a str,
     status: Status,
     out: &'a str,
     err: &'a str,
 }
 
-// A run that ends well.
+// A run on two files that ends well.
 fn done<'a>(words: &'a [&'a str], banks: &'a str, debts: &'a str, out: &'a str) -> Case<'a> {
     Case {
         words,
         banks,
         debts,
+        third: "",
         status: Status::Done,
         out,
         err: "",
@@ -87,26 +92,37 @@ fn refused<'a>(
     err: &'a str,
 ) -> Case<'a> {
     Case {
-        words: CLEAR,
-        banks,
-        debts,
         status: Status::Refused(Fault { file, row, kind }),
-        out: "",
         err,
+        ..done(CLEAR, banks, debts, "")
     }
 }
 
-// Runs the words of a case on a shelf with its two files, and compares.
+// Runs the words of a case on a shelf with its files, and compares.
 fn check<R: Threads + Sync + Abort>(rt: &R, alloc: Global, case: &Case<'_>) -> Result<(), Fail> {
     let mut files = shelf(alloc, case.banks, case.debts)?;
-    let mut out = MemSink::with_room(alloc, 2000, 1000, 0)?;
+    files.add("s.toml", case.third.as_bytes())?;
+    files.add("j.csv", case.third.as_bytes())?;
+    let mut out = MemSink::with_room(alloc, 6000, 1000, 0)?;
     let mut err = MemSink::with_room(alloc, 1000, 1000, 0)?;
-    let status = run(
+    let ended = run(
         rt, alloc, case.words, &mut files, &mut out, &mut err, &OpenGate,
     );
-    assert_eq!(rt; status, case.status);
+    assert_eq!(rt; ended.status, case.status);
     assert_eq!(rt; out.written(), case.out.as_bytes());
     assert_eq!(rt; err.written(), case.err.as_bytes());
+    Ok(())
+}
+
+// Runs each case.
+fn check_all<R: Threads + Sync + Abort>(
+    rt: &R,
+    alloc: Global,
+    cases: &[Case<'_>],
+) -> Result<(), Fail> {
+    for case in cases {
+        check(rt, alloc, case)?;
+    }
     Ok(())
 }
 
@@ -178,57 +194,7 @@ fn payments_of_small_networks(rt: HostRuntime) -> Result<(), Fail> {
             "debtor,creditor,class,claim,paid\nA,B,1,10,0\nB,C,1,9,1\n",
         ),
     ];
-    for case in &cases {
-        check(&rt, rt.alloc(), case)?;
-    }
-    Ok(())
-}
-
-#[test]
-fn tasks_on_the_chain(rt: HostRuntime) -> Result<(), Fail> {
-    let cases = [
-        done(CHECK, CHAIN_BANKS, CHAIN_DEBTS, CHAIN_CHECKED),
-        done(CHECK, CHAIN_BANKS_2, CHAIN_DEBTS, CHAIN_CHECKED),
-        done(CHECK, CHAIN_OUTSIDE, CHAIN_DEBTS, CHAIN_OUTSIDE_CHECKED),
-        done(CLEAR, CHAIN_BANKS, CHAIN_DEBTS, CHAIN_TEXT),
-        done(CLEAR, CHAIN_BANKS_2, CHAIN_DEBTS, CHAIN_TEXT),
-        done(CENTRAL, CHAIN_BANKS, CHAIN_DEBTS, CHAIN_TEXT),
-        // Paying all would clear as well.
-        done(
-            CENTRAL,
-            TWO_BANKS,
-            "debtor,creditor,class,claim\nA,B,1,10\nB,A,1,10\n",
-            "debtor,creditor,class,claim,paid\nA,B,1,10,0\nB,A,1,10,0\n",
-        ),
-        done(CONVERT, CHAIN_BANKS, CHAIN_DEBTS, CHAIN_BANKS_2),
-        done(CONVERT, CHAIN_BANKS_2, CHAIN_DEBTS, CHAIN_BANKS_2),
-        done(CONVERT, CHAIN_OUTSIDE, CHAIN_DEBTS, CHAIN_OUTSIDE),
-        // Options before the task, and with their values in one word.
-        done(
-            &["--debts=d.csv", "--banks", "b.csv", "clear"],
-            CHAIN_BANKS,
-            CHAIN_DEBTS,
-            CHAIN_TEXT,
-        ),
-    ];
-    for case in &cases {
-        check(&rt, rt.alloc(), case)?;
-    }
-    Ok(())
-}
-
-#[test]
-fn twelve_banks_by_all_rules(rt: HostRuntime) -> Result<(), Fail> {
-    check(
-        &rt,
-        rt.alloc(),
-        &done(
-            CLEAR,
-            twelve_banks::BANKS,
-            twelve_banks::DEBTS,
-            twelve_banks::PAYMENTS,
-        ),
-    )
+    check_all(&rt, rt.alloc(), &cases)
 }
 
 #[test]
@@ -296,25 +262,25 @@ fn faults_of_files_are_named(rt: HostRuntime) -> Result<(), Fail> {
             "clearing: debts row 11: total (13)\n",
         ),
     ];
-    for case in &cases {
-        check(&rt, rt.alloc(), case)?;
-    }
-    Ok(())
+    check_all(&rt, rt.alloc(), &cases)
 }
 
 #[test]
 fn words_that_are_no_job(rt: HostRuntime) -> Result<(), Fail> {
-    for words in [&[][..], &["--help"], &["clear", "--banks", "b.csv"]] {
+    for words in [
+        &[][..],
+        &["--help"],
+        &["clear", "--banks", "b.csv"],
+        &["clear", "--banks", "b.csv", "--debts", "d.csv", "--workers", "65"],
+        &["central", "--banks", "b.csv", "--debts", "d.csv", "--sweeps", "2"],
+    ] {
         check(
             &rt,
             rt.alloc(),
             &Case {
-                words,
-                banks: CHAIN_BANKS,
-                debts: CHAIN_DEBTS,
                 status: Status::Usage,
-                out: "",
                 err: "clearing: the command line is not understood\n",
+                ..done(words, CHAIN_BANKS, CHAIN_DEBTS, "")
             },
         )?;
     }
@@ -331,7 +297,7 @@ fn cannot_read<R: Threads + Sync + Abort>(
 ) -> Result<(), Fail> {
     let mut out = MemSink::with_room(alloc, 1000, 1000, 0)?;
     let mut err = MemSink::with_room(alloc, 1000, 1000, 0)?;
-    let status = run(rt, alloc, CLEAR, files, &mut out, &mut err, &OpenGate);
+    let Ended { status, .. } = run(rt, alloc, CLEAR, files, &mut out, &mut err, &OpenGate);
     assert_eq!(rt; status, Status::ReadFault(kind));
     assert_eq!(rt; status.code(), 3);
     assert_eq!(rt; out.written(), b"".as_slice());
@@ -367,7 +333,7 @@ fn an_output_that_breaks(rt: HostRuntime) -> Result<(), Fail> {
     let mut files = shelf(alloc, CHAIN_BANKS, CHAIN_DEBTS)?;
     let mut out = MemSink::with_room(alloc, 1000, 10, 2)?;
     let mut err = MemSink::with_room(alloc, 1000, 7, 0)?;
-    let status = run(&rt, alloc, CLEAR, &mut files, &mut out, &mut err, &OpenGate);
+    let Ended { status, .. } = run(&rt, alloc, CLEAR, &mut files, &mut out, &mut err, &OpenGate);
     assert_eq!(rt; status, Status::WriteFault);
     assert_eq!(rt; status.code(), 5);
     assert_eq!(rt; out.written(), b"debtor,cre".as_slice());
@@ -385,7 +351,7 @@ fn a_banks_file_that_is_too_long(rt: HostRuntime) -> Result<(), Fail> {
     files.add("b.csv", vec![in alloc; b'\n'; 8_388_609]?.as_slice())?;
     let mut out = MemSink::with_room(alloc, 1000, 1000, 0)?;
     let mut err = MemSink::with_room(alloc, 1000, 1000, 0)?;
-    let status = run(&rt, alloc, CLEAR, &mut files, &mut out, &mut err, &OpenGate);
+    let Ended { status, .. } = run(&rt, alloc, CLEAR, &mut files, &mut out, &mut err, &OpenGate);
     let fault = Fault {
         file: FileKind::Banks,
         row: 0,

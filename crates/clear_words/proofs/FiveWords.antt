@@ -17,6 +17,7 @@ use Rattle.clear_words.specs.declared.task.Task.TheVariants as task
 use Rattle.clear_words.proofs.PlainWords.{IsPlainWord, named_is_plain, plain_walked}
 use Rattle.clear_words.proofs.PlainWords.{plain_walk_fault}
 
+-- the command as it is built, its shape and its rules
 abbrev app : App
 app = built command
 
@@ -26,6 +27,7 @@ shape = app.top
 abbrev rules : List Rule
 rules = shape.rules
 
+-- the words that are options, and all five
 abbrev banks_word : Text
 banks_word = codes "--banks"
 
@@ -37,7 +39,9 @@ words task banks debts = task ∷ banks_word ∷ banks ∷ debts_word ∷ debts 
 
 -- where the walk stands after each of the words
 abbrev with_value : Walk → Text → Walk
-with_value w word = after_step rules word w (plain_word rules w.waiting word w.held).0 (plain_word rules w.waiting word w.held).1
+with_value w word =
+    after_step rules word w (plain_word rules w.waiting word w.held).0
+    (plain_word rules w.waiting word w.held).1
 
 abbrev after_task : Text → Walk
 after_task task = with_value (walk_from nothing_held) task
@@ -54,78 +58,120 @@ before_debts task banks = walked rules [] (after_banks task banks) debts_word
 abbrev after_debts : Text → Text → Text → Walk
 after_debts task banks debts = with_value (before_debts task banks) debts
 
+-- the walk goes through all five words
 five_walked : (task banks debts : Text) → IsPlainWord task → IsPlainWord banks → IsPlainWord debts
     → walk rules [] nothing_held (words task banks debts) ≡ after_debts task banks debts
 unfolding clap_on_literals command
 five_walked task banks debts is_task is_banks is_debts =
-    ap (λ w. walked rules [] (walked rules [] (walked rules [] (walked rules [] w banks_word) banks) debts_word) debts)
+    ap
+    (λ w. walked rules []
+    (walked rules [] (walked rules [] (walked rules [] w banks_word) banks) debts_word) debts)
     (plain_walked rules nothing_held idle 1 task is_task refl)
     ∙ ap (λ w. walked rules [] (walked rules [] w debts_word) debts)
-    (plain_walked rules (before_banks task).held (before_banks task).waiting (before_banks task).position
-    banks is_banks refl)
-    ∙ plain_walked rules (before_debts task banks).held (before_debts task banks).waiting (before_debts task banks).position
-    debts is_debts refl
+    (plain_walked rules (before_banks task).held (before_banks task).waiting
+    (before_banks task).position banks is_banks refl)
+    ∙ plain_walked rules (before_debts task banks).held (before_debts task banks).waiting
+    (before_debts task banks).position debts is_debts refl
 
-five_walk_fault : (task banks debts : Text) → IsPlainWord task → IsPlainWord banks → IsPlainWord debts
+-- and meets no fault
+five_walk_fault : (task banks debts : Text) → IsPlainWord task → IsPlainWord banks
+    → IsPlainWord debts
     → walk_fault shape [] (walk_from nothing_held) (words task banks debts) ≡ []
 unfolding clap_on_literals command
 five_walk_fault task banks debts is_task is_banks is_debts =
-    plain_walk_fault shape nothing_held idle 1 task (banks_word ∷ banks ∷ debts_word ∷ debts ∷ []) is_task refl
-    ∙ plain_walk_fault shape (before_banks task).held (before_banks task).waiting (before_banks task).position
-    banks (debts_word ∷ debts ∷ []) is_banks refl
-    ∙ plain_walk_fault shape (before_debts task banks).held (before_debts task banks).waiting (before_debts task banks).position
-    debts [] is_debts refl
+    plain_walk_fault shape nothing_held idle 1 task
+    (banks_word ∷ banks ∷ debts_word ∷ debts ∷ []) is_task refl
+    ∙ plain_walk_fault shape (before_banks task).held (before_banks task).waiting
+    (before_banks task).position banks (debts_word ∷ debts ∷ []) is_banks refl
+    ∙ plain_walk_fault shape (before_debts task banks).held (before_debts task banks).waiting
+    (before_debts task banks).position debts [] is_debts refl
 
 -- the fault of a parse, by that of its walk and by where the walk ends
 abbrev fault_after : Kinds → Walk → Kinds
 fault_after fault w = or_else fault
-    (or_else (entered_fault app w.stopped) (or_else (settle_fault rules shape.args_override_self w.held)
+    (or_else (entered_fault app w.stopped)
+    (or_else (settle_fault rules shape.args_override_self w.held)
     (or_else (defaults_fault (settled rules w.held).rows rules)
     (check_fault shape (finished rules w.held) (is_some (entered app w.stopped))))))
 
+-- so the command finds none in them
 five_fault : (task banks debts : Text) → IsPlainWord task → IsPlainWord banks → IsPlainWord debts
     → fault_of command (words task banks debts) ≡ []
 unfolding clap_on_literals command
 five_fault task banks debts is_task is_banks is_debts = ap₂ fault_after
-    (five_walk_fault task banks debts is_task is_banks is_debts) (five_walked task banks debts is_task is_banks is_debts)
+    (five_walk_fault task banks debts is_task is_banks is_debts)
+    (five_walked task banks debts is_task is_banks is_debts)
 
+-- what the command finds in them
 abbrev five_rows : Text → Text → Text → List Row
 five_rows task banks debts = finished rules (after_debts task banks debts).held
 
+-- that it finds just this
 five_matches : (task banks debts : Text) → IsPlainWord task → IsPlainWord banks → IsPlainWord debts
     → matches_of command (words task banks debts) ≡ five_rows task banks debts
 unfolding clap_on_literals command
 five_matches task banks debts is_task is_banks is_debts =
     ap (λ w. finished rules w.held) (five_walked task banks debts is_task is_banks is_debts)
 
+-- the word of a task names it
 task_of_word : (t : Task) → task_named (word_of t) ≡ Some t
 task_of_word task.Check = refl
 task_of_word task.Clear = refl
 task_of_word task.Central = refl
+task_of_word task.Defaults = refl
+task_of_word task.Stress = refl
+task_of_word task.Replay = refl
+task_of_word task.Gen = refl
 task_of_word task.Convert = refl
+task_of_word task.Bounds = refl
+task_of_word task.Rescue = refl
+task_of_word task.Compress = refl
+task_of_word task.Costs = refl
 
+-- and is no option
 may_name : (t : Task) → may_name_a_file (word_of t) ≡ true
 may_name task.Check = refl
 may_name task.Clear = refl
 may_name task.Central = refl
+may_name task.Defaults = refl
+may_name task.Stress = refl
+may_name task.Replay = refl
+may_name task.Gen = refl
 may_name task.Convert = refl
+may_name task.Bounds = refl
+may_name task.Rescue = refl
+may_name task.Compress = refl
+may_name task.Costs = refl
 
 -- what is left of the tests where the other options are not there
 fit : (t : Task) (banks debts : Text) → may_name_a_file banks ≡ true → may_name_a_file debts ≡ true
-    → (if may_name_a_file banks && (may_name_a_file debts && true) then Some (on_both_files t banks debts) else None)
+    → (if may_name_a_file banks && (may_name_a_file debts && true)
+    then Some (on_both_files t banks debts) else None)
     ≡ Some (on_both_files t banks debts)
-fit t banks debts b d = ap₂ (λ x y. if x && (y && true) then Some (on_both_files t banks debts) else None) b d
+fit t banks debts b d =
+    ap₂ (λ x y. if x && (y && true) then Some (on_both_files t banks debts) else None) b d
 
 -- both files are enough for a task that needs no more
-enough : (t : Task) (banks debts : Text) → needs_files_alone t ≡ true → may_name_a_file banks ≡ true → may_name_a_file debts ≡ true
+enough : (t : Task) (banks debts : Text) → needs_files_alone t ≡ true
+    → may_name_a_file banks ≡ true → may_name_a_file debts ≡ true
     → job_for (five_rows (word_of t) banks debts) t ≡ Some (on_both_files t banks debts)
 unfolding clap_on_literals command
 enough task.Check banks debts alone b d = fit task.Check banks debts b d
 enough task.Clear banks debts alone b d = fit task.Clear banks debts b d
 enough task.Central banks debts alone b d = fit task.Central banks debts b d
+enough task.Defaults banks debts alone b d = fit task.Defaults banks debts b d
+enough task.Stress banks debts alone b d = absurd (cc)
+enough task.Replay banks debts alone b d = absurd (cc)
+enough task.Gen banks debts alone b d = absurd (cc)
 enough task.Convert banks debts alone b d = fit task.Convert banks debts b d
+enough task.Bounds banks debts alone b d = fit task.Bounds banks debts b d
+enough task.Rescue banks debts alone b d = absurd (cc)
+enough task.Compress banks debts alone b d = fit task.Compress banks debts b d
+enough task.Costs banks debts alone b d = absurd (cc)
 
-pub five_words : (t : Task) (banks debts : Text) → needs_files_alone t ≡ true → may_name_a_file banks ≡ true → may_name_a_file debts ≡ true
+-- the word of the task, and both files by their options, are the job of the task on these files
+pub five_words : (t : Task) (banks debts : Text) → needs_files_alone t ≡ true
+    → may_name_a_file banks ≡ true → may_name_a_file debts ≡ true
     → job_of (words (word_of t) banks debts) ≡ Some (on_both_files t banks debts)
 unfolding clap_on_literals command job_of
 five_words t banks debts alone b d =

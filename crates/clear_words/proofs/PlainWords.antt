@@ -22,48 +22,71 @@ pub record IsPlainWord (word : Text) : Type 0 where
 
 -- a walk that goes on: nothing has ended it, nor the options
 abbrev pub at : Held → Waiting → ℕ → Walk
-at held waiting position = record { held = held; waiting = waiting; position = position; is_trailing = false; stopped = None }
+at held waiting position =
+    record {
+      held = held;
+      waiting = waiting;
+      position = position;
+      is_trailing = false;
+      stopped = None;
+    }
 
+-- such a word is met as a value
 plain_met : (rules : List Rule) (waiting : Waiting) (position : ℕ) (word : Text) (h : Held)
     → IsPlainWord word → subcommand_met [] waiting word ≡ None
     → word_met rules [] false waiting position word h ≡ plain_word rules waiting word h
 plain_met rules waiting position word h plain none =
     ap (λ name. subcommand_or_other rules name waiting position word h) none
-    ∙ ap (λ b. if b then (h, trailing position) else long_or_other rules waiting word (long_of word) h) plain.dashes
+    ∙ ap
+    (λ b. if b then (h, trailing position) else long_or_other rules waiting word (long_of word) h)
+    plain.dashes
     ∙ ap (λ long. long_or_other rules waiting word long h) plain.long
     ∙ ap (λ short. short_or_plain rules waiting word short h) plain.short
 
+-- and has no fault as an option
 plain_fault : (s : Shape) (waiting : Waiting) (word : Text) (h : Held)
     → IsPlainWord word → subcommand_met [] waiting word ≡ None
     → word_fault s [] false waiting word h ≡ []
 plain_fault s waiting word h plain none =
     ap (λ name. other_fault s name word h) none
-    ∙ ap (λ b. if b then [] else flag_word_fault s.rules s.args_override_self (long_of word) word h) plain.dashes
+    ∙ ap
+    (λ b. if b then [] else flag_word_fault s.rules s.args_override_self (long_of word) word h)
+    plain.dashes
     ∙ ap (λ long. flag_word_fault s.rules s.args_override_self long word h) plain.long
-    ∙ ap (λ short. option_map_or (λ flags. bundle_fault s.rules s.args_override_self flags h) short []) plain.short
+    ∙ ap
+    (λ short. option_map_or (λ flags. bundle_fault s.rules s.args_override_self flags h) short [])
+    plain.short
 
 -- the walk takes the word as a value
 pub plain_walked : (rules : List Rule) (h : Held) (waiting : Waiting) (position : ℕ) (word : Text)
     → IsPlainWord word → subcommand_met [] waiting word ≡ None
     → walked rules [] (at h waiting position) word
-    ≡ after_step rules word (at h waiting position) (plain_word rules waiting word h).0 (plain_word rules waiting word h).1
+    ≡ after_step rules word (at h waiting position) (plain_word rules waiting word h).0
+    (plain_word rules waiting word h).1
 unfolding walked
 plain_walked rules h waiting position word plain none =
-    ap (λ met. after_step rules word (at h waiting position) met.0 met.1) (plain_met rules waiting position word h plain none)
+    ap (λ met. after_step rules word (at h waiting position) met.0 met.1)
+    (plain_met rules waiting position word h plain none)
 
 -- and its fault is that of a value
-pub plain_walk_fault : (s : Shape) (h : Held) (waiting : Waiting) (position : ℕ) (word : Text) (rest : List Text)
+pub plain_walk_fault : (s : Shape) (h : Held) (waiting : Waiting) (position : ℕ) (word : Text)
+    (rest : List Text)
     → IsPlainWord word → subcommand_met [] waiting word ≡ None
     → walk_fault s [] (at h waiting position) (word ∷ rest)
-    ≡ or_else (step_fault s position (plain_word s.rules waiting word h).0 (plain_word s.rules waiting word h).1)
+    ≡ or_else
+    (step_fault s position (plain_word s.rules waiting word h).0
+    (plain_word s.rules waiting word h).1)
     (walk_fault s [] (after_step s.rules word (at h waiting position)
     (plain_word s.rules waiting word h).0 (plain_word s.rules waiting word h).1) rest)
 unfolding walk_fault
 plain_walk_fault s h waiting position word rest plain none = ap₂ or_else
     (ap₂ (λ fault met. or_else fault (step_fault s position met.0 met.1))
-    (plain_fault s waiting word h plain none) (plain_met s.rules waiting position word h plain none))
-    (ap (λ after. walk_fault s [] after rest) (plain_walked s.rules h waiting position word plain none))
+    (plain_fault s waiting word h plain none)
+    (plain_met s.rules waiting position word h plain none))
+    (ap (λ after. walk_fault s [] after rest)
+    (plain_walked s.rules h waiting position word plain none))
 
+-- a word that begins with another byte than a dash is no option
 not_dash : (x : ℕ) (xs : List ℕ) → (x == 45) ≡ false → IsPlainWord (x ∷ xs)
 not_dash x xs not_45 = record {
   dashes = rw not_45 refl;

@@ -11,7 +11,8 @@ use Rattle.clear_words.specs.Tasks.{uses_of}
 use Rattle.clear_words.specs.declared.task.Task.{Task}
 
 -- words that the command takes ask for the job in what it finds
-pub job_of-taken : (words : List Text) (rows : List Row) → is_taken words ≡ true → rows ≡ matches_of command words
+pub job_of-taken : (words : List Text) (rows : List Row) → is_taken words ≡ true
+    → rows ≡ matches_of command words
     → job_of words ≡ job_in rows
 unfolding job_of
 job_of-taken words rows taken is = rw (taken, is) refl
@@ -22,21 +23,25 @@ unfolding job_of
 job_of-refused words refused = rw refused refl
 
 -- by whether each option is as the task wants it
-by_test : (rows : List Row) (t : Task) (is : Bool) → task_in rows ≡ Some t → is ≡ list_all (is_well (uses_of t) rows) all_options
+by_test : (rows : List Row) (t : Task) (is : Bool) → task_in rows ≡ Some t
+    → is ≡ list_all (is_well (uses_of t) rows) all_options
     → job_in rows ≡ (if is then Some (job_on rows t) else None)
 by_test rows t is found tells =
-    ap (option_and_then (job_for rows)) found ∙ ap (λ b. if b then Some (job_on rows t) else None) (sym tells)
+    ap (option_and_then (job_for rows)) found
+    ∙ ap (λ b. if b then Some (job_on rows t) else None) (sym tells)
 
 -- no task, no job
 pub job_in-no_task : (rows : List Row) → task_in rows ≡ None → job_in rows ≡ None
 job_in-no_task rows none = ap (option_and_then (job_for rows)) none
 
 -- nor where an option is not as the task wants it
-pub job_in-unwell : (rows : List Row) (t : Task) → task_in rows ≡ Some t → false ≡ list_all (is_well (uses_of t) rows) all_options
+pub job_in-unwell : (rows : List Row) (t : Task) → task_in rows ≡ Some t
+    → false ≡ list_all (is_well (uses_of t) rows) all_options
     → job_in rows ≡ None
 job_in-unwell rows t found tells = by_test rows t false found tells
 
 -- and otherwise that of the task
-pub job_in-well : (rows : List Row) (t : Task) → task_in rows ≡ Some t → true ≡ list_all (is_well (uses_of t) rows) all_options
+pub job_in-well : (rows : List Row) (t : Task) → task_in rows ≡ Some t
+    → true ≡ list_all (is_well (uses_of t) rows) all_options
     → job_in rows ≡ Some (job_on rows t)
 job_in-well rows t found tells = by_test rows t true found tells

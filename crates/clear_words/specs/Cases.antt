@@ -6,10 +6,11 @@ use Rattle.clap.specs.Faults.{defaults_fault, flags_fault, walk_fault}
 use Rattle.clap.specs.Walk.{bundle_met, walked}
 use Rattle.net_check.specs.Field.{number_after}
 use Rattle.clear_words.specs.Command.{command}
-use Rattle.clear_words.specs.Job.{job_of, on_both_files}
-use Rattle.clear_words.specs.Options.{fits}
+use Rattle.clear_words.specs.Job.{bare, job_of, on_both_files}
+use Rattle.clear_words.specs.Options.{fits, kind_of}
 use Rattle.clear_words.specs.declared.job.Job.{Job}
-use Rattle.clear_words.specs.declared.option.Kind.TheVariants.{Number}
+use Rattle.clear_words.specs.declared.option.JobOption.TheVariants as option
+use Rattle.clear_words.specs.declared.show.Show.TheVariants as show
 use Rattle.clear_words.specs.declared.task.Task.{Task}
 use Rattle.clear_words.specs.declared.task.Task.TheVariants as task
 
@@ -41,9 +42,108 @@ pub central_is_job : job_of (with_files (codes "central") []) ≡ Some (on_files
 unfolding on_words
 central_is_job = refl
 
+pub defaults_is_job : job_of (with_files (codes "defaults") []) ≡ Some (on_files task.Defaults)
+unfolding on_words
+defaults_is_job = refl
+
+pub stress_is_job :
+    job_of (with_files (codes "stress") (codes "--scenarios" ∷ codes "s.toml" ∷ []))
+    ≡ Some (record (on_files task.Stress) { third = codes "s.toml" })
+unfolding on_words
+stress_is_job = refl
+
+pub replay_is_job :
+    job_of (with_files (codes "replay") (codes "--journal" ∷ codes "j.csv" ∷ []))
+    ≡ Some (record (on_files task.Replay) { third = codes "j.csv" })
+unfolding on_words
+replay_is_job = refl
+
+pub gen_is_job :
+    job_of (codes "gen" ∷ codes "--seed=7" ∷ codes "--size=3" ∷ codes "--tries=5" ∷ [])
+    ≡ Some (record (bare task.Gen) { seed = 7; size = 3; tries = 5 })
+unfolding on_words
+gen_is_job = refl
+
 pub convert_is_job : job_of (with_files (codes "convert") []) ≡ Some (on_files task.Convert)
 unfolding on_words
 convert_is_job = refl
+
+pub bounds_is_job : job_of (with_files (codes "bounds") []) ≡ Some (on_files task.Bounds)
+unfolding on_words
+bounds_is_job = refl
+
+pub rescue_is_job :
+    job_of (with_files (codes "rescue") (codes "--bank" ∷ codes "A" ∷ []))
+    ≡ Some (record (on_files task.Rescue) { bank = codes "A" })
+unfolding on_words
+rescue_is_job = refl
+
+pub compress_is_job : job_of (with_files (codes "compress") []) ≡ Some (on_files task.Compress)
+unfolding on_words
+compress_is_job = refl
+
+pub costs_is_job :
+    job_of (with_files (codes "costs") (codes "--keep" ∷ codes "500" ∷ []))
+    ≡ Some (record (on_files task.Costs) { keep = 500 })
+unfolding on_words
+costs_is_job = refl
+
+-- what a task allows besides
+pub clear_with_all_is_job :
+    job_of (with_files (codes "clear")
+    (codes "--workers=64" ∷ codes "--sweeps" ∷ codes "0003" ∷ codes "--show" ∷ codes "both" ∷ []))
+    ≡ Some (record (on_files task.Clear) { workers = 64; sweeps = 3; show = show.Both })
+unfolding on_words
+clear_with_all_is_job = refl
+
+pub gen_on_workers_is_job :
+    job_of (codes "gen" ∷ codes "--seed=7" ∷ codes "--size=3" ∷ codes "--tries=0"
+    ∷ codes "--workers=2" ∷ [])
+    ≡ Some (record (bare task.Gen) { seed = 7; size = 3; workers = 2 })
+unfolding on_words
+gen_on_workers_is_job = refl
+
+-- what it neither requires nor allows
+pub check_on_workers_is_none : job_of (with_files (codes "check") (codes "--workers=2" ∷ [])) ≡ None
+unfolding on_words
+check_on_workers_is_none = refl
+
+pub central_in_sweeps_is_none : job_of (with_files (codes "central") (codes "--sweeps=2" ∷ []))
+    ≡ None
+unfolding on_words
+central_in_sweeps_is_none = refl
+
+pub defaults_shown_is_none : job_of (with_files (codes "defaults") (codes "--show=both" ∷ []))
+    ≡ None
+unfolding on_words
+defaults_shown_is_none = refl
+
+pub gen_on_files_is_none :
+    job_of (with_files (codes "gen") (codes "--seed=7" ∷ codes "--size=3" ∷ codes "--tries=5" ∷ []))
+    ≡ None
+unfolding on_words
+gen_on_files_is_none = refl
+
+-- what it requires and does not find
+pub stress_alone_is_none : job_of (with_files (codes "stress") []) ≡ None
+unfolding on_words
+stress_alone_is_none = refl
+
+pub replay_of_scenarios_is_none : job_of (with_files (codes "replay") (codes "--scenarios=s" ∷ []))
+    ≡ None
+unfolding on_words
+replay_of_scenarios_is_none = refl
+
+pub gen_of_no_bank_is_none :
+    job_of (codes "gen" ∷ codes "--seed=7" ∷ codes "--size=0" ∷ codes "--tries=5" ∷ [])
+    ≡ None
+unfolding on_words
+gen_of_no_bank_is_none = refl
+
+pub too_many_workers_is_none : job_of (with_files (codes "clear") (codes "--workers=65" ∷ []))
+    ≡ None
+unfolding on_words
+too_many_workers_is_none = refl
 
 -- the options may stand in any order, before the task too, and with their values in one word
 pub options_first_is_job :
@@ -120,26 +220,56 @@ unfolding on_words
 version_is_none = refl
 
 -- numbers, at the ends of a range and past them, and with all the digits that a number may have
-pub most_fits : fits (Number 1 64) (codes "64") ≡ true
+pub most_fits : fits (kind_of option.Workers) (codes "64") ≡ true
 unfolding on_words
 most_fits = refl
 
-pub one_too_many_does_not_fit : fits (Number 1 64) (codes "65") ≡ false
+pub one_too_many_does_not_fit : fits (kind_of option.Workers) (codes "65") ≡ false
 unfolding on_words
 one_too_many_does_not_fit = refl
 
-pub one_too_few_does_not_fit : fits (Number 1 64) (codes "0") ≡ false
+pub one_too_few_does_not_fit : fits (kind_of option.Workers) (codes "0") ≡ false
 unfolding on_words
 one_too_few_does_not_fit = refl
 
-pub twenty_digits_fit : fits (Number 1 64) (codes "00000000000000000064") ≡ true
+pub twenty_digits_fit : fits (kind_of option.Workers) (codes "00000000000000000064") ≡ true
 unfolding on_words
 twenty_digits_fit = refl
 
-pub twenty_one_digits_do_not_fit : fits (Number 1 64) (codes "000000000000000000064") ≡ false
+pub twenty_one_digits_do_not_fit : fits (kind_of option.Workers) (codes "000000000000000000064")
+    ≡ false
 unfolding on_words
 twenty_one_digits_do_not_fit = refl
 
-pub sign_does_not_fit : fits (Number 1 64) (codes "+5") ≡ false
+pub sign_does_not_fit : fits (kind_of option.Keep) (codes "+5") ≡ false
 unfolding on_words
 sign_does_not_fit = refl
+
+pub no_digits_do_not_fit : fits (kind_of option.Keep) (codes "") ≡ false
+unfolding on_words
+no_digits_do_not_fit = refl
+
+pub greatest_seed_fits : fits (kind_of option.Seed) (codes "18446744073709551615") ≡ true
+unfolding on_words
+greatest_seed_fits = refl
+
+pub greater_seed_does_not_fit : fits (kind_of option.Seed) (codes "18446744073709551616") ≡ false
+unfolding on_words
+greater_seed_does_not_fit = refl
+
+-- words for what is shown, and names of banks
+pub other_show_does_not_fit : fits (kind_of option.Show) (codes "Both") ≡ false
+unfolding on_words
+other_show_does_not_fit = refl
+
+pub bank_fits : fits (kind_of option.Bank) (codes "A B") ≡ true
+unfolding on_words
+bank_fits = refl
+
+pub bank_with_comma_does_not_fit : fits (kind_of option.Bank) (codes "A,B") ≡ false
+unfolding on_words
+bank_with_comma_does_not_fit = refl
+
+pub bank_with_dash_does_not_fit : fits (kind_of option.Bank) (codes "-A") ≡ false
+unfolding on_words
+bank_with_dash_does_not_fit = refl

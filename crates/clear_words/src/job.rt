@@ -1,23 +1,27 @@
 ghost use Rattle.clap.specs.Words.{first_of, found_of, matches_of, rows_of};
 ghost use Rattle.clear_words.specs.Command.{command as the_command, is_taken};
-ghost use Rattle.clear_words.specs.Job.{is_welcome, is_well, job_of, job_on, task_in, text_in};
-ghost use Rattle.clear_words.specs.Job.{the_words};
-ghost use Rattle.clear_words.specs.Options.{all_options};
+ghost use Rattle.clear_words.specs.Job.{is_welcome, is_well, job_of, job_on, number_of, number_or};
+ghost use Rattle.clear_words.specs.Job.{show_in, task_in, text_in, the_words, third_in};
+ghost use Rattle.clear_words.specs.Limits.{IsJob};
+ghost use Rattle.clear_words.specs.Options.{all_options, greatest, kind_of};
 ghost use Rattle.std.specs.List.{list_all};
 ghost use Rattle.std.specs.Option.{option_map};
-ghost use Rattle.std.specs.Prelude.{◌≡◌, IfOk, IsErrOf, None, Some, codes, false, option_and_then};
-ghost use Rattle.std.specs.Prelude.{true};
+ghost use Rattle.std.specs.Prelude.{◌≡◌, ◌≤◌, IfOk, IsErrOf, None, Some, codes, false, max};
+ghost use Rattle.std.specs.Prelude.{option_and_then, true};
 
 use crate::command::{TASK, command};
 use crate::fault::WordsFault;
 use crate::file_name::FileName;
-use crate::option::{JobOption, Kind, OPTIONS};
+use crate::option::{JobOption, Kind, OPTIONS, number_within};
+use crate::show::Show;
 use crate::task::{Task, Use, Uses};
 use clap::ArgMatches;
 use clr_net::Mem;
 use std::alloc::Global;
 
 /// What the program is to do, and what to do it on.
+///
+/// A number that the task does not use is 0, but for the workers and the sweeps.
 #[derive(Drop)]
 pub struct Job {
     /// The task.
@@ -26,6 +30,24 @@ pub struct Job {
     pub banks: FileName,
     /// The name of the debts file, empty where the task has none.
     pub debts: FileName,
+    /// The name of the third file, the scenarios or the journal, empty where the task has none.
+    pub third: FileName,
+    /// The name of the bank that is to be saved, empty where the task has none.
+    pub bank: FileName,
+    /// How many workers carry the task out, 1 to 64; 4 where none are told.
+    pub workers: u32,
+    /// How many sweeps a round has, 1 to 1000; 1 where none are told.
+    pub sweeps: u32,
+    /// What is shown of the clearing; the payments where nothing is told.
+    pub show: Show,
+    /// The seed of the network to be generated.
+    pub seed: u64,
+    /// How many banks are to be generated, 1 to 1000.
+    pub size: u32,
+    /// How often a debt is to be drawn, at most 20000 times.
+    pub tries: u32,
+    /// What is kept of an estate at a default, in thousandths, at most 1000.
+    pub keep: u32,
 }
 
 /// Reads the words after the program's name.
@@ -34,6 +56,7 @@ pub struct Job {
 pub fn read_words(alloc: Global, words: &[&str]) -> Result<Job, WordsFault>
     ensures job { IfOk result (λ job. job_of (the_words words.now) ≡ Some job) }
     ensures usage { IsErrOf result WordsFault.Usage → job_of (the_words words.now) ≡ None }
+    ensures limits { IfOk result IsJob }
 {
     let matches = matches_in(alloc, words)?;
     let task = task_in(&matches).ok_or(WordsFault::Usage)?;
@@ -85,7 +108,7 @@ fn all_well(matches: &ArgMatches, uses: Uses) -> bool
 }
 
 // Whether a value is as a task wants it.
-pub(crate) fn is_welcome(wanted: Use, kind: Kind, value: Option<&str>) -> bool
+fn is_welcome(wanted: Use, kind: Kind, value: Option<&str>) -> bool
     ensures { result ≡ is_welcome wanted kind (option_map (λ text. text.now) value.entry) }
 {
     match value {
@@ -102,6 +125,15 @@ fn job_from(alloc: Global, matches: &ArgMatches, task: Task) -> Result<Job, Mem>
         task,
         banks: FileName::of(alloc, text_of(matches, JobOption::Banks))?,
         debts: FileName::of(alloc, text_of(matches, JobOption::Debts))?,
+        third: FileName::of(alloc, third_of(matches))?,
+        bank: FileName::of(alloc, text_of(matches, JobOption::Bank))?,
+        workers: number_from(matches, JobOption::Workers, 4) as u32,
+        sweeps: number_from(matches, JobOption::Sweeps, 1) as u32,
+        show: show_of(matches),
+        seed: number_from(matches, JobOption::Seed, 0),
+        size: number_from(matches, JobOption::Size, 0) as u32,
+        tries: number_from(matches, JobOption::Tries, 0) as u32,
+        keep: number_from(matches, JobOption::Keep, 0) as u32,
     })
 }
 
@@ -110,4 +142,45 @@ fn text_of<'a>(matches: &ArgMatches<'a>, option: JobOption) -> &'a str
     ensures { result.now ≡ text_in (rows_of (found_of matches.now)) option }
 {
     value(matches, option.name()).unwrap_or("")
+}
+
+// The name of the third file: the scenarios or the journal.
+fn third_of<'a>(matches: &ArgMatches<'a>) -> &'a str
+    ensures { result.now ≡ third_in (rows_of (found_of matches.now)) }
+{
+    match value(matches, JobOption::Scenarios.name()) {
+        Some(name) => name,
+        None => text_of(matches, JobOption::Journal),
+    }
+}
+
+// The number that an option gives, or the other one without it.
+fn number_from(matches: &ArgMatches, option: JobOption, otherwise: u64) -> u64
+    ensures number { result ≡ number_or otherwise (rows_of (found_of matches.now)) option }
+    ensures in_range { result ≤ max otherwise (greatest (kind_of option)) }
+{
+    match value(matches, option.name()) {
+        Some(text) => number_as(option.kind(), text).unwrap_or(otherwise),
+        None => otherwise,
+    }
+}
+
+// The number in a value of this kind.
+fn number_as(kind: Kind, text: &str) -> Option<u64>
+    ensures { result ≡ number_of kind text.now }
+{
+    match kind {
+        Kind::Number { least, most } => number_within(least, most, text),
+        _ => None,
+    }
+}
+
+// What is shown, the payments without the option.
+fn show_of(matches: &ArgMatches) -> Show
+    ensures { result ≡ show_in (rows_of (found_of matches.now)) }
+{
+    match value(matches, JobOption::Show.name()) {
+        Some(word) => Show::named(word).unwrap_or(Show::Payments),
+        None => Show::Payments,
+    }
 }

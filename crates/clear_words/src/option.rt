@@ -3,6 +3,8 @@ ghost use Rattle.clear_words.specs.Options.{fits, kind_of, name_of, number_betwe
 ghost use Rattle.std.specs.Prelude.{◌≡◌};
 
 use crate::file_name::may_name_file;
+use crate::show::Show;
+use clr_net::Name;
 use net_check::number;
 
 // The options of the command line.
@@ -10,6 +12,16 @@ use net_check::number;
 pub(crate) enum JobOption {
     Banks,
     Debts,
+    Scenarios,
+    Journal,
+    Bank,
+    Workers,
+    Sweeps,
+    Show,
+    Seed,
+    Size,
+    Tries,
+    Keep,
 }
 
 // What the value of an option must be.
@@ -19,10 +31,27 @@ pub(crate) enum Kind {
     File,
     // A number in a range.
     Number { least: u64, most: u64 },
+    // A word that says what is shown.
+    Show,
+    // The name of a bank.
+    Bank,
 }
 
 // Every option, in the order in which the command has them.
-pub(crate) const OPTIONS: [JobOption; 2] = [JobOption::Banks, JobOption::Debts];
+pub(crate) const OPTIONS: [JobOption; 12] = [
+    JobOption::Banks,
+    JobOption::Debts,
+    JobOption::Scenarios,
+    JobOption::Journal,
+    JobOption::Bank,
+    JobOption::Workers,
+    JobOption::Sweeps,
+    JobOption::Show,
+    JobOption::Seed,
+    JobOption::Size,
+    JobOption::Tries,
+    JobOption::Keep,
+];
 
 impl JobOption {
     // The name of the option, without its dashes.
@@ -32,6 +61,16 @@ impl JobOption {
         match self {
             JobOption::Banks => "banks",
             JobOption::Debts => "debts",
+            JobOption::Scenarios => "scenarios",
+            JobOption::Journal => "journal",
+            JobOption::Bank => "bank",
+            JobOption::Workers => "workers",
+            JobOption::Sweeps => "sweeps",
+            JobOption::Show => "show",
+            JobOption::Seed => "seed",
+            JobOption::Size => "size",
+            JobOption::Tries => "tries",
+            JobOption::Keep => "keep",
         }
     }
 
@@ -42,6 +81,31 @@ impl JobOption {
         match self {
             JobOption::Banks => Kind::File,
             JobOption::Debts => Kind::File,
+            JobOption::Scenarios => Kind::File,
+            JobOption::Journal => Kind::File,
+            JobOption::Bank => Kind::Bank,
+            JobOption::Workers => Kind::Number { least: 1, most: 64 },
+            JobOption::Sweeps => Kind::Number {
+                least: 1,
+                most: 1000,
+            },
+            JobOption::Show => Kind::Show,
+            JobOption::Seed => Kind::Number {
+                least: 0,
+                most: 18446744073709551615,
+            },
+            JobOption::Size => Kind::Number {
+                least: 1,
+                most: 1000,
+            },
+            JobOption::Tries => Kind::Number {
+                least: 0,
+                most: 20000,
+            },
+            JobOption::Keep => Kind::Number {
+                least: 0,
+                most: 1000,
+            },
         }
     }
 }
@@ -54,6 +118,8 @@ impl Kind {
         match self {
             Kind::File => may_name_file(text),
             Kind::Number { least, most } => number_within(least, most, text).is_some(),
+            Kind::Show => Show::named(text).is_some(),
+            Kind::Bank => Name::accepts(text.as_bytes()) && may_name_file(text),
         }
     }
 }

@@ -1,5 +1,6 @@
 //! The table of tasks: the word of each, and the options that it requires or allows.
-ghost use Rattle.clear_words.specs.Tasks.{both_files, nothing, task_named, use_in, uses_of};
+ghost use Rattle.clear_words.specs.Tasks.{both_files, nothing, on_workers, task_named, use_in};
+ghost use Rattle.clear_words.specs.Tasks.{uses_of};
 ghost use Rattle.std.specs.Prelude.{◌≡◌};
 
 use crate::option::JobOption;
@@ -13,8 +14,24 @@ pub enum Task {
     Clear,
     /// To clear the network centrally, on one thread.
     Central,
+    /// To clear the network, and tell how each bank stands and who defaults.
+    Defaults,
+    /// To clear the network under each scenario of a file.
+    Stress,
+    /// To judge a journal.
+    Replay,
+    /// To generate a network and clear it.
+    Gen,
     /// To print the banks in the second form of their file.
     Convert,
+    /// To tell the least and the greatest clearing payments.
+    Bounds,
+    /// To tell the least sum that saves a bank.
+    Rescue,
+    /// To cancel the debts that run round a cycle.
+    Compress,
+    /// To clear the network where a default has costs (Rogers and Veraart 2013).
+    Costs,
 }
 
 // What a task makes of an option.
@@ -30,6 +47,16 @@ pub(crate) enum Use {
 pub(crate) struct Uses {
     banks: Use,
     debts: Use,
+    scenarios: Use,
+    journal: Use,
+    bank: Use,
+    workers: Use,
+    sweeps: Use,
+    show: Use,
+    seed: Use,
+    size: Use,
+    tries: Use,
+    keep: Use,
 }
 
 impl Uses {
@@ -40,6 +67,16 @@ impl Uses {
         Uses {
             banks: Use::Refused,
             debts: Use::Refused,
+            scenarios: Use::Refused,
+            journal: Use::Refused,
+            bank: Use::Refused,
+            workers: Use::Refused,
+            sweeps: Use::Refused,
+            show: Use::Refused,
+            seed: Use::Refused,
+            size: Use::Refused,
+            tries: Use::Refused,
+            keep: Use::Refused,
         }
     }
 
@@ -54,6 +91,17 @@ impl Uses {
         }
     }
 
+    // These options, for a task that a number of workers carries out.
+    fn on_workers(self) -> Uses
+        ensures { result ≡ on_workers self }
+    {
+        Uses {
+            workers: Use::Allowed,
+            sweeps: Use::Allowed,
+            ..self
+        }
+    }
+
     // What the task makes of an option.
     pub(crate) fn of(self, option: JobOption) -> Use
         ensures { result ≡ use_in self option }
@@ -61,6 +109,16 @@ impl Uses {
         match option {
             JobOption::Banks => self.banks,
             JobOption::Debts => self.debts,
+            JobOption::Scenarios => self.scenarios,
+            JobOption::Journal => self.journal,
+            JobOption::Bank => self.bank,
+            JobOption::Workers => self.workers,
+            JobOption::Sweeps => self.sweeps,
+            JobOption::Show => self.show,
+            JobOption::Seed => self.seed,
+            JobOption::Size => self.size,
+            JobOption::Tries => self.tries,
+            JobOption::Keep => self.keep,
         }
     }
 }
@@ -74,7 +132,15 @@ impl Task {
             "check" => Some(Task::Check),
             "clear" => Some(Task::Clear),
             "central" => Some(Task::Central),
+            "defaults" => Some(Task::Defaults),
+            "stress" => Some(Task::Stress),
+            "replay" => Some(Task::Replay),
+            "gen" => Some(Task::Gen),
             "convert" => Some(Task::Convert),
+            "bounds" => Some(Task::Bounds),
+            "rescue" => Some(Task::Rescue),
+            "compress" => Some(Task::Compress),
+            "costs" => Some(Task::Costs),
             _ => None,
         }
     }
@@ -86,9 +152,37 @@ impl Task {
         let both_files = Uses::both_files();
         match self {
             Task::Check => both_files,
-            Task::Clear => both_files,
+            Task::Clear => Uses {
+                show: Use::Allowed,
+                ..both_files.on_workers()
+            },
             Task::Central => both_files,
+            Task::Defaults => both_files.on_workers(),
+            Task::Stress => Uses {
+                scenarios: Use::Required,
+                ..both_files.on_workers()
+            },
+            Task::Replay => Uses {
+                journal: Use::Required,
+                ..both_files
+            },
+            Task::Gen => Uses {
+                seed: Use::Required,
+                size: Use::Required,
+                tries: Use::Required,
+                ..Uses::nothing().on_workers()
+            },
             Task::Convert => both_files,
+            Task::Bounds => both_files.on_workers(),
+            Task::Rescue => Uses {
+                bank: Use::Required,
+                ..both_files.on_workers()
+            },
+            Task::Compress => both_files,
+            Task::Costs => Uses {
+                keep: Use::Required,
+                ..both_files
+            },
         }
     }
 }

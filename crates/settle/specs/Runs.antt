@@ -1,14 +1,34 @@
 -- What a whole run comes to.
-use Rattle.std.specs.Prelude.{◌≡◌, ℕ, ◌+◌, ◌*◌, ◌≤◌, length}
+use Rattle.std.specs.Prelude.{◌≡◌, ℕ, ◌+◌, ◌*◌, ◌≤◌, ◌++◌, List, length}
+use Rattle.clear_core.specs.declared.event.Raise.{Raise}
 use Rattle.clr_net.specs.Net.{Net, units_owed}
+use Rattle.pay_words.specs.Belongs.{Belongs}
 use Rattle.pay_words.specs.Sealed.{Sealed}
+use Rattle.pay_words.specs.Traces.{start_of}
+use Rattle.settle.specs.Drives.{InBounds}
 use Rattle.settle.specs.declared.plan.Plan.{Plan}
+
+-- a run on the network can go on from these raises: they belong to it, with what they leave on each
+-- debt
+abbrev pub CanGoOn : Net → List Raise → Type 0
+CanGoOn net raises = Belongs net (start_of net raises) raises
 
 -- the record is of this network and plan: as many raises were made on the board as its journal has,
 -- and as many seats were handed out as rounds times workers
 pub record IsRecordOf (net : Net) (plan : Plan) (rounds : ℕ) (r : Sealed) : Type 0 where
   pub net_is : r.net ≡ net
   pub made : r.made ≡ length r.journal
+  pub workers : r.workers ≡ plan.workers
+  pub seats : r.seats ≡ rounds * plan.workers
+
+-- the same, of a run that went on from a past: its journal begins with the past, and after it stand
+-- as many raises as were made on the board
+pub record IsRecordAfter (net : Net) (past : List Raise) (plan : Plan) (rounds : ℕ) (r : Sealed)
+    : Type 0 where
+  pub net_is : r.net ≡ net
+  pub raises : List Raise
+  pub journal_is : r.journal ≡ past ++ raises
+  pub made : r.made ≡ length raises
   pub workers : r.workers ≡ plan.workers
   pub seats : r.seats ≡ rounds * plan.workers
 
@@ -19,3 +39,11 @@ pub record IsWithin (net : Net) (plan : Plan) (rounds visits raises : ℕ) : Typ
   pub few_rounds : rounds ≤ units_owed net + 1
   pub visits_by_sweeps : visits ≤ rounds * (plan.sweeps * length net.banks)
   pub visits_by_bells : visits ≤ length net.banks + raises
+
+-- the same, of a run that went on from a past: at most one round for each unit that the past left
+-- unpaid, and one more, and at most as many visits as banks and raises after the past
+pub record IsWithinAfter (net : Net) (past : List Raise) (plan : Plan) (rounds visits made : ℕ)
+    : Type 0 where
+  pub rounds_in_bounds : InBounds net past rounds
+  pub visits_by_sweeps : visits ≤ rounds * (plan.sweeps * length net.banks)
+  pub visits_by_bells : visits ≤ length net.banks + made

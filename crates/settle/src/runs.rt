@@ -1,17 +1,20 @@
 ghost use Rattle.clear_core.specs.Clearing.{least};
 ghost use Rattle.clear_core.specs.History.{IsTraced, Stands, ordered, replayed};
-ghost use Rattle.clr_net.specs.Net.{units_owed};
 ghost use Rattle.pay_words.specs.Ends.{values};
+ghost use Rattle.pay_words.specs.Traces.{start_of};
 ghost use Rattle.pay_words.specs.Words.{unpaid as unpaid_word};
+ghost use Rattle.raise_journal.specs.Verdicts.{judged};
 ghost use Rattle.settle.specs.Drives.{IsPlan};
-ghost use Rattle.settle.specs.Runs.{IsRecordOf, IsWithin};
-ghost use Rattle.std.specs.Prelude.{◌≡◌, ◌≤◌, All, IfOk, length, replicate, sum};
+ghost use Rattle.settle.specs.Runs.{CanGoOn, IsRecordAfter, IsRecordOf, IsWithin, IsWithinAfter};
+ghost use Rattle.std.specs.Prelude.{◌≡◌, ◌<◌, ◌≤◌, All, IfOk, length, replicate, sum};
 
 use crate::drives::drive;
 use crate::plan::{Driven, Plan};
+use clear_core::Raise;
 use clr_edge::Gate;
-use clr_net::{Amounts, Mem, Network};
+use clr_net::{Amounts, MAX_BANKS, Mem, Network};
 use pay_words::{Board, Payment, Record};
+use raise_journal::Verdict;
 use std::alloc::Global;
 use std::thread::Threads;
 
@@ -36,23 +39,57 @@ pub fn settle<R: Threads + Sync, G: Gate + Sync>(
 ) -> Result<Settled, Mem>
     requires plan { IsPlan plan }
     ensures paid { IfOk result (λ s. s.paid ≡ least net.now) }
+    ensures verdict { IfOk result (λ s.
+        (judged net.now s.sealed.journal).verdict ≡ Verdict.Lawful) }
     ensures lawful { IfOk result (λ s. Stands net.now s.sealed.journal
         × IsTraced net.now s.sealed.journal) }
     ensures replays { IfOk result (λ s. replayed net.now s.sealed.journal ≡ s.paid) }
     ensures in_order { IfOk result (λ s. ordered s.sealed.journal ≡ s.sealed.journal) }
     ensures low_stamps { IfOk result (λ s. All (λ r. r.stamp ≤ sum s.paid) s.sealed.journal) }
+    ensures can_go_on { IfOk result (λ s. CanGoOn net.now s.sealed.journal) }
     ensures record_is { IfOk result (λ s. IsRecordOf net.now plan s.rounds s.sealed) }
     ensures bounds { IfOk result (λ s.
         IsWithin net.now plan s.rounds s.visits (length s.sealed.journal)) }
 {
-    let mut payments = unpaid(alloc, net.debts() as usize)?;
+    settle_from(rt, alloc, net, plan, &[], gate)
+}
+
+/// Clears a network as [`settle`] does, from what the raises of a past left on its debts: those of
+/// an earlier run on this network, or on one whose banks had less. Its journal begins with the past.
+/// `Mem` is want of memory.
+pub fn settle_from<R: Threads + Sync, G: Gate + Sync>(
+    rt: &R,
+    alloc: Global,
+    net: &Network,
+    plan: Plan,
+    past: &[Raise],
+    gate: &G,
+) -> Result<Settled, Mem>
+    requires plan { IsPlan plan }
+    requires past { CanGoOn net.now past.now }
+    ensures paid { IfOk result (λ s. s.paid ≡ least net.now) }
+    ensures verdict { IfOk result (λ s.
+        (judged net.now s.sealed.journal).verdict ≡ Verdict.Lawful) }
+    ensures lawful { IfOk result (λ s. Stands net.now s.sealed.journal
+        × IsTraced net.now s.sealed.journal) }
+    ensures replays { IfOk result (λ s. replayed net.now s.sealed.journal ≡ s.paid) }
+    ensures in_order { IfOk result (λ s. ordered s.sealed.journal ≡ s.sealed.journal) }
+    ensures low_stamps { IfOk result (λ s. All (λ r. r.stamp ≤ sum s.paid) s.sealed.journal) }
+    ensures can_go_on { IfOk result (λ s. CanGoOn net.now s.sealed.journal) }
+    ensures record_is { IfOk result (λ s.
+        IsRecordAfter net.now past.now plan s.rounds s.sealed) }
+    ensures bounds { IfOk result (λ s.
+        IsWithinAfter net.now past.now plan s.rounds s.visits s.sealed.made) }
+{
+    prove!(net.banks() <= MAX_BANKS);
+    let mut payments = payments_after(alloc, net, past)?;
     let copy = net.copy(alloc)?;
-    let (board, mut master) = Board::make(alloc, net, plan.workers, payments.as_slice(), &[])?;
+    let (board, mut master) = Board::make(alloc, net, plan.workers, payments.as_slice(), past)?;
     let Driven {
         journal,
         rounds,
         visits,
-    } = drive(rt, alloc, net, plan, &[], &board, &mut master, gate)?;
+    } = drive(rt, alloc, net, plan, past, &board, &mut master, gate)?;
     let sealed = board.seal(master, payments.as_mut_slice(), copy, journal);
     let paid = values_of(alloc, payments.as_slice())?;
     Ok(Settled {
@@ -61,6 +98,21 @@ pub fn settle<R: Threads + Sync, G: Gate + Sync>(
         rounds,
         visits,
     })
+}
+
+// What the raises of a past left on each debt.
+fn payments_after(alloc: Global, net: &Network, past: &[Raise]) -> Result<Vec<Payment>, Mem>
+    requires { All (λ r. r.debt.0 < length net.now.debts) past.now }
+    ensures { IfOk result (λ ps. ps.items ≡ start_of net.now past.now) }
+{
+    let mut payments = unpaid(alloc, net.debts() as usize)?;
+    for raise in past {
+        payments[raise.debt.0 as usize] = Payment {
+            value: raise.to,
+            stamp: raise.stamp,
+        };
+    }
+    Ok(payments)
 }
 
 // As many payments of nothing.

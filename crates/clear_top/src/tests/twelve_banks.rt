@@ -1,5 +1,6 @@
-//! The files of twelve banks that divide by all six rules, over three classes, and their least clearing payments. Dunmore
-//! and Isar cannot pay their debts even if all are paid to them in full; Birk and Elbe default through their debtors.
+//! The files of twelve banks that divide by all six rules, over three classes, their least clearing
+//! payments, and how the banks stand then. Dunmore and Isar cannot pay their debts even if all are
+//! paid to them in full; Birk and Elbe default through their debtors.
 
 pub const BANKS: &str = "\
 name,cash,rule\n\
@@ -103,4 +104,22 @@ Kemi,Crédit Loire,3,50000,50000\n\
 Crédit Loire,Alster,1,70000,70000\n\
 Crédit Loire,Fjord,2,30000,30000\n\
 Crédit Loire,Havel,3,50000,50000\n\
+";
+
+pub const DEFAULTS: &str = "\
+bank,estate,paid,owed,equity,state\n\
+Alster,2566666,150000,150000,2416666,sound\n\
+Birk,2786669,2786669,2900000,0,contagion\n\
+Calder,4070000,300000,300000,3770000,sound\n\
+Dunmore,1400001,1400001,2100000,0,fundamental\n\
+Elbe,1620001,1620001,1900000,0,contagion\n\
+Fjord,1981667,150000,150000,1831667,sound\n\
+Garda,4193334,150000,150000,4043334,sound\n\
+Havel,4170000,150000,150000,4020000,sound\n\
+Isar,1100000,1100000,1500000,0,fundamental\n\
+Jura,1040000,150000,150000,890000,sound\n\
+Kemi,2953335,150000,150000,2803335,sound\n\
+Crédit Loire,5495000,150000,150000,5345000,sound\n\
+total,33376673,8256671,9750000,25120002,4\n\
+cash,25120002\n\
 ";

@@ -13,7 +13,8 @@ pub returns-then-eq : goal.returns-then-eq
 returns-then-eq c =
     let paid = c.loop-paid.paid in
     let next = c.pay_round.new.next in
-    let same : paid ≡ next = (slice_eq-Decides Decides-eqb paid next c.eq.result c.eq.ensures).0 c.if-eq.true in
+    let same : paid ≡ next =
+    (slice_eq-Decides Decides-eqb paid next c.eq.result c.eq.ensures).0 c.if-eq.true in
     way_ends c.args.net.now paid next c.pay_round.ensures.next c.loop-paid.invariant.way same
 
 pub loop-paid-smaller : goal.loop-paid-smaller
@@ -21,13 +22,16 @@ loop-paid-smaller c =
     let paid = c.loop-paid.paid in
     let next = c.pay_round.new.next in
     let other : paid ≢ next =
-    λ same. true≢false (sym ((slice_eq-Decides Decides-eqb paid next c.eq.result c.eq.ensures).1 same) ∙ c.if-eq.false) in
-    let more = way_rises c.args.net.now paid next c.pay_round.ensures.next c.loop-paid.invariant.way other in
+    λ same.
+    let equal = (slice_eq-Decides Decides-eqb paid next c.eq.result c.eq.ensures).1 same in
+    true≢false (sym equal ∙ c.if-eq.false) in
+    let more = way_rises c.args.net.now paid next c.pay_round.ensures.next
+    c.loop-paid.invariant.way other in
     omega (arith, more.0, more.1, ap sum c.copy_from_slice.ensures.after)
 
 pub loop-paid-preserved : goal.loop-paid-preserved
 loop-paid-preserved c = record {
-  way = way_on c.args.net.now c.loop-paid.paid c.copy_from_slice.new.self (c.copy_from_slice.ensures.after ∙ c.pay_round.ensures.next)
-      c.loop-paid.invariant.way;
+  way = way_on c.args.net.now c.loop-paid.paid c.copy_from_slice.new.self
+      (c.copy_from_slice.ensures.after ∙ c.pay_round.ensures.next) c.loop-paid.invariant.way;
   room = c.pay_round.ensures.room ∙ c.loop-paid.invariant.room;
 }

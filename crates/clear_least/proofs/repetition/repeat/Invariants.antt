@@ -1,6 +1,6 @@
 use Rattle.std.proofs.Common.{◌≡◌, ◌-◌, sum}
 use Rattle.clr_net.specs.Net.{units_owed}
-use Rattle.clear_least.proofs.Rounds.{IsOnTheWay}
+use Rattle.clear_least.specs.Way.{IsOnTheWay}
 use Rattle.clear_least.proofs.repetition.repeat.Given as goal
 
 abbrev pub invariant-loop-paid : goal.invariant-loop-paid

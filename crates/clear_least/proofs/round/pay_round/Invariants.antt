@@ -5,6 +5,7 @@ use Rattle.clear_least.proofs.round.pay_round.Given as goal
 
 abbrev pub invariant-loop-number : goal.invariant-loop-number
 invariant-loop-number l = record {
-  written : (x : ℕ) → x < length l.net.debts → debtor_of l.net x < l.number → slice_index l.next x ≡ slice_index (pay l.net l.paid) x;
+  written : (x : ℕ) → x < length l.net.debts → debtor_of l.net x < l.number
+      → slice_index l.next x ≡ slice_index (pay l.net l.paid) x;
   room : l.scratch ≡ l.fn.scratch;
 }

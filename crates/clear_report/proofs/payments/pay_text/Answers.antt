@@ -4,5 +4,6 @@ use Rattle.clear_report.proofs.payments.pay_text.Goals as goal
 
 pub loop-x-preserved : goal.loop-x-preserved
 loop-x-preserved c =
-    lines_more payments_header c.loop-x.text.items c.add_payment_line.new.text.items
-    (payment_line c.args.net.now c.args.paid.now) c.loop-x.x c.loop-x.invariant c.in_ok-add_payment_line.ensures
+    lines_more payments_header c.loop-x.text.items c.push_payment.new.text.items
+    (payment_line c.args.net.now c.args.paid.now) c.loop-x.x
+    c.loop-x.invariant c.in_ok-push_payment.ensures

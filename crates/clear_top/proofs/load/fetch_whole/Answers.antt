@@ -13,7 +13,7 @@ use Rattle.net_check.specs.declared.fault.FileKind.{FileKind}
 use Rattle.net_check.specs.declared.fault.FileKind.TheVariants as file
 use Rattle.net_check.specs.declared.fault.FaultKind.TheVariants as fault
 use Rattle.clear_top.specs.Ending.{GivesWhole}
-use Rattle.clear_top.specs.Meaning.{Files, in_size}
+use Rattle.clear_top.specs.Reading.{Files, in_size}
 use Rattle.net_check.specs.Words.{file_limit}
 use Rattle.clear_top.proofs.load.fetch_whole.Goals as goal
 

@@ -12,3 +12,6 @@ returns-in-WriteFault g c = rw c.in-WriteFault.is c.put_text-in-WriteFault.ensur
 
 pub returns-in-Mem : goal.returns-in-Mem
 returns-in-Mem g c = rw c.in-Mem.is c.put_text-in-Mem.ensures
+
+pub returns-in-Unlawful : goal.returns-in-Unlawful
+returns-in-Unlawful g c = rw c.in-Unlawful.is c.put_text-in-Unlawful.ensures

@@ -11,31 +11,39 @@ use Rattle.clear_words.proofs.command.command.Goals as goal
 -- one option more is added, and one fewer is left
 next : (made : App) (i : ℕ) → i < length all_options
     → fold with_option made (drop i all_options)
-    ≡ fold with_option (with_option made (get_or all_options i option.Banks)) (drop (i + 1) all_options)
+    ≡ fold with_option (with_option made (get_or all_options i option.Banks))
+    (drop (i + 1) all_options)
 next made i l = ap (fold with_option made) (next_left all_options i option.Banks l)
 
 -- with the task alone, every option is left
-begins : (made : App) → made ≡ with_rule plain (task_argument (codes "task")) → fold with_option made all_options ≡ command
+begins : (made : App) → made ≡ with_rule plain (task_argument (codes "task"))
+    → fold with_option made all_options ≡ command
 unfolding command
 begins made is = ap (λ a. fold with_option a all_options) is
 
 pub loop-job_option-init : goal.loop-job_option-init
 loop-job_option-init c =
-    let unnamed : app_of c.no_binary_name.result ≡ on_top (λ s. record s { no_binary_name = true }) (new_app (codes "clearing")) =
-    ap app_of_fields c.no_binary_name.ensures ∙ ap (on_top (λ s. record s { no_binary_name = true })) c.new.ensures.app in
+    let unnamed : app_of c.no_binary_name.result
+    ≡ on_top (λ s. record s { no_binary_name = true }) (new_app (codes "clearing")) =
+    ap app_of_fields c.no_binary_name.ensures
+    ∙ ap (on_top (λ s. record s { no_binary_name = true })) c.new.ensures.app in
     let plain_is : app_of c.disable_help_flag.result ≡ plain =
-    ap app_of_fields c.disable_help_flag.ensures ∙ ap (on_top (λ s. record s { disable_help_flag = true })) unnamed in
+    ap app_of_fields c.disable_help_flag.ensures
+    ∙ ap (on_top (λ s. record s { disable_help_flag = true })) unnamed in
     let task_is : rule_of c.task.result ≡ task_argument (codes "task") = search rules in
-    let with_task : app_of c.in_ok-command.command ≡ with_rule plain (task_argument (codes "task")) =
+    let with_task : app_of c.in_ok-command.command
+    ≡ with_rule plain (task_argument (codes "task")) =
     c.in_ok-command.ensures.shape c.task.ensures.local ∙ ap₂ with_rule plain_is task_is in
     begins (app_of c.in_ok-command.command) with_task
 
 pub loop-job_option-preserved : goal.loop-job_option-preserved
 loop-job_option-preserved c =
     let i = c.loop-job_option.job_option-index in
-    let name_is : c.name.result.now ≡ name_of (get_or all_options i option.Banks) = c.name.ensures in
+    let name_is : c.name.result.now ≡ name_of (get_or all_options i option.Banks) =
+    c.name.ensures in
     let rule_is = c.option.ensures.rule ∙ ap option_argument name_is in
     let added = c.in_ok-command-2.ensures.shape c.option.ensures.local
     ∙ ap (with_rule (app_of c.loop-job_option.command)) rule_is in
     ap (λ a. fold with_option a (drop (i + 1) all_options)) added
-    ∙ sym (next (app_of c.loop-job_option.command) i c.loop-job_option-test.true) ∙ c.loop-job_option.invariant
+    ∙ sym (next (app_of c.loop-job_option.command) i c.loop-job_option-test.true)
+    ∙ c.loop-job_option.invariant

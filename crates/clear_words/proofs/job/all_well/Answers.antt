@@ -17,8 +17,10 @@ abbrev nth : ℕ → JobOption
 nth i = get_or all_options i option.Banks
 
 -- the test of an option, by what was computed for it
-tested : (uses : Uses) (rows : List Row) (o : JobOption) (is : Bool) (u : Use) (k : Kind) (name : Text) (v : Option Text)
-    → is ≡ is_welcome u k v → u ≡ use_in uses o → k ≡ kind_of o → v ≡ first_of name rows → name ≡ name_of o
+tested : (uses : Uses) (rows : List Row) (o : JobOption) (is : Bool) (u : Use) (k : Kind)
+    (name : Text) (v : Option Text)
+    → is ≡ is_welcome u k v → u ≡ use_in uses o → k ≡ kind_of o → v ≡ first_of name rows
+    → name ≡ name_of o
     → is ≡ is_well uses rows o
 tested uses rows o is u k name v tells used of_kind found named =
     tells ∙ ap (λ u. is_welcome u k v) used ∙ ap (λ k. is_welcome (use_in uses o) k v) of_kind
@@ -37,24 +39,30 @@ pub loop-option-preserved : goal.loop-option-preserved
 loop-option-preserved c =
     let rows = rows_of (found_of c.args.matches.now) in
     let i = c.loop-option.option-index in
-    let is = tested c.args.uses rows (nth i) c.is_welcome.result c.of.result c.kind.result c.name.result.now
+    let is = tested c.args.uses rows (nth i)
+    c.is_welcome.result c.of.result c.kind.result c.name.result.now
     (option_map (λ text. text.now) c.value.result)
     c.is_welcome.ensures c.of.ensures c.kind.ensures c.value.ensures c.name.ensures in
-    sym (next (is_well c.args.uses rows) i true (sym c.if-not-is_welcome.false ∙ is) c.loop-option-test.true)
+    sym (next (is_well c.args.uses rows) i true
+    (sym c.if-not-is_welcome.false ∙ is) c.loop-option-test.true)
     ∙ c.loop-option.invariant
 
 pub returns-then-not-is_welcome : goal.returns-then-not-is_welcome
 returns-then-not-is_welcome c =
     let rows = rows_of (found_of c.args.matches.now) in
     let i = c.loop-option.option-index in
-    let is = tested c.args.uses rows (nth i) c.is_welcome.result c.of.result c.kind.result c.name.result.now
+    let is = tested c.args.uses rows (nth i)
+    c.is_welcome.result c.of.result c.kind.result c.name.result.now
     (option_map (λ text. text.now) c.value.result)
     c.is_welcome.ensures c.of.ensures c.kind.ensures c.value.ensures c.name.ensures in
-    sym (next (is_well c.args.uses rows) i false (sym c.if-not-is_welcome.true ∙ is) c.loop-option-test.true)
+    sym (next (is_well c.args.uses rows) i false
+    (sym c.if-not-is_welcome.true ∙ is) c.loop-option-test.true)
     ∙ c.loop-option.invariant
 
 pub returns : goal.returns
 returns c =
     let rows = rows_of (found_of c.args.matches.now) in
-    let at_end : c.loop-option.option-index ≡ length all_options = omega (arith, c.loop-option.auto.option-index-end, c.loop-option-test.false) in
-    sym (ap (λ i. list_all (is_well c.args.uses rows) (drop i all_options)) at_end) ∙ c.loop-option.invariant
+    let at_end : c.loop-option.option-index ≡ length all_options =
+    omega (arith, c.loop-option.auto.option-index-end, c.loop-option-test.false) in
+    sym (ap (λ i. list_all (is_well c.args.uses rows) (drop i all_options)) at_end)
+    ∙ c.loop-option.invariant

@@ -1,0 +1,40 @@
+-- Words and lines that several texts have.
+use Rattle.std.specs.Prelude.{ℕ, Bool, true, false, List, [], ◌∷◌, ◌++◌, codes}
+use Rattle.std.specs.List.{flat_map}
+use Rattle.std.specs.Fmt.{decimal}
+use Rattle.clr_net.specs.Lines.{line}
+use Rattle.cascade.specs.declared.standing.Health.{Health}
+use Rattle.cascade.specs.declared.standing.Health.TheVariants as health
+
+-- an empty line
+abbrev pub empty_line : List ℕ
+empty_line = line []
+
+-- two texts, with an empty line between them
+abbrev pub one_above_other : List ℕ → List ℕ → List ℕ
+one_above_other upper lower = upper ++ empty_line ++ lower
+
+-- fields, each with a comma (44) after it: the beginning of a line
+abbrev pub with_commas : List (List ℕ) → List ℕ
+with_commas fields = flat_map (λ field. field ++ 44 ∷ []) fields
+
+-- the line of a word and a number
+abbrev pub number_line : List ℕ → ℕ → List ℕ
+number_line word n = line (word ∷ decimal n ∷ [])
+
+-- the word of a bank's state
+abbrev pub state_word : Health → List ℕ
+state_word health.Sound = codes "sound"
+state_word health.Fundamental = codes "fundamental"
+state_word health.Contagion = codes "contagion"
+
+-- a bank is in default where it is not sound
+abbrev pub is_default : Health → Bool
+is_default health.Sound = false
+is_default health.Fundamental = true
+is_default health.Contagion = true
+
+-- the word of a test that passes, and of one that does not
+abbrev pub yes_or_no : Bool → List ℕ
+yes_or_no true = codes "yes"
+yes_or_no false = codes "no"

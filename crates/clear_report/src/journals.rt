@@ -1,0 +1,110 @@
+ghost use Rattle.clear_report.specs.Journals.{NamesBankOf, journal_and_rounds, lawful_and_payments, payments_and_journal};
+ghost use Rattle.raise_journal.specs.Texts.{verdict_line};
+ghost use Rattle.clr_net.specs.Lines.{line};
+ghost use Rattle.std.specs.Fmt.{decimal};
+ghost use Rattle.std.specs.Prelude.{◌≡◌, ◌<◌, ◌++◌, ◌∷◌, [], All, IfOk, OnOk, length};
+
+use crate::line::{push_below, push_field, push_name, push_number_line, push_row};
+use crate::payments::pay_text;
+use clear_core::Raise;
+use clr_net::{Mem, Network};
+use itoa::Buffer;
+use raise_journal::{Verdict, print_journal};
+use std::alloc::Global;
+
+/// The text of a journal, and a line of how many rounds there were. `Mem` for want of memory alone.
+pub fn journal_text(
+    alloc: Global,
+    net: &Network,
+    journal: &[Raise],
+    rounds: u64,
+) -> Result<Vec<u8>, Mem>
+    requires { All (λ r. r.debt.0 < length net.now.debts) journal.now }
+    ensures { IfOk result (λ text. text.items ≡ journal_and_rounds net.now journal.now rounds) }
+{
+    let mut text = print_journal(alloc, net, journal)?;
+    push_number_line(&mut text, "rounds", rounds)?;
+    Ok(text)
+}
+
+/// The text of some payments, and below it, after an empty line, that of a journal and its rounds.
+///
+/// `paid` has a place for each debt, in file order, in units. `Mem` for want of memory alone.
+pub fn pay_and_journal_text(
+    alloc: Global,
+    net: &Network,
+    paid: &[u64],
+    journal: &[Raise],
+    rounds: u64,
+) -> Result<Vec<u8>, Mem>
+    requires over { length paid.now ≡ length net.now.debts }
+    requires debts { All (λ r. r.debt.0 < length net.now.debts) journal.now }
+    ensures { IfOk result
+        (λ text. text.items ≡ payments_and_journal net.now paid.now journal.now rounds) }
+{
+    let below = journal_text(alloc, net, journal, rounds)?;
+    let mut text = pay_text(alloc, net, paid)?;
+    push_below(&mut text, &below)?;
+    Ok(text)
+}
+
+/// The line of a verdict on a journal of so many raises. `Mem` for want of memory alone.
+pub fn verdict_text(
+    alloc: Global,
+    net: &Network,
+    raises: u64,
+    verdict: Verdict,
+) -> Result<Vec<u8>, Mem>
+    requires { NamesBankOf net.now verdict }
+    ensures { IfOk result (λ text. text.items ≡ verdict_line net.now raises verdict) }
+{
+    let mut text = Vec::new(alloc);
+    match verdict {
+        Verdict::Lawful => push_number_line(&mut text, "lawful", raises)?,
+        Verdict::Unlawful {
+            entry,
+            had,
+            allowed,
+        } => push_three(&mut text, b"unlawful", entry, had, allowed)?,
+        Verdict::Falls { entry, last, stamp } => push_three(
+            &mut text, b"falls", entry, last, stamp,
+        )?,
+        Verdict::Unfinished { bank } => {
+            push_field(&mut text, b"unfinished", b',')?;
+            push_name(&mut text, net, bank, b'\n')?;
+        }
+    }
+    Ok(text)
+}
+
+/// The line of the verdict on a lawful journal of so many raises, and below it, after an empty
+/// line, the text of the payments that it ends with.
+///
+/// `paid` has a place for each debt, in file order, in units. `Mem` for want of memory alone.
+pub fn lawful_text(alloc: Global, net: &Network, raises: u64, paid: &[u64]) -> Result<Vec<u8>, Mem>
+    requires { length paid.now ≡ length net.now.debts }
+    ensures { IfOk result (λ text. text.items ≡ lawful_and_payments net.now raises paid.now) }
+{
+    let mut text = verdict_text(alloc, net, raises, Verdict::Lawful)?;
+    push_below(&mut text, &pay_text(alloc, net, paid)?)?;
+    Ok(text)
+}
+
+// Appends the line of a word and three numbers.
+fn push_three(
+    text: &mut Vec<u8>,
+    word: &[u8],
+    first: u64,
+    second: u64,
+    third: u64,
+) -> Result<(), Mem>
+    ensures { OnOk result (text.new.items ≡ text.old.items
+        ++ line (word.now ∷ decimal first ∷ decimal second ∷ decimal third ∷ [])) }
+{
+    push_row(
+        text,
+        word,
+        &[first, second],
+        Buffer::new().format(third).as_bytes(),
+    )
+}

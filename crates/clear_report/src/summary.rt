@@ -1,0 +1,31 @@
+ghost use Rattle.clear_report.specs.Summary.{summary_lines};
+ghost use Rattle.std.specs.Prelude.{◌≡◌, IfOk};
+
+use crate::check::push_totals;
+use crate::line::push_number_line;
+use crate::sums::{sum_of, totals_of};
+use cascade::Standing;
+use clr_net::{Mem, Network};
+use std::alloc::Global;
+
+/// The summary of a network that was cleared: seven lines of its banks, its debts, the units owed,
+/// the cash, the units paid, the banks in default, and what is left to all owners.
+///
+/// `paid` has a place for each debt, in file order, in units, and `standings` one standing a bank.
+/// `Mem` for want of memory alone.
+pub fn summary_text(
+    alloc: Global,
+    net: &Network,
+    paid: &[u64],
+    standings: &[Standing],
+) -> Result<Vec<u8>, Mem>
+    ensures { IfOk result (λ text. text.items ≡ summary_lines net.now paid.now standings.now) }
+{
+    let totals = totals_of(standings);
+    let mut text = Vec::new(alloc);
+    push_totals(&mut text, net)?;
+    push_number_line(&mut text, "paid", sum_of(paid))?;
+    push_number_line(&mut text, "defaults", totals.defaults)?;
+    push_number_line(&mut text, "equity", totals.equity)?;
+    Ok(text)
+}

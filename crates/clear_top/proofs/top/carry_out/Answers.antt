@@ -1,0 +1,22 @@
+-- What the work came to was written, whole or in part.
+use Rattle.clear_top.specs.Ending.{ShelfCall, SinkCall, shelf_call, sink_call}
+use Rattle.clear_top.proofs.Writing.{ends_in_part, ends_whole}
+use Rattle.clear_top.proofs.top.carry_out.Goals as goal
+
+pub returns-in-Ok-put : goal.returns-in-Ok-put
+returns-in-Ok-put g c =
+    let outcome = c.in-Ok-work.outcome in
+    ends_whole
+    (shelf_call (g.F.Shelf.files c.args.files.now) (g.F.Shelf.faults c.args.files.now) (g.F.Shelf.faults c.load.new.files))
+    (sink_call (g.O.Sink.written c.args.out.now) (g.O.Sink.written c.put.new.sink) (g.O.Sink.faults c.args.out.now) (g.O.Sink.faults c.put.new.sink))
+    c.args.job.now c.in-Ok.input c.in-Ok.ensures.input outcome.status outcome.sealed outcome.text c.in-Ok-work.ensures
+    c.in-Ok-put.ensures.written
+
+pub returns : goal.returns
+returns g c =
+    let outcome = c.in-Ok-work.outcome in
+    ends_in_part
+    (shelf_call (g.F.Shelf.files c.args.files.now) (g.F.Shelf.faults c.args.files.now) (g.F.Shelf.faults c.load.new.files))
+    (sink_call (g.O.Sink.written c.args.out.now) (g.O.Sink.written c.put.new.sink) (g.O.Sink.faults c.args.out.now) (g.O.Sink.faults c.put.new.sink))
+    c.args.job.now c.in-Ok.input c.in-Ok.ensures.input outcome.status outcome.sealed outcome.text c.in-Ok-work.ensures
+    c.in-Err.ensures.part c.in-Err.ensures.failed

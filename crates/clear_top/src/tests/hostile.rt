@@ -1,0 +1,191 @@
+//! Faults at every fetch and at every put, files that are cut off anywhere, and hostile fields and
+//! journals.
+
+use super::{CHAIN_BANKS, CHAIN_DEBTS, CHAIN_TEXT, CLEAR, Case, check_all, done, refused, shelf};
+use crate::{Ended, Status, run};
+use clr_edge::{MemSink, OpenGate};
+use net_check::{Fault, FaultKind, FileKind};
+use std::alloc::Global;
+use std::process::Abort;
+use std::test::Fail;
+use std::thread::Threads;
+
+const REPLAY: &[&str] = &["replay", "--banks", "b.csv", "--debts", "d.csv", "--journal", "j.csv"];
+
+#[test]
+fn every_put_may_fail(rt: HostRuntime) -> Result<(), Fail> {
+    let alloc = rt.alloc();
+    let text = CHAIN_TEXT.as_bytes();
+    for fail_at in 1..56_u64 {
+        let mut files = shelf(alloc, CHAIN_BANKS, CHAIN_DEBTS)?;
+        let mut out = MemSink::with_room(alloc, 100, 1, fail_at)?;
+        let mut err = MemSink::with_room(alloc, 100, 100, 0)?;
+        let Ended { status, .. } =
+            run(&rt, alloc, CLEAR, &mut files, &mut out, &mut err, &OpenGate);
+        let whole = fail_at == 55;
+        let wanted = if whole {
+            Status::Done
+        } else {
+            Status::WriteFault
+        };
+        assert_eq!(rt; status, wanted);
+        assert_eq!(rt; out.written(), &text[..fail_at as usize - 1]);
+    }
+    Ok(())
+}
+
+#[test]
+fn every_fetch_may_fail(rt: HostRuntime) -> Result<(), Fail> {
+    let alloc = rt.alloc();
+    for (fail_at, status, message) in [
+        (1, Status::ReadFault(FileKind::Banks), "clearing: cannot read b.csv\n"),
+        (2, Status::ReadFault(FileKind::Debts), "clearing: cannot read d.csv\n"),
+        (3, Status::ReadFault(FileKind::Journal), "clearing: cannot read j.csv\n"),
+        (4, Status::Done, ""),
+    ] {
+        let mut files = shelf(alloc, CHAIN_BANKS, CHAIN_DEBTS)?;
+        files.add("j.csv", b"stamp,debtor,creditor,class,to\n1,A,B,1,7\n2,B,C,1,8\n")?;
+        files.fail_at(fail_at)?;
+        for wanted in [status, Status::Done] {
+            let mut out = MemSink::with_room(alloc, 1000, 1000, 0)?;
+            // A message that cannot be written changes nothing.
+            let mut err = MemSink::with_room(alloc, 1000, 5, 2)?;
+            let Ended { status, .. } =
+                run(&rt, alloc, REPLAY, &mut files, &mut out, &mut err, &OpenGate);
+            assert_eq!(rt; status, wanted);
+            let message = if wanted == Status::Done { "" } else { message };
+            let taken = message.len().min(5);
+            assert_eq!(rt; err.written(), &message.as_bytes()[..taken]);
+        }
+    }
+    Ok(())
+}
+
+// How a run on the chain ends whose debts file is cut after so many bytes.
+fn cut_at<R: Threads + Sync + Abort>(
+    rt: &R,
+    alloc: Global,
+    bytes: usize,
+    out: &mut MemSink,
+) -> Result<Status, Fail> {
+    let mut files = shelf(alloc, CHAIN_BANKS, "")?;
+    files.add("d.csv", &CHAIN_DEBTS.as_bytes()[..bytes])?;
+    let mut err = MemSink::with_room(alloc, 1000, 1000, 0)?;
+    Ok(run(rt, alloc, CLEAR, &mut files, out, &mut err, &OpenGate).status)
+}
+
+#[test]
+fn a_debts_file_cut_anywhere(rt: HostRuntime) -> Result<(), Fail> {
+    let alloc = rt.alloc();
+    let header = "debtor,creditor,class,claim,paid\n";
+    let fault = |row: u32, kind: FaultKind| -> Status {
+        Status::Refused(Fault {
+            file: FileKind::Debts,
+            row,
+            kind,
+        })
+    };
+    for (from, to, wanted, debts) in [
+        (0, 26, fault(0, FaultKind::Header), ""),
+        (27, 28, Status::Done, header),
+        (29, 33, fault(1, FaultKind::Fields), ""),
+        (34, 34, fault(1, FaultKind::Number), ""),
+        (35, 35, Status::Done, "debtor,creditor,class,claim,paid\nA,B,1,1,1\n"),
+        (36, 37, Status::Done, "debtor,creditor,class,claim,paid\nA,B,1,10,7\n"),
+        (38, 42, fault(2, FaultKind::Fields), ""),
+        (43, 43, fault(2, FaultKind::Number), ""),
+        (44, 45, Status::Done, CHAIN_TEXT),
+    ] {
+        for bytes in from..to + 1 {
+            let mut out = MemSink::with_room(alloc, 1000, 1000, 0)?;
+            let status = cut_at(&rt, alloc, bytes, &mut out)?;
+            assert_eq!(rt; status, wanted);
+            assert_eq!(rt; out.written(), debts.as_bytes());
+        }
+    }
+    Ok(())
+}
+
+#[test]
+fn hostile_fields(rt: HostRuntime) -> Result<(), Fail> {
+    let cases = [
+        // A quoted field is what stands between the quotes.
+        done(
+            CLEAR,
+            "name,cash,rule\n\"A\",7,order\nB,1,order\nC,0,order\n",
+            CHAIN_DEBTS,
+            CHAIN_TEXT,
+        ),
+        refused(
+            "name,cash,rule\n\"A,B\",7,order\n",
+            CHAIN_DEBTS,
+            (FileKind::Banks, 1, FaultKind::Name),
+            "clearing: banks row 1: name (3)\n",
+        ),
+        refused(
+            "name,cash,rule\nA,99999999999999999999,order\n",
+            CHAIN_DEBTS,
+            (FileKind::Banks, 1, FaultKind::Limit),
+            "clearing: banks row 1: limit (6)\n",
+        ),
+        refused(
+            "name,cash,rule\nA,999999999999999999999,order\n",
+            CHAIN_DEBTS,
+            (FileKind::Banks, 1, FaultKind::Number),
+            "clearing: banks row 1: number (4)\n",
+        ),
+    ];
+    check_all(&rt, rt.alloc(), &cases)
+}
+
+// A journal on the chain that is refused in row 1.
+fn bad_journal<'a>(third: &'a str, kind: FaultKind, err: &'a str) -> Case<'a> {
+    Case {
+        third,
+        status: Status::Refused(Fault {
+            file: FileKind::Journal,
+            row: 1,
+            kind,
+        }),
+        err,
+        ..done(REPLAY, CHAIN_BANKS, CHAIN_DEBTS, "")
+    }
+}
+
+#[test]
+fn hostile_journals(rt: HostRuntime) -> Result<(), Fail> {
+    let cases = [
+        // The closing record closes where it is the last alone.
+        bad_journal(
+            "stamp,debtor,creditor,class,to\nrounds,2\n1,A,B,1,7\n",
+            FaultKind::Fields,
+            "clearing: journal row 1: fields (2)\n",
+        ),
+        bad_journal(
+            "stamp,debtor,creditor,class,to\nrounds,2\nrounds,2\n",
+            FaultKind::Fields,
+            "clearing: journal row 1: fields (2)\n",
+        ),
+        bad_journal(
+            "stamp,debtor,creditor,class,to\n4294967296,A,B,1,7\n",
+            FaultKind::Limit,
+            "clearing: journal row 1: limit (6)\n",
+        ),
+        bad_journal(
+            "stamp,debtor,creditor,class,to\n1,A,B,1,1000001\n",
+            FaultKind::Limit,
+            "clearing: journal row 1: limit (6)\n",
+        ),
+        bad_journal(
+            "stamp,debtor,creditor,class,to\n1,A,B,2,7\n",
+            FaultKind::UnknownDebt,
+            "clearing: journal row 1: unknown debt (15)\n",
+        ),
+        bad_journal(
+            "stamp,debtor,creditor,class,to\n1,A,C,1,1\n",
+            FaultKind::UnknownDebt,
+            "clearing: journal row 1: unknown debt (15)\n",
+        ),
+    ];
+    check_all(&rt, rt.alloc(), &cases)
+}

@@ -1,0 +1,416 @@
+//! Each task on small networks: the text that it writes, byte for byte.
+
+use super::{CENTRAL, CHAIN_BANKS, CHAIN_BANKS_2, CHAIN_CHECKED, CHAIN_DEBTS, CHAIN_OUTSIDE};
+use super::{CHAIN_OUTSIDE_CHECKED, CHAIN_TEXT, CHECK, CLEAR, CONVERT, Case, TWO_BANKS, check_all};
+use super::{done, twelve_banks};
+use crate::Status;
+use clr_net::BankId;
+use net_check::{Fault, FaultKind, FileKind};
+use raise_journal::Verdict;
+use std::test::Fail;
+
+const DEFAULTS: &[&str] = &["defaults", "--banks", "b.csv", "--debts", "d.csv"];
+
+const REPLAY: &[&str] = &["replay", "--banks", "b.csv", "--debts", "d.csv", "--journal", "j.csv"];
+
+const STRESS: &[&str] = &["stress", "--banks", "b.csv", "--debts", "d.csv", "--scenarios", "s.toml"];
+
+const BOUNDS: &[&str] = &["bounds", "--banks", "b.csv", "--debts", "d.csv", "--workers", "2"];
+
+const COMPRESS: &[&str] = &["compress", "--banks", "b.csv", "--debts", "d.csv"];
+
+const BOTH_OWE_TEN: &str = "debtor,creditor,class,claim\nA,B,1,10\nB,A,1,10\n";
+
+const NOTHING_PAID: &str = "debtor,creditor,class,claim,paid\nA,B,1,10,0\nB,A,1,10,0\n";
+
+const RING_BANKS: &str = "name,cash,rule\nA,1,order\nB,0,order\n";
+
+const RING_DEBTS: &str = "debtor,creditor,class,claim\nA,B,1,5\nB,A,1,5\n";
+
+const NO_BANKS: &str = "name,cash,rule\n";
+
+const NO_DEBTS: &str = "debtor,creditor,class,claim\n";
+
+const CHAIN_DEFAULTS: &str = "bank,estate,paid,owed,equity,state\nA,7,7,10,0,fundamental\n\
+B,8,8,9,0,contagion\nC,8,0,0,8,sound\ntotal,23,15,19,8,2\ncash,8\n";
+
+const CHAIN_JOURNAL: &str = "stamp,debtor,creditor,class,to\n1,A,B,1,7\n2,B,C,1,8\nrounds,2\n";
+
+const THREE_SCENARIOS: &str = "[[scenario]]\nname = \"A loses all\"\n[[scenario.loss]]\nbank = \"A\"\n\
+amount = 7\n\n[[scenario]]\nname = \"A loses more than it has\"\n[[scenario.loss]]\nbank = \"A\"\n\
+amount = 20\n\n[[scenario]]\nname = \"half\"\ncut = 500\n";
+
+// What is left of the chain where A has nothing, and where half the cash is cut.
+const WITHOUT_A: &str = "debtor,creditor,class,claim,paid\nA,B,1,10,0\nB,C,1,9,1\n\
+bank,estate,paid,owed,equity,state\nA,0,0,10,0,fundamental\nB,1,1,9,0,contagion\n\
+C,1,0,0,1,sound\ntotal,2,1,19,1,2\ncash,1\n";
+
+#[test]
+fn tasks_on_the_chain(rt: HostRuntime) -> Result<(), Fail> {
+    let cases = [
+        done(CHECK, CHAIN_BANKS, CHAIN_DEBTS, CHAIN_CHECKED),
+        done(CHECK, CHAIN_BANKS_2, CHAIN_DEBTS, CHAIN_CHECKED),
+        done(CHECK, CHAIN_OUTSIDE, CHAIN_DEBTS, CHAIN_OUTSIDE_CHECKED),
+        done(CLEAR, CHAIN_BANKS, CHAIN_DEBTS, CHAIN_TEXT),
+        done(CLEAR, CHAIN_BANKS_2, CHAIN_DEBTS, CHAIN_TEXT),
+        done(CENTRAL, CHAIN_BANKS, CHAIN_DEBTS, CHAIN_TEXT),
+        // Paying all would clear as well.
+        done(CENTRAL, TWO_BANKS, BOTH_OWE_TEN, NOTHING_PAID),
+        done(CONVERT, CHAIN_BANKS, CHAIN_DEBTS, CHAIN_BANKS_2),
+        done(CONVERT, CHAIN_BANKS_2, CHAIN_DEBTS, CHAIN_BANKS_2),
+        done(CONVERT, CHAIN_OUTSIDE, CHAIN_DEBTS, CHAIN_OUTSIDE),
+        // Options before the task, and with their values in one word.
+        done(
+            &["--debts=d.csv", "--banks", "b.csv", "clear"],
+            CHAIN_BANKS,
+            CHAIN_DEBTS,
+            CHAIN_TEXT,
+        ),
+    ];
+    check_all(&rt, rt.alloc(), &cases)
+}
+
+#[test]
+fn journals_are_shown(rt: HostRuntime) -> Result<(), Fail> {
+    let (both, one) = (
+        &["clear", "--banks", "b.csv", "--debts", "d.csv", "--show", "both", "--workers", "1"][..],
+        &[
+            "clear", "--banks", "b.csv", "--debts", "d.csv", "--workers", "1", "--sweeps", "1",
+            "--show", "journal",
+        ][..],
+    );
+    let cases = [
+        done(
+            both,
+            CHAIN_BANKS,
+            CHAIN_DEBTS,
+            "debtor,creditor,class,claim,paid\nA,B,1,10,7\nB,C,1,9,8\n\n\
+             stamp,debtor,creditor,class,to\n1,A,B,1,7\n2,B,C,1,8\nrounds,2\n",
+        ),
+        // One unit goes round five times.
+        done(
+            one,
+            RING_BANKS,
+            RING_DEBTS,
+            "stamp,debtor,creditor,class,to\n1,A,B,1,1\n2,B,A,1,1\n3,A,B,1,2\n4,B,A,1,2\n\
+             5,A,B,1,3\n6,B,A,1,3\n7,A,B,1,4\n8,B,A,1,4\n9,A,B,1,5\n10,B,A,1,5\nrounds,6\n",
+        ),
+        done(
+            &["clear", "--banks", "b.csv", "--debts", "d.csv", "--show", "both"],
+            NO_BANKS,
+            NO_DEBTS,
+            "debtor,creditor,class,claim,paid\n\nstamp,debtor,creditor,class,to\nrounds,1\n",
+        ),
+    ];
+    check_all(&rt, rt.alloc(), &cases)
+}
+
+#[test]
+fn every_plan_pays_the_same(rt: HostRuntime) -> Result<(), Fail> {
+    for workers in ["1", "2", "64"] {
+        for sweeps in ["1", "7"] {
+            let words = [
+                "clear", "--banks", "b.csv", "--debts", "d.csv", "--workers", workers, "--sweeps",
+                sweeps,
+            ];
+            let case = done(
+                &words,
+                RING_BANKS,
+                RING_DEBTS,
+                "debtor,creditor,class,claim,paid\nA,B,1,5,5\nB,A,1,5,5\n",
+            );
+            super::check(&rt, rt.alloc(), &case)?;
+        }
+    }
+    Ok(())
+}
+
+// A journal on the chain, after its header, and what its replay comes to.
+fn judged<'a>(third: &'a str, verdict: Verdict, out: &'a str) -> Case<'a> {
+    Case {
+        third,
+        status: Status::Unlawful(verdict),
+        err: "clearing: the journal is not a lawful complete history\n",
+        ..done(REPLAY, CHAIN_BANKS, CHAIN_DEBTS, out)
+    }
+}
+
+// A journal of the chain that is lawful and complete.
+fn lawful<'a>(banks: &'a str, third: &'a str, out: &'a str) -> Case<'a> {
+    Case {
+        third,
+        ..done(REPLAY, banks, CHAIN_DEBTS, out)
+    }
+}
+
+#[test]
+fn journals_are_judged(rt: HostRuntime) -> Result<(), Fail> {
+    let two = "lawful,2\n\ndebtor,creditor,class,claim,paid\nA,B,1,10,7\nB,C,1,9,8\n";
+    let unlawful = |entry: u64, had: u64, allowed: u64| -> Verdict {
+        Verdict::Unlawful {
+            entry,
+            had,
+            allowed,
+        }
+    };
+    let cases = [
+        lawful(CHAIN_BANKS, CHAIN_JOURNAL, two),
+        // The second form of the banks file means the same.
+        lawful(CHAIN_BANKS_2, CHAIN_JOURNAL, two),
+        lawful(
+            CHAIN_BANKS,
+            "stamp,debtor,creditor,class,to\n0,A,B,1,3\n0,A,B,1,7\n0,B,C,1,8\n",
+            "lawful,3\n\ndebtor,creditor,class,claim,paid\nA,B,1,10,7\nB,C,1,9,8\n",
+        ),
+        judged(
+            "stamp,debtor,creditor,class,to\n1,B,C,1,8\n1,A,B,1,7\n",
+            unlawful(1, 0, 1),
+            "unlawful,1,0,1\n",
+        ),
+        judged(
+            "stamp,debtor,creditor,class,to\n1,A,B,1,7\n",
+            Verdict::Unfinished { bank: BankId(1) },
+            "unfinished,B\n",
+        ),
+        judged(
+            "stamp,debtor,creditor,class,to\n",
+            Verdict::Unfinished { bank: BankId(0) },
+            "unfinished,A\n",
+        ),
+        judged(
+            "stamp,debtor,creditor,class,to\n2,A,B,1,7\n1,B,C,1,8\n",
+            Verdict::Falls {
+                entry: 2,
+                last: 2,
+                stamp: 1,
+            },
+            "falls,2,2,1\n",
+        ),
+        judged(
+            "stamp,debtor,creditor,class,to\n1,A,B,1,7\n2,A,B,1,7\n",
+            unlawful(2, 7, 7),
+            "unlawful,2,7,7\n",
+        ),
+        judged(
+            "stamp,debtor,creditor,class,to\n1,A,B,1,11\n",
+            unlawful(1, 0, 7),
+            "unlawful,1,0,7\n",
+        ),
+        judged(
+            "stamp,debtor,creditor,class,to\n1,A,B,1,0\n",
+            unlawful(1, 0, 7),
+            "unlawful,1,0,7\n",
+        ),
+    ];
+    check_all(&rt, rt.alloc(), &cases)
+}
+
+#[test]
+fn who_defaults_and_why(rt: HostRuntime) -> Result<(), Fail> {
+    let cases = [
+        done(DEFAULTS, CHAIN_BANKS, CHAIN_DEBTS, CHAIN_DEFAULTS),
+        done(
+            DEFAULTS,
+            twelve_banks::BANKS,
+            twelve_banks::DEBTS,
+            twelve_banks::DEFAULTS,
+        ),
+        done(
+            DEFAULTS,
+            TWO_BANKS,
+            BOTH_OWE_TEN,
+            "bank,estate,paid,owed,equity,state\nA,0,0,10,0,contagion\nB,0,0,10,0,contagion\n\
+             total,0,0,20,0,2\ncash,0\n",
+        ),
+        done(
+            DEFAULTS,
+            NO_BANKS,
+            NO_DEBTS,
+            "bank,estate,paid,owed,equity,state\ntotal,0,0,0,0,0\ncash,0\n",
+        ),
+        // What is owed outside comes first, and has a column of its own.
+        done(
+            DEFAULTS,
+            CHAIN_OUTSIDE,
+            CHAIN_DEBTS,
+            "bank,estate,outside_paid,paid,owed,equity,state\nA,7,3,4,10,0,fundamental\n\
+             B,5,0,5,9,0,contagion\nC,5,2,0,0,3,sound\ntotal,17,5,9,19,3,2\ncash,8\n",
+        ),
+        done(
+            DEFAULTS,
+            "name,cash,rule,outside\nA,7,order,8\nB,1,order,0\nC,0,order,2\n",
+            CHAIN_DEBTS,
+            "bank,estate,outside_paid,paid,owed,equity,state\nA,7,7,0,10,0,fundamental\n\
+             B,1,0,1,9,0,contagion\nC,1,1,0,0,0,contagion\ntotal,9,8,1,19,0,3\ncash,8\n",
+        ),
+        // A bank without debts that owes outsiders more than it has.
+        done(
+            DEFAULTS,
+            "name,cash,rule,outside\nA,3,equal,5\n",
+            NO_DEBTS,
+            "bank,estate,outside_paid,paid,owed,equity,state\nA,3,3,0,0,0,fundamental\n\
+             total,3,3,0,0,0,1\ncash,3\n",
+        ),
+    ];
+    check_all(&rt, rt.alloc(), &cases)
+}
+
+#[test]
+fn scenarios_in_their_order(rt: HostRuntime) -> Result<(), Fail> {
+    let alloc = rt.alloc();
+    let three = format!(in alloc;
+        "scenario,A loses all\n{WITHOUT_A}\nscenario,A loses more than it has\n{WITHOUT_A}\n\
+         scenario,half\ndebtor,creditor,class,claim,paid\nA,B,1,10,4\nB,C,1,9,5\n\
+         bank,estate,paid,owed,equity,state\nA,4,4,10,0,fundamental\nB,5,5,9,0,contagion\n\
+         C,5,0,0,5,sound\ntotal,14,9,19,5,2\ncash,5\n"
+    )?;
+    let five = format!(in alloc;
+        "scenario,1\n{CHAIN_TEXT}{CHAIN_DEFAULTS}\nscenario,2\n{CHAIN_TEXT}{CHAIN_DEFAULTS}\n\
+         scenario,3\n{CHAIN_TEXT}{CHAIN_DEFAULTS}\nscenario,4\n{CHAIN_TEXT}{CHAIN_DEFAULTS}\n\
+         scenario,5\n{CHAIN_TEXT}{CHAIN_DEFAULTS}"
+    )?;
+    let cases = [
+        Case {
+            third: THREE_SCENARIOS,
+            ..done(STRESS, CHAIN_BANKS, CHAIN_DEBTS, three.as_str())
+        },
+        Case {
+            third: "scenario = [{name=\"1\"},{name=\"2\"},{name=\"3\"},{name=\"4\"},{name=\"5\"}]",
+            ..done(STRESS, CHAIN_BANKS, CHAIN_DEBTS, five.as_str())
+        },
+        // A file of no bytes has no scenarios.
+        done(STRESS, CHAIN_BANKS, CHAIN_DEBTS, ""),
+        Case {
+            third: "[[scenario]]\nname = \"1\"\n[[scenario]]\nname = \"2\"\n\
+                [[scenario.loss]]\nbank = \"X\"\namount = 1\n",
+            status: Status::Refused(Fault {
+                file: FileKind::Scenarios,
+                row: 2,
+                kind: FaultKind::UnknownBank,
+            }),
+            err: "clearing: scenarios row 2: unknown bank (8)\n",
+            ..done(STRESS, CHAIN_BANKS, CHAIN_DEBTS, "")
+        },
+    ];
+    check_all(&rt, alloc, &cases)
+}
+
+#[test]
+fn bounds_of_what_clears(rt: HostRuntime) -> Result<(), Fail> {
+    let cases = [
+        done(
+            BOUNDS,
+            TWO_BANKS,
+            BOTH_OWE_TEN,
+            "debtor,creditor,class,claim,least,greatest\nA,B,1,10,0,10\nB,A,1,10,0,10\n\n\
+             bank,wave,gridlock,equity\nA,0,yes,0\nB,0,yes,0\n",
+        ),
+        done(
+            BOUNDS,
+            CHAIN_BANKS,
+            CHAIN_DEBTS,
+            "debtor,creditor,class,claim,least,greatest\nA,B,1,10,7,7\nB,C,1,9,8,8\n\n\
+             bank,wave,gridlock,equity\nA,1,no,0\nB,2,no,0\nC,0,no,8\n",
+        ),
+    ];
+    check_all(&rt, rt.alloc(), &cases)
+}
+
+#[test]
+fn cycles_are_cancelled(rt: HostRuntime) -> Result<(), Fail> {
+    let cases = [
+        done(
+            COMPRESS,
+            CHAIN_BANKS,
+            "debtor,creditor,class,claim\nA,B,1,5\nB,C,1,3\nC,A,1,4\n",
+            "debtor,creditor,class,claim\nA,B,1,2\nB,C,1,0\nC,A,1,1\n\n\
+             class,bank,rank\n1,A,1\n1,B,2\n1,C,0\ncancelled,9\n",
+        ),
+        done(
+            COMPRESS,
+            TWO_BANKS,
+            BOTH_OWE_TEN,
+            "debtor,creditor,class,claim\nA,B,1,0\nB,A,1,0\n\n\
+             class,bank,rank\n1,A,0\n1,B,0\ncancelled,20\n",
+        ),
+    ];
+    check_all(&rt, rt.alloc(), &cases)
+}
+
+// The words of clearing with costs.
+fn with_costs<'a>(keep: &'a str) -> [&'a str; 7] {
+    ["costs", "--banks", "b.csv", "--debts", "d.csv", "--keep", keep]
+}
+
+#[test]
+fn default_costs(rt: HostRuntime) -> Result<(), Fail> {
+    let (half, all) = (with_costs("500"), with_costs("1000"));
+    let cases = [
+        done(
+            &half,
+            CHAIN_BANKS,
+            CHAIN_DEBTS,
+            "debtor,creditor,class,claim,paid\nA,B,1,10,3\nB,C,1,9,2\n\n\
+             bank,estate,lost,outside_paid,paid,equity,state\nA,7,4,0,3,0,fundamental\n\
+             B,4,2,0,2,0,contagion\nC,2,0,0,0,2,sound\ntotal,13,6,0,5,2,2\ncash,8\n",
+        ),
+        // Paying 5 and 5 would clear as well.
+        done(
+            &half,
+            RING_BANKS,
+            RING_DEBTS,
+            "debtor,creditor,class,claim,paid\nA,B,1,5,0\nB,A,1,5,0\n\n\
+             bank,estate,lost,outside_paid,paid,equity,state\nA,1,1,0,0,0,contagion\n\
+             B,0,0,0,0,0,contagion\ntotal,1,1,0,0,0,2\ncash,1\n",
+        ),
+        done(
+            &all,
+            CHAIN_BANKS,
+            CHAIN_DEBTS,
+            "debtor,creditor,class,claim,paid\nA,B,1,10,7\nB,C,1,9,8\n\n\
+             bank,estate,lost,outside_paid,paid,equity,state\nA,7,0,0,7,0,fundamental\n\
+             B,8,0,0,8,0,contagion\nC,8,0,0,0,8,sound\ntotal,23,0,0,15,8,2\ncash,8\n",
+        ),
+    ];
+    check_all(&rt, rt.alloc(), &cases)
+}
+
+// The words of saving a bank.
+fn saving<'a>(bank: &'a str) -> [&'a str; 7] {
+    ["rescue", "--banks", "b.csv", "--debts", "d.csv", "--bank", bank]
+}
+
+#[test]
+fn banks_are_saved(rt: HostRuntime) -> Result<(), Fail> {
+    let (a, b, c, x) = (saving("A"), saving("B"), saving("C"), saving("X"));
+    let cases = [
+        done(
+            &b,
+            CHAIN_BANKS,
+            CHAIN_DEBTS,
+            "rescue,B,1\nshort,1\n\ndebtor,creditor,class,claim,paid\nA,B,1,10,7\nB,C,1,9,9\n",
+        ),
+        done(
+            &a,
+            TWO_BANKS,
+            BOTH_OWE_TEN,
+            "rescue,A,1\nshort,10\n\ndebtor,creditor,class,claim,paid\nA,B,1,10,10\nB,A,1,10,10\n",
+        ),
+        done(
+            &c,
+            CHAIN_BANKS,
+            CHAIN_DEBTS,
+            "rescue,C,0\nshort,0\n\ndebtor,creditor,class,claim,paid\nA,B,1,10,7\nB,C,1,9,8\n",
+        ),
+        Case {
+            status: Status::Refused(Fault {
+                file: FileKind::Words,
+                row: 0,
+                kind: FaultKind::UnknownBank,
+            }),
+            err: "clearing: words row 0: unknown bank (8)\n",
+            ..done(&x, CHAIN_BANKS, CHAIN_DEBTS, "")
+        },
+    ];
+    check_all(&rt, rt.alloc(), &cases)
+}

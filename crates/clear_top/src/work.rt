@@ -1,0 +1,51 @@
+//! The work on a job, by its task.
+ghost use Rattle.clear_top.specs.Ending.{IsUsable};
+ghost use Rattle.clear_top.specs.Meaning.{ComesTo};
+ghost use Rattle.clear_top.specs.Sources.{source_of};
+ghost use Rattle.clear_words.specs.Limits.{IsJob};
+ghost use Rattle.std.specs.Prelude.{IfOk};
+
+use crate::clear::clear;
+use crate::contents::Input;
+use crate::judge::judge;
+use crate::outcome::Outcome;
+use crate::plain::{cancel_cycles, check, clear_centrally, clear_with_costs, convert};
+use crate::reports::{report_bounds, report_defaults, report_summary};
+use crate::saving::save;
+use crate::scenarios::report_scenarios;
+use clear_words::{Job, Task};
+use clr_edge::Gate;
+use clr_net::Mem;
+use std::alloc::Global;
+use std::thread::Threads;
+
+/// Does a job's task on its input: a row for each task. `Mem` is want of memory.
+pub fn work<R: Threads + Sync, G: Gate + Sync>(
+    rt: &R,
+    alloc: Global,
+    job: &Job,
+    input: &Input,
+    gate: &G,
+) -> Result<Outcome, Mem>
+    requires job { IsJob job.now }
+    requires usable { IsUsable (source_of job.now.task) input.now }
+    ensures { IfOk result (ComesTo job.now.task job.now input.now) }
+{
+    let net = &input.net;
+    match job.task {
+        Task::Check => check(alloc, net),
+        Task::Clear => clear(rt, alloc, net, job, gate),
+        Task::Central => clear_centrally(alloc, net),
+        Task::Defaults => report_defaults(rt, alloc, net, job, gate),
+        Task::Stress => {
+            report_scenarios(rt, alloc, net, input.scenarios.as_slice(), job, gate)
+        }
+        Task::Replay => judge(alloc, net, input.journal.as_slice()),
+        Task::Gen => report_summary(rt, alloc, net, job, gate),
+        Task::Convert => convert(alloc, net),
+        Task::Bounds => report_bounds(rt, alloc, net, job, gate),
+        Task::Rescue => save(rt, alloc, net, input.bank, job, gate),
+        Task::Compress => cancel_cycles(alloc, net),
+        Task::Costs => clear_with_costs(alloc, net, job.keep),
+    }
+}

@@ -1,0 +1,339 @@
+-- Taking a walk back debt by debt, while the debts of a cycle are lowered.
+use Rattle.std.proofs.Common.{◌≡◌, ◌≢◌, ℕ, zero, suc, ◌+◌, ◌-◌, ◌<◌, ◌≤◌, List, [], ◌∷◌, ◌++◌, length, length-set, get_or, set, map, take, slice_get, Some, sum, sum_by, refl, sym, ap, ◌∙◌, subst, ⊎_elim, arith}
+use Rattle.std.proofs.Math.ListN.{get_or-append}
+use Rattle.std.proofs.lemmas.Bool.{cases_eq, cases_lt}
+use Rattle.std.proofs.lemmas.List.{get_or_push, get_or-set_same, get_or-set_other, length_push, length-map, length-take, map-append, take_more, take_all}
+use Rattle.std.proofs.lemmas.List.Sums.{sum_by-set}
+use Rattle.clr_net.specs.Amounts.{IsAtMost}
+use Rattle.clr_net.specs.Limits.{IsNetwork}
+use Rattle.std.specs.Option.{option_map_or}
+use Rattle.clr_net.specs.declared.debt.Debt.{Debt}
+use Rattle.clr_net.specs.declared.debt.DebtId.{DebtId}
+use Rattle.clr_net.specs.Net.{Net, numbers, debtor_of, creditor_of, class_of}
+use Rattle.compress.specs.Compression.{IsBalanceKept, IsLive, Leads}
+use Rattle.compress.specs.Lowering.{lowered, CanLower}
+use Rattle.compress.proofs.Cycles.{cycle_keeps}
+use Rattle.compress.specs.declared.mark.Mark.{Mark}
+use Rattle.compress.specs.declared.mark.Mark.TheVariants.{New, Walked, Done}
+use Rattle.compress.specs.Walk.{mark_of, stops, end_of, steps_left, IsWalk, AreDone, IsKept}
+use Rattle.compress.proofs.Walks.{stop_before, stop_last, stop_after, walk_back}
+use Rattle.compress.proofs.Dones.{done_marked, done_lowered}
+
+-- one debt more, at the end
+lowered_push : (C : List ℕ) (m : ℕ) (xs : List ℕ) (y : ℕ)
+    → lowered C m (xs ++ y ∷ []) ≡ set (lowered C m xs) y (get_or (lowered C m xs) y 0 - m)
+lowered_push C m [] y = refl
+lowered_push C m (x ∷ xs) y = lowered_push (set C x (get_or C x 0 - m)) m xs y
+
+length-lowered : (C : List ℕ) (m : ℕ) (xs : List ℕ) → length (lowered C m xs) ≡ length C
+length-lowered C m [] = refl
+length-lowered C m (x ∷ xs) = omega (
+  arith,
+  length-lowered (set C x (get_or C x 0 - m)) m xs,
+  length-set {A = ℕ},
+)
+
+can_push : (C : List ℕ) (m : ℕ) (xs : List ℕ) (y : ℕ) → CanLower C m xs → y < length C
+    → m ≤ get_or (lowered C m xs) y 0 → CanLower C m (xs ++ y ∷ [])
+can_push C m [] y can l e = (l, e, tt)
+can_push C m (x ∷ xs) y can l e = (
+  can.0,
+  can.1,
+  can_push (set C x (get_or C x 0 - m)) m xs y can.2 (omega (arith, length-set {A = ℕ})) e,
+)
+
+leads_push : (from to : ℕ → ℕ) (i j : ℕ) (xs : List ℕ) (y : ℕ) → Leads from to i xs j → from y ≡ j
+    → Leads from to i (xs ++ y ∷ []) (to y)
+leads_push from to i j [] y leads e = (e ∙ sym leads, refl)
+leads_push from to i j (x ∷ xs) y leads e = (leads.0, leads_push from to (to x) j xs y leads.1 e)
+
+lowered_le : (C : List ℕ) (m : ℕ) (xs : List ℕ) → IsAtMost (lowered C m xs) C
+lowered_le C m [] = λ k. omega arith
+lowered_le C m (x ∷ xs) = λ k. ⊎_elim
+    (λ (l : x < length C). ⊎_elim
+    (λ (e : k ≡ x). rw e (omega (
+      arith,
+      lowered_le (set C x (get_or C x 0 - m)) m xs x,
+      get_or-set_same C x (get_or C x 0 - m) 0 l,
+    )))
+    (λ (ne : k ≢ x). omega (
+      arith,
+      lowered_le (set C x (get_or C x 0 - m)) m xs k,
+      get_or-set_other C x k (get_or C x 0 - m) 0 ne,
+    ))
+    (cases_eq k x))
+    (λ (g : length C ≤ x). rw (past C x g) (lowered_le C m xs k))
+    (cases_lt x (length C))
+  where
+    past : (C : List ℕ) (x : ℕ) → length C ≤ x → set C x (get_or C x 0 - m) ≡ C
+    past [] x g = refl
+    past (c ∷ C) zero g = absurd (omega arith)
+    past (c ∷ C) (suc x) g = ap (λ (cs : List ℕ). c ∷ cs) (past C x (omega arith))
+
+-- the last debt of a walk stands in no earlier place
+pub last_apart : (net : Net) (c s : ℕ) (C W : List ℕ) (marks : List Mark) (x k : ℕ)
+    → IsWalk net c s C (W ++ x ∷ []) marks → k < length W
+    → get_or W k 0 ≢ x
+last_apart net c s C W marks x k w l e =
+    let last : get_or (stops net s (W ++ x ∷ [])) (length W + 1) 0
+    ≡ debtor_of net x = stop_last net s W x (length W + 1) refl in
+    let here : get_or (stops net s (W ++ x ∷ [])) (k + 1) 0 ≡ debtor_of net x =
+    stop_before net s W x (k + 1) (omega arith) ∙ stop_after net s W k l ∙ ap (debtor_of net) e in
+    let both : Walked (k + 1) ≡ Walked (length W + 1) =
+    sym (w.marked (k + 1) (omega (arith, length_push W x))) ∙ ap (mark_of marks) (here ∙ sym last)
+    ∙ w.marked (length W + 1) (omega (arith, length_push W x)) in
+    let same : k + 1 ≡ length W + 1 = cc in
+    omega (arith, same)
+
+-- and a debt to the end of a walk stands in none
+pub closing_apart : (net : Net) (c s : ℕ) (C W : List ℕ) (marks : List Mark) (x k : ℕ)
+    → IsWalk net c s C W marks → k < length W
+    → creditor_of net x ≡ end_of net s W → get_or W k 0 ≢ x
+closing_apart net c s C W marks x k w l link e =
+    let both : Walked k ≡ Walked (length W) =
+    sym (w.marked k (omega arith)) ∙ ap (mark_of marks) (sym (w.links k l)
+    ∙ ap (creditor_of net) e ∙ link) ∙ w.marked (length W) (omega arith) in
+    let same : k ≡ length W = cc in
+    omega (arith, same)
+
+-- a walk along debts whose claims stay is one as others change
+walk_stays : (net : Net) (c s : ℕ) (C D W : List ℕ) (marks : List Mark) → IsWalk net c s C W marks
+    → ((k : ℕ) → k < length W → get_or D (get_or W k 0) 0 ≡ get_or C (get_or W k 0) 0)
+    → IsWalk net c s D W marks
+walk_stays net c s C D W marks w same = record {
+  live = λ k l. let old = w.live k l in record
+      { debt = old.debt; class = old.class; claim = omega (arith, old.claim, same k l) };
+  links = w.links;
+  marked = w.marked;
+  placed = w.placed;
+}
+
+-- a cycle is being cancelled: the debts xs of it, from its first bank back to where the walk still
+-- reaches, were lowered by m
+pub record IsCancelling (net : Net) (c s place m : ℕ) (C : List ℕ) (before : List Mark)
+    (D W : List ℕ) (marks : List Mark) : Type 0 where
+  pub xs : List ℕ
+  pub claims : D ≡ lowered C m xs
+  pub can : CanLower C m xs
+  pub classes : (k : ℕ) → k < length xs → class_of net (get_or xs k 0) ≡ c
+  pub leads : Leads (debtor_of net) (creditor_of net) (get_or (stops net s W) place 0) xs
+      (end_of net s W)
+  pub within : place < length W + 1
+  pub walk : IsWalk net c s D W marks
+  pub enough : (k : ℕ) → place ≤ k → k < length W → m ≤ get_or D (get_or W k 0) 0
+  pub others : (x : ℕ) → class_of net x ≢ c → get_or D x 0 ≡ get_or C x 0
+  pub less : sum D + sum_by steps_left marks < sum C + sum_by steps_left before
+  pub banks : length marks ≡ length before
+  pub stays : (b : ℕ) → mark_of before b ≡ Done → mark_of marks b ≡ Done
+  pub done : (R : List ℕ) → AreDone net c C R before → AreDone net c D R marks
+
+-- it begins with the debt that closes it
+pub cancelling_begins : (net : Net) (c s place m : ℕ) (C W : List ℕ) (marks : List Mark) (x : ℕ)
+    → length C ≡ length net.debts
+    → IsWalk net c s C W marks → IsLive net C c x → creditor_of net x ≡ end_of net s W
+    → place < length W + 1 → get_or (stops net s W) place 0 ≡ debtor_of net x → 0 < m
+    → m ≤ get_or C x 0
+    → ((k : ℕ) → place ≤ k → k < length W → m ≤ get_or C (get_or W k 0) 0)
+    → IsCancelling net c s place m C marks (set C x (get_or C x 0 - m)) W marks
+cancelling_begins net c s place m C W marks x l w live link in_walk closed pos enough all =
+    let same : (k : ℕ) → k < length W → get_or (set C x (get_or C x 0 - m)) (get_or W k 0) 0
+    ≡ get_or C (get_or W k 0) 0 =
+    λ k b. get_or-set_other C x (get_or W k 0) (get_or C x 0 - m) 0
+    (closing_apart net c s C W marks x k w b link) in
+    let r : x < length C = omega (arith, live.debt) in
+    record {
+      xs = x ∷ [];
+      claims = refl;
+      can = (r, enough, tt);
+      classes = λ k b. at k (omega arith);
+      leads = (sym closed, link);
+      within = in_walk;
+      walk = walk_stays net c s C (set C x (get_or C x 0 - m)) W marks w same;
+      enough = λ k g b. omega (arith, all k g b, same k b);
+      others = λ y other. get_or-set_other C x y (get_or C x 0 - m) 0
+          (λ e. other (ap (class_of net) e ∙ live.class));
+      less = omega (arith, sum_by-set (λ n. n) C x (get_or C x 0 - m) 0 r);
+      banks = refl;
+      stays = λ b e. e;
+      done = λ R d. done_lowered net c C (set C x (get_or C x 0 - m)) R marks x d
+          (λ y ne. get_or-set_other C x y (get_or C x 0 - m) 0 ne)
+          (omega (arith, get_or-set_same C x (get_or C x 0 - m) 0 r))
+          (λ e. not_done (length W) (sym (ap (mark_of marks) (sym link) ∙ e)
+          ∙ (w.marked (length W) (omega arith))));
+    }
+  where
+    at : (k : ℕ) → k ≡ 0 → class_of net (get_or (x ∷ []) k 0) ≡ c
+    at k e = ap (λ k. class_of net (get_or (x ∷ []) k 0)) e ∙ live.class
+
+    not_done : (k : ℕ) → Done ≡ Walked k → ⊥
+    not_done k e = absurd (cc)
+
+-- and goes on with the last debt of the walk
+pub cancelling_goes_on : (net : Net) (c s place m : ℕ) (C : List ℕ) (before : List Mark)
+    (D W : List ℕ) (marks : List Mark) (y : ℕ)
+    → IsNetwork net → length C ≡ length net.debts → length before ≡ length net.banks
+    → IsCancelling net c s place m C before D (W ++ y ∷ []) marks → place < length W + 1 → 0 < m
+    → IsCancelling net c s place m C before (set D y (get_or D y 0 - m)) W
+    (set marks (debtor_of net y) New)
+cancelling_goes_on net c s place m C before D W marks y network l bl old in_walk pos =
+    let w = old.walk in
+    let n = length_push W y in
+    let live = subst (IsLive net D c) (get_or_push W y 0 (length W) refl)
+    (w.live (length W) (omega (arith, n))) in
+    let enough : m ≤ get_or D y 0 = subst (λ x. m ≤ get_or D x 0)
+    (get_or_push W y 0 (length W) refl) (old.enough (length W) (omega arith)
+    (omega (arith, n))) in
+    let link : creditor_of net y ≡ end_of net s W =
+    ap (creditor_of net) (sym (get_or_push W y 0 (length W) refl))
+    ∙ w.links (length W) (omega (arith, n)) ∙ stop_before net s W y (length W) (omega arith) in
+    let dl : length D ≡ length C = ap length old.claims ∙ length-lowered C m old.xs in
+    let r : y < length D = omega (arith, live.debt) in
+    let b : debtor_of net y < length marks = omega
+    (arith, (network.each_debt y live.debt).debtor_known, old.banks) in
+    let was : mark_of marks (debtor_of net y) ≡ Walked (length W + 1) =
+    ap (mark_of marks) (sym (stop_last net s W y (length W + 1) refl))
+    ∙ w.marked (length W + 1) (omega (arith, n)) in
+    let same : (x : ℕ) → x ≢ y → get_or (set D y (get_or D y 0 - m)) x 0 ≡ get_or D x 0 =
+    λ x ne. get_or-set_other D y x (get_or D y 0 - m) 0 ne in
+    record {
+      xs = old.xs ++ y ∷ [];
+      claims = ap (λ (E : List ℕ). set E y (get_or E y 0 - m)) old.claims
+          ∙ sym (lowered_push C m old.xs y);
+      can = can_push C m old.xs y old.can (omega arith)
+          (omega (arith, enough, ap (λ (E : List ℕ). get_or E y 0) old.claims));
+      classes = λ k h. ⊎_elim
+          (λ (h : k < length old.xs). ap (class_of net) (get_or-append old.xs (y ∷ []) 0 k h)
+          ∙ old.classes k h)
+          (λ (g : length old.xs ≤ k). ap (class_of net)
+          (get_or_push old.xs y 0 k (omega (arith, h, length_push old.xs y))) ∙ live.class)
+          (cases_lt k (length old.xs));
+      leads = subst (λ i. Leads (debtor_of net) (creditor_of net) i (old.xs ++ y ∷ [])
+          (end_of net s W)) (stop_before net s W y place in_walk)
+          (subst (λ j. Leads (debtor_of net) (creditor_of net)
+          (get_or (stops net s (W ++ y ∷ [])) place 0) (old.xs ++ y ∷ []) j) link
+          (leads_push (debtor_of net) (creditor_of net)
+          (get_or (stops net s (W ++ y ∷ [])) place 0)
+          (end_of net s (W ++ y ∷ [])) old.xs y old.leads
+          (sym (stop_last net s W y (length (W ++ y ∷ [])) n))));
+      within = in_walk;
+      walk = walk_back net c s D (set D y (get_or D y 0 - m)) W marks y New w same b
+          (λ k e. absurd (cc));
+      enough = λ k g h. omega (
+        arith,
+        same (get_or W k 0) (last_apart net c s D W marks y k w h),
+        subst (λ x. m ≤ get_or D x 0) (get_or-append W (y ∷ []) 0 k h)
+            (old.enough k g (omega (arith, n))),
+      );
+      others = λ x other. same x (λ e. other (ap (class_of net) e ∙ live.class))
+          ∙ old.others x other;
+      less = omega (
+        arith,
+        old.less,
+        enough,
+        sum_by-set (λ n. n) D y (get_or D y 0 - m) 0 r,
+        sum_by-set steps_left marks (debtor_of net y) New Done b,
+        ap steps_left was,
+      );
+      banks = omega (arith, old.banks, length-set {A = Mark});
+      stays = λ j e. get_or-set_other marks (debtor_of net y) j New Done
+          (λ f. walked_not_done (length W + 1) (sym was ∙ ap (mark_of marks) (sym f)
+          ∙ old.stays j e)) ∙ old.stays j e;
+      done = λ R d. done_marked net c (set D y (get_or D y 0 - m)) R marks (debtor_of net y) New
+          (done_lowered net c D (set D y (get_or D y 0 - m)) R marks y (old.done R d) same
+          (omega (arith, get_or-set_same D y (get_or D y 0 - m) 0 r))
+          (λ e. walked_not_done (length W) (sym (w.marked (length W) (omega (arith, n)))
+          ∙ ap (mark_of marks) (stop_before net s W y (length W) (omega arith) ∙ sym link) ∙ e)))
+          b (λ e. walked_not_done (length W + 1) (sym was ∙ e)) (λ e. absurd (cc));
+    }
+  where
+    walked_not_done : (k : ℕ) → Walked k ≡ Done → ⊥
+    walked_not_done k e = absurd (cc)
+
+-- once the walk is back at the place, the cycle is closed and every balance is as before
+pub cancelling_ends : (net : Net) (c s place m : ℕ) (C : List ℕ) (before : List Mark)
+    (D W : List ℕ) (marks : List Mark)
+    → length C ≡ length net.debts → IsCancelling net c s place m C before D W marks
+    → length W ≤ place → IsKept net c C D before marks
+cancelling_ends net c s place m C before D W marks l old back =
+    let at : place ≡ length W = omega (arith, old.within) in
+    record {
+      as_many = ap length old.claims ∙ length-lowered C m old.xs;
+      falls = subst (λ E. IsAtMost E C) (sym old.claims) (lowered_le C m old.xs);
+      others = old.others;
+      balances = λ k b kept. subst (λ E. IsBalanceKept net E k b) (sym old.claims)
+          (cycle_keeps net C m k c b (end_of net s W) old.xs l old.can old.classes
+          (subst (λ p. Leads (debtor_of net) (creditor_of net) (get_or (stops net s W) p 0) old.xs
+          (end_of net s W)) at old.leads) kept);
+      banks = old.banks;
+      stays = old.stays;
+    }
+
+-- the last debt of the walk, on the way
+pub record IsLast (net : Net) (c m : ℕ) (D : List ℕ) (y : ℕ) : Type 0 where
+  pub live : IsLive net D c y
+  pub enough : m ≤ get_or D y 0
+  pub in_claims : y < length D
+
+pub cancelling_last : (net : Net) (c s place m : ℕ) (C : List ℕ) (before : List Mark)
+    (D W : List ℕ) (marks : List Mark) (y : ℕ)
+    → length C ≡ length net.debts → IsCancelling net c s place m C before D (W ++ y ∷ []) marks
+    → place < length W + 1 → IsLast net c m D y
+cancelling_last net c s place m C before D W marks y l old in_walk =
+    let live = subst (IsLive net D c) (get_or_push W y 0 (length W) refl)
+    (old.walk.live (length W) (omega (arith, length_push W y))) in
+    record {
+      live = live;
+      enough = subst (λ x. m ≤ get_or D x 0) (get_or_push W y 0 (length W) refl)
+          (old.enough (length W) (omega arith) (omega (arith, length_push W y)));
+      in_claims = omega (arith, live.debt, ap length old.claims, length-lowered C m old.xs);
+    }
+
+-- a walk is its debts before the last, and the last
+pub split_last : (ids before : List DebtId) (n : ℕ) (d : DebtId) → before ≡ take (n - 1) ids
+    → n ≡ length ids → 0 < n → d ≡ get_or ids (n - 1) d
+    → numbers ids ≡ numbers before ++ d.0 ∷ []
+split_last ids before n d e l pos at =
+    let more : n - 1 + 1 ≡ length ids = omega arith in
+    ap (map (λ id. id.0)) (sym (take_all (length ids) ids (omega arith))
+    ∙ ap (λ k. take k ids) (sym more) ∙ take_more ids (n - 1) d (omega arith))
+    ∙ ap (λ (xs : List DebtId). map (λ id. id.0) (xs ++ get_or ids (n - 1) d ∷ [])) (sym e)
+    ∙ map-append (λ (id : DebtId). id.0) before (get_or ids (n - 1) d ∷ [])
+    ∙ ap (λ (id : DebtId). numbers before ++ id.0 ∷ []) (sym at)
+
+pub debtor_read : (net : Net) (x : ℕ) (d : Debt) → slice_get net.debts x ≡ Some d
+    → debtor_of net x ≡ d.debtor.0
+debtor_read net x d e = ap (λ o. option_map_or (λ (d : Debt). d.debtor.0) o 0) e
+
+module _ {net : Net} {c s place m : ℕ} {C : List ℕ} {before : List Mark} {D : List ℕ}
+    {ks : List DebtId} {marks : List Mark} {n : ℕ} {d : DebtId} (ids : List DebtId)
+    (network : IsNetwork net) (l : length C ≡ length net.debts)
+    (bl : length before ≡ length net.banks) (e : ks ≡ take (n - 1) ids) (len : n ≡ length ids)
+    (at : d ≡ get_or ids (n - 1) d) (more : place < n)
+    (old : IsCancelling net c s place m C before D (numbers ids) marks) where
+  parted : IsCancelling net c s place m C before D (numbers ks ++ d.0 ∷ []) marks
+  parted = subst (λ W. IsCancelling net c s place m C before D W marks)
+      (split_last ids ks n d e len (omega arith) at) old
+
+  in_front : place < length (numbers ks) + 1
+  in_front = omega (arith, length-map ks (λ id. id.0), ap length e, length-take (n - 1) ids)
+
+  pub step_last : IsLast net c m D d.0
+  step_last = cancelling_last net c s place m C before D (numbers ks) marks d.0 l parted in_front
+
+  pub step_more : (debt : Debt) → slice_get net.debts d.0 ≡ Some debt → 0 < m
+      → IsCancelling net c s place m C before (set D d.0 (get_or D d.0 0 - m)) (numbers ks)
+      (set marks debt.debtor.0 New)
+  step_more debt read pos =
+      subst (λ b. IsCancelling net c s place m C before (set D d.0 (get_or D d.0 0 - m))
+      (numbers ks) (set marks b New)) (debtor_read net d.0 debt read)
+      (cancelling_goes_on net c s place m C before D
+      (numbers ks) marks d.0 network l bl parted in_front pos)
+
+  pub step_bank : (debt : Debt) → slice_get net.debts d.0 ≡ Some debt → debt.debtor.0 < length marks
+  step_bank debt read =
+      omega (
+        arith,
+        debtor_read net d.0 debt read,
+        (network.each_debt d.0 step_last.live.debt).debtor_known,
+        old.banks,
+      )

@@ -1,0 +1,227 @@
+-- A compression leaves no cycle; and lowering the debts of a cycle keeps all balances.
+use Rattle.std.proofs.Common.{◌≡◌, ◌≢◌, ℕ, zero, suc, ◌+◌, ◌-◌, ◌*◌, ◌<◌, ◌≤◌, ◌==◌, ◌&&◌, Bool, true, false, cond, All, List, [], ◌∷◌, length, length-set, get_or, set, map, filter, count_by, sum_by, refl, sym, ap, ◌∙◌, subst, ⊎_elim, arith, eq-eqb, zero-le}
+use Rattle.std.specs.List.{range_with_len}
+use Rattle.std.proofs.Math.Dec.{ltb}
+use Rattle.std.proofs.Math.Nat.{mul-add}
+use Rattle.std.proofs.lemmas.Bool.{cases_eq, and_from, lt-ltb}
+use Rattle.std.proofs.lemmas.List.{get_or-set_same, get_or-set_other}
+use Rattle.std.proofs.lemmas.List.Sums.{sum_by-cons}
+use Rattle.clr_net.specs.Limits.{IsNetwork}
+use Rattle.clr_net.specs.Net.{Net, debtor_of, creditor_of, class_of, column}
+use Rattle.clr_net.proofs.Filters.{place_that_holds}
+use Rattle.compress.specs.Compression.{IsBalanceKept, is_live, most, rank_of, rank_above, Compression, Leads, IsLive, HasNoCycle}
+use Rattle.compress.specs.Lowering.{lowered, CanLower}
+
+-- each that passes is at most the greatest
+most_ge : (f : ℕ → ℕ) (p : ℕ → Bool) (xs : List ℕ) (k : ℕ) → k < length xs
+    → p (get_or xs k 0) ≡ true → f (get_or xs k 0) ≤ most (map f (filter p xs))
+most_ge f p [] k l h = absurd (omega arith)
+most_ge f p (x ∷ xs) zero l h = rw h (omega arith)
+most_ge f p (x ∷ xs) (suc k) l h = by_test (p x) (most_ge f p xs k (omega arith) h)
+  where
+    by_test : (b : Bool) → f (get_or xs k 0) ≤ most (map f (filter p xs))
+        → f (get_or xs k 0) ≤ most (map f (cond b (x ∷ filter p xs) (filter p xs)))
+    by_test true h = omega (arith, h)
+    by_test false h = h
+
+-- a debt stands in its creditor's column
+pub in_column : (net : Net) (x : ℕ) → x < length net.debts
+    → (k : ℕ) × (k < length (column net (creditor_of net x))) ×
+    (get_or (column net (creditor_of net x)) k 0 ≡ x)
+in_column net x l =
+    let i = creditor_of net x in
+    let f = place_that_holds (λ y. creditor_of net y == i) 0 (length net.debts) x x
+    (omega arith) l (eq-eqb i i refl) in
+    (f.0, f.1.within, f.1.at)
+
+-- the numbers rise along each debt above 0
+pub rank_rises : (net : Net) (C : List ℕ) (rank : ℕ → ℕ) (c x : ℕ) → IsLive net C c x
+    → rank (creditor_of net x) ≡ rank_above net C rank c (creditor_of net x)
+    → rank (debtor_of net x) < rank (creditor_of net x)
+rank_rises net C rank c x live e =
+    let place = in_column net x live.debt in
+    let f = λ (y : ℕ). rank (debtor_of net y) + 1 in
+    let passes : is_live net C c x ≡ true = and_from (class_of net x == c) (ltb 0 (get_or C x 0))
+    (eq-eqb (class_of net x) c live.class) (lt-ltb 0 (get_or C x 0) live.claim) in
+    let at = place.2 in
+    let below : f x ≤ rank_above net C rank c (creditor_of net x) =
+    subst (λ y. f y ≤ rank_above net C rank c (creditor_of net x)) at
+    (most_ge f (is_live net C c) (column net (creditor_of net x)) place.0 place.1
+    (ap (is_live net C c) at ∙ passes)) in
+    omega (arith, below, e)
+
+-- along debts above 0 the numbers never fall
+ranks_rise : (net : Net) (C : List ℕ) (rank : ℕ → ℕ) (c : ℕ)
+    → ((x : ℕ) → IsLive net C c x → rank (creditor_of net x)
+    ≡ rank_above net C rank c (creditor_of net x))
+    → (i j : ℕ) (xs : List ℕ) → All (IsLive net C c) xs
+    → Leads (debtor_of net) (creditor_of net) i xs j → rank i ≤ rank j
+ranks_rise net C rank c h i j [] live leads = rw leads (omega arith)
+ranks_rise net C rank c h i j (x ∷ xs) live leads =
+    omega (
+      arith,
+      rank_rises net C rank c x (live 0 0 (omega arith)) (h x (live 0 0 (omega arith))),
+      ap rank leads.0,
+      ranks_rise net C rank c h (creditor_of net x) j xs
+          (λ k d l. live (suc k) d (omega arith)) leads.1,
+    )
+
+pub no_cycle : (net : Net) (C R : List ℕ) (n : ℕ) → IsNetwork net → Compression net C R n
+    → (c : ℕ) → HasNoCycle net C c
+no_cycle net C R n network made c i x xs live leads =
+    let rank = rank_of net R c in
+    let h : (y : ℕ) → IsLive net C c y → rank (creditor_of net y)
+    ≡ rank_above net C rank c (creditor_of net y) =
+    λ y l. let d = network.each_debt y l.debt in
+    made.ranks c (creditor_of net y) (omega (arith, d.class_at_least_1, l.class))
+    (omega (arith, d.class_in_limit, l.class)) d.creditor_known in
+    absurd (omega (
+      arith,
+      rank_rises net C rank c x (live 0 0 (omega arith)) (h x (live 0 0 (omega arith))),
+      ap rank leads.0,
+      ranks_rise net C rank c h (creditor_of net x) i xs
+          (λ k d l. live (suc k) d (omega arith)) leads.1,
+    ))
+
+-- a sum over the numbers that pass, after a write at the number x
+sum_past : (p : ℕ → Bool) (C : List ℕ) (a n x v : ℕ) → x < a
+    → sum_by (λ y. get_or (set C x v) y 0) (filter p (range_with_len a n))
+    ≡ sum_by (λ y. get_or C y 0) (filter p (range_with_len a n))
+sum_past p C a zero x v l = refl
+sum_past p C a (suc n) x v l = by_test (p a) (sum_past p C (a + 1) n x v (omega arith))
+  where
+    by_test : (b : Bool)
+        → sum_by (λ y. get_or (set C x v) y 0) (filter p (range_with_len (a + 1) n))
+        ≡ sum_by (λ y. get_or C y 0) (filter p (range_with_len (a + 1) n))
+        → sum_by (λ y. get_or (set C x v) y 0)
+        (cond b (a ∷ filter p (range_with_len (a + 1) n)) (filter p (range_with_len (a + 1) n)))
+        ≡ sum_by (λ y. get_or C y 0) (cond b (a ∷ filter p (range_with_len (a + 1) n))
+        (filter p (range_with_len (a + 1) n)))
+    by_test true e = omega (
+      arith,
+      sum_by-cons (λ y. get_or (set C x v) y 0) a (filter p (range_with_len (a + 1) n)),
+      sum_by-cons (λ y. get_or C y 0) a (filter p (range_with_len (a + 1) n)),
+      get_or-set_other C x a v 0 (λ e. omega arith),
+      e,
+    )
+    by_test false e = e
+
+sum_written : (p : ℕ → Bool) (C : List ℕ) (a n x v : ℕ) → x < length C → a ≤ x → x < a + n
+    → sum_by (λ y. get_or (set C x v) y 0) (filter p (range_with_len a n)) + cond (p x)
+    (get_or C x 0) 0
+    ≡ sum_by (λ y. get_or C y 0) (filter p (range_with_len a n)) + cond (p x) v 0
+sum_written p C a zero x v w g l = absurd (omega arith)
+sum_written p C a (suc n) x v w g l = ⊎_elim
+    (λ (e : x ≡ a). rw e (here (p a) (omega (arith, e)) (sum_past p C (a + 1) n a v (omega arith))))
+    (λ (ne : x ≡ a → ⊥). other (p a) ne (sum_written p C (a + 1) n x v w (omega arith)
+    (omega arith)))
+    (cases_eq x a)
+  where
+    here : (b : Bool) → a < length C
+        → sum_by (λ y. get_or (set C a v) y 0) (filter p (range_with_len (a + 1) n))
+        ≡ sum_by (λ y. get_or C y 0) (filter p (range_with_len (a + 1) n))
+        → sum_by (λ y. get_or (set C a v) y 0)
+        (cond b (a ∷ filter p (range_with_len (a + 1) n))
+        (filter p (range_with_len (a + 1) n))) + cond b (get_or C a 0) 0
+        ≡ sum_by (λ y. get_or C y 0) (cond b (a ∷ filter p (range_with_len (a + 1) n))
+        (filter p (range_with_len (a + 1) n))) + cond b v 0
+    here true m e = omega (
+      arith,
+      sum_by-cons (λ y. get_or (set C a v) y 0) a (filter p (range_with_len (a + 1) n)),
+      sum_by-cons (λ y. get_or C y 0) a (filter p (range_with_len (a + 1) n)),
+      get_or-set_same C a v 0 m,
+      e,
+    )
+    here false m e = omega (arith, e)
+
+    other : (b : Bool) → x ≢ a
+        → sum_by (λ y. get_or (set C x v) y 0) (filter p (range_with_len (a + 1) n)) + cond (p x)
+        (get_or C x 0) 0
+        ≡ sum_by (λ y. get_or C y 0) (filter p (range_with_len (a + 1) n)) + cond (p x) v 0
+        → sum_by (λ y. get_or (set C x v) y 0)
+        (cond b (a ∷ filter p (range_with_len (a + 1) n))
+        (filter p (range_with_len (a + 1) n))) + cond (p x) (get_or C x 0) 0
+        ≡ sum_by (λ y. get_or C y 0) (cond b (a ∷ filter p (range_with_len (a + 1) n))
+        (filter p (range_with_len (a + 1) n))) + cond (p x) v 0
+    other true ne e = omega (
+      arith,
+      sum_by-cons (λ y. get_or (set C x v) y 0) a (filter p (range_with_len (a + 1) n)),
+      sum_by-cons (λ y. get_or C y 0) a (filter p (range_with_len (a + 1) n)),
+      get_or-set_other C x a v 0 (λ s. ne (sym s)),
+      e,
+    )
+    other false ne e = e
+
+-- lowering debts by m each takes m off a sum for each of them that passes
+scaled : (b : Bool) (m n w k : ℕ) → m ≤ w → k + cond b w 0 ≡ n + cond b (w - m) 0
+    → k + m * cond b 1 0 ≡ n
+scaled true m n w k l e = omega (arith, e)
+scaled false m n w k l e = omega (arith, e)
+
+pub sum_lowered : (p : ℕ → Bool) (n m : ℕ) (C xs : List ℕ) → length C ≡ n → CanLower C m xs
+    → sum_by (λ y. get_or (lowered C m xs) y 0)
+    (filter p (range_with_len 0 n)) + m * count_by p xs
+    ≡ sum_by (λ y. get_or C y 0) (filter p (range_with_len 0 n))
+sum_lowered p n m C [] l h = omega arith
+sum_lowered p n m C (x ∷ xs) l h =
+    let D = set C x (get_or C x 0 - m) in
+    omega (
+      arith,
+      sum_lowered p n m D xs (omega (arith, length-set {A = ℕ})) h.2,
+      scaled (p x) m (sum_by (λ y. get_or C y 0) (filter p (range_with_len 0 n))) (get_or C x 0)
+          (sum_by (λ y. get_or D y 0) (filter p (range_with_len 0 n)))
+          h.1 (sum_written p C 0 n x (get_or C x 0 - m) h.0 zero-le (omega (arith, h.0))),
+      ap (λ (t : ℕ). m * t) (sum_by-cons (λ y. cond {A = ℕ} (p y) 1 0) x xs),
+      mul-add m (cond (p x) 1 0) (count_by p xs),
+    )
+
+-- along debts of one class from i to j, each bank is left as often as it is come to, but for the
+-- two ends
+turns : (class from to : ℕ → ℕ) (c d b i j : ℕ) (xs : List ℕ)
+    → ((k : ℕ) → k < length xs → class (get_or xs k 0) ≡ d) → Leads from to i xs j
+    → count_by (λ x. (class x == c) && (from x == b)) xs + cond ((d == c) && (j == b)) 1 0
+    ≡ count_by (λ x. (class x == c) && (to x == b)) xs + cond ((d == c) && (i == b)) 1 0
+turns class from to c d b i j [] same leads = omega
+    (arith, ap (λ e. cond {A = ℕ} ((d == c) && (e == b)) 1 0) leads)
+turns class from to c d b i j (x ∷ xs) same leads = omega (
+  arith,
+  sum_by-cons (λ x. cond {A = ℕ} ((class x == c) && (from x == b)) 1 0) x xs,
+  sum_by-cons (λ x. cond {A = ℕ} ((class x == c) && (to x == b)) 1 0) x xs,
+  ap (λ e. cond {A = ℕ} ((e == c) && (from x == b)) 1 0) (same 0 (omega arith)),
+  ap (λ e. cond {A = ℕ} ((d == c) && (e == b)) 1 0) leads.0,
+  ap (λ e. cond {A = ℕ} ((e == c) && (to x == b)) 1 0) (same 0 (omega arith)),
+  turns class from to c d b (to x) j xs (λ k l. same (suc k) (omega arith)) leads.1,
+)
+
+-- so round a cycle of one class each bank is left as often as it is come to
+pub round_trip : (class from to : ℕ → ℕ) (c d b i : ℕ) (xs : List ℕ)
+    → ((k : ℕ) → k < length xs → class (get_or xs k 0) ≡ d) → Leads from to i xs i
+    → count_by (λ x. (class x == c) && (from x == b)) xs
+    ≡ count_by (λ x. (class x == c) && (to x == b)) xs
+round_trip class from to c d b i xs same leads = omega
+    (arith, turns class from to c d b i i xs same leads)
+
+-- and lowering the debts of a cycle by the same keeps every balance
+kept_by_counts : (net : Net) (C : List ℕ) (m c b : ℕ) (xs : List ℕ) → length C ≡ length net.debts
+    → CanLower C m xs
+    → count_by (λ x. (class_of net x == c) && (debtor_of net x == b)) xs
+    ≡ count_by (λ x. (class_of net x == c) && (creditor_of net x == b)) xs
+    → IsBalanceKept net C c b → IsBalanceKept net (lowered C m xs) c b
+kept_by_counts net C m c b xs l can same kept = omega (
+  arith,
+  kept,
+  sum_lowered (λ x. (class_of net x == c) && (debtor_of net x == b))
+      (length net.debts) m C xs l can,
+  sum_lowered (λ x. (class_of net x == c) && (creditor_of net x == b))
+      (length net.debts) m C xs l can,
+  ap (λ (n : ℕ). m * n) same,
+)
+
+pub cycle_keeps : (net : Net) (C : List ℕ) (m c d b i : ℕ) (xs : List ℕ)
+    → length C ≡ length net.debts → CanLower C m xs
+    → ((k : ℕ) → k < length xs → class_of net (get_or xs k 0) ≡ d)
+    → Leads (debtor_of net) (creditor_of net) i xs i
+    → IsBalanceKept net C c b → IsBalanceKept net (lowered C m xs) c b
+cycle_keeps net C m c d b i xs l can same leads kept =
+    kept_by_counts net C m c b xs l can (round_trip (class_of net) (debtor_of net)
+    (creditor_of net) c d b i xs same leads) kept

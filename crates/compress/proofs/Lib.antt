@@ -1,0 +1,11 @@
+pub mod Cycles
+pub mod LowerClaims
+pub mod Walks
+pub mod Dones
+pub mod Searching
+pub mod Steps
+pub mod Cursors
+pub mod Cancelling
+pub mod Telling
+pub mod Opening
+pub mod Making

@@ -1,0 +1,202 @@
+-- The two other steps: a walk goes on to a new bank, or its last bank is done.
+use Rattle.std.proofs.Common.{◌≡◌, ◌≢◌, ℕ, ◌+◌, ◌<◌, ◌≤◌, List, [], ◌∷◌, ◌++◌, length, length-set, get_or, set, sum_by, Bool, true, false, not, Option, Some, None, refl, sym, ap, ◌∙◌, subst, ⊎_elim, arith}
+use Rattle.std.proofs.lemmas.Bool.{cases_lt, true≢false}
+use Rattle.std.proofs.lemmas.List.{length-append, get_or_past, get_or-set_same, get_or-set_other, length_push, map-append}
+use Rattle.std.proofs.lemmas.List.Sums.{sum_by-set}
+use Rattle.std.specs.Bool.{OnTrue, OnFalse}
+use Rattle.std.specs.Option.{is_some, option_to_list}
+use Rattle.clr_net.specs.declared.debt.DebtId.{DebtId}
+use Rattle.clr_net.specs.Net.{Net, numbers, debtor_of}
+use Rattle.compress.specs.Compression.{rank_above}
+use Rattle.compress.specs.declared.mark.Mark.{Mark}
+use Rattle.compress.specs.declared.mark.Mark.TheVariants.{New, Walked, Done}
+use Rattle.compress.specs.Walk.{mark_of, end_of, steps_left, HasNoWalk, IsWalk, AreDone, IsKept, IsReady, LeadsOn}
+use Rattle.compress.proofs.Walks.{stop_last, walk_grows, walk_back, walk_ends}
+use Rattle.compress.proofs.Dones.{done_marked, done_more}
+
+pub walked_not_done : (k : ℕ) → Walked k ≡ Done → ⊥
+walked_not_done k e = absurd (cc)
+
+pub new_not_done : New ≡ Done → ⊥
+new_not_done e = absurd (cc)
+
+pub not_done_in_range : (marks : List Mark) (b : ℕ) → mark_of marks b ≢ Done → b < length marks
+not_done_in_range marks b ne = ⊎_elim (λ (l : b < length marks). l)
+    (λ (g : length marks ≤ b). absurd (ne (get_or_past marks b Done g)))
+    (cases_lt b (length marks))
+
+-- marks alone change, and banks that are done stay so
+pub kept_marks : (net : Net) (c : ℕ) (C : List ℕ) (before after : List Mark)
+    → length after ≡ length before
+    → ((b : ℕ) → mark_of before b ≡ Done → mark_of after b ≡ Done) → IsKept net c C C before after
+kept_marks net c C before after l h = record {
+  as_many = refl;
+  falls = λ k. omega arith;
+  others = λ x ne. refl;
+  balances = λ k b same. same;
+  banks = l;
+  stays = h;
+}
+
+-- steps one after another
+pub kept_both : (net : Net) (c : ℕ) (C D E : List ℕ) (m n o : List Mark) → IsKept net c C D m n
+    → IsKept net c D E n o → IsKept net c C E m o
+kept_both net c C D E m n o a b = record {
+  as_many = b.as_many ∙ a.as_many;
+  falls = λ k. omega (arith, a.falls k, b.falls k);
+  others = λ x ne. b.others x ne ∙ a.others x ne;
+  balances = λ k i same. b.balances k i (a.balances k i same);
+  banks = b.banks ∙ a.banks;
+  stays = λ i e. b.stays i (a.stays i e);
+}
+
+marks_stay : (marks : List Mark) (b : ℕ) (v : Mark) → mark_of marks b ≢ Done → (j : ℕ)
+    → mark_of marks j ≡ Done → mark_of (set marks b v) j ≡ Done
+marks_stay marks b v was j e = get_or-set_other marks b j v Done
+    (λ s. was (ap (mark_of marks) (sym s) ∙ e)) ∙ e
+
+-- a bank that was not done is
+pub kept_done : (net : Net) (c : ℕ) (C : List ℕ) (marks : List Mark) (b : ℕ) (v : Mark)
+    → mark_of marks b ≢ Done → IsKept net c C C marks (set marks b v)
+kept_done net c C marks b v was = kept_marks net c C marks (set marks b v) (length-set marks b v)
+    (marks_stay marks b v was)
+
+module _ (net : Net) (c s : ℕ) (C W : List ℕ) (marks : List Mark) (x : ℕ)
+    (w : IsWalk net c s C W marks)
+    (on : LeadsOn net c (end_of net s W) C marks x)
+    (new : mark_of marks (debtor_of net x) ≡ New) where
+  grown_in_range : debtor_of net x < length marks
+  grown_in_range = not_done_in_range marks (debtor_of net x) on.unfinished
+
+  pub grown_walk : IsWalk net c s C (W ++ x ∷ [])
+      (set marks (debtor_of net x) (Walked (length W + 1)))
+  grown_walk = walk_grows net c s C W marks x w on.live on.owed grown_in_range new
+
+  pub grown_kept : IsKept net c C C marks (set marks (debtor_of net x) (Walked (length W + 1)))
+  grown_kept = kept_done net c C marks (debtor_of net x) (Walked (length W + 1)) on.unfinished
+
+  pub grown_done : (R : List ℕ) → AreDone net c C R marks
+      → AreDone net c C R (set marks (debtor_of net x) (Walked (length W + 1)))
+  grown_done R d = done_marked net c C R marks (debtor_of net x)
+      (Walked (length W + 1)) d grown_in_range on.unfinished
+      (λ e. walked_not_done (length W + 1) e)
+
+  pub grown_less : sum_by steps_left (set marks (debtor_of net x) (Walked (length W + 1)))
+      < sum_by steps_left marks
+  grown_less = omega (
+    arith,
+    sum_by-set steps_left marks (debtor_of net x)
+        (Walked (length W + 1)) Done grown_in_range,
+    ap steps_left new,
+  )
+
+module _ (net : Net) (c s : ℕ) (C W : List ℕ) (marks : List Mark)
+    (w : IsWalk net c s C W marks) where
+  end_walked : mark_of marks (end_of net s W) ≡ Walked (length W)
+  end_walked = w.marked (length W) (omega arith)
+
+  pub end_not_done : mark_of marks (end_of net s W) ≢ Done
+  end_not_done e = walked_not_done (length W) (sym end_walked ∙ e)
+
+  pub end_in_range : end_of net s W < length marks
+  end_in_range = not_done_in_range marks (end_of net s W) end_not_done
+
+  pub retired_kept : IsKept net c C C marks (set marks (end_of net s W) Done)
+  retired_kept = kept_done net c C marks (end_of net s W) Done end_not_done
+
+  pub retired_done : (R : List ℕ) (v : ℕ) → AreDone net c C R marks → length R ≡ length marks
+      → IsReady net c (end_of net s W) C marks
+      → v ≡ rank_above net C (λ j. get_or R j 0) c (end_of net s W)
+      → AreDone net c C (set R (end_of net s W) v) (set marks (end_of net s W) Done)
+  retired_done R v d l ready e = done_more net c C R marks (end_of net s W) v d end_in_range
+      (omega (arith, end_in_range)) end_not_done ready e
+
+  pub retired_less : sum_by steps_left (set marks (end_of net s W) Done) < sum_by steps_left marks
+  retired_less = omega (
+    arith,
+    sum_by-set steps_left marks
+        (end_of net s W) Done Done end_in_range,
+    ap steps_left end_walked,
+  )
+
+  pub retired_back : (V : List ℕ) (y : ℕ) → W ≡ V ++ y ∷ []
+      → IsWalk net c s C V (set marks (end_of net s W) Done)
+  retired_back V y e =
+      let at : end_of net s W ≡ debtor_of net y = ap (end_of net s) e
+      ∙ stop_last net s V y (length (V ++ y ∷ [])) (length_push V y) in
+      subst (λ b. IsWalk net c s C V (set marks b Done)) (sym at)
+      (walk_back net c s C C V marks y Done (subst (λ U. IsWalk net c s C U marks) e w)
+      (λ z ne. refl) (omega (arith, end_in_range, at)) (λ k f. absurd (cc)))
+
+  pub retired_ends : W ≡ [] → HasNoWalk (set marks (end_of net s W) Done) ×
+      (mark_of (set marks (end_of net s W) Done) s ≡ Done)
+  retired_ends e =
+      let at : end_of net s W ≡ s = ap (end_of net s) e in
+      subst (λ b. HasNoWalk (set marks b Done) × (mark_of (set marks b Done) s ≡ Done)) (sym at) (
+        walk_ends net c s C marks Done (subst (λ U. IsWalk net c s C U marks) e w)
+            (omega (arith, end_in_range, at)) (λ k f. absurd (cc)),
+        get_or-set_same marks s Done Done (omega (arith, end_in_range, at)),
+      )
+
+empty : (ids : List DebtId) → length ids ≡ 0 → ids ≡ []
+empty [] l = refl
+empty (y ∷ ids) l = absurd (omega arith)
+
+-- how the taking off of the last debt tells whether the walk was back at its start
+module _ (net : Net) (c s : ℕ) (C : List ℕ) (marks : List Mark) (items ids : List DebtId)
+    (w : IsWalk net c s C (numbers items) marks) where
+  pub popped_walk : (o : Option DebtId) (b : Bool) → is_some o ≡ not b
+      → items ≡ ids ++ option_to_list o
+      → OnFalse b (IsWalk net c s C (numbers ids) (set marks (end_of net s (numbers items)) Done))
+  popped_walk None true e at = tt
+  popped_walk None false e at = absurd (cc)
+  popped_walk (Some y) true e at = absurd (cc)
+  popped_walk (Some y) false e at =
+      retired_back net c s C (numbers items) marks w (numbers ids) y.0 (ap numbers at
+      ∙ map-append (λ (id : DebtId). id.0) ids (y ∷ []))
+
+  -- where nothing was taken off, the walk had no debt
+  pub popped_ends : (o : Option DebtId) (b : Bool) → is_some o ≡ not b
+      → (0 < length items → is_some o ≡ true)
+      → OnTrue b (HasNoWalk (set marks (end_of net s (numbers items)) Done))
+  popped_ends None true e some = (retired_ends net c s C (numbers items) marks w
+      (ap numbers (empty items (⊎_elim
+      (λ (l : 0 < length items). absurd (true≢false (sym (some l))))
+      (λ (g : length items ≤ 0). omega arith)
+      (cases_lt 0 (length items)))))).0
+  popped_ends None false e some = tt
+  popped_ends (Some y) true e some = absurd (cc)
+  popped_ends (Some y) false e some = tt
+
+  -- no debt is left then
+  pub popped_empty : (o : Option DebtId) (b : Bool) → is_some o ≡ not b
+      → (0 < length items → is_some o ≡ true) → items ≡ ids ++ option_to_list o
+      → OnTrue b (ids ≡ [])
+  popped_empty None true e some at = empty ids (omega (
+    arith,
+    ap length at,
+    length-append ids [],
+    none_left (⊎_elim
+        (λ (l : 0 < length items). absurd (true≢false (sym (some l))))
+        (λ (g : length items ≤ 0). g)
+        (cases_lt 0 (length items))),
+  ))
+    where
+      none_left : length items ≤ 0 → length items ≡ 0
+      none_left g = omega arith
+  popped_empty None false e some at = tt
+  popped_empty (Some y) true e some at = absurd (cc)
+  popped_empty (Some y) false e some at = tt
+
+-- what follows from a fact that is known in one case
+pub on_false : {P Q : Type 0} (b : Bool) → (P → Q) → OnFalse b P → OnFalse b Q
+on_false true f p = tt
+on_false false f p = f p
+
+pub on_true : {P Q : Type 0} (b : Bool) → (P → Q) → OnTrue b P → OnTrue b Q
+on_true true f p = f p
+on_true false f p = tt
+
+pub both_true : (P Q : Type 0) (b : Bool) → OnTrue b P → OnTrue b Q → OnTrue b (P × Q)
+both_true P Q true p q = (p, q)
+both_true P Q false p q = tt

@@ -1,0 +1,124 @@
+-- What is told of the banks stays so, as a walk begins, looks on, and its last bank is done.
+use Rattle.std.proofs.Common.{◌≡◌, ℕ, zero, suc, ◌<◌, List, [], ◌∷◌, length, length-set, get_or, set, sym, ap, ◌∙◌, subst, arith}
+use Rattle.std.specs.Global.{Vec}
+use Rattle.std.proofs.lemmas.List.{with_items_is}
+use Rattle.std.specs.Vec.{with_item, with_items}
+use Rattle.clr_net.specs.declared.debt.BankId.{BankId}
+use Rattle.clr_net.specs.declared.debt.DebtId.{DebtId}
+use Rattle.clr_net.specs.Net.{Net, numbers}
+use Rattle.compress.specs.Compression.{rank_above}
+use Rattle.compress.specs.declared.mark.Mark.{Mark}
+use Rattle.compress.specs.declared.mark.Mark.TheVariants.{New, Walked, Done}
+use Rattle.compress.specs.declared.walk.Walk.{Walk}
+use Rattle.compress.specs.Walk.{mark_of, end_of, AreDone, ArePassed, IsWalk, IsKept, IsReady, IsTold, IsUnderWay, IsAtRest}
+use Rattle.compress.proofs.Walks.{walk_begins}
+use Rattle.compress.proofs.Dones.{done_marked}
+use Rattle.compress.proofs.Cursors.{passed_kept}
+use Rattle.compress.proofs.Steps.{new_not_done, walked_not_done, kept_done, retired_done, retired_kept}
+
+-- a mark, as it is read
+pub read_mark : (marks : List Mark) (b : ℕ) (m : Mark) → b < length marks → m ≡ get_or marks b m
+    → mark_of marks b ≡ m
+read_mark [] b m l e = absurd (omega arith)
+read_mark (x ∷ marks) zero m l e = sym e
+read_mark (x ∷ marks) (suc b) m l e = read_mark marks b m (omega arith) e
+
+-- a bank that is new is walked to
+pub begun_kept : (net : Net) (c : ℕ) (C : List ℕ) (marks : List Mark) (s : ℕ)
+    → mark_of marks s ≡ New → IsKept net c C C marks (set marks s (Walked 0))
+begun_kept net c C marks s new =
+    kept_done net c C marks s (Walked 0) (λ e. new_not_done (sym new ∙ e))
+
+-- a walk begins there
+pub begun : (net : Net) (c : ℕ) (C : List ℕ) (w : Walk) (start : BankId) → IsAtRest net c C w
+    → start.0 < length w.marks.items → mark_of w.marks.items start.0 ≡ New
+    → IsUnderWay net c C (record w {
+      start = start;
+      marks = with_item w.marks start.0 (Walked 0);
+    })
+begun net c C w start rest known new =
+    let marks = w.marks.items in
+    let after = set marks start.0 (Walked 0) in
+    let sizes = rest.told.sizes in
+    record {
+      walk = subst (λ ids. IsWalk net c start.0 C (numbers ids) after) (sym rest.empty)
+          (walk_begins net c start.0 C marks known rest.no_walk);
+      told = record {
+        done = done_marked net c C w.ranks.items marks start.0 (Walked 0) rest.told.done known
+            (λ e. new_not_done (sym new ∙ e)) (walked_not_done 0);
+        passed = passed_kept net c C C marks after w.cursors.items
+            (begun_kept net c C marks start.0 new) rest.told.passed;
+        sizes = record {
+          marks = omega (arith, length-set {A = Mark}, sizes.marks);
+          cursors = sizes.cursors;
+          ranks = sizes.ranks;
+        };
+      };
+    }
+
+-- the cursors are moved
+pub looked_on : (net : Net) (c : ℕ) (C : List ℕ) (w : Walk) (K : List ℕ) → IsUnderWay net c C w
+    → length K ≡ length w.cursors.items → ArePassed net c C w.marks.items K
+    → IsUnderWay net c C (record w { cursors = with_items w.cursors K })
+looked_on net c C w K old l passed =
+    let moved : (with_items w.cursors K).items ≡ K = with_items_is w.cursors K (omega (arith, l)) in
+    record {
+      walk = old.walk;
+      told = record {
+        done = old.told.done;
+        passed = subst (ArePassed net c C w.marks.items) (sym moved) passed;
+        sizes = record {
+          marks = old.told.sizes.marks;
+          cursors = ap length moved ∙ l ∙ old.told.sizes.cursors;
+          ranks = old.told.sizes.ranks;
+        };
+      };
+    }
+
+-- the last bank of a walk is done: what is told of the banks is so
+pub retired_told : (net : Net) (c : ℕ) (C : List ℕ) (w : Walk) (ids : Vec DebtId) (e v : ℕ)
+    → IsUnderWay net c C w → e ≡ end_of net w.start.0 (numbers w.debts.items)
+    → IsReady net c e C w.marks.items → v ≡ rank_above net C (λ j. get_or w.ranks.items j 0) c e
+    → IsTold net c C (record w {
+      debts = ids;
+      marks = with_item w.marks e Done;
+      ranks = with_item w.ranks e v;
+    })
+retired_told net c C w ids e v old at ready is =
+    let s = w.start.0 in
+    let W = numbers w.debts.items in
+    let marks = w.marks.items in
+    let R = w.ranks.items in
+    let sizes = old.told.sizes in
+    let ready_end = subst (λ b. IsReady net c b C marks) at ready in
+    let is_end : v ≡ rank_above net C (λ j. get_or R j 0) c (end_of net s W) =
+    is ∙ ap (rank_above net C (λ j. get_or R j 0) c) at in
+    record {
+      done = subst (λ b. AreDone net c C (set R b v) (set marks b Done)) (sym at)
+          (retired_done net c s C W marks old.walk R v old.told.done
+          (omega (arith, sizes.ranks, sizes.marks)) ready_end is_end);
+      passed = subst (λ b. ArePassed net c C (set marks b Done) w.cursors.items) (sym at)
+          (passed_kept net c C C marks (set marks (end_of net s W) Done) w.cursors.items
+          (retired_kept net c s C W marks old.walk) old.told.passed);
+      sizes = record {
+        marks = omega (arith, length-set {A = Mark}, sizes.marks);
+        cursors = sizes.cursors;
+        ranks = omega (arith, length-set {A = ℕ}, sizes.ranks);
+      };
+    }
+
+-- the walk is back at the first bank of the cycle, and what is told of the banks is so
+pub cancelled_told : (net : Net) (c : ℕ) (C D : List ℕ) (w v : Walk)
+    → IsTold net c C w → IsKept net c C D w.marks.items v.marks.items
+    → ((R : List ℕ) → AreDone net c C R w.marks.items → AreDone net c D R v.marks.items)
+    → v.cursors ≡ w.cursors → v.ranks ≡ w.ranks → IsTold net c D v
+cancelled_told net c C D w v told kept done cursors ranks = record {
+  done = rw ranks (done w.ranks.items told.done);
+  passed = rw cursors
+      (passed_kept net c C D w.marks.items v.marks.items w.cursors.items kept told.passed);
+  sizes = record {
+    marks = kept.banks ∙ told.sizes.marks;
+    cursors = rw cursors told.sizes.cursors;
+    ranks = rw ranks told.sizes.ranks;
+  };
+}

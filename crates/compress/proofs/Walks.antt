@@ -1,0 +1,189 @@
+-- A walk grows by a debt, and is taken back by one.
+use Rattle.std.proofs.Common.{◌≡◌, ◌≢◌, ℕ, suc, ◌+◌, ◌<◌, ◌≤◌, List, [], ◌∷◌, ◌++◌, length, get_or, set, refl, sym, ap, ◌∙◌, subst, ⊎_elim, arith}
+use Rattle.std.proofs.Math.ListN.{get_or-append}
+use Rattle.std.proofs.lemmas.Bool.{cases_eq, cases_lt}
+use Rattle.std.proofs.lemmas.List.{get_or_push, get_or-map, get_or-set_same, get_or-set_other, length_push, length-map, map-append}
+use Rattle.clr_net.specs.Net.{Net, debtor_of, creditor_of}
+use Rattle.compress.specs.Compression.{IsLive}
+use Rattle.compress.specs.declared.mark.Mark.{Mark}
+use Rattle.compress.specs.declared.mark.Mark.TheVariants.{New, Walked, Done}
+use Rattle.compress.specs.Walk.{mark_of, stops, end_of, IsWalk, HasNoWalk}
+
+-- the stops of a walk with one debt more
+stops_push : (net : Net) (s : ℕ) (W : List ℕ) (x : ℕ)
+    → stops net s (W ++ x ∷ []) ≡ stops net s W ++ debtor_of net x ∷ []
+stops_push net s W x = ap (λ (ds : List ℕ). s ∷ ds) (map-append (debtor_of net) W (x ∷ []))
+
+pub length-stops : (net : Net) (s : ℕ) (W : List ℕ) → length (stops net s W) ≡ length W + 1
+length-stops net s W = omega (arith, length-map W (debtor_of net))
+
+pub stop_before : (net : Net) (s : ℕ) (W : List ℕ) (x k : ℕ) → k < length W + 1
+    → get_or (stops net s (W ++ x ∷ [])) k 0 ≡ get_or (stops net s W) k 0
+stop_before net s W x k l =
+    ap (λ (bs : List ℕ). get_or bs k 0) (stops_push net s W x)
+    ∙ get_or-append (stops net s W) (debtor_of net x ∷ []) 0 k (omega (arith, length-stops net s W))
+
+pub stop_last : (net : Net) (s : ℕ) (W : List ℕ) (x k : ℕ) → k ≡ length W + 1
+    → get_or (stops net s (W ++ x ∷ [])) k 0 ≡ debtor_of net x
+stop_last net s W x k e =
+    ap (λ (bs : List ℕ). get_or bs k 0) (stops_push net s W x)
+    ∙ get_or_push (stops net s W) (debtor_of net x) 0 k (omega (arith, length-stops net s W))
+
+-- the debt in a place leads to the stop after it
+pub stop_after : (net : Net) (s : ℕ) (W : List ℕ) (k : ℕ) → k < length W
+    → get_or (stops net s W) (k + 1) 0 ≡ debtor_of net (get_or W k 0)
+stop_after net s W k l =
+    let more : k + 1 ≡ suc k = omega arith in
+    ap (λ n. get_or (stops net s W) n 0) more ∙ get_or-map (debtor_of net) W k 0 0 l
+
+same_place : (j k : ℕ) → Walked j ≡ Walked k → j ≡ k
+same_place j k e = cc
+
+new_not_walked : (k : ℕ) → New ≢ Walked k
+new_not_walked k e = absurd (cc)
+
+-- a walk begins at a bank
+pub walk_begins : (net : Net) (c s : ℕ) (C : List ℕ) (marks : List Mark) → s < length marks
+    → HasNoWalk marks
+    → IsWalk net c s C [] (set marks s (Walked 0))
+walk_begins net c s C marks l none = record {
+  live = λ k m. absurd (omega arith);
+  links = λ k m. absurd (omega arith);
+  marked = λ k m. at k (omega arith);
+  placed = λ b p e. ⊎_elim
+      (λ (same : b ≡ s).
+      let here : Walked 0 ≡ Walked p = sym (get_or-set_same marks s (Walked 0) Done l)
+      ∙ ap (λ b. get_or (set marks s (Walked 0)) b Done) (sym same) ∙ e in
+      begins b p (sym (same_place 0 p here)) same)
+      (λ (ne : b ≢ s). absurd (none b p (sym (get_or-set_other marks s b (Walked 0) Done ne) ∙ e)))
+      (cases_eq b s);
+}
+  where
+    at : (k : ℕ) → k ≡ 0 → mark_of (set marks s (Walked 0)) (get_or (stops net s []) k 0) ≡ Walked k
+    at k e = subst (λ k. mark_of (set marks s (Walked 0)) (get_or (stops net s []) k 0)
+        ≡ Walked k) (sym e) (get_or-set_same marks s (Walked 0) Done l)
+
+    begins : (b p : ℕ) → p ≡ 0 → b ≡ s → (p < 0 + 1) × (get_or (stops net s []) p 0 ≡ b)
+    begins b p e same = (omega arith, ap (λ p. get_or (stops net s []) p 0) e ∙ sym same)
+
+-- a walk grows by a debt above 0 to its end, owed by a bank that is new
+pub walk_grows : (net : Net) (c s : ℕ) (C W : List ℕ) (marks : List Mark) (x : ℕ)
+    → IsWalk net c s C W marks → IsLive net C c x
+    → creditor_of net x ≡ end_of net s W → debtor_of net x < length marks
+    → mark_of marks (debtor_of net x) ≡ New
+    → IsWalk net c s C (W ++ x ∷ []) (set marks (debtor_of net x) (Walked (length W + 1)))
+walk_grows net c s C W marks x w live link l new = record {
+  live = λ k m. ⊎_elim
+      (λ (b : k < length W). subst (IsLive net C c) (sym (get_or-append W (x ∷ []) 0 k b))
+      (w.live k b))
+      (λ (g : length W ≤ k). subst (IsLive net C c) (sym (get_or_push W x 0 k (at_end k m g))) live)
+      (cases_lt k (length W));
+  links = λ k m. ⊎_elim
+      (λ (b : k < length W). ap (creditor_of net) (get_or-append W (x ∷ []) 0 k b) ∙ w.links k b
+      ∙ sym (stop_before net s W x k (omega arith)))
+      (λ (g : length W ≤ k).
+      let e = at_end k m g in
+      ap (creditor_of net) (get_or_push W x 0 k e) ∙ link ∙ ap (λ n. get_or (stops net s W) n 0) e
+      ∙ sym (stop_before net s W x k (omega arith)))
+      (cases_lt k (length W));
+  marked = λ k m. ⊎_elim
+      (λ (b : k < length W + 1).
+      ap (λ b. get_or marks' b Done) (stop_before net s W x k b)
+      ∙ get_or-set_other marks (debtor_of net x) (get_or (stops net s W) k 0)
+      (Walked (length W + 1)) Done (λ same.
+      new_not_walked k (sym new ∙ ap (mark_of marks) (sym same) ∙ w.marked k b))
+      ∙ w.marked k b)
+      (λ (g : length W + 1 ≤ k).
+      let e : k ≡ length W + 1 = omega (arith, length_push W x) in
+      ap (λ b. get_or marks' b Done) (stop_last net s W x k e)
+      ∙ get_or-set_same marks (debtor_of net x) (Walked (length W + 1)) Done l
+      ∙ ap Walked (sym e))
+      (cases_lt k (length W + 1));
+  placed = λ b p e. ⊎_elim
+      (λ (same : b ≡ debtor_of net x).
+      let here : Walked (length W + 1) ≡ Walked p =
+      sym (get_or-set_same marks (debtor_of net x) (Walked (length W + 1)) Done l)
+      ∙ ap (λ b. get_or marks' b Done) (sym same) ∙ e in
+      let place : p ≡ length W + 1 = sym (same_place (length W + 1) p here) in
+      (omega (arith, length_push W x, place), stop_last net s W x p place ∙ sym same))
+      (λ (ne : b ≢ debtor_of net x).
+      let old = w.placed b p (sym (get_or-set_other marks (debtor_of net x) b
+      (Walked (length W + 1)) Done ne) ∙ e) in
+      (omega (arith, length_push W x, old.0), stop_before net s W x p old.0 ∙ old.1))
+      (cases_eq b (debtor_of net x));
+}
+  where
+    marks' : List Mark
+    marks' = set marks (debtor_of net x) (Walked (length W + 1))
+
+    at_end : (k : ℕ) → k < length (W ++ x ∷ []) → length W ≤ k → length W ≡ k
+    at_end k m g = omega (arith, length_push W x)
+
+-- a walk is taken back by its last debt, whose claim may have been lowered, and whose debtor is no
+-- longer on it
+pub walk_back : (net : Net) (c s : ℕ) (C D W : List ℕ) (marks : List Mark) (x : ℕ) (v : Mark)
+    → IsWalk net c s C (W ++ x ∷ []) marks
+    → ((y : ℕ) → y ≢ x → get_or D y 0 ≡ get_or C y 0) → debtor_of net x < length marks
+    → ((k : ℕ) → v ≢ Walked k)
+    → IsWalk net c s D W (set marks (debtor_of net x) v)
+walk_back net c s C D W marks x v w same l free = record {
+  live = λ k m.
+      let y = get_or W k 0 in
+      let old = subst (IsLive net C c) (get_or-append W (x ∷ []) 0 k m)
+      (w.live k (omega (arith, length_push W x))) in
+      record {
+        debt = old.debt;
+        class = old.class;
+        claim = omega (
+          arith,
+          old.claim,
+          same y (λ e. other (k + 1) (omega arith)
+              (stop_before net s W x (k + 1) (omega arith) ∙ stop_after net s W k m
+              ∙ ap (debtor_of net) e)),
+        );
+      };
+  links = λ k m.
+      ap (creditor_of net) (sym (get_or-append W (x ∷ []) 0 k m))
+      ∙ w.links k (omega (arith, length_push W x))
+      ∙ stop_before net s W x k (omega arith);
+  marked = λ k m.
+      get_or-set_other marks (debtor_of net x) (get_or (stops net s W) k 0) v Done
+      (λ e. other k m (stop_before net s W x k m ∙ e))
+      ∙ ap (mark_of marks) (sym (stop_before net s W x k m))
+      ∙ w.marked k (omega (arith, length_push W x));
+  placed = λ b p e. ⊎_elim
+      (λ (s : b ≡ debtor_of net x). absurd (free p
+      (sym (get_or-set_same marks (debtor_of net x) v Done l)
+      ∙ ap (λ b. get_or (set marks (debtor_of net x) v) b Done) (sym s) ∙ e)))
+      (λ (ne : b ≢ debtor_of net x).
+      let old = w.placed b p (sym (get_or-set_other marks (debtor_of net x) b v Done ne) ∙ e) in
+      ⊎_elim
+      (λ (m : p < length W + 1). (m, sym (stop_before net s W x p m) ∙ old.1))
+      (λ (g : length W + 1 ≤ p). absurd (ne (sym old.1
+      ∙ stop_last net s W x p (omega (arith, old.0, length_push W x)))))
+      (cases_lt p (length W + 1)))
+      (cases_eq b (debtor_of net x));
+}
+  where
+    -- no stop before the last is the last debt's debtor
+    other : (k : ℕ) → k < length W + 1 → get_or (stops net s (W ++ x ∷ [])) k 0 ≢ debtor_of net x
+    other k m e =
+        let last : get_or (stops net s (W ++ x ∷ [])) (length W + 1) 0
+        ≡ debtor_of net x = stop_last net s W x (length W + 1) refl in
+        let both : Walked k ≡ Walked (length W + 1) =
+        sym (w.marked k (omega (arith, length_push W x))) ∙ ap (mark_of marks) (e ∙ sym last)
+        ∙ w.marked (length W + 1) (omega (arith, length_push W x)) in
+        absurd (omega (arith, same_place k (length W + 1) both))
+
+-- a walk that has come back to its start ends there
+pub walk_ends : (net : Net) (c s : ℕ) (C : List ℕ) (marks : List Mark) (v : Mark)
+    → IsWalk net c s C [] marks → s < length marks
+    → ((k : ℕ) → v ≢ Walked k) → HasNoWalk (set marks s v)
+walk_ends net c s C marks v w l free b p e = ⊎_elim
+    (λ (same : b ≡ s). free p (sym (get_or-set_same marks s v Done l)
+    ∙ ap (λ b. get_or (set marks s v) b Done) (sym same) ∙ e))
+    (λ (ne : b ≢ s).
+    let old = w.placed b p (sym (get_or-set_other marks s b v Done ne) ∙ e) in
+    let first : p ≡ 0 = omega (arith, old.0) in
+    ne (sym old.1 ∙ ap (λ p. get_or (stops net s []) p 0) first))
+    (cases_eq b s)

@@ -1,0 +1,91 @@
+use Rattle.std.proofs.Common.{◌≤◌, List, length, get_or, refl, ap, subst, arith}
+use Rattle.std.proofs.lemmas.List.{length-map}
+use Rattle.clr_net.specs.declared.debt.DebtId.{DebtId}
+use Rattle.clr_net.specs.Net.{numbers}
+use Rattle.compress.proofs.Cancelling.{cancelling_begins, cancelling_ends, step_last, step_more, step_bank}
+use Rattle.compress.proofs.Telling.{cancelled_told}
+use Rattle.compress.proofs.cancel.cancel.Goals as goal
+
+pub loop-walk-init : goal.loop-walk-init
+loop-walk-init c =
+    let C = c.args.claims.now in
+    let w = c.args.walk.now in
+    let least = c.least_claim-least in
+    let begins = cancelling_begins c.args.net.now c.args.class w.start.0 c.args.place least.result C
+    (numbers w.debts.items) w.marks.items c.args.closing.0 c.requires.claims
+    c.requires.under_way.walk c.requires.closing c.requires.link c.requires.place
+    c.requires.closes least.ensures.positive least.ensures.closing
+    (λ k g l. subst
+    (λ (ids : List DebtId). least.result ≤ get_or C (get_or (numbers ids) k 0) 0)
+    c.as_slice.ensures.value (least.ensures.least k g (omega (
+      arith,
+      length-map w.debts.items (λ id. id.0),
+      ap length c.as_slice.ensures.value,
+    )))) in
+    record { cancelling = begins; start = refl; cursors = refl; ranks = refl }
+
+pub bounds-claims-id : goal.bounds-claims-id
+bounds-claims-id c =
+    (step_last c.loop-walk.walk.debts.items c.requires.network c.requires.claims
+    c.requires.under_way.told.sizes.marks
+    c.truncate.ensures.items (omega (arith, c.len-last.ensures)) c.index-id.ensures
+    (omega (arith, c.len.ensures, c.len-last.ensures)) c.loop-walk.invariant.cancelling).in_claims
+
+pub overflow_sub-claims-in-loop-walk : goal.overflow_sub-claims-in-loop-walk
+overflow_sub-claims-in-loop-walk c =
+    (step_last c.loop-walk.walk.debts.items c.requires.network c.requires.claims
+    c.requires.under_way.told.sizes.marks
+    c.truncate.ensures.items (omega (arith, c.len-last.ensures)) c.index-id.ensures
+    (omega (arith, c.len.ensures, c.len-last.ensures)) c.loop-walk.invariant.cancelling).enough
+
+pub bounds-claims-id-in-loop-walk : goal.bounds-claims-id-in-loop-walk
+bounds-claims-id-in-loop-walk c =
+    (step_last c.loop-walk.walk.debts.items c.requires.network c.requires.claims
+    c.requires.under_way.told.sizes.marks
+    c.truncate.ensures.items (omega (arith, c.len-last.ensures)) c.index-id.ensures
+    (omega (arith, c.len.ensures, c.len-last.ensures)) c.loop-walk.invariant.cancelling).in_claims
+
+pub debt-requires : goal.debt-requires
+debt-requires c =
+    (step_last c.loop-walk.walk.debts.items c.requires.network c.requires.claims
+    c.requires.under_way.told.sizes.marks
+    c.truncate.ensures.items (omega (arith, c.len-last.ensures)) c.index-id.ensures
+    (omega (arith, c.len.ensures, c.len-last.ensures)) c.loop-walk.invariant.cancelling).live.debt
+
+pub index_mut-requires : goal.index_mut-requires
+index_mut-requires c =
+    let known = step_bank c.loop-walk.walk.debts.items c.requires.network c.requires.claims
+    c.requires.under_way.told.sizes.marks c.truncate.ensures.items
+    (omega (arith, c.len-last.ensures)) c.index-id.ensures
+    (omega (arith, c.len.ensures, c.len-last.ensures)) c.loop-walk.invariant.cancelling
+    c.debt.result c.debt.ensures in
+    omega (arith, known)
+
+pub loop-walk-preserved : goal.loop-walk-preserved
+loop-walk-preserved c = record {
+  cancelling = step_more c.loop-walk.walk.debts.items c.requires.network c.requires.claims
+      c.requires.under_way.told.sizes.marks c.truncate.ensures.items
+      (omega (arith, c.len-last.ensures)) c.index-id.ensures
+      (omega (arith, c.len.ensures, c.len-last.ensures)) c.loop-walk.invariant.cancelling
+      c.debt.result c.debt.ensures c.least_claim-least.ensures.positive;
+  start = c.loop-walk.invariant.start;
+  cursors = c.loop-walk.invariant.cursors;
+  ranks = c.loop-walk.invariant.ranks;
+}
+
+pub returns-clause-kept : goal.returns-clause-kept
+returns-clause-kept c =
+    cancelling_ends c.args.net.now c.args.class c.loop-walk.walk.start.0 c.args.place
+    c.least_claim-least.result c.args.claims.now c.args.walk.now.marks.items c.loop-walk.claims
+    (numbers c.loop-walk.walk.debts.items) c.loop-walk.walk.marks.items c.requires.claims
+    c.loop-walk.invariant.cancelling
+    (omega (arith, length-map c.loop-walk.walk.debts.items (λ id. id.0), c.len.ensures))
+
+pub returns-clause-under_way : goal.returns-clause-under_way
+returns-clause-under_way c = record {
+  walk = c.loop-walk.invariant.cancelling.walk;
+  told = cancelled_told c.args.net.now c.args.class c.args.claims.now c.loop-walk.claims
+      c.args.walk.now c.loop-walk.walk c.requires.under_way.told (returns-clause-kept c)
+      c.loop-walk.invariant.cancelling.done c.loop-walk.invariant.cursors
+      c.loop-walk.invariant.ranks;
+}

@@ -1,0 +1,16 @@
+use Rattle.std.proofs.Common.{◌≡◌, length}
+use Rattle.clr_net.specs.Net.{numbers}
+use Rattle.compress.proofs.Cancelling.{IsCancelling}
+use Rattle.compress.proofs.cancel.cancel.Given as goal
+
+abbrev pub invariant-loop-walk : goal.invariant-loop-walk
+invariant-loop-walk l = record {
+  cancelling : IsCancelling l.net l.class l.walk.start.0 l.place l.least l.fn.claims
+      l.fn.walk.marks.items l.claims (numbers l.walk.debts.items) l.walk.marks.items;
+  start : l.walk.start ≡ l.fn.walk.start;
+  cursors : l.walk.cursors ≡ l.fn.walk.cursors;
+  ranks : l.walk.ranks ≡ l.fn.walk.ranks;
+}
+
+abbrev pub decreases-loop-walk : goal.decreases-loop-walk
+decreases-loop-walk l = length l.walk.debts.items

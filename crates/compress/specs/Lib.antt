@@ -1,0 +1,6 @@
+pub mod Compression
+pub mod Lowering
+pub mod Claims
+pub mod Walk
+pub mod Progress
+pub mod Cases

@@ -1,0 +1,24 @@
+//! Debts of one class that run round a cycle of banks are lowered together until no cycle is left.
+//!
+//! A walk goes back from a bank along debts above 0. Where it comes upon a bank of its own, the
+//! debts between run round a cycle: all are lowered by the least of them, and the walk is taken
+//! back to that bank. Where it can't go on, its last bank is done, and gets the number that is one
+//! more than the greatest of its debtors'. A bank that is done is never walked to again.
+//!
+//! Each step lowers claims, or brings a bank nearer to being done. Each cancelling brings a debt
+//! to 0, so there are at most as many as debts.
+#![tactic(auto)]
+
+mod cancel;
+mod claims;
+mod classes;
+mod compression;
+pub mod laws;
+mod mark;
+mod search;
+#[cfg(test)]
+mod tests;
+mod walk;
+
+pub use claims::with_claims;
+pub use compression::{Compressed, compress};

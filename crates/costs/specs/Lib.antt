@@ -1,0 +1,4 @@
+pub mod Costs
+pub mod CostStandings
+pub mod Sweeps
+pub mod Cases

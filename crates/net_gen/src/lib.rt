@@ -1,0 +1,11 @@
+//! Networks made from a number, to try the program on: of any size, and the same each time.
+//!
+//! [`generate`] takes the successive 32-bit words of the generator PCG32 (O'Neill 2014), and makes
+//! of them first the banks and then the debts.
+#![tactic(auto)]
+
+mod making;
+#[cfg(test)]
+mod tests;
+
+pub use making::generate;

@@ -1,0 +1,3 @@
+pub mod MoreCash
+pub mod Saving
+pub mod Searching

@@ -1,0 +1,17 @@
+//! The least sum of cash that saves a bank, and what is to be done with it.
+//!
+//! [`rescue`] finds by halving the least sum with which a bank pays all that it owes, under the
+//! least payments that clear then (Eisenberg and Noe 2001), and how much the bank lacks with one
+//! unit less. [`added`] gives the bank the sum. The [`laws`] say that a greater sum saves the bank
+//! too, so that halving is right, and that a run made before goes on after.
+#![tactic(auto)]
+
+mod adding;
+pub mod laws;
+mod search;
+#[cfg(test)]
+mod tests;
+
+pub use adding::added;
+pub use clear_least::least_from;
+pub use search::{Rescued, rescue};

@@ -1,0 +1,5 @@
+pub mod Shape
+pub mod Views
+pub mod Shocks
+pub mod Reading
+pub mod Cases

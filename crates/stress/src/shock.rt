@@ -1,0 +1,60 @@
+ghost use Rattle.clr_net.specs.Limits.{IsNetwork};
+ghost use Rattle.clr_net.specs.declared.TheConstants.{MAX_CASH};
+ghost use Rattle.std.specs.Prelude.{◌≡◌, ◌≤◌, ◌-◌, [], IfOk};
+ghost use Rattle.stress.specs.Shocks.{IsScenarioOf, KeepsAllButCash, after_cut as cash_after_cut};
+ghost use Rattle.stress.specs.Shocks.{after_shock, shocked as shocked_net};
+ghost use Rattle.stress.specs.declared.TheConstants.{MAX_CUT};
+
+use crate::scenario::Scenario;
+use clr_net::{BankId, Mem, Network};
+use std::alloc::Global;
+
+/// The network that a scenario leaves: each bank keeps `cash - cash * cut / 1000`, with the
+/// quotient rounded down, less its loss, and not less than nothing.
+///
+/// All else is as before. Such shocks to what banks have from outside are those of Glasserman and
+/// Young (2015). `Mem` for want of memory alone. Costs a copy of the network, and a step for each
+/// bank and each loss.
+pub fn shocked(alloc: Global, net: &Network, scenario: &Scenario) -> Result<Network, Mem>
+    requires { IsScenarioOf net.now scenario.now }
+    ensures left { IfOk result (λ left. left ≡ shocked_net net.now scenario.now) }
+    ensures kept { IfOk result (λ left. KeepsAllButCash net.now left) }
+{
+    let mut left = net.copy(alloc)?;
+    cut_cash(&mut left, scenario.cut);
+    for loss in scenario.losses.as_slice() {
+        let cash = left.bank(loss.bank).cash;
+        left.set_cash(loss.bank, after_loss(cash, loss.amount));
+    }
+    Ok(left)
+}
+
+// Cuts the cash of each bank.
+fn cut_cash(net: &mut Network, cut: u32)
+    requires { cut ≤ MAX_CUT }
+    ensures network { IsNetwork net.old }
+    ensures left { net.new ≡ after_shock cut [] net.old }
+{
+    for number in 0..net.banks() {
+        let bank = BankId(number);
+        let cash = net.bank(bank).cash;
+        net.set_cash(bank, after_cut(cash, cut));
+    }
+}
+
+// What a cut leaves of some cash.
+fn after_cut(cash: u64, cut: u32) -> u64
+    requires cash { cash ≤ MAX_CASH }
+    requires cut { cut ≤ MAX_CUT }
+    ensures left { result ≡ cash_after_cut cut cash }
+    ensures no_more { result ≤ cash }
+{
+    cash - cash * u64::from(cut) / 1000
+}
+
+// What a loss leaves of some cash: not less than nothing.
+fn after_loss(cash: u64, loss: u64) -> u64
+    ensures { result ≡ cash - loss }
+{
+    cash.saturating_sub(loss)
+}

@@ -1,0 +1,179 @@
+-- What the rounds from all debts paid in full come to, and the waves with them.
+use Rattle.std.proofs.Common.{◌≡◌, ◌≢◌, ℕ, suc, ◌+◌, ◌<◌, ◌≤◌, List, length, get_or, replicate, sum, sym, ap, ◌∙◌, subst, ⊎_elim, arith}
+use Rattle.std.proofs.lemmas.Bool.{cases_lt, cases_eq}
+use Rattle.std.proofs.lemmas.List.{length-map, length-replicate}
+use Rattle.std.proofs.lemmas.List.Sums.{sum-map}
+use Rattle.std.proofs.lemmas.List.FromFn.{fill_by_all, get_or-map-range_with_len}
+use Rattle.clr_net.specs.Amounts.{IsAtMost}
+use Rattle.clr_net.specs.Limits.{IsNetwork}
+use Rattle.clr_net.specs.Net.{Net, units_owed}
+use Rattle.clr_net.proofs.Lists.{same_from_sum, zeros_at}
+use Rattle.clr_net.proofs.RowsAndColumns.{claim_of_at}
+use Rattle.clear_core.specs.Buffers.{AreInLimit}
+use Rattle.clear_core.specs.Clearing.{pay, estate, Clears, least}
+use Rattle.clear_core.specs.Rounds.{rounds_of}
+use Rattle.clear_core.proofs.Least.{least_clears}
+use Rattle.clear_core.proofs.Pay.{length-pay}
+use Rattle.clear_core.proofs.Rows.{claim_in_limit}
+use Rattle.cascade.specs.Standings.{due}
+use Rattle.cascade.proofs.Equities.{equities_are_one}
+use Rattle.upper.specs.Bounds.{all_claims, falling, greatest, wave, waves, FallsShort, HoldsBefore, IsGreatest, IsWave, EquitiesAreFixed, WavesTellHealth}
+use Rattle.upper.specs.Descent.{IsWaveTo, AreWavesTo, AreMarked}
+use Rattle.upper.proofs.Tops.{falling_falls, falling_back, falling_settled, greatest_rounds}
+use Rattle.upper.proofs.Waves.{wave_is, wave_known, wave_tells}
+
+-- the payments after n rounds, each of which took a unit off at least
+pub record IsDown (net : Net) (n : ℕ) (P : List ℕ) : Type 0 where
+  pub as_many : length P ≡ length net.debts
+  pub at : P ≡ falling net n
+  pub units : sum P + n ≤ units_owed net
+
+-- before the first round
+pub down_first : (net : Net) (P : List ℕ) → P ≡ all_claims net → IsDown net 0 P
+unfolding rounds_of
+down_first net P e = record {
+  as_many = ap length e ∙ length-map net.debts (λ d. d.claim);
+  at = e;
+  units = omega (arith, ap sum e, sum-map (λ d. d.claim) net.debts);
+}
+
+-- a round only takes off
+pub down_falls : (net : Net) (n : ℕ) (P : List ℕ) → IsDown net n P → IsAtMost (pay net P) P
+down_falls net n P d = subst (λ R. IsAtMost (pay net R) R) (sym d.at) (falling_falls net n)
+
+-- so payments stay within the claims
+pub down_in_limit : (net : Net) (n : ℕ) (P : List ℕ) → IsNetwork net → IsDown net n P → AreInLimit P
+unfolding rounds_of
+down_in_limit net n P network d k = omega (
+  arith,
+  ap (λ (R : List ℕ). get_or R k 0) d.at,
+  subst (λ m. IsAtMost (falling net m) (falling net 0)) (add_nothing n) (falling_back net 0 n) k,
+  claim_of_at net k,
+  claim_in_limit net k network,
+)
+  where
+    add_nothing : (n : ℕ) → n + 0 ≡ n
+    add_nothing n = omega arith
+
+-- and one that changes something takes off a unit
+pub down_less : (net : Net) (n : ℕ) (P Q : List ℕ) → IsDown net n P → Q ≡ pay net P → P ≢ Q
+    → sum Q < sum P
+down_less net n P Q d e ne = ⊎_elim
+    (λ (l : sum Q < sum P). l)
+    (λ (g : sum P ≤ sum Q).
+    let as_many = ap length e ∙ length-pay net P ∙ sym d.as_many in
+    let lower : IsAtMost Q P = subst (λ R. IsAtMost R P) (sym e) (down_falls net n P d) in
+    absurd (ne (sym (same_from_sum Q P as_many lower g))))
+    (cases_lt (sum Q) (sum P))
+
+-- n rounds and one are n + 1
+pub down_more : (net : Net) (n : ℕ) (P Q : List ℕ) → IsDown net n P → Q ≡ pay net P → P ≢ Q
+    → IsDown net (n + 1) Q
+unfolding rounds_of
+down_more net n P Q d e ne = record {
+  as_many = ap length e ∙ length-pay net P;
+  at = let more : suc n ≡ n + 1 = omega arith in e ∙ ap (pay net) d.at ∙ ap (falling net) more;
+  units = omega (arith, down_less net n P Q d e ne, d.units);
+}
+
+-- payments that a round does not change are those of every later round
+pub down_stays : (net : Net) (n : ℕ) (P : List ℕ) → IsDown net n P → Clears net P → (m : ℕ) → n ≤ m
+    → falling net m ≡ P
+down_stays net n P d c m g = falling_settled net n m (subst (Clears net) d.at c) g ∙ sym d.at
+
+-- and so the greatest
+pub down_ends : (net : Net) (n : ℕ) (P : List ℕ) → IsDown net n P → Clears net P → P ≡ greatest net
+down_ends net n P d c = sym (down_stays net n P d c (units_owed net) (omega (arith, d.units)))
+
+-- before the first round no wave is known
+pub waves_none : (net : Net) → AreWavesTo net 0 (replicate (length net.banks) 0)
+waves_none net = record {
+  as_many = length-replicate (length net.banks) 0;
+  each = λ i l. record {
+    falls = λ m e. absurd (omega (arith, zeros_at (length net.banks) i));
+    never = λ e m b. absurd (omega arith);
+  };
+}
+
+-- one round more is looked at
+wave_to_more : (net : Net) (n i v w : ℕ) → IsWaveTo net n i v
+    → (v ≡ 0 → FallsShort net i n → w ≡ n + 1) → (due net i ≤ estate net (falling net n) i → w ≡ v)
+    → (v ≢ 0 → w ≡ v)
+    → IsWaveTo net (n + 1) i w
+wave_to_more net n i v w old short not_short had = ⊎_elim
+    (λ (e : v ≡ 0). ⊎_elim
+    (λ (l : FallsShort net i n). let at : w ≡ n + 1 = short e l in record {
+      falls = λ m f. let same : n ≡ m = omega arith in
+          subst (λ m. (m < n + 1) × FallsShort net i m × HoldsBefore net i m) same
+          (omega arith, l, old.never e);
+      never = λ f. absurd (omega arith);
+    })
+    (λ (g : due net i ≤ estate net (falling net n) i). let at : w ≡ v = not_short g in record {
+      falls = λ m f. absurd (omega arith);
+      never = λ f m l. ⊎_elim
+          (λ (b : m < n). old.never e m b)
+          (λ (h : n ≤ m).
+          let same : n ≡ m = omega arith in
+          subst (λ m. due net i ≤ estate net (falling net m) i) same g)
+          (cases_lt m n);
+    })
+    (cases_lt (estate net (falling net n) i) (due net i)))
+    (λ (ne : v ≢ 0). let at : w ≡ v = had ne in record {
+      falls = λ m f.
+          let before = old.falls m (sym at ∙ f) in
+          (omega (arith, before.0), before.1, before.2);
+      never = λ f. absurd (ne (sym at ∙ f));
+    })
+    (cases_eq v 0)
+
+-- so it is with all banks
+pub waves_more : (net : Net) (n : ℕ) (P before after : List ℕ) → P ≡ falling net n
+    → AreWavesTo net n before
+    → AreMarked net P (n + 1) before after → AreWavesTo net (n + 1) after
+waves_more net n P before after at old marked = record {
+  as_many = marked.as_many ∙ old.as_many;
+  each = λ i l. wave_to_more net n i (get_or before i 0) (get_or after i 0) (old.each i l)
+      (λ none short. marked.short i l none
+      (omega (arith, short, ap (λ (R : List ℕ). estate net R i) at)))
+      (λ enough. marked.enough i (omega (arith, enough, ap (λ (R : List ℕ). estate net R i) at)))
+      (marked.had i);
+}
+
+-- once nothing changes, the waves are known
+pub waves_end : (net : Net) (n : ℕ) (P ws : List ℕ) → IsDown net n P → Clears net P
+    → AreWavesTo net (n + 1) ws → ws ≡ waves net
+waves_end net n P ws d c known =
+    fill_by_all (wave net) ws (length net.banks) 0 known.as_many
+    (λ i l. wave_known net i (get_or ws i 0) (whole i (get_or ws i 0) (known.each i l)))
+  where
+    whole : (i w : ℕ) → IsWaveTo net (n + 1) i w → IsWave net i w
+    whole i w to = record {
+      falls = λ m f. ((to.falls m f).1, (to.falls m f).2);
+      never = λ f m. ⊎_elim
+          (λ (l : m < n + 1). to.never f m l)
+          (λ (g : n + 1 ≤ m). omega (
+            arith,
+            to.never f n (omega arith),
+            ap (λ (R : List ℕ). estate net R i) (down_stays net n P d c m (omega arith)),
+            ap (λ (R : List ℕ). estate net R i) (down_stays net n P d c n (omega arith)),
+          ))
+          (cases_lt m (n + 1));
+    }
+
+-- what they tell
+pub waves_tell : (net : Net) (ws : List ℕ) → IsNetwork net → ws ≡ waves net → WavesTellHealth net ws
+waves_tell net ws network e i l =
+    wave_tells net network i (get_or ws i 0)
+    (subst (IsWave net i)
+    (sym (ap (λ (ws : List ℕ). get_or ws i 0) e
+    ∙ get_or-map-range_with_len (wave net) 0 (length net.banks) i i 0 l (omega arith)))
+    (wave_is net i))
+
+-- what the rounds end with is the greatest
+pub is_greatest : (net : Net) (P : List ℕ) → P ≡ greatest net → IsGreatest net P
+is_greatest net P e = subst (IsGreatest net) (sym e) (greatest_rounds net)
+
+-- and equities are as under the least, whatever clears
+pub equities_are_fixed : (net : Net) → IsNetwork net → EquitiesAreFixed net
+equities_are_fixed net network Q c i l = equities_are_one net Q (least net) network c
+    (least_clears net) i l

@@ -1,0 +1,46 @@
+-- The list of the banks that were hit, kept as falls are added and wiped.
+use Rattle.std.proofs.Common.{◌≡◌, ◌≢◌, ℕ, suc, ◌<◌, ◌≤◌, ◌==◌, ◌||◌, Bool, true, false, List, [], ◌∷◌, length, get_or, replicate, sym, ap, ◌∙◌, refl, ⊎_elim, arith, ne_eqb}
+use Rattle.std.proofs.lemmas.Bool.{cases_eq}
+use Rattle.std.proofs.lemmas.List.{ext_get_or, length-replicate}
+use Rattle.clr_net.specs.declared.debt.BankId.{BankId}
+use Rattle.clr_net.proofs.Lists.{zeros_at}
+use Rattle.upper.specs.Falls.{bank_at, is_listed, AreHit}
+
+-- a place of a list that has a bank
+pub record StandsAt (banks : List BankId) (i k : ℕ) : Type 0 where
+  pub within : k < length banks
+  pub at : bank_at banks k ≡ i
+
+-- a bank that is listed stands in some place
+pub listed_place : (banks : List BankId) (i : ℕ) → is_listed banks i ≡ true
+    → (k : ℕ) × StandsAt banks i k
+listed_place [] i e = absurd (cc)
+listed_place (b ∷ banks) i e = ⊎_elim
+    (λ (s : b.0 ≡ i). (0, record { within = omega arith; at = s }))
+    (λ (ne : b.0 ≢ i).
+    let rest = listed_place banks i (later (b.0 == i) (is_listed banks i) (ne_eqb b.0 i ne) e) in
+    (suc rest.0, record { within = omega (arith, rest.1.within); at = rest.1.at }))
+    (cases_eq b.0 i)
+  where
+    later : (a b : Bool) → a ≡ false → (a || b) ≡ true → b ≡ true
+    later a true e h = refl
+    later true false e h = absurd (cc)
+    later false false e h = h
+
+-- once each bank of the list is wiped, and no other gained anything, nothing is left
+pub all_wiped : (start now : List ℕ) (banks : List BankId) (j : ℕ) → AreHit start banks
+    → length now ≡ length start
+    → length banks ≤ j → ((k : ℕ) → k < j → get_or now (bank_at banks k) 0 ≡ 0)
+    → ((i : ℕ) → get_or start i 0 ≡ 0 → get_or now i 0 ≡ 0)
+    → now ≡ replicate (length start) 0
+all_wiped start now banks j hit as_many g wiped others =
+    ext_get_or 0 now (replicate (length start) 0)
+    (as_many ∙ sym (length-replicate (length start) 0))
+    (λ i l. ⊎_elim
+    (λ (e : get_or start i 0 ≡ 0). others i e ∙ sym (zeros_at (length start) i))
+    (λ (ne : get_or start i 0 ≢ 0).
+    let place = listed_place banks i (hit.listed i (omega arith)) in
+    ap (λ i. get_or now i 0) (sym place.1.at)
+    ∙ wiped place.0 (omega (arith, place.1.within))
+    ∙ sym (zeros_at (length start) i))
+    (cases_eq (get_or start i 0) 0))

@@ -1,0 +1,42 @@
+-- Banks that are short get their wave, one after another.
+use Rattle.std.proofs.Common.{◌≡◌, ◌≢◌, ℕ, ◌<◌, ◌≤◌, List, length, get_or, sym, ap, ◌∙◌, ⊎_elim, arith}
+use Rattle.std.proofs.lemmas.Bool.{cases_eq}
+use Rattle.clr_net.specs.declared.debt.BankId.{BankId}
+use Rattle.clr_net.specs.Net.{Net}
+use Rattle.clear_core.specs.Clearing.{estate}
+use Rattle.cascade.specs.Standings.{due}
+use Rattle.upper.specs.Descent.{AreMarked, HaveEnough}
+use Rattle.upper.specs.Falls.{bank_at, AreHit}
+use Rattle.upper.proofs.Hits.{listed_place}
+
+-- so it is with the first j banks of a list; what was changed was changed to this round
+pub record AreMarkedAmong (net : Net) (P : List ℕ) (round : ℕ) (banks : List BankId)
+    (before now : List ℕ) (j : ℕ) : Type 0 where
+  pub as_many : length now ≡ length before
+  pub short : (k : ℕ) → k < j → get_or before (bank_at banks k) 0 ≡ 0
+      → estate net P (bank_at banks k) < due net (bank_at banks k)
+      → get_or now (bank_at banks k) 0 ≡ round
+  pub enough : (i : ℕ) → due net i ≤ estate net P i → get_or now i 0 ≡ get_or before i 0
+  pub had : (i : ℕ) → get_or before i 0 ≢ 0 → get_or now i 0 ≡ get_or before i 0
+  pub only : (i : ℕ) → get_or now i 0 ≢ get_or before i 0 → get_or now i 0 ≡ round
+
+-- all that could be short were looked at
+pub marked_all : (net : Net) (last P : List ℕ) (round : ℕ) (banks : List BankId)
+    (before now : List ℕ) (j : ℕ) → AreHit last banks
+    → HaveEnough net last P before → length banks ≤ j
+    → AreMarkedAmong net P round banks before now j
+    → AreMarked net P round before now
+marked_all net last P round banks before now j hit have g marked = record {
+  as_many = marked.as_many;
+  short = λ i l none below. ⊎_elim
+      (λ (e : get_or last i 0 ≡ 0). absurd (omega (arith, have i l e none, below)))
+      (λ (ne : get_or last i 0 ≢ 0).
+      let place = listed_place banks i (hit.listed i (omega arith)) in
+      ap (λ i. get_or now i 0) (sym place.1.at)
+      ∙ marked.short place.0 (omega (arith, place.1.within))
+      (ap (λ i. get_or before i 0) place.1.at ∙ none)
+      (omega (arith, below, ap (estate net P) place.1.at, ap (due net) place.1.at)))
+      (cases_eq (get_or last i 0) 0);
+  enough = marked.enough;
+  had = marked.had;
+}

@@ -1,0 +1,162 @@
+-- What is known between two rounds, and what the last one tells.
+use Rattle.std.proofs.Common.{◌≡◌, ◌≢◌, ℕ, ◌+◌, ◌<◌, ◌≤◌, ◌==◌, Bool, true, false, cond, List, [], ◌∷◌, length, get_or, filter, replicate, sum, sum_by, sym, ap, ◌∙◌, refl, ⊎_elim, subst, arith}
+use Rattle.std.proofs.lemmas.Bool.{cases_eq, cases_lt, eqb-true}
+use Rattle.std.proofs.lemmas.List.{ext_get_or, get_or-replicate, length-replicate}
+use Rattle.std.proofs.lemmas.List.Sums.{sum_by-cons}
+use Rattle.clr_net.specs.declared.debt.BankId.{BankId}
+use Rattle.clr_net.specs.Limits.{IsNetwork}
+use Rattle.clr_net.specs.Net.{Net, creditor_of, debtor_of, debt_numbers}
+use Rattle.clr_net.proofs.Lists.{zeros_at}
+use Rattle.clear_core.specs.Clearing.{pay, part, receipts, estate, Clears}
+use Rattle.cascade.specs.Standings.{due}
+use Rattle.clear_core.proofs.Pay.{pay_at}
+use Rattle.upper.specs.Bounds.{all_claims, greatest, waves}
+use Rattle.upper.specs.Descent.{AreCurrent, HaveEnough, AreMarked, AreNoted, AreWavesTo}
+use Rattle.upper.specs.Falls.{bank_at, AreHit}
+use Rattle.upper.proofs.Descents.{IsDown, down_first, down_more, down_ends, waves_none, waves_more, waves_end}
+use Rattle.upper.proofs.Hits.{listed_place}
+
+-- the same terms where a test passes, the same sum over those that pass
+same_where : (b : Bool) (p : ℕ → Bool) (f g : ℕ → ℕ) (x : ℕ) (xs : List ℕ) → p x ≡ b
+    → ((y : ℕ) → p y ≡ true → f y ≡ g y)
+    → sum_by f xs ≡ sum_by g xs → sum_by f (cond b (x ∷ xs) xs) ≡ sum_by g (cond b (x ∷ xs) xs)
+same_where true p f g x xs e h rest =
+    omega (arith, sum_by-cons f x xs, sum_by-cons g x xs, h x e, rest)
+same_where false p f g x xs e h rest = rest
+
+-- so over any list
+sum_by-filter_same : (p : ℕ → Bool) (f g : ℕ → ℕ) (xs : List ℕ) → ((y : ℕ) → p y ≡ true → f y ≡ g y)
+    → sum_by f (filter p xs) ≡ sum_by g (filter p xs)
+sum_by-filter_same p f g [] h = refl
+sum_by-filter_same p f g (x ∷ xs) h = same_where (p x) p f g x (filter p xs) refl h
+    (sum_by-filter_same p f g xs h)
+
+-- where a bank's receipts did not fall, they are the same
+receipts_same : (net : Net) (P Q f g : List ℕ) (i : ℕ) → AreNoted net P Q f g → get_or g i 0 ≡ 0
+    → receipts net Q i ≡ receipts net P i
+receipts_same net P Q f g i noted e =
+    sum_by-filter_same (λ x. creditor_of net x == i) (λ x. get_or Q x 0) (λ x. get_or P x 0)
+    (debt_numbers net)
+    (λ x passes. noted.told x (ap (λ i. get_or g i 0) (eqb-true (creditor_of net x) i passes) ∙ e))
+
+-- and so is what it pays
+pay_same : (net : Net) (P Q f g : List ℕ) (x : ℕ) → AreNoted net P Q f g → x < length net.debts
+    → get_or g (debtor_of net x) 0 ≡ 0
+    → get_or (pay net Q) x 0 ≡ get_or (pay net P) x 0
+pay_same net P Q f g x noted l e =
+    pay_at net Q x l
+    ∙ ap (part net x) (receipts_same net P Q f g (debtor_of net x) noted e)
+    ∙ sym (pay_at net P x l)
+
+-- after n rounds
+pub record IsReached (net : Net) (n : ℕ) (P Q last falls ws : List ℕ) : Type 0 where
+  pub down : IsDown net n P
+  pub waves : AreWavesTo net n ws
+  pub same : Q ≡ P
+  pub banks : length last ≡ length net.banks
+  pub spared : falls ≡ replicate (length net.banks) 0
+  pub current : AreCurrent net last P P
+  pub enough : HaveEnough net last P ws
+
+-- where each bank has yet to divide, none pays already what it will
+one_each : (net : Net) (last : List ℕ) (i : ℕ) → last ≡ replicate (length net.banks) 1
+    → i < length net.banks → get_or last i 0 ≡ 1
+one_each net last i ones l = ap (λ (f : List ℕ). get_or f i 0) ones
+    ∙ get_or-replicate (length net.banks) i 1 0 l
+
+pub all_current : (net : Net) (last P Q : List ℕ) → IsNetwork net
+    → last ≡ replicate (length net.banks) 1 → AreCurrent net last P Q
+all_current net last P Q network ones x l e =
+    absurd (omega (
+      arith,
+      one_each net last (debtor_of net x) ones
+          (network.each_debt x l).debtor_known,
+      e,
+    ))
+
+-- nor is known to have enough
+pub all_enough : (net : Net) (last P ws : List ℕ) → last ≡ replicate (length net.banks) 1
+    → HaveEnough net last P ws
+all_enough net last P ws ones i l e = absurd (omega (arith, one_each net last i ones l, e))
+
+-- before the first round, so it is
+pub reached_first : (net : Net) (P next last falls ws : List ℕ) → IsNetwork net → P ≡ all_claims net
+    → next ≡ P
+    → last ≡ replicate (length net.banks) 1 → falls ≡ replicate (length net.banks) 0
+    → ws ≡ replicate (length net.banks) 0
+    → IsReached net 0 P next last falls ws
+reached_first net P next last falls ws network claims same ones zeros none = record {
+  down = down_first net P claims;
+  waves = subst (AreWavesTo net 0) (sym none) (waves_none net);
+  same = same;
+  banks = ap length ones ∙ length-replicate (length net.banks) 1;
+  spared = zeros;
+  current = all_current net last P P network ones;
+  enough = all_enough net last P ws ones;
+}
+
+-- a round in which some bank's receipts fell
+module _ (net : Net) (n : ℕ) (P Q next last f g ws marked : List ℕ) (banks : List BankId)
+    (old : IsReached net n P next last f ws)
+    (marks : AreMarked net P (n + 1) ws marked) (paid : Q ≡ pay net P)
+    (noted : AreNoted net P Q f g) (hit : AreHit g banks) where
+  -- took off a unit
+  pub reached_less : length banks ≢ 0 → sum Q < sum P
+  reached_less some =
+      let i = bank_at banks 0 in
+      omega (
+        arith,
+        hit.fell 0 (omega arith),
+        noted.units i,
+        ap (λ (f : List ℕ). get_or f i 0) old.spared,
+        zeros_at (length net.banks) i,
+      )
+
+  -- and leads on
+  pub reached_more : length banks ≢ 0 → (R zeros : List ℕ) → R ≡ Q
+      → zeros ≡ replicate (length last) 0
+      → IsReached net (n + 1) Q R g zeros marked
+  reached_more some R zeros same wiped = record {
+    down = down_more net n P Q old.down paid
+        (λ same. absurd (omega (arith, reached_less some, ap sum same)));
+    waves = waves_more net n P ws marked old.down.at old.waves marks;
+    same = same;
+    banks = noted.banks ∙ ap length old.spared ∙ length-replicate (length net.banks) 0;
+    spared = wiped ∙ ap (λ k. replicate k 0) old.banks;
+    current = λ x l e. ap (λ (R : List ℕ). get_or R x 0) paid
+        ∙ sym (pay_same net P Q f g x noted l e);
+    enough = λ i l e none. omega (
+      arith,
+      receipts_same net P Q f g i noted e,
+      has_enough i l none,
+    );
+  }
+    where
+      has_enough : (i : ℕ) → i < length net.banks → get_or marked i 0 ≡ 0
+          → due net i ≤ estate net P i
+      has_enough i l none = ⊎_elim
+          (λ (below : estate net P i < due net i). ⊎_elim
+          (λ (e : get_or ws i 0 ≡ 0). absurd (omega (arith, marks.short i l e below, none)))
+          (λ (ne : get_or ws i 0 ≢ 0). absurd (ne (sym (marks.had i ne) ∙ none)))
+          (cases_eq (get_or ws i 0) 0))
+          (λ (g : due net i ≤ estate net P i). g)
+          (cases_lt (estate net P i) (due net i))
+
+  -- where no bank's fell, nothing changed, and all is known
+  pub reached_ends : length banks ≡ 0 → (Q ≡ greatest net) × (marked ≡ waves net)
+  reached_ends none =
+      let same : Q ≡ P = ext_get_or 0 Q P noted.payments
+      (λ x l. noted.told x (spared (creditor_of net x))) in
+      let clears : Clears net P = sym paid ∙ same in (
+        same ∙ down_ends net n P old.down clears,
+        waves_end net n P marked old.down clears
+            (waves_more net n P ws marked old.down.at old.waves marks),
+      )
+    where
+      spared : (i : ℕ) → get_or g i 0 ≡ 0
+      spared i = ⊎_elim
+          (λ (e : get_or g i 0 ≡ 0). e)
+          (λ (ne : get_or g i 0 ≢ 0).
+          let place = listed_place banks i (hit.listed i (omega arith)) in
+          absurd (omega (arith, place.1.within, none)))
+          (cases_eq (get_or g i 0) 0)

@@ -1,0 +1,117 @@
+-- In which round a bank falls: in the first by its own fundamentals, and in none where it is sound
+-- at last.
+use Rattle.std.proofs.Common.{◌≡◌, ◌↔◌, ℕ, zero, suc, ◌+◌, ◌<◌, ◌≤◌, Option, Some, None, find, get_or, ⊎_elim, refl, subst, arith}
+use Rattle.std.specs.Option.{option_map_or}
+use Rattle.std.specs.List.{range_with_len}
+use Rattle.std.proofs.Math.Dec.{ltb}
+use Rattle.std.proofs.lemmas.Bool.{ltb-true, ltb-false, cases_lt}
+use Rattle.clr_net.specs.Limits.{IsNetwork}
+use Rattle.clr_net.specs.Net.{Net, units_owed, column, claim_of}
+use Rattle.clr_net.proofs.Ranges.{Found, found}
+use Rattle.clr_net.proofs.RowsAndColumns.{claim_of_at}
+use Rattle.clear_core.specs.Clearing.{estate, least}
+use Rattle.clear_core.specs.Rounds.{rounds_of}
+use Rattle.clear_core.proofs.Least.{least_clears}
+use Rattle.cascade.specs.declared.standing.Health.TheVariants.{Sound, Fundamental}
+use Rattle.cascade.specs.Standings.{due, worth, health_of}
+use Rattle.cascade.proofs.Sums.{sum_by_same}
+use Rattle.cascade.proofs.Limits.{estate_le_worth}
+use Rattle.cascade.proofs.PayingOut.{paid_is}
+use Rattle.cascade.proofs.Healths.{sound_enough, enough_sound, fundamental_below, below_fundamental}
+use Rattle.upper.specs.Bounds.{all_claims, falling, greatest, FallsShort, HoldsBefore, wave, IsWave, TellsHealth}
+use Rattle.upper.proofs.Tops.{falling_settled, greatest_clears, estate_le_falling}
+
+-- what is found among the rounds, counted from 1, is the wave
+wave_found : (net : Net) (i : ℕ) (r : Option ℕ)
+    → Found (λ n. ltb (estate net (falling net n) i) (due net i)) (units_owed net + 1) r
+    → IsWave net i (option_map_or (λ n. n + 1) r 0)
+wave_found net i None f = record {
+  falls = λ n e. absurd (omega arith);
+  never = λ e n. ⊎_elim
+      (λ (l : n < units_owed net).
+      ltb-false (estate net (falling net n) i) (due net i) (f n (omega arith)))
+      (λ (g : units_owed net ≤ n).
+      rw (falling_settled net (units_owed net) n (greatest_clears net) g)
+      (ltb-false (estate net (greatest net) i) (due net i) (f (units_owed net) (omega arith))))
+      (cases_lt n (units_owed net));
+}
+wave_found net i (Some j) f = record {
+  falls = λ n e. let same : j ≡ n = omega arith in
+      subst (λ n. FallsShort net i n × HoldsBefore net i n) same (
+        ltb-true (estate net (falling net j) i) (due net i) f.1,
+        λ m l. ltb-false (estate net (falling net m) i) (due net i) (f.2 m l),
+      );
+  never = λ e. absurd (omega arith);
+}
+
+-- so `wave` computes it
+pub wave_is : (net : Net) (i : ℕ) → IsWave net i (wave net i)
+wave_is net i =
+    let p = λ (n : ℕ). ltb (estate net (falling net n) i) (due net i) in
+    wave_found net i (find p (range_with_len 0 (units_owed net + 1))) (found p (units_owed net + 1))
+
+-- and there is only one
+pub wave_only : (net : Net) (i v w : ℕ) → IsWave net i v → IsWave net i w → v ≡ w
+wave_only net i zero zero a b = refl
+wave_only net i zero (suc w) a b =
+    absurd (omega (arith, (b.falls w (omega arith)).0, a.never refl w))
+wave_only net i (suc v) zero a b =
+    absurd (omega (arith, (a.falls v (omega arith)).0, b.never refl v))
+wave_only net i (suc v) (suc w) a b =
+    let here = a.falls v (omega arith) in
+    let there = b.falls w (omega arith) in
+    ⊎_elim
+    (λ (l : v < w). absurd (omega (arith, here.0, there.1 v l)))
+    (λ (g : w ≤ v). ⊎_elim
+    (λ (l : w < v). absurd (omega (arith, there.0, here.1 w l)))
+    (λ (h : v ≤ w). omega arith)
+    (cases_lt w v))
+    (cases_lt v w)
+
+-- what is the wave is what `wave` computes
+pub wave_known : (net : Net) (i w : ℕ) → IsWave net i w → w ≡ wave net i
+wave_known net i w is = wave_only net i w (wave net i) is (wave_is net i)
+
+-- with all debts paid in full a bank has all that it is worth
+estate_of_claims : (net : Net) (i : ℕ) → estate net (all_claims net) i ≡ worth net i
+estate_of_claims net i = omega (
+  arith,
+  sum_by_same (λ x. get_or (all_claims net) x 0) (claim_of net) (column net i) (claim_of_at net),
+)
+
+module _ (net : Net) (network : IsNetwork net) (i w : ℕ) (is : IsWave net i w) where
+  -- the first round is entered with all that a bank is worth
+  wave_one : (w ≡ 1) ↔ (health_of net (least net) i ≡ Fundamental)
+  unfolding rounds_of
+  wave_one =
+      let pays = paid_is net (least net) network (least_clears net) i in
+      let top = estate_of_claims net i in (
+        λ e. below_fundamental net (least net) i pays
+            (estate_le_worth net (least net) (least_clears net) i)
+            (omega (arith, top, (is.falls 0 e).0)),
+        λ h. let l : worth net i < due net i = fundamental_below net (least net) i pays h in
+            by_wave w is (omega (arith, top, l)),
+      )
+    where
+      by_wave : (w : ℕ) → IsWave net i w → FallsShort net i 0 → w ≡ 1
+      by_wave zero is l = absurd (omega (arith, is.never refl 0, l))
+      by_wave (suc zero) is l = refl
+      by_wave (suc (suc v)) is l =
+          absurd (omega (arith, (is.falls (suc v) (omega arith)).1 0 (omega arith), l))
+
+  -- and none with less than what it has under the greatest
+  wave_none : (w ≡ 0) ↔ (health_of net (greatest net) i ≡ Sound)
+  wave_none =
+      let pays = paid_is net (greatest net) network (greatest_clears net) i in (
+        λ e. enough_sound net (greatest net) i pays (is.never e (units_owed net)),
+        λ h. by_wave w is (sound_enough net (greatest net) i pays h),
+      )
+    where
+      by_wave : (w : ℕ) → IsWave net i w → due net i ≤ estate net (greatest net) i → w ≡ 0
+      by_wave zero is l = refl
+      by_wave (suc v) is l =
+          absurd (omega (arith, (is.falls v (omega arith)).0, estate_le_falling net v i, l))
+
+  -- so they are what is told of it
+  pub wave_tells : TellsHealth net i w
+  wave_tells = record { first = wave_one; none = wave_none }

@@ -1,0 +1,11 @@
+use Rattle.clr_net.specs.Amounts.{IsAtMost}
+use Rattle.upper.specs.Descent.{AreNoted}
+use Rattle.upper.proofs.Rows.{IsWritten}
+use Rattle.upper.proofs.round.take_row.Given as goal
+
+abbrev pub invariant-loop-id : goal.invariant-loop-id
+invariant-loop-id l = record {
+  written : IsWritten l.net l.fn.bank.0 l.next l.fn.paid l.paid l.id-index;
+  lower : IsAtMost l.next l.paid;
+  noted : AreNoted l.net l.fn.paid l.paid l.fn.falls l.falls;
+}

@@ -1,0 +1,18 @@
+use Rattle.std.proofs.Common.{ap, arith}
+use Rattle.std.specs.Option.{option_map_or}
+use Rattle.clr_net.specs.declared.bank.Bank.{Bank}
+use Rattle.clr_net.proofs.RowsAndColumns.{sum-claims_of_le}
+use Rattle.upper.proofs.short.is_short.Goals as goal
+
+pub overflow_add-result-2 : goal.overflow_add-result-2
+overflow_add-result-2 c =
+    let net = c.args.net.now in
+    let read = ap (λ o. option_map_or (λ (b : Bank). b.outside) o 0) c.bank-owner.ensures in
+    omega (
+      arith,
+      read,
+      (c.banks.ensures.network.each_bank c.args.bank.0 c.requires.bank).outside_in_limit,
+      c.owed_by-owed.ensures,
+      sum-claims_of_le net c.args.bank.0,
+      c.banks.ensures.network.owed_in_limit,
+    )

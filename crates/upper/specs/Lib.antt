@@ -1,0 +1,4 @@
+pub mod Bounds
+pub mod Falls
+pub mod Descent
+pub mod Cases

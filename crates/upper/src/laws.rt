@@ -1,0 +1,36 @@
+//! The laws of the greatest payments and of waves. A law has nothing to run; its `ensures` is
+//! proved.
+ghost use Rattle.clr_net.specs.Limits.{IsNetwork};
+ghost use Rattle.clr_net.specs.Net.{Net};
+ghost use Rattle.std.specs.Prelude.{◌≡◌, ℕ, List};
+ghost use Rattle.upper.specs.Bounds.{IsGreatest, IsWave, TellsHealth, greatest, wave};
+
+/// The payments after as many rounds as units are owed, from all debts paid in full, clear, and are
+/// at least all that clear (Eisenberg and Noe 2001).
+pub fn greatest_is_greatest()
+    ensures { (net : Net) → IsGreatest net (greatest net) }
+{}
+
+/// There is only one greatest.
+#[tactic(auto, using(crate::proofs::Tops::greatest_only))]
+pub fn greatest_is_the_only_one()
+    ensures { (net : Net) (P : List ℕ) → IsGreatest net P → P ≡ greatest net }
+{}
+
+/// A bank's wave is the first round that it enters with less than all that it owes, and 0 where
+/// there is none.
+pub fn wave_is_the_first_short_round()
+    ensures { (net : Net) (i : ℕ) → IsWave net i (wave net i) }
+{}
+
+/// There is only one such number.
+#[tactic(auto, using(crate::proofs::Waves::wave_known))]
+pub fn wave_is_the_only_one()
+    ensures { (net : Net) (i w : ℕ) → IsWave net i w → w ≡ wave net i }
+{}
+
+/// A bank's wave is 1 exactly where its own fundamentals are at fault under the least payments, and
+/// 0 exactly where it is sound under the greatest.
+pub fn wave_tells_health()
+    ensures { (net : Net) (i : ℕ) → IsNetwork net → TellsHealth net i (wave net i) }
+{}
