@@ -1,5 +1,5 @@
 -- What follows from how a run ends.
-use Rattle.std.proofs.Common.{◌≡◌, ◌≢◌, ◌⊎◌, ◌∙◌, ℕ, List, Option, None, Some, Ok, Err, refl, sym}
+use Rattle.std.proofs.Common.{◌≡◌, ◌≢◌, ◌⊎◌, ◌∙◌, Option, None, Some, Ok, Err, refl, sym}
 use Rattle.std.proofs.Common.{inl, inr}
 use Rattle.pay_words.specs.Sealed.{Sealed}
 use Rattle.clear_words.specs.declared.job.Job.{Job}

@@ -1,5 +1,5 @@
 -- Why the files of a job are not all fetched.
-use Rattle.std.proofs.Common.{◌≡◌, ◌∙◌, ℕ, Bool, true, false, List, Option, Some, None, Ok, Err}
+use Rattle.std.proofs.Common.{◌≡◌, ◌∙◌, ℕ, true, List, Option, Some, Ok, Err}
 use Rattle.std.proofs.Common.{refl, sym, ap}
 use Rattle.clr_edge.specs.Faults.{HasRisen, NoneFalls}
 use Rattle.clear_words.specs.declared.job.Job.{Job}
@@ -8,8 +8,8 @@ use Rattle.net_check.specs.declared.fault.FileKind.{FileKind}
 use Rattle.net_check.specs.declared.fault.FileKind.TheVariants as file
 use Rattle.clear_top.specs.Ending.{GivesBoth, GivesWhole, IfTold, IsThere, IsUnread, Stops, StopsFetch}
 use Rattle.clear_top.specs.Ending.{shelf_call}
-use Rattle.clear_top.specs.Reading.{Files, all_whole, both_whole, reading, reading_by, whole}
-use Rattle.clear_top.specs.Sources.{has_files, name_by, name_in, source_of, third_kind}
+use Rattle.clear_top.specs.Reading.{Files, all_whole, both_whole, reading_by}
+use Rattle.clear_top.specs.Sources.{has_files, name_by, source_of, third_kind}
 use Rattle.clear_top.specs.declared.load.Stop.{Stop}
 use Rattle.clear_top.specs.declared.load.Stop.TheVariants as stop
 use Rattle.clear_top.specs.declared.source.Source.{Source}
@@ -71,7 +71,7 @@ pub stops_at_banks : (files : Option Files) (before after : List ℕ → ℕ) (j
     → Stops (shelf_call files before after) job why
 stops_at_banks files before after job (stop.ReadFault k) has (is, risen) =
     let at_banks : IsUnread (shelf_call files before after) job file.Banks =
-        ((job.banks, banks_named (source_of job.task) job has, risen), λ told tells. tt) in
+    ((job.banks, banks_named (source_of job.task) job has, risen), λ told tells. tt) in
     rw is at_banks
 stops_at_banks files before after job (stop.Refused f) has faulty =
     λ told tells. fault_of_both (source_of job.task) told job f has (rw (faulty told tells) refl)
@@ -92,7 +92,7 @@ stops_at_debts files mid before middle after job banks (stop.ReadFault k) has sa
     rw is at_debts
 stops_at_debts files mid before middle after job banks (stop.Refused f) has same gives no_fall faulty =
     λ told tells. fault_of_both (source_of job.task) told job f has
-        (rw (gives told tells, faulty told (same ∙ tells)) refl)
+    (rw (gives told tells, faulty told (same ∙ tells)) refl)
 stops_at_debts files mid before middle after job banks stop.Mem has same gives no_fall stops = stops
 
 -- the third file is not there to be read, after the two others were
@@ -105,12 +105,12 @@ unread_third source.Files job k files before after of is risen there = absurd (c
 unread_third source.FilesAndScenarios job k files before after of is risen there =
     let same : file.Scenarios ≡ k = cc in
     let at : IsUnread (shelf_call files before after) job file.Scenarios =
-        ((job.third, ap (λ s. name_by s job file.Scenarios) of, risen), there) in
+    ((job.third, ap (λ s. name_by s job file.Scenarios) of, risen), there) in
     rw (sym same) at
 unread_third source.FilesAndJournal job k files before after of is risen there =
     let same : file.Journal ≡ k = cc in
     let at : IsUnread (shelf_call files before after) job file.Journal =
-        ((job.third, ap (λ s. name_by s job file.Journal) of, risen), there) in
+    ((job.third, ap (λ s. name_by s job file.Journal) of, risen), there) in
     rw (sym same) at
 unread_third source.FilesAndBank job k files before after of is risen there = absurd (cc)
 unread_third source.Generated job k files before after of is risen there = absurd (cc)
@@ -125,13 +125,13 @@ stops_at_third files mid before middle after job k banks debts (stop.ReadFault o
     let s = source_of job.task in
     let has = has_third job k third in
     let at : IsUnread (shelf_call files before after) job k = unread_third s job k files before after refl third
-        (risen_since (before job.third) (middle job.third) (after job.third) (no_fall job.third) risen)
-        (λ told tells. (
-          (job.banks, banks, banks_named s job has, gives.0 told tells),
-          (job.debts, debts, debts_named s job has, gives.1 told tells),
-        )) in
+    (risen_since (before job.third) (middle job.third) (after job.third) (no_fall job.third) risen)
+    (λ told tells. (
+      (job.banks, banks, banks_named s job has, gives.0 told tells),
+      (job.debts, debts, debts_named s job has, gives.1 told tells),
+    )) in
     rw is at
 stops_at_third files mid before middle after job k banks debts (stop.Refused f) third same gives no_fall faulty =
     λ told tells. fault_of_all (source_of job.task) k told job f third
-        (rw (gives.0 told tells, gives.1 told tells, faulty told (same ∙ tells)) refl)
+    (rw (gives.0 told tells, gives.1 told tells, faulty told (same ∙ tells)) refl)
 stops_at_third files mid before middle after job k banks debts stop.Mem third same gives no_fall stops = stops

@@ -1,8 +1,8 @@
 -- What a run of settle comes to, and the lists that its reports are made of.
-use Rattle.std.proofs.Common.{◌≡◌, ℕ, ◌+◌, ◌<◌, ◌≤◌, List, length, All, sum, Result, Ok, Err, IfOk, Vec, Global, refl, sym, ap, ◌∙◌, arith}
+use Rattle.std.proofs.Common.{◌≡◌, ℕ, ◌<◌, List, length, All, Result, Ok, Err, IfOk, Vec, Global, sym, ap, ◌∙◌, arith}
 use Rattle.std.proofs.lemmas.List.FromFn.{length-map-range_with_len}
 use Rattle.clr_net.specs.Limits.{IsNetwork}
-use Rattle.clr_net.specs.Net.{Net, units_owed}
+use Rattle.clr_net.specs.Net.{Net}
 use Rattle.cascade.specs.Standings.{standing, standings}
 use Rattle.cascade.specs.declared.standing.Standing.{Standing}
 use Rattle.clear_core.proofs.Lawful.{stands_in_range}
@@ -14,7 +14,6 @@ use Rattle.clear_core.specs.declared.event.Raise.{Raise}
 use Rattle.raise_journal.proofs.Lawful.{lawful_is, lawful_pays_least}
 use Rattle.raise_journal.specs.Verdicts.{judged}
 use Rattle.raise_journal.specs.declared.verdict.Verdict.TheVariants as verdict
-use Rattle.settle.specs.Drives.{InBounds}
 use Rattle.settle.specs.Runs.{IsWithin, IsWithinAfter}
 use Rattle.settle.specs.declared.plan.Plan.{Plan}
 use Rattle.settle.specs.declared.runs.Settled.{Settled}

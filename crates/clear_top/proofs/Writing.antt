@@ -1,5 +1,5 @@
 -- How a run ends whose work came to something.
-use Rattle.std.proofs.Common.{◌≡◌, ◌≢◌, ◌⊎◌, ℕ, List, Option, None, Ok, refl, ap, inl, inr, ⊎_elim}
+use Rattle.std.proofs.Common.{◌≡◌, ◌≢◌, ◌⊎◌, ℕ, List, Option, Ok, refl, inl, inr, ⊎_elim}
 use Rattle.clr_edge.specs.Sink.{with_bytes, WritesPart}
 use Rattle.clr_net.specs.Net.{Net}
 use Rattle.clear_core.specs.declared.event.Raise.{Raise}

@@ -1,5 +1,5 @@
 -- What a job comes to: from what it works on, how the run ends and the text that is written.
-use Rattle.std.specs.Prelude.{◌≡◌, ℕ, ◌+◌, ◌*◌, ◌≤◌, ◌++◌, List, length, map, Option, None, Some, Ok}
+use Rattle.std.specs.Prelude.{◌≡◌, ℕ, ◌+◌, ◌≤◌, List, length, map, None, Some, Ok}
 use Rattle.clr_net.specs.Net.{Net, units_owed}
 use Rattle.cascade.specs.Standings.{standings}
 use Rattle.cascade.specs.declared.standing.Standing.{Standing}
@@ -38,7 +38,6 @@ use Rattle.stress.specs.declared.scenario.Scenario.{Scenario}
 use Rattle.upper.specs.Bounds.{greatest, waves}
 use Rattle.clear_top.specs.Reading.{Files, Given, reading}
 use Rattle.clear_top.specs.declared.outcome.Outcome.{Outcome}
-use Rattle.clear_top.specs.declared.status.Status.{Status}
 use Rattle.clear_top.specs.declared.status.Status.TheVariants as status
 
 -- done, with this text, and without a record

@@ -1,5 +1,5 @@
 -- What a job works on, from its files.
-use Rattle.std.specs.Prelude.{◌≡◌, ℕ, List, [], position, Option, None, Some, Result, Ok, Err}
+use Rattle.std.specs.Prelude.{ℕ, List, [], position, Option, None, Some, Result, Ok, Err}
 use Rattle.std.specs.Option.{ok_or, option_map}
 use Rattle.clr_net.specs.Net.{Net, has_name}
 use Rattle.clear_core.specs.declared.event.Raise.{Raise}

@@ -61,7 +61,14 @@ pub fn clear<R: Threads + Sync, G: Gate + Sync>(
         rounds,
         ..
     } = settle_for(rt, alloc, net, job, gate)?;
-    let text = shown(alloc, net, job.show, paid.as_slice(), sealed.journal(), rounds)?;
+    let text = shown(
+        alloc,
+        net,
+        job.show,
+        paid.as_slice(),
+        sealed.journal(),
+        rounds,
+    )?;
     Ok(Outcome::with_record(sealed, text))
 }
 

@@ -7,7 +7,9 @@ ghost use Rattle.clear_words.specs.Limits.{IsJob};
 ghost use Rattle.clr_edge.specs.Faults.{NoneFalls};
 ghost use Rattle.std.specs.Prelude.{◌≡◌, IfOk, IfErr, Ok, Some, true};
 
-use crate::contents::{Both, Input, generated, network_alone, with_bank, with_journal, with_scenarios};
+use crate::contents::{
+    Both, Input, generated, network_alone, with_bank, with_journal, with_scenarios,
+};
 use crate::source::{Source, source_of};
 use clear_words::Job;
 use clr_edge::{FetchFault, Shelf};

@@ -35,7 +35,14 @@ pub fn save<R: Threads + Sync, G: Gate + Sync>(
     let before = settle_for(rt, alloc, net, job, gate)?;
     let found = rescue(alloc, net, bank, before.paid.as_slice())?;
     let saved = added(alloc, net, bank, found.added)?;
-    let Settled { paid, sealed, .. } = go_on(rt, alloc, &saved, job, before.sealed.journal(), gate)?;
+    let Settled { paid, sealed, .. } = go_on(
+        rt,
+        alloc,
+        &saved,
+        job,
+        before.sealed.journal(),
+        gate,
+    )?;
     let text = rescue_text(alloc, net, bank, &found, paid.as_slice())?;
     Ok(Outcome::with_record(sealed, Text::of(alloc, text)?))
 }

@@ -271,8 +271,18 @@ fn words_that_are_no_job(rt: HostRuntime) -> Result<(), Fail> {
         &[][..],
         &["--help"],
         &["clear", "--banks", "b.csv"],
-        &["clear", "--banks", "b.csv", "--debts", "d.csv", "--workers", "65"],
-        &["central", "--banks", "b.csv", "--debts", "d.csv", "--sweeps", "2"],
+        &[
+            "clear",
+            "--banks",
+            "b.csv",
+            "--debts",
+            "d.csv",
+            "--workers",
+            "65",
+        ],
+        &[
+            "central", "--banks", "b.csv", "--debts", "d.csv", "--sweeps", "2",
+        ],
     ] {
         check(
             &rt,

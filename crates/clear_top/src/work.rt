@@ -37,9 +37,7 @@ pub fn work<R: Threads + Sync, G: Gate + Sync>(
         Task::Clear => clear(rt, alloc, net, job, gate),
         Task::Central => clear_centrally(alloc, net),
         Task::Defaults => report_defaults(rt, alloc, net, job, gate),
-        Task::Stress => {
-            report_scenarios(rt, alloc, net, input.scenarios.as_slice(), job, gate)
-        }
+        Task::Stress => { report_scenarios(rt, alloc, net, input.scenarios.as_slice(), job, gate) }
         Task::Replay => judge(alloc, net, input.journal.as_slice()),
         Task::Gen => report_summary(rt, alloc, net, job, gate),
         Task::Convert => convert(alloc, net),

@@ -76,30 +76,32 @@ abbrev pub ArePassed : Net → ℕ → List ℕ → List Mark → List ℕ → T
 ArePassed net c C marks cursors =
     (b k : ℕ) → k < slice_index cursors b → IsPassed net c C marks b k
 
--- there is room for each bank
+-- each list over banks has a place for each bank
 pub record IsSizedFor (net : Net) (w : Walk) : Type 0 where
   pub marks : length w.marks.items ≡ length net.banks
   pub cursors : length w.cursors.items ≡ length net.banks
   pub ranks : length w.ranks.items ≡ length net.banks
 
--- what is told of the banks is so
+-- what is told of the banks holds: which are done, with which numbers, and which places of their
+-- columns are passed
 pub record IsTold (net : Net) (c : ℕ) (C : List ℕ) (w : Walk) : Type 0 where
   pub done : AreDone net c C w.ranks.items w.marks.items
   pub passed : ArePassed net c C w.marks.items w.cursors.items
   pub sizes : IsSizedFor net w
 
--- a walk is under way
+-- a walk is under way: its debts lead back from its start, and what is told of the banks holds
 pub record IsUnderWay (net : Net) (c : ℕ) (C : List ℕ) (w : Walk) : Type 0 where
   pub walk : IsWalk net c w.start.0 C (numbers w.debts.items) w.marks.items
   pub told : IsTold net c C w
 
--- no walk is under way
+-- no walk is under way, and what is told of the banks holds
 pub record IsAtRest (net : Net) (c : ℕ) (C : List ℕ) (w : Walk) : Type 0 where
   pub empty : w.debts.items ≡ []
   pub no_walk : HasNoWalk w.marks.items
   pub told : IsTold net c C w
 
--- claims and marks after some steps: what every step keeps
+-- what every step keeps of the claims and of the marks: claims of the class c fall, no other changes,
+-- balances stay, and so does what is done
 pub record IsKept (net : Net) (c : ℕ) (C D : List ℕ) (before after : List Mark) : Type 0 where
   pub as_many : length D ≡ length C
   pub falls : IsAtMost D C

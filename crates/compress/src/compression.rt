@@ -23,9 +23,10 @@ pub struct Compressed {
     pub cancelled: u64,
 }
 
-/// Lowers debts of one class that run round a cycle of banks together, until no cycle is left.
+/// Lowers debts of one class that run round a cycle of banks together, until no cycle is left
+/// (conservative compression: D'Errico and Roukny 2021).
 ///
-/// In each class each bank is owed as much more than it owes as before. Which cycle is cancelled
+/// In each class what a bank is owed less what it owes stays as it was. Which cycle is cancelled
 /// first is free, and another order may cancel more. `Mem` for want of memory alone. Costs a walk
 /// over the debts for each class, and for each debt that is brought to 0 a walk round its cycle.
 pub fn compress(alloc: Global, net: &Network) -> Result<Compressed, Mem>

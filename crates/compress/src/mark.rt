@@ -13,6 +13,7 @@ pub(crate) enum Mark {
 }
 
 impl Mark {
+    /// Whether the bank has its number.
     pub fn is_done(self) -> bool
         ensures { IsTrue result ↔ (self ≡ Done) }
     {

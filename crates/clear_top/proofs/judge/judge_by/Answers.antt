@@ -1,9 +1,6 @@
-use Rattle.std.proofs.Common.{sym, subst, refl}
+use Rattle.std.proofs.Common.{sym, subst}
 use Rattle.clear_report.proofs.Verdicts.{verdict_names_bank}
 use Rattle.clear_report.specs.Journals.{NamesBankOf}
-use Rattle.std.proofs.Common.{◌≡◌, IfOk}
-use Rattle.clear_top.specs.Meaning.{answer_to}
-use Rattle.clear_top.proofs.Answering.{accepted, rejected}
 use Rattle.clear_top.proofs.judge.judge_by.Goals as goal
 
 pub lawful_text-requires : goal.lawful_text-requires
@@ -13,4 +10,3 @@ pub reject-requires : goal.reject-requires
 reject-requires c =
     subst (NamesBankOf c.args.net.now) (sym c.replay-verdict.ensures.verdict)
     (verdict_names_bank c.args.net.now c.args.journal.now)
-

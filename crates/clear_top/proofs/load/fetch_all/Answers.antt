@@ -1,5 +1,5 @@
 -- The third file is not fetched, where the two others were.
-use Rattle.std.proofs.Common.{◌≡◌, true, rules, subst}
+use Rattle.std.proofs.Common.{rules, subst}
 use Rattle.clear_top.specs.Ending.{Stops, StopsFetch, shelf_call}
 use Rattle.clear_top.proofs.Loading.{has_third, stops_at_third}
 use Rattle.clear_top.proofs.load.fetch_all.Goals as goal

@@ -17,6 +17,6 @@ returns c =
     let found = c.in_ok-claims.field-0 in
     compressed net found.claims found.ranks found.cancelled c.in_ok-claims.ensures.compression c.plain.result c.in_ok-text.text.items
     (c.in_ok-text.ensures
-      ∙ ap (λ C. compressed_text net C c.as_slice-2.result.now found.cancelled) c.as_slice.ensures
-      ∙ ap (λ R. compressed_text net found.claims R found.cancelled) c.as_slice-2.ensures)
+    ∙ ap (λ C. compressed_text net C c.as_slice-2.result.now found.cancelled) c.as_slice.ensures
+    ∙ ap (λ R. compressed_text net found.claims R found.cancelled) c.as_slice-2.ensures)
     c.plain.ensures

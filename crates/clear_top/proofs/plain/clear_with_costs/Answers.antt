@@ -28,6 +28,6 @@ returns c =
     let least = c.in_ok-paid.ensures.payments in
     plain_as c.plain.result c.in_ok-text.text.items (costs_text net (cost_least net keep) (cost_standings net keep (cost_least net keep)))
     (c.in_ok-text.ensures
-      ∙ ap (λ P. costs_text net P c.as_slice-3.result.now) (c.as_slice-2.ensures ∙ least)
-      ∙ ap (costs_text net (cost_least net keep)) (c.as_slice-3.ensures.value ∙ c.in_ok-standings.ensures.standings ∙ ap (cost_standings net keep) (c.as_slice.ensures ∙ least)))
+    ∙ ap (λ P. costs_text net P c.as_slice-3.result.now) (c.as_slice-2.ensures ∙ least)
+    ∙ ap (costs_text net (cost_least net keep)) (c.as_slice-3.ensures.value ∙ c.in_ok-standings.ensures.standings ∙ ap (cost_standings net keep) (c.as_slice.ensures ∙ least)))
     c.plain.ensures

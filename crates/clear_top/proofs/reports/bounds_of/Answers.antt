@@ -1,7 +1,6 @@
 use Rattle.std.proofs.Common.{◌≡◌, IfOk, length, ◌∙◌, ap, subst}
 use Rattle.std.proofs.lemmas.List.FromFn.{length-map-range_with_len}
 use Rattle.cascade.proofs.Limits.{clearing_over}
-use Rattle.clear_core.specs.Clearing.{least}
 use Rattle.clear_report.specs.Bounds.{bounds_tables}
 use Rattle.upper.specs.Bounds.{greatest, wave, waves}
 use Rattle.clear_top.specs.Meaning.{least_standings}
@@ -34,4 +33,4 @@ returns c =
     (subst (λ G. IfOk r (λ text. text.items ≡ bounds_tables net c.args.paid.now G (waves net) all)) (c.as_slice.ensures ∙ c.in_ok-greatest.ensures.greatest)
     (subst (λ W. IfOk r (λ text. text.items ≡ bounds_tables net c.args.paid.now c.as_slice.result.now W all)) (c.as_slice-2.ensures ∙ c.in_ok-greatest.ensures.waves)
     (subst (λ S. IfOk r (λ text. text.items ≡ bounds_tables net c.args.paid.now c.as_slice.result.now c.as_slice-2.result.now S))
-      (c.as_slice-3.ensures.value ∙ c.in_ok-standings.ensures.standings) c.bounds_text.ensures)))
+    (c.as_slice-3.ensures.value ∙ c.in_ok-standings.ensures.standings) c.bounds_text.ensures)))

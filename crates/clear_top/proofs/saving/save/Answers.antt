@@ -30,7 +30,7 @@ returns g c =
     (subst (λ j. (judged net j).verdict ≡ verdict.Lawful) (sym c.journal.ensures) c.in_ok-before.ensures.run.lawful)
     c.in_ok-paid.ensures.record_is c.in_ok-paid.ensures.run
     (c.in_ok-of.ensures ∙ c.in_ok-text.ensures
-      ∙ ap (λ P. rescued_text net c.args.bank.0 found.added found.short P) (c.as_slice-2.ensures ∙ c.in_ok-paid.ensures.paid)
-      ∙ report_is net c.args.bank.0 c.in_ok-saved.saved found.added found.short c.in_ok-found.ensures.added
-        c.in_ok-found.ensures.short c.in_ok-saved.ensures)
+    ∙ ap (λ P. rescued_text net c.args.bank.0 found.added found.short P) (c.as_slice-2.ensures ∙ c.in_ok-paid.ensures.paid)
+    ∙ report_is net c.args.bank.0 c.in_ok-saved.saved found.added found.short c.in_ok-found.ensures.added
+    c.in_ok-found.ensures.short c.in_ok-saved.ensures)
     (out ∙ ap (λ s. record { status = status.Done; sealed = Some s; text = c.in_ok-of.field-0 }) (sym c.in_ok-paid.sealed-is))

@@ -15,4 +15,4 @@ returns c =
     let r = c.scenario_text.result in
     subst (λ d. IfOk r (λ text. text.items ≡ scenario_block name (payments_text left (least left)) d)) (c.as_slice-2.ensures.value ∙ c.in_ok-states.ensures)
     (subst (λ p. IfOk r (λ text. text.items ≡ scenario_block name p c.as_slice-2.result.now))
-      (c.as_slice.ensures.value ∙ c.in_ok-payments.ensures ∙ ap (payments_text left) c.requires) c.scenario_text.ensures.block)
+    (c.as_slice.ensures.value ∙ c.in_ok-payments.ensures ∙ ap (payments_text left) c.requires) c.scenario_text.ensures.block)

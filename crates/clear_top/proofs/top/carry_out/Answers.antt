@@ -1,5 +1,5 @@
 -- What the work came to was written, whole or in part.
-use Rattle.clear_top.specs.Ending.{ShelfCall, SinkCall, shelf_call, sink_call}
+use Rattle.clear_top.specs.Ending.{shelf_call, sink_call}
 use Rattle.clear_top.proofs.Writing.{ends_in_part, ends_whole}
 use Rattle.clear_top.proofs.top.carry_out.Goals as goal
 

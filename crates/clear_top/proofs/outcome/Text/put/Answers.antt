@@ -1,5 +1,5 @@
 -- The pieces that were written whole, and of one piece a part.
-use Rattle.std.proofs.Common.{◌≡◌, ℕ, List, ◌++◌, map, length, take, [], refl, Option, Some, None, Result, Ok, Err, sym, ap, ◌∙◌, subst, arith}
+use Rattle.std.proofs.Common.{◌≡◌, ℕ, List, map, [], refl, Option, Some, None, Result, Ok, Err, sym, ap, ◌∙◌, subst, arith}
 use Rattle.std.specs.List.{concat}
 use Rattle.std.specs.Result.{OnErr}
 use Rattle.std.proofs.lemmas.List.{append-nil, length-map, take_all}
@@ -40,9 +40,9 @@ returns-in_err-put_all-clause-part g c =
     let end = g.S.Sink.written c.put_all.new.sink in
     on_err c.from_residual.result
     (subst (WritesPart start end) (ap (λ ps. concat (map (λ piece. piece.items) ps)) c.as_slice-pieces.ensures.value ∙ c.self.view_is)
-      (piece_part (λ piece. piece.items) c.as_slice-pieces.result.now c.loop-piece.piece-index _ c.loop-piece-test.true start mid end
-        c.loop-piece.invariant.taken
-        (subst (WritesPart mid end) (c.as_slice.ensures.value ∙ ap (λ v. v.items) c.piece-item.is) c.in_err-put_all.ensures.part)))
+    (piece_part (λ piece. piece.items) c.as_slice-pieces.result.now c.loop-piece.piece-index _ c.loop-piece-test.true start mid end
+    c.loop-piece.invariant.taken
+    (subst (WritesPart mid end) (c.as_slice.ensures.value ∙ ap (λ v. v.items) c.piece-item.is) c.in_err-put_all.ensures.part)))
 
 pub returns-in_err-put_all-clause-failed : goal.returns-in_err-put_all-clause-failed
 returns-in_err-put_all-clause-failed g c =
@@ -59,7 +59,7 @@ returns-clause-written g c =
     let texts = map (λ piece. piece.items) c.as_slice-pieces.result.now in
     c.loop-piece.invariant.taken
     ∙ ap (λ ts. with_bytes start (concat ts)) (take_all c.loop-piece.piece-index texts
-      (omega (arith, length-map c.as_slice-pieces.result.now (λ piece. piece.items), c.loop-piece-test.false)))
+    (omega (arith, length-map c.as_slice-pieces.result.now (λ piece. piece.items), c.loop-piece-test.false)))
     ∙ ap (with_bytes start) (ap (λ ps. concat (map (λ piece. piece.items) ps)) c.as_slice-pieces.ensures.value ∙ c.self.view_is)
 
 pub returns-clause-faults : goal.returns-clause-faults
