@@ -14,5 +14,5 @@ message_of_mem ending is_mem job = rw is_mem refl
 pub ends_in_mem : (shelf : ShelfCall) (sink : SinkCall) (job : Option Job) (ending : Status)
     → ending ≡ status.Mem → sink.new ≡ sink.old
     → RunEnds shelf sink job (record { status = ending; sealed = None })
-ends_in_mem shelf sink None ending is_mem same = (inr is_mem, same, refl)
+ends_in_mem shelf sink None ending is_mem same = (inr is_mem, (same, refl))
 ends_in_mem shelf sink (Some job) ending is_mem same = rw is_mem (same, refl)
