@@ -1,9 +1,9 @@
 # What the benchmarks share: where the program is, a folder to work in, and the least time of several runs.
 #
-# Where CLEARING_PROGRAM names a program, that is used, and nothing is built.
+# Where CLEARING names a program, that is used, and nothing is built.
 root=$(cd "$(dirname "$0")/.." && pwd) || exit 1
-if [ -n "${CLEARING_PROGRAM:-}" ]; then
-    program=$(realpath -- "$CLEARING_PROGRAM")
+if [ -n "${CLEARING:-}" ]; then
+    program=$(realpath -- "$CLEARING")
 else
     "$root/clearing" >/dev/null 2>&1   # builds it, if need be
     program=$root/crates/clear_main/out/clear_main

@@ -94,7 +94,13 @@ fn cut_at<R: Threads + Sync + Abort>(
     out: &mut MemSink,
 ) -> Result<Status, Fail> {
     let mut files = shelf(alloc, CHAIN_BANKS, "")?;
-    files.add("d.csv", &CHAIN_DEBTS.as_bytes()[..bytes])?;
+    let whole = CHAIN_DEBTS.as_bytes();
+    let left = if bytes < whole.len() {
+        &whole[..bytes]
+    } else {
+        whole
+    };
+    files.add("d.csv", left)?;
     let mut err = MemSink::with_room(alloc, 1000, 1000, 0)?;
     Ok(run(rt, alloc, CLEAR, &mut files, out, &mut err, &OpenGate).status)
 }

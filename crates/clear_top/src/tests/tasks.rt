@@ -67,10 +67,35 @@ const THREE_SCENARIOS: &str =
 amount = 7\n\n[[scenario]]\nname = \"A loses more than it has\"\n[[scenario.loss]]\nbank = \"A\"\n\
 amount = 20\n\n[[scenario]]\nname = \"half\"\ncut = 500\n";
 
-// What is left of the chain where A has nothing, and where half the cash is cut.
-const WITHOUT_A: &str = "debtor,creditor,class,claim,paid\nA,B,1,10,0\nB,C,1,9,1\n\
+// What is left of the chain where A has nothing, twice, and where half the cash is cut.
+const THREE_LEFT: &str = "scenario,A loses all\n\
+debtor,creditor,class,claim,paid\nA,B,1,10,0\nB,C,1,9,1\n\
 bank,estate,paid,owed,equity,state\nA,0,0,10,0,fundamental\nB,1,1,9,0,contagion\n\
-C,1,0,0,1,sound\ntotal,2,1,19,1,2\ncash,1\n";
+C,1,0,0,1,sound\ntotal,2,1,19,1,2\ncash,1\n\n\
+scenario,A loses more than it has\ndebtor,creditor,class,claim,paid\nA,B,1,10,0\nB,C,1,9,1\n\
+bank,estate,paid,owed,equity,state\nA,0,0,10,0,fundamental\nB,1,1,9,0,contagion\n\
+C,1,0,0,1,sound\ntotal,2,1,19,1,2\ncash,1\n\n\
+scenario,half\ndebtor,creditor,class,claim,paid\nA,B,1,10,4\nB,C,1,9,5\n\
+bank,estate,paid,owed,equity,state\nA,4,4,10,0,fundamental\nB,5,5,9,0,contagion\n\
+C,5,0,0,5,sound\ntotal,14,9,19,5,2\ncash,5\n";
+
+// The chain as it is, five times.
+const FIVE_LEFT: &str = "scenario,1\n\
+debtor,creditor,class,claim,paid\nA,B,1,10,7\nB,C,1,9,8\n\
+bank,estate,paid,owed,equity,state\nA,7,7,10,0,fundamental\n\
+B,8,8,9,0,contagion\nC,8,0,0,8,sound\ntotal,23,15,19,8,2\ncash,8\n\n\
+scenario,2\ndebtor,creditor,class,claim,paid\nA,B,1,10,7\nB,C,1,9,8\n\
+bank,estate,paid,owed,equity,state\nA,7,7,10,0,fundamental\n\
+B,8,8,9,0,contagion\nC,8,0,0,8,sound\ntotal,23,15,19,8,2\ncash,8\n\n\
+scenario,3\ndebtor,creditor,class,claim,paid\nA,B,1,10,7\nB,C,1,9,8\n\
+bank,estate,paid,owed,equity,state\nA,7,7,10,0,fundamental\n\
+B,8,8,9,0,contagion\nC,8,0,0,8,sound\ntotal,23,15,19,8,2\ncash,8\n\n\
+scenario,4\ndebtor,creditor,class,claim,paid\nA,B,1,10,7\nB,C,1,9,8\n\
+bank,estate,paid,owed,equity,state\nA,7,7,10,0,fundamental\n\
+B,8,8,9,0,contagion\nC,8,0,0,8,sound\ntotal,23,15,19,8,2\ncash,8\n\n\
+scenario,5\ndebtor,creditor,class,claim,paid\nA,B,1,10,7\nB,C,1,9,8\n\
+bank,estate,paid,owed,equity,state\nA,7,7,10,0,fundamental\n\
+B,8,8,9,0,contagion\nC,8,0,0,8,sound\ntotal,23,15,19,8,2\ncash,8\n";
 
 #[test]
 fn tasks_on_the_chain(rt: HostRuntime) -> Result<(), Fail> {
@@ -313,25 +338,14 @@ fn who_defaults_and_why(rt: HostRuntime) -> Result<(), Fail> {
 #[test]
 fn scenarios_in_their_order(rt: HostRuntime) -> Result<(), Fail> {
     let alloc = rt.alloc();
-    let three = format!(in alloc;
-        "scenario,A loses all\n{WITHOUT_A}\nscenario,A loses more than it has\n{WITHOUT_A}\n\
-         scenario,half\ndebtor,creditor,class,claim,paid\nA,B,1,10,4\nB,C,1,9,5\n\
-         bank,estate,paid,owed,equity,state\nA,4,4,10,0,fundamental\nB,5,5,9,0,contagion\n\
-         C,5,0,0,5,sound\ntotal,14,9,19,5,2\ncash,5\n"
-    )?;
-    let five = format!(in alloc;
-        "scenario,1\n{CHAIN_TEXT}{CHAIN_DEFAULTS}\nscenario,2\n{CHAIN_TEXT}{CHAIN_DEFAULTS}\n\
-         scenario,3\n{CHAIN_TEXT}{CHAIN_DEFAULTS}\nscenario,4\n{CHAIN_TEXT}{CHAIN_DEFAULTS}\n\
-         scenario,5\n{CHAIN_TEXT}{CHAIN_DEFAULTS}"
-    )?;
     let cases = [
         Case {
             third: THREE_SCENARIOS,
-            ..done(STRESS, CHAIN_BANKS, CHAIN_DEBTS, three.as_str())
+            ..done(STRESS, CHAIN_BANKS, CHAIN_DEBTS, THREE_LEFT)
         },
         Case {
             third: "scenario = [{name=\"1\"},{name=\"2\"},{name=\"3\"},{name=\"4\"},{name=\"5\"}]",
-            ..done(STRESS, CHAIN_BANKS, CHAIN_DEBTS, five.as_str())
+            ..done(STRESS, CHAIN_BANKS, CHAIN_DEBTS, FIVE_LEFT)
         },
         // A file of no bytes has no scenarios.
         done(STRESS, CHAIN_BANKS, CHAIN_DEBTS, ""),
@@ -432,31 +446,39 @@ fn default_costs(rt: HostRuntime) -> Result<(), Fail> {
     check_all(&rt, rt.alloc(), &cases)
 }
 
-// The words of saving a bank.
-fn saving<'a>(bank: &'a str) -> [&'a str; 7] {
-    [
-        "rescue", "--banks", "b.csv", "--debts", "d.csv", "--bank", bank,
-    ]
-}
+const SAVE_A: &[&str] = &[
+    "rescue", "--banks", "b.csv", "--debts", "d.csv", "--bank", "A",
+];
+
+const SAVE_B: &[&str] = &[
+    "rescue", "--banks", "b.csv", "--debts", "d.csv", "--bank", "B",
+];
+
+const SAVE_C: &[&str] = &[
+    "rescue", "--banks", "b.csv", "--debts", "d.csv", "--bank", "C",
+];
+
+const SAVE_X: &[&str] = &[
+    "rescue", "--banks", "b.csv", "--debts", "d.csv", "--bank", "X",
+];
 
 #[test]
 fn banks_are_saved(rt: HostRuntime) -> Result<(), Fail> {
-    let (a, b, c, x) = (saving("A"), saving("B"), saving("C"), saving("X"));
     let cases = [
         done(
-            &b,
+            SAVE_B,
             CHAIN_BANKS,
             CHAIN_DEBTS,
             "rescue,B,1\nshort,1\n\ndebtor,creditor,class,claim,paid\nA,B,1,10,7\nB,C,1,9,9\n",
         ),
         done(
-            &a,
+            SAVE_A,
             TWO_BANKS,
             BOTH_OWE_TEN,
             "rescue,A,1\nshort,10\n\ndebtor,creditor,class,claim,paid\nA,B,1,10,10\nB,A,1,10,10\n",
         ),
         done(
-            &c,
+            SAVE_C,
             CHAIN_BANKS,
             CHAIN_DEBTS,
             "rescue,C,0\nshort,0\n\ndebtor,creditor,class,claim,paid\nA,B,1,10,7\nB,C,1,9,8\n",
@@ -468,7 +490,7 @@ fn banks_are_saved(rt: HostRuntime) -> Result<(), Fail> {
                 kind: FaultKind::UnknownBank,
             }),
             err: "clearing: words row 0: unknown bank (8)\n",
-            ..done(&x, CHAIN_BANKS, CHAIN_DEBTS, "")
+            ..done(SAVE_X, CHAIN_BANKS, CHAIN_DEBTS, "")
         },
     ];
     check_all(&rt, rt.alloc(), &cases)
