@@ -10,10 +10,10 @@ FILES = 3000
 NAMES = ["A", "B", "C", "Crédit Loire", "D 1", "x" * 64, "é" * 32, "order", "0", "\u00a0E"]
 # What is put in place of a field, or into it.
 FIELDS = [
-    "", " ", "0", "00", "7", " 7\t", "7\u00a0", "\u00a07", "1,000", "1.000", "1'000", "7,5", "7.0", "-7", "+7", "1e3", "1E+06", "٣",
-    "²", "1" * 20, "0" * 20, "0" * 20 + "1", "9" * 20, "1000000", "1000001", "100000000000", "100000000001", "1000000000000",
-    "1000000000001", "order", "Order", "webster", "orders", "x" * 65, "é" * 33, 'a"b', '"', "a\nb", "a\rb", "a\x7f", "\x85", "\0", "A",
-    "a", "B", "1", "9", "10", "01", "1.0", "\ufeffA", "Cre\u0301dit Loire", "#", "=3", "name", ";",
+    "", " ", "0", "00", "7", " 7\t", "7\u00a0", "\u00a07", "1,000", "1.000", "1'000", "7,5", "7.0", "-7", "+7", "1e3", "1E+06",
+    "٣", "²", "1" * 20, "0" * 20, "0" * 20 + "1", "9" * 20, "1000000", "1000001", "100000000000", "100000000001", "1000000000000",
+    "1000000000001", "order", "Order", "webster", "orders", "x" * 65, "é" * 33, 'a"b', '"', "a\nb", "a\rb", "a\x7f", "\x85", "\0",
+    "A", "a", "B", "1", "9", "10", "01", "1.0", "\ufeffA", "Cre\u0301dit Loire", "#", "=3", "name", ";",
 ]
 BYTES = [b'"', b'""', b",", b"\r", b"\n", b"\r\n", b" ", b"\t", b";", b"\0", b"\xff", b"\xc3", b"\xc2\xa0", b"\xef\xbb\xbf", b"\x80", b"A", b"0"]
 
@@ -153,8 +153,10 @@ class Lint(Case):
             self.assertEqual(self.compare(banks, owed), kind)
 
     def test_all_faults_are_named_at_once_with_hints(self):
-        banks = self.file("banks.csv", "name,cash,rule\r\n\r\nCrédit,\"1,000\",Order\r\nB,-7,webster\r\n,,\r\nB,7.5,webser\r\nC,1\u00a0000,order,\r\n")
-        debts = self.file("debts.csv", "debtor,creditor,class,claim\nCre\u0301dit,B,1.0,1E+06\nB,B,1,\nB,C,1,2000000\nB,C,1,5\n\"B\nX\",C,1,5\n")
+        banks = self.file("banks.csv", "name,cash,rule\r\n\r\nCrédit,\"1,000\",Order\r\nB,-7,webster\r\n,,\r\n"
+                          "B,7.5,webser\r\nC,1\u00a0000,order,\r\n")
+        debts = self.file("debts.csv", "debtor,creditor,class,claim\nCre\u0301dit,B,1.0,1E+06\nB,B,1,\n"
+                          "B,C,1,2000000\nB,C,1,5\n\"B\nX\",C,1,5\n")
         lines = [
             f"{banks} line 3 (row 1) cash: '1,000' is not a number: number (4); write it without separators between thousands",
             f"{banks} line 3 (row 1) rule: 'Order' is not a rule: rule (5); write it as order, in small letters",
@@ -163,7 +165,8 @@ class Lint(Case):
             f"{banks} line 6 (row 4) cash: '7.5' is not a number: number (4); amounts are whole units",
             f"{banks} line 6 (row 4) rule: 'webser' is not a rule: rule (5); is it webster?",
             f"{banks} line 7 (row 5): 4 fields in place of 3: fields (2); delete the commas at the end",
-            f"{debts} line 2 (row 1) debtor: no bank has the name 'Cre\u0301dit': unknown bank (8); the banks file has 'Crédit'; they differ by another Unicode form",
+            f"{debts} line 2 (row 1) debtor: no bank has the name 'Cre\u0301dit': unknown bank (8); "
+            "the banks file has 'Crédit'; they differ by another Unicode form",
             f"{debts} line 2 (row 1) class: '1.0' is not a class: class (10); write it as 1",
             f"{debts} line 2 (row 1) claim: '1E+06' is not a number: number (4); write it without an exponent",
             f"{debts} line 3 (row 2) creditor: 'B' is its own creditor: self debt (9)",
