@@ -3,8 +3,8 @@
 
 In:  --banks FILE and --debts FILE, the two files as `clearing` reads them (docs/FORMATS.md), of any content.
 Out: on standard output a line for each fault, in the order in which `clearing` looks for them, and a last line with
-     their number. A line has the file, the line and the row (the header is row 0), the field, what is wrong, the kind
-     and number of the fault as `clearing` names it, and, where one is known, what to do.
+     their number. A line has the file, the line and the row (the header is row 0), the field, the kind and number of
+     the fault as `clearing` names it, what is wrong, and, where one is known, what to do.
 
 It accepts exactly the files that `clearing check` accepts, and the first fault that it names is the one that `clearing` does.
 What follows from a fault already named is left out where it can be: a bank whose record is faulty counts as a bank for
@@ -398,7 +398,7 @@ def line_of(fault, names):
     place = f"{names[fault.file]} line {fault.line} (row {fault.row})"
     field = f" {fault.field}" if fault.field else ""
     hint = f"; {fault.hint}" if fault.hint else ""
-    return f"{place}{field}: {fault.what}: {fault.kind} ({NUMBERS[fault.kind]}){hint}"
+    return f"{place}{field}: {fault.kind} ({NUMBERS[fault.kind]}): {fault.what}{hint}"
 
 
 def content_of(name):

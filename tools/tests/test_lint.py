@@ -12,7 +12,7 @@ NAMES = ["A", "B", "C", "Crédit Loire", "D 1", "x" * 64, "é" * 32, "order", "0
 FIELDS = [
     "", " ", "0", "00", "7", " 7\t", "7\u00a0", "\u00a07", "1,000", "1.000", "1'000", "7,5", "7.0", "-7", "+7", "1e3", "1E+06",
     "٣", "²", "1" * 20, "0" * 20, "0" * 20 + "1", "9" * 20, "1000000", "1000001", "100000000000", "100000000001", "1000000000000",
-    "1000000000001", "order", "Order", "webster", "orders", "x" * 65, "é" * 33, 'a"b', '"', "a\nb", "a\rb", "a\x7f", "\x85", "\0",
+    "1000000000001", "order", "Order", "webster", "orders", "x" * 65, "é" * 33, 'a"b', '"', "a\nb", "a\rb", "a\x7f", "\x1fa", "\x80", "\x9f", "\0",
     "A", "a", "B", "1", "9", "10", "01", "1.0", "\ufeffA", "Cre\u0301dit Loire", "#", "=3", "name", ";",
 ]
 BYTES = [b'"', b'""', b",", b"\r", b"\n", b"\r\n", b" ", b"\t", b";", b"\0", b"\xff", b"\xc3", b"\xc2\xa0", b"\xef\xbb\xbf", b"\x80", b"A", b"0"]
@@ -158,22 +158,22 @@ class Lint(Case):
         debts = self.file("debts.csv", "debtor,creditor,class,claim\nCre\u0301dit,B,1.0,1E+06\nB,B,1,\n"
                           "B,C,1,2000000\nB,C,1,5\n\"B\nX\",C,1,5\n")
         lines = [
-            f"{banks} line 3 (row 1) cash: '1,000' is not a number: number (4); write it without separators between thousands",
-            f"{banks} line 3 (row 1) rule: 'Order' is not a rule: rule (5); write it as order, in small letters",
-            f"{banks} line 4 (row 2) cash: '-7' is not a number: number (4); no amount is below 0",
-            f"{banks} line 6 (row 4) name: the bank 'B' is also in line 4 (row 2): double bank (7)",
-            f"{banks} line 6 (row 4) cash: '7.5' is not a number: number (4); amounts are whole units",
-            f"{banks} line 6 (row 4) rule: 'webser' is not a rule: rule (5); is it webster?",
-            f"{banks} line 7 (row 5): 4 fields in place of 3: fields (2); delete the commas at the end",
-            f"{debts} line 2 (row 1) debtor: no bank has the name 'Cre\u0301dit': unknown bank (8); "
+            f"{banks} line 3 (row 1) cash: number (4): '1,000' is not a number; write it without separators between thousands",
+            f"{banks} line 3 (row 1) rule: rule (5): 'Order' is not a rule; write it as order, in small letters",
+            f"{banks} line 4 (row 2) cash: number (4): '-7' is not a number; no amount is below 0",
+            f"{banks} line 6 (row 4) name: double bank (7): the bank 'B' is also in line 4 (row 2)",
+            f"{banks} line 6 (row 4) cash: number (4): '7.5' is not a number; amounts are whole units",
+            f"{banks} line 6 (row 4) rule: rule (5): 'webser' is not a rule; is it webster?",
+            f"{banks} line 7 (row 5): fields (2): 4 fields in place of 3; delete the commas at the end",
+            f"{debts} line 2 (row 1) debtor: unknown bank (8): no bank has the name 'Cre\u0301dit'; "
             "the banks file has 'Crédit'; they differ by another Unicode form",
-            f"{debts} line 2 (row 1) class: '1.0' is not a class: class (10); write it as 1",
-            f"{debts} line 2 (row 1) claim: '1E+06' is not a number: number (4); write it without an exponent",
-            f"{debts} line 3 (row 2) creditor: 'B' is its own creditor: self debt (9)",
-            f"{debts} line 3 (row 2) claim: '' is not a number: number (4); write 0",
-            f"{debts} line 4 (row 3) claim: 2,000,000 is more than 1,000,000: limit (6); take a larger unit",
-            f"{debts} line 5 (row 4): a debt of this debtor, creditor and class is also in line 4 (row 3): double debt (11)",
-            f"{debts} line 6 (row 5) debtor: the name 'B\\nX' has the control character U+000A: name (3); a name stands in one line",
+            f"{debts} line 2 (row 1) class: class (10): '1.0' is not a class; write it as 1",
+            f"{debts} line 2 (row 1) claim: number (4): '1E+06' is not a number; write it without an exponent",
+            f"{debts} line 3 (row 2) creditor: self debt (9): 'B' is its own creditor",
+            f"{debts} line 3 (row 2) claim: number (4): '' is not a number; write 0",
+            f"{debts} line 4 (row 3) claim: limit (6): 2,000,000 is more than 1,000,000; take a larger unit",
+            f"{debts} line 5 (row 4): double debt (11): a debt of this debtor, creditor and class is also in line 4 (row 3)",
+            f"{debts} line 6 (row 5) debtor: name (3): the name 'B\\nX' has the control character U+000A; a name stands in one line",
             "15 faults",
         ]
         done = self.run_lint(1, banks, debts)
@@ -200,7 +200,7 @@ class Lint(Case):
             done = self.run_lint(1, banks, debts)
             # Nothing else is said: what follows from the header is left out.
             self.assertEqual((len(done), done[-1]), (2, "1 fault"), done)
-            self.assertIn(f"{banks} line 1 (row 0): the first record is not name,cash,rule", done[0])
+            self.assertIn(f"{banks} line 1 (row 0): header (1): the first record is not name,cash,rule or", done[0])
             self.assertIn(hint, done[0])
 
     def test_examples_have_no_fault_and_missing_files_are_told(self):
