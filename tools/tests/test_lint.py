@@ -6,16 +6,20 @@ from common import ROOT, Case, clearing, tool
 sys.path.insert(0, str(ROOT / "tools"))
 import lint
 
-FILES = 3000
+FILES = 2500
 NAMES = ["A", "B", "C", "Crédit Loire", "D 1", "x" * 64, "é" * 32, "order", "0", "\u00a0E"]
 # What is put in place of a field, or into it.
 FIELDS = [
     "", " ", "0", "00", "7", " 7\t", "7\u00a0", "\u00a07", "1,000", "1.000", "1'000", "7,5", "7.0", "-7", "+7", "1e3", "1E+06",
     "٣", "²", "1" * 20, "0" * 20, "0" * 20 + "1", "9" * 20, "1000000", "1000001", "100000000000", "100000000001", "1000000000000",
-    "1000000000001", "order", "Order", "webster", "orders", "x" * 65, "é" * 33, 'a"b', '"', "a\nb", "a\rb", "a\x7f", "\x1fa", "\x80", "\x9f", "\0",
+    "1000000000001", "order", "Order", "webster", "orders", "x" * 65, "é" * 33, 'a"b', '"', "a\nb", "a\rb", "a\x7f",
+    "\x1fa", "\x80", "\x9f", "\0",
     "A", "a", "B", "1", "9", "10", "01", "1.0", "\ufeffA", "Cre\u0301dit Loire", "#", "=3", "name", ";",
 ]
-BYTES = [b'"', b'""', b",", b"\r", b"\n", b"\r\n", b" ", b"\t", b";", b"\0", b"\xff", b"\xc3", b"\xc2\xa0", b"\xef\xbb\xbf", b"\x80", b"A", b"0"]
+BYTES = [
+    b'"', b'""', b",", b"\r", b"\n", b"\r\n", b" ", b"\t", b";", b"\0", b"\xff", b"\xc3", b"\xc2\xa0", b"\xef\xbb\xbf", b"\x80",
+    b"A", b"0",
+]
 
 
 class Made:
@@ -61,8 +65,8 @@ class Made:
             record.insert(pick.randint(0, len(record)), pick.choice(FIELDS))
         elif kind == 5 and record:
             del record[pick.randrange(len(record))]
-        elif kind == 6 and record:
-            record[pick.randrange(len(record))] = pick.choice(record)
+        elif kind == 6 and len(record) > 1:
+            record[pick.randrange(2)] = record[pick.randrange(2)]
         elif kind == 7:
             table.insert(pick.randint(0, len(table)), list(pick.choice(table)))
         else:
@@ -129,6 +133,16 @@ class Lint(Case):
             if kind not in ("too many", "file size"):
                 self.assertGreater(counts.get(kind, 0), 1, (kind, counts))
         self.assertGreater(counts[""], FILES // 10, counts)
+
+    def test_each_odd_field_in_each_place_is_judged_as_the_program_does(self):
+        def quoted(records):
+            return "".join(",".join('"' + field.replace('"', '""') + '"' for field in record) + "\n" for record in records)
+
+        for field in FIELDS:
+            for table, place in [(table, place) for table in range(2) for place in range(4)]:
+                tables = [[lint.BANKS_2, ["A", "1", "order", "0"], ["B", "2", "adams", "1"]], [lint.DEBTS, ["A", "B", "1", "3"]]]
+                tables[table][1][place] = field
+                self.compare(*(quoted(records).encode() for records in tables))
 
     def test_files_at_the_limits_are_judged_as_the_program_does(self):
         head = b"name,cash,rule\n"
