@@ -1,0 +1,437 @@
+#!/usr/bin/env python3
+"""Names all faults of a banks file and a debts file at once, each with a hint.
+
+In:  --banks FILE and --debts FILE, the two files as `clearing` reads them (docs/FORMATS.md), of any content.
+Out: on standard output a line for each fault, in the order in which `clearing` looks for them, and a last line with
+     their number. A line has the file, the line and the row (the header is row 0), the field, the kind and number of
+     the fault as `clearing` names it, what is wrong, and, where one is known, what to do.
+
+It accepts exactly the files that `clearing check` accepts, and the first fault that it names is the one that `clearing` does.
+What follows from a fault already named is left out where it can be: a bank whose record is faulty counts as a bank for
+the debts, and below a header that says something else altogether nothing is looked at.
+
+Ends with 0 where there is no fault, with 1 where there are some, with 2 where the words are not understood, and
+with 3 where a file cannot be read.
+"""
+import argparse
+import difflib
+import os
+import re
+import sys
+import unicodedata
+from dataclasses import dataclass
+
+RULES = ["order", "equal", "losses", "jefferson", "webster", "adams"]
+MAX_BYTES = 8_388_608
+MAX_BANKS, MAX_DEBTS = 1000, 20_000
+MAX_CASH, MAX_OUTSIDE, MAX_CLAIM, MAX_OWED = 10**12, 10**11, 10**6, 10**7
+BANKS_1 = ["name", "cash", "rule"]
+BANKS_2 = ["name", "cash", "rule", "outside"]
+DEBTS = ["debtor", "creditor", "class", "claim"]
+NUMBERS = {
+    "header": 1, "fields": 2, "name": 3, "number": 4, "rule": 5, "limit": 6, "double bank": 7, "unknown bank": 8,
+    "self debt": 9, "class": 10, "double debt": 11, "too many": 12, "total": 13, "file size": 14,
+}
+
+
+@dataclass
+class Fault:
+    """A fault of a record of the file `banks` or `debts`; the field may be empty, and so may the hint."""
+
+    file: str
+    line: int
+    row: int
+    field: str
+    kind: str
+    what: str
+    hint: str = ""
+
+
+@dataclass
+class Record:
+    """A record of a file: the line on which it begins, its row, and its fields without spaces and tabs at their ends."""
+
+    line: int
+    row: int
+    fields: list
+
+
+# Records
+
+PLAIN = re.compile(rb"[^,\r\n]*")
+LINE_ENDS = re.compile(rb"[\r\n]*")
+LINE_END = re.compile(rb"\r\n|\r|\n")
+
+
+def quoted_field(data, at):
+    """The field that begins with a quote just before a place, and the place behind it. Two quotes are one; what follows
+    a closing quote belongs to the field as it stands."""
+    parts = []
+    while True:
+        quote = data.find(b'"', at)
+        if quote < 0:
+            return b"".join(parts) + data[at:], len(data)
+        parts.append(data[at:quote])
+        if data[quote + 1 : quote + 2] != b'"':
+            rest = PLAIN.match(data, quote + 1)
+            return b"".join(parts) + rest[0], rest.end()
+        parts.append(b'"')
+        at = quote + 2
+
+
+def records_of(data):
+    """The records of a file: fields between commas, lines that end with LF, CR LF or CR, none for a line with no byte."""
+    at = counted = 3 if data.startswith(b"\xef\xbb\xbf") else 0
+    line, row = 1, 0
+    while True:
+        at = LINE_ENDS.match(data, at).end()
+        if at == len(data):
+            return
+        line += len(LINE_END.findall(data, counted, at))
+        counted = at
+        fields = []
+        while True:
+            if data[at : at + 1] == b'"':
+                field, at = quoted_field(data, at + 1)
+            else:
+                plain = PLAIN.match(data, at)
+                field, at = plain[0], plain.end()
+            fields.append(field.strip(b" \t"))
+            if data[at : at + 1] != b",":
+                break
+            at += 1
+        yield Record(line, row, fields)
+        row += 1
+
+
+# Texts and hints
+
+SPECIAL = re.compile("[\u00a0\u1680\u2000-\u200f\u2028-\u202f\u205f\u2060\u3000\ufeff\u00ad]")
+
+
+def shown(field):
+    return repr(field.decode("utf-8", "backslashreplace"))
+
+
+def text_of(field):
+    return field.decode("utf-8", "replace")
+
+
+def plain(text):
+    """A text without the spaces that are no blanks, such as the no-break space."""
+    return SPECIAL.sub("", text).strip()
+
+
+def special_in(text):
+    found = SPECIAL.search(text)
+    return f"U+{ord(found[0]):04X}" if found else None
+
+
+def number_hint(field):
+    text = text_of(field)
+    if text == "":
+        return "write 0 where there is nothing"
+    if special_in(text):
+        return f"it has a space that is no blank here, {special_in(text)}; delete it"
+    if re.fullmatch(r"[0-9]+", text):
+        return "a number has at most 20 digits"
+    if re.match(r"[-\u2010-\u2015\u2212(]", text):
+        return "no amount is below 0; what is owed the other way is a debt of the other bank"
+    if text.startswith("+"):
+        return "write it without a sign"
+    if re.fullmatch(r"[0-9]+([.,][0-9]*)?[eE][+-]?[0-9]+", text):
+        return "write it without an exponent; in a spreadsheet widen the column and format it as a plain number"
+    if re.fullmatch(r"[0-9]{1,3}([,.' \u2019][0-9]{3})+", text):
+        return "write it without separators between thousands, or, if it has decimals, in whole units"
+    if re.fullmatch(r"[0-9]*[.,][0-9]*", text):
+        return "amounts are whole units; take a smaller unit of account"
+    if text.startswith("#"):
+        return "the column of the spreadsheet was too narrow, or a formula failed"
+    if text.startswith("="):
+        return "save the value, not the formula"
+    return "a number is 1 to 20 digits 0 to 9, and nothing else"
+
+
+def name_fault(field):
+    """What is wrong with a name, and a hint, or nothing."""
+    if field == b"":
+        return "the name is empty", ""
+    try:
+        text = field.decode("utf-8")
+    except UnicodeDecodeError:
+        return f"the name {shown(field)} is not UTF-8", "save the file as UTF-8"
+    if len(field) > 64:
+        return f"the name {shown(field)} has {len(field)} bytes", "a name has 64 bytes at most"
+    for c in text:
+        if c in ',"':
+            return f"the name {shown(field)} has a {'comma' if c == ',' else 'double quote'}", "write the name without it"
+        if ord(c) < 32 or 127 <= ord(c) <= 159:
+            hint = "a name stands in one line" if c in "\r\n" else "delete it"
+            return f"the name {shown(field)} has the control character U+{ord(c):04X}", hint
+    return None
+
+
+def rule_hint(field):
+    text = plain(text_of(field)).casefold()
+    if text in RULES:
+        return f"write it as {text}, in small letters and without other spaces"
+    close = difflib.get_close_matches(text, RULES, 1)
+    return f"is it {close[0]}?" if close else f"the rules are {', '.join(RULES)}"
+
+
+def class_hint(field):
+    text = plain(text_of(field))
+    if re.fullmatch(r"0*[1-9]([.,]0*)?", text):
+        return f"write it as {text.lstrip('0')[0]}"
+    return "a class is one digit from 1 to 9"
+
+
+def header_hint(data, records, words):
+    """What to do about a first record that is not one of the headers."""
+    if data[:2] in (b"\xff\xfe", b"\xfe\xff") or b"\0" in data[:64]:
+        return "the file is UTF-16; save it as UTF-8"
+    if not records:
+        return "the file has no record"
+    fields = [text_of(field) for field in records[0].fields]
+    for sign, name in [(";", "semicolons"), ("\t", "tabs")]:
+        if sign in fields[0]:
+            return f"the fields stand between {name}; save the file with commas"
+    if any(map(special_in, fields)):
+        return "it has a space that is no blank here, such as a no-break space or a second byte order mark; delete it"
+    if guess_of(records[0], words) is not None:
+        return "delete the empty columns" if fields[-1] == "" else "write the words in small letters"
+    for record in records[1:5]:
+        if any([text_of(field) for field in record.fields] == header for header in words):
+            return f"the header stands in line {record.line}; delete the lines above it"
+    if any(sorted(fields) == sorted(header) for header in words):
+        return "the columns stand in another order"
+    return "the header is missing, or in other words"
+
+
+def guess_of(record, words):
+    """The header that a first record means, though it is not written so, or nothing."""
+    fields = [plain(text_of(field)).casefold() for field in record.fields]
+    while fields and fields[-1] == "":
+        fields.pop()
+    return next((header for header in words if fields == header), None)
+
+
+def fields_hint(record, header):
+    if len(record.fields) == 1 and b";" in record.fields[0]:
+        return "the fields stand between semicolons"
+    if len(record.fields) < len(header):
+        return "a comma is missing, or the record stands in two lines"
+    if not any(record.fields[len(header) :]):
+        return "delete the commas at the end"
+    return "a comma within a number or a name begins a field"
+
+
+# The checks
+
+class Linter:
+    """All faults of two files, in the order in which the program looks for them."""
+
+    def __init__(self, banks, debts):
+        self.faults = []
+        # The bank records by name; none where the banks were not looked at.
+        self.known = None
+        self.banks = 0
+        self.debts = 0
+        self.hints = {}
+        sizes = [self.is_small("banks", banks), self.is_small("debts", debts)]
+        if sizes[0]:
+            self.check_banks(banks)
+        if sizes[1]:
+            self.check_debts(debts)
+
+    def add(self, file, record, field, kind, what, hint=""):
+        self.faults.append(Fault(file, record.line, record.row, field, kind, what, hint))
+
+    def is_small(self, file, data):
+        if len(data) > MAX_BYTES:
+            what = f"the file is longer than {MAX_BYTES:,} bytes"
+            self.add(file, Record(1, 0, []), "", "file size", what, "are there many empty lines below the records?")
+        return len(data) <= MAX_BYTES
+
+    def rows(self, file, data, words):
+        """The header that the file has, or means, and the records below it that are not blank."""
+        records = list(records_of(data))
+        header = None
+        if records:
+            header = next((h for h in words if records[0].fields == [word.encode() for word in h]), None)
+        cut = 0
+        if header is None:
+            what = f"the first record is not {' or '.join(','.join(h) for h in words)}"
+            first = records[0] if records else Record(1, 0, [])
+            self.add(file, first, "", "header", what, header_hint(data, records, words))
+            header = guess_of(records[0], words) if records else None
+            cut = len(records[0].fields) if header else 0
+        rows = [record for record in records[1:] if any(record.fields)] if header else []
+        for record in rows:
+            # The empty columns that the header has too are one fault, and it is named.
+            if cut > len(header) and len(record.fields) == cut and not any(record.fields[len(header) :]):
+                del record.fields[len(header) :]
+        return header, rows
+
+    def has_fields(self, file, record, header):
+        if len(record.fields) == len(header):
+            return True
+        what = f"{len(record.fields)} {'field' if len(record.fields) == 1 else 'fields'} in place of {len(header)}"
+        self.add(file, record, "", "fields", what, fields_hint(record, header))
+        return False
+
+    def number(self, file, record, place, header, most):
+        """The number in a field, or nothing where it has a fault."""
+        field = record.fields[place]
+        if not (1 <= len(field) <= 20 and field.isdigit()):
+            self.add(file, record, header[place], "number", f"{shown(field)} is not a number", number_hint(field))
+        elif int(field) > most:
+            what = f"{int(field):,} is more than {most:,}"
+            self.add(file, record, header[place], "limit", what, "take a larger unit of account")
+        else:
+            return int(field)
+        return None
+
+    def is_name(self, file, record, field, word):
+        wrong = name_fault(field)
+        if wrong:
+            self.add(file, record, word, "name", *wrong)
+        return not wrong
+
+    def check_banks(self, data):
+        header, rows = self.rows("banks", data, [BANKS_1, BANKS_2])
+        if header:
+            self.known = {}
+        for record in rows:
+            self.banks += 1
+            if self.banks == MAX_BANKS + 1:
+                self.add("banks", record, "", "too many", f"the file has {len(rows):,} banks, and the most is {MAX_BANKS:,}")
+            self.check_bank(record, header)
+
+    def check_bank(self, record, header):
+        name = record.fields[0]
+        if not self.has_fields("banks", record, header):
+            self.known.setdefault(name, record)
+            return
+        if self.is_name("banks", record, name, "name"):
+            first = self.known.setdefault(name, record)
+            if first is not record:
+                what = f"the bank {shown(name)} is also in line {first.line} (row {first.row})"
+                self.add("banks", record, "name", "double bank", what, "put both in one record, or give one another name")
+        self.number("banks", record, 1, header, MAX_CASH)
+        if text_of(record.fields[2]) not in RULES:
+            what = f"{shown(record.fields[2])} is not a rule"
+            self.add("banks", record, "rule", "rule", what, rule_hint(record.fields[2]))
+        if len(header) == 4:
+            self.number("banks", record, 3, header, MAX_OUTSIDE)
+
+    def check_debts(self, data):
+        header, rows = self.rows("debts", data, [DEBTS])
+        owed, seen = 0, {}
+        for record in rows:
+            self.debts += 1
+            if self.debts == MAX_DEBTS + 1:
+                self.add("debts", record, "", "too many", f"the file has {len(rows):,} debts, and the most is {MAX_DEBTS:,}")
+            if not self.has_fields("debts", record, header):
+                continue
+            claim = self.check_debt(record, header, seen)
+            if owed <= MAX_OWED < owed + claim:
+                what = f"the claims so far come to {owed + claim:,}, and the most is {MAX_OWED:,}"
+                self.add("debts", record, "claim", "total", what, "take a larger unit of account")
+            owed += claim
+
+    def check_debt(self, record, header, seen):
+        """The claim of a debt, or 0 where it has a fault."""
+        debtor, creditor, rank, _ = record.fields
+        are_banks = [self.is_bank(record, 0, header), self.is_bank(record, 1, header)]
+        if all(are_banks) and debtor == creditor:
+            what = f"{shown(debtor)} is its own creditor"
+            self.add("debts", record, "creditor", "self debt", what, "delete the record: no bank owes itself")
+        if rank not in [b"%d" % n for n in range(1, 10)]:
+            self.add("debts", record, "class", "class", f"{shown(rank)} is not a class", class_hint(rank))
+        claim = self.number("debts", record, 3, header, MAX_CLAIM)
+        first = seen.setdefault((debtor, creditor, rank), record)
+        if first is not record and debtor and creditor:
+            what = f"a debt of this debtor, creditor and class is also in line {first.line} (row {first.row})"
+            self.add("debts", record, "", "double debt", what, "add up the two claims, or give one another class")
+        return claim or 0
+
+    def is_bank(self, record, place, header):
+        name = record.fields[place]
+        if not self.is_name("debts", record, name, header[place]):
+            return False
+        if self.known is None or name in self.known:
+            return True
+        if name not in self.hints:
+            self.hints[name] = self.bank_hint(name)
+        self.add("debts", record, header[place], "unknown bank", f"no bank has the name {shown(name)}", self.hints[name])
+        return False
+
+    def bank_hint(self, name):
+        """How a bank of the banks file is written that may be meant."""
+
+        def alike(field):
+            text = unicodedata.normalize("NFKC", text_of(field))
+            return " ".join(SPECIAL.sub(" ", text).split()).casefold()
+
+        text = text_of(name)
+        for other in self.known:
+            if alike(other) == alike(name):
+                same = unicodedata.normalize("NFC", text_of(other)) == unicodedata.normalize("NFC", text)
+                why = "another Unicode form of its letters" if same else "capitals, or other spaces or signs"
+                if special_in(text) or special_in(text_of(other)):
+                    why = f"a space that is no blank here, {special_in(text) or special_in(text_of(other))}"
+                return f"the banks file has {shown(other)}; they differ by {why}"
+        if len(self.hints) < 50:
+            close = difflib.get_close_matches(text, map(text_of, self.known), 1, 0.75)
+            if close:
+                return f"is it {close[0]!r}?"
+        return ""
+
+
+def faults_of(banks, debts):
+    """The faults of a banks file and a debts file, given as bytes."""
+    return Linter(banks, debts).faults
+
+
+def line_of(fault, names):
+    place = f"{names[fault.file]} line {fault.line} (row {fault.row})"
+    field = f" {fault.field}" if fault.field else ""
+    hint = f"; {fault.hint}" if fault.hint else ""
+    return f"{place}{field}: {fault.kind} ({NUMBERS[fault.kind]}): {fault.what}{hint}"
+
+
+def content_of(name):
+    """The bytes of a file, or one more than the limit of a longer one, or nothing where it cannot be read."""
+    try:
+        with open(name, "rb") as file:
+            return file.read(MAX_BYTES + 1)
+    except OSError as error:
+        print(f"lint: cannot read {name}: {error.strerror}", file=sys.stderr)
+        return None
+
+
+def main():
+    summary, _, rest = __doc__.partition("\n\n")
+    parser = argparse.ArgumentParser(
+        description=summary, epilog=rest, formatter_class=argparse.RawDescriptionHelpFormatter, allow_abbrev=False
+    )
+    parser.add_argument("--banks", required=True, metavar="FILE", help="the banks file")
+    parser.add_argument("--debts", required=True, metavar="FILE", help="the debts file")
+    words = parser.parse_args()
+    names = {"banks": words.banks, "debts": words.debts}
+    contents = [content_of(name) for name in names.values()]
+    if None in contents:
+        sys.exit(3)
+    faults = faults_of(*contents)
+    count = {0: "no fault", 1: "1 fault"}.get(len(faults), f"{len(faults):,} faults")
+    sys.stdout.reconfigure(encoding="utf-8", errors="backslashreplace")
+    try:
+        print("\n".join([line_of(fault, names) for fault in faults] + [count]), flush=True)
+    except BrokenPipeError:
+        os.dup2(os.open(os.devnull, os.O_WRONLY), sys.stdout.fileno())
+    sys.exit(1 if faults else 0)
+
+
+if __name__ == "__main__":
+    main()

@@ -1,0 +1,72 @@
+"""The commands in the guide and beside the examples print what stands there.
+
+In a block of the language `console` a line that begins with `$ ` is a command of the shell, and what follows is what it
+prints, both streams together. The blocks of a page are run in order in a copy of the repository's examples and tools,
+where `./clearing` is the program.
+
+`python3 test_docs.py PAGE` runs a page and writes anew what its commands print.
+"""
+import os
+import pathlib
+import re
+import shlex
+import shutil
+import subprocess
+import sys
+import tempfile
+
+from common import PROGRAM, ROOT, Case
+
+PAGES = ["docs/GUIDE.md", "examples/README.md"]
+BLOCK = re.compile(r"(?<=^```console\n).*?(?=^```$)", re.MULTILINE | re.DOTALL)
+
+
+def output_of(command, folder):
+    run = ["bash", "-c", command]
+    environment = {**os.environ, "LC_ALL": "C.UTF-8", "PYTHONDONTWRITEBYTECODE": "1"}
+    return subprocess.run(run, cwd=folder, env=environment, stdin=subprocess.DEVNULL,
+                          stdout=subprocess.PIPE, stderr=subprocess.STDOUT, encoding="utf-8").stdout
+
+
+def block_run(block, folder):
+    commands = [line for line in block.splitlines() if line.startswith("$ ")]
+    parts = []
+    for command in commands:
+        output = output_of(command.removeprefix("$ "), folder)
+        parts.append(command + "\n" + output + ("\n" if output and not output.endswith("\n") else ""))
+    return "".join(parts)
+
+
+def page_run(text):
+    """The text of a page, with what its commands print now."""
+    with tempfile.TemporaryDirectory() as name:
+        folder = pathlib.Path(name)
+        for part in ("examples", "tools"):
+            shutil.copytree(ROOT / part, folder / part)
+        script = folder / "clearing"
+        script.write_text(f"#!/bin/sh\nexec {shlex.quote(PROGRAM)} \"$@\"\n")
+        script.chmod(0o755)
+        return BLOCK.sub(lambda block: block_run(block[0], folder), text)
+
+
+class Pages(Case):
+    maxDiff = None
+
+    def test_commands_print_what_the_pages_say(self):
+        for page in PAGES:
+            with self.subTest(page=page):
+                text = (ROOT / page).read_text(encoding="utf-8")
+                self.assertIn("$ ", text)
+                self.assertEqual(page_run(text).splitlines(), text.splitlines())
+
+    def test_the_page_of_examples_names_each(self):
+        text = (ROOT / "examples/README.md").read_text(encoding="utf-8")
+        for folder in sorted((ROOT / "examples").iterdir()):
+            if folder.is_dir():
+                self.assertIn(f"`{folder.name}`", text)
+
+
+if __name__ == "__main__":
+    for page in sys.argv[1:]:
+        path = pathlib.Path(page)
+        path.write_text(page_run(path.read_text(encoding="utf-8")), encoding="utf-8")

@@ -1,0 +1,12 @@
+from common import ROOT, Case
+
+
+class Help(Case):
+    def test_each_tool_has_help_and_refuses_other_words(self):
+        tools = sorted((ROOT / "tools").glob("*.py"))
+        self.assertEqual(len(tools), 4)
+        for path in tools:
+            said = self.made(path.name, "--help")
+            for word in ("usage:", "In:", "Out:", "Ends with 0"):
+                self.assertIn(word, said, path.name)
+            self.refused(path.name, 2, "error:", "--no-such-word")
