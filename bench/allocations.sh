@@ -1,36 +1,105 @@
 #!/bin/sh
-# Refuses each allocation of the program in turn, on the first example, and says how each run ended.
+# Refuses each allocation of the program in turn, in every task, on the first example, and says how each run ended.
 #
-#   bench/allocations.sh [TASK ..]    check, clear, central and convert where none is named
+#   bench/allocations.sh [TASK ..]    every task where none is named
 #
 # A run with a refused allocation ends with status 6 and an empty output, or with 0 and the whole text where the program can do
-# without. Any other ending is told, and makes the script end with 1. Wants a C compiler.
-tasks=${*:-check clear central convert}
+# without. Each allocation is refused twice: alone, and with all that come after it. Any other ending is printed, and the last line
+# is `N cases, 0 wrong`; the script ends with 1 where some case is wrong. Wants a C compiler.
+tasks=${*:-check clear central convert defaults bounds compress rescue costs stress replay gen}
 . "$(dirname "$0")/lib.sh"
 "${CC:-cc}" -O2 -shared -fPIC -o refuse.so "$root/bench/refuse.c" -ldl || exit 1
 
 # The program reads names in the current folder.
 cp "$root/examples/chain/banks.csv" "$root/examples/chain/debts.csv" .
+cat >scenarios.toml <<'END'
+[[scenario]]
+name = "as it is"
+
+[[scenario]]
+name = "half"
+cut = 500
+
+[[scenario]]
+name = "A loses all"
+[[scenario.loss]]
+bank = "A"
+amount = 7
+END
 files="--banks banks.csv --debts debts.csv"
-bad=0
-for task in $tasks; do
-    LD_PRELOAD=./refuse.so COUNT=count "$program" "$task" $files >whole.csv || exit 1
+"$program" clear $files --show journal >journal.csv || exit 1
+
+# The jobs that are tried of a task, a line each.
+jobs_of() {
+    case $1 in
+        clear)
+            echo "clear $files"
+            echo "clear $files --show both --workers 1"
+            echo "clear $files --show both --workers 2"
+            ;;
+        defaults | bounds)
+            echo "$1 $files --workers 1"
+            echo "$1 $files --workers 2"
+            ;;
+        rescue) echo "rescue $files --bank B" ;;
+        costs) echo "costs $files --keep 500" ;;
+        stress) echo "stress $files --scenarios scenarios.toml" ;;
+        replay) echo "replay $files --journal journal.csv" ;;
+        gen) echo "gen --seed 7 --size 10 --tries 30" ;;
+        *) echo "$1 $files" ;;
+    esac
+}
+
+# Whether the output is the whole text. With more than one worker the journal may be another one, so it is replayed.
+is_whole() { # the job
+    case $1 in
+        *"--show both --workers 2")
+            sed '/^$/,$d' out.csv >out-payments.csv
+            sed '1,/^$/d' out.csv >out-journal.csv
+            sed '/^$/,$d' whole.csv | cmp -s - out-payments.csv &&
+                tail -n 1 out-journal.csv | grep -q '^rounds,[0-9]*$' &&
+                "$program" replay $files --journal out-journal.csv >replayed.csv 2>&1 &&
+                sed '1,/^$/d' replayed.csv | cmp -s - out-payments.csv
+            ;;
+        *) cmp -s out.csv whole.csv ;;
+    esac
+}
+
+cases=0 wrong=0
+try_job() { # the job
+    job=$1
+    if ! timeout 60 env LD_PRELOAD=./refuse.so COUNT=count "$program" $job >whole.csv 2>err.txt; then
+        echo "wrong: $job: does not end well where nothing is refused"
+        wrong=$((wrong + 1)) cases=$((cases + 1))
+        return
+    fi
     all=$(cat count)
-    ended=0 without=
-    number=1
-    while [ "$number" -le "$all" ]; do
-        LD_PRELOAD=./refuse.so REFUSE=$number "$program" "$task" $files >out.csv 2>err.txt
-        status=$?
-        if [ "$status" = 6 ] && [ ! -s out.csv ]; then
-            ended=$((ended + 1))
-        elif [ "$status" = 0 ] && cmp -s out.csv whole.csv; then
-            without="$without $number"
-        else
-            echo "$task: allocation $number refused ends with status $status" >&2
-            bad=1
-        fi
-        number=$((number + 1))
+    for lasting in "" LASTING=1; do
+        ended=0 without=0 number=1
+        while [ "$number" -le "$all" ]; do
+            timeout 60 env LD_PRELOAD=./refuse.so REFUSE=$number $lasting "$program" $job >out.csv 2>err.txt
+            status=$?
+            cases=$((cases + 1))
+            if [ "$status" = 6 ] && [ ! -s out.csv ] && [ "$(cat err.txt)" = "clearing: out of memory" ]; then
+                ended=$((ended + 1))
+            elif [ "$status" = 0 ] && [ ! -s err.txt ] && is_whole "$job"; then
+                without=$((without + 1))
+            else
+                echo "wrong: $job: allocation $number refused${lasting:+ and all after it}: status $status," \
+                    "$(wc -c <out.csv) bytes written; $(head -n 1 err.txt)"
+                wrong=$((wrong + 1))
+            fi
+            number=$((number + 1))
+        done
+        echo "$job: $all allocations${lasting:+, all from one on}: $ended times status 6 and no output, $without times done without"
     done
-    echo "$task: $all allocations, $ended refused end with status 6 and no output, done without:${without:- none}"
+}
+
+for task in $tasks; do
+    jobs_of "$task" >jobs.txt
+    while read -r job; do
+        try_job "$job"
+    done <jobs.txt
 done
-exit $bad
+echo "$cases cases, $wrong wrong"
+[ "$wrong" = 0 ]

@@ -1,10 +1,16 @@
 # What the benchmarks share: where the program is, a folder to work in, and the least time of several runs.
+#
+# Where CLEARING_PROGRAM names a program, that is used, and nothing is built.
 root=$(cd "$(dirname "$0")/.." && pwd) || exit 1
+if [ -n "${CLEARING_PROGRAM:-}" ]; then
+    program=$(realpath -- "$CLEARING_PROGRAM")
+else
+    "$root/clearing" >/dev/null 2>&1   # builds it, if need be
+    program=$root/crates/clear_main/out/clear_main
+fi
+[ -x "$program" ] || { echo "the program is not built" >&2; exit 1; }
 work=$(mktemp -d) || exit 1
 trap 'rm -rf "$work"' EXIT
-"$root/clearing" >/dev/null 2>&1   # builds it, if need be
-program=$root/crates/clear_main/out/clear_main
-[ -x "$program" ] || { echo "the program is not built" >&2; exit 1; }
 cd "$work" || exit 1
 
 # Sets `best` to the microseconds of the fastest of several runs of a program.

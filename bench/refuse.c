@@ -1,7 +1,8 @@
 // A malloc that refuses one call, for bench/allocations.sh. Build: cc -O2 -shared -fPIC -o refuse.so refuse.c -ldl
 //
 // REFUSE is the number of the call that is refused, counted from 1 over malloc, calloc and realloc; 0 refuses none. With
-// COUNT set, the number of calls so far is kept in that file, since a program need not end by the C library's exit.
+// LASTING set, all calls after it are refused too. With COUNT set, the number of calls so far is kept in that file, since a
+// program need not end by the C library's exit.
 #define _GNU_SOURCE
 #include <dlfcn.h>
 #include <errno.h>
@@ -11,6 +12,7 @@
 #include <unistd.h>
 
 static unsigned long calls, refused;
+static int lasting;
 static int count_file = -1;
 static void *(*real_malloc)(size_t);
 static void *(*real_realloc)(void *, size_t);
@@ -23,6 +25,7 @@ static void set_up(void) {
     real_calloc = dlsym(RTLD_NEXT, "calloc");
     const char *number = getenv("REFUSE");
     refused = number ? strtoul(number, 0, 10) : 0;
+    lasting = getenv("LASTING") != 0;
     const char *name = getenv("COUNT");
     if (name) count_file = open(name, O_WRONLY | O_CREAT | O_TRUNC, 0666);
 }
@@ -34,7 +37,7 @@ static int is_refused(void) {
         int length = snprintf(text, sizeof text, "%lu\n", number);
         if (pwrite(count_file, text, length, 0) != length) _exit(99);
     }
-    if (number != refused) return 0;
+    if (number != refused && !(lasting && refused && number > refused)) return 0;
     errno = ENOMEM;
     return 1;
 }
