@@ -281,7 +281,7 @@ part_outputs() {
     refuse_message 2 check
     refuse_message 3 check --banks nothing.csv --debts debts.csv
     refuse_message 4 check --banks banks.csv --debts banks.csv
-    for words in "check $large" "clear $large" "central $large" "convert $large" "compress $large" "costs $large --keep 500"; do
+    for words in "check $large" "clear $large" "central $large" "compress $large" "costs $large --keep 500"; do
         run $words
         mv out.csv whole.csv
         for signal in "$default" "trap"; do
@@ -319,7 +319,12 @@ cap() { # the words
             exec "$program" "$@" >out.csv 2>err.txt
         ) 2>shell.txt
         status=$?
-        if ! (ulimit -v $size && exec "$program" 2>/dev/null) 2>/dev/null && [ $? != 2 ]; then continue; fi
+        # Without words it ends with 2, where it is loaded at all.
+        (
+            ulimit -v $size
+            exec "$program" >loaded.txt 2>&1
+        ) 2>/dev/null
+        [ $? = 2 ] || continue
         judge "$size KB of memory: $*" "0|6" "" whole.csv
     done
 }
@@ -340,9 +345,10 @@ part_memory() {
     for _ in 1 2 3 4 5 6 7 8 9; do printf '[[scenario]]\nname = "half"\ncut = 500\n'; done >many.toml
     cap stress $files --scenarios many.toml --workers 2
     cap stress $large --scenarios many.toml --workers 2
-    for size in 64 128 256 1024; do
-        run clear $large --workers 4
-        mv out.csv whole.csv
+    # A stack of some 80 KB is needed.
+    run clear $large --workers 4
+    mv out.csv whole.csv
+    for size in 128 256 1024; do
         (
             ulimit -s $size
             exec timeout 60 "$program" clear $large --workers 4 >out.csv 2>err.txt
@@ -375,13 +381,13 @@ junk_records() { # the task and the words before the junk, the file's word, the 
     done
     fill junk '"' 'a' '"'
     try "8 MB in quotes as $name" 4 "clearing: $name row 0: header (1)" $words --$name junk
-    for part in '"' '\000' 'a' '[' '7' '\377' '"a",' 'a,' 'a\001'; do
+    for part in '"' '""' '\000' 'a' '[' '7' '\377' '"a",' 'a,' 'a\001'; do
         fill junk "$header\n" "$part" ''
         try "8 MB of $part below the header of $name" 4 "clearing: $name row 1: fields (2)" $words --$name junk
     done
     fill junk "$header\n\"" 'a' '"'
     try "8 MB in quotes below the header of $name" 4 "clearing: $name row 1: fields (2)" $words --$name junk
-    for part in ',' '\001' '\r' '""' ' ,' ' \001' '\t' '\001,' ',,,,\001'; do
+    for part in ',' '\001' '\r' ' ,' ' \001' '\t' '\001,' ',,,,\001'; do
         fill junk "$header\n" "$part" ''
         try "8 MB of $part below the header of $name" 0 "" $words --$name junk
     done
