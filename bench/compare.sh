@@ -3,7 +3,7 @@
 #
 #   bench/compare.sh [N [SEED]]    100 networks and seed 1 where none is given
 #
-# Of each network: clear, central, defaults, bounds, costs, rescue, stress, check and convert; journals of the model's, lawful and
+# Of each network: clear, central, defaults, bounds, costs, rescue, stress, check and convert, and gen of another; journals of the model's, lawful and
 # changed, are replayed; the journal of a run of two workers is replayed and judged by the model, and so is what compress prints.
 # Each difference is printed, and the last line is `N networks, M differ`; the script ends with 1 where some differ, and the
 # networks that do stay in a folder that it names. Wants Python 3.

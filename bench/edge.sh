@@ -360,15 +360,15 @@ part_memory() {
 
 # A file of 8 MB: a front, then one thing again and again, then an end.
 fill() { # the file, the front, the part that is repeated, the end; each as printf has it
-    front=$(printf "$2" | wc -c) end=$(printf "$4" | wc -c)
+    front=$(printf -- "$2" | wc -c) end=$(printf -- "$4" | wc -c)
     {
-        printf "$2"
+        printf -- "$2"
         if [ "$3" = '\000' ]; then
             head -c $((limit - front - end)) /dev/zero
         else
-            yes "$(printf "$3x")" | sed 's/x$//' | tr -d '\n' | head -c $((limit - front - end)) | tr '\001' '\n'
+            yes -- "$(printf -- "$3x")" | sed 's/x$//' | tr -d '\n' | head -c $((limit - front - end)) | tr '\001' '\n'
         fi
-        printf "$4"
+        printf -- "$4"
     } >"$1"
     [ "$(wc -c <"$1")" = $limit ] || fail "the script" "$1 is not as long as it should be"
 }

@@ -43,15 +43,21 @@ def goes_before(rule, c, k, d, m):
     }[rule]
 
 
-def award(rule, claims, units):
-    given = [0] * len(claims)
-    for _ in range(units):
+@functools.lru_cache(maxsize=None)
+def units_in_turn(rule, claims):
+    """Which debt gets each unit, one after another, until all are met."""
+    given, turns = [0] * len(claims), []
+    while given != list(claims):
         unmet = [x for x in range(len(claims)) if given[x] < claims[x]]
         best = [x for x in unmet if not any(goes_before(rule, claims[y], given[y], claims[x], given[x]) for y in unmet)]
-        if not best:
-            break
         given[best[0]] += 1
-    return given
+        turns.append(best[0])
+    return turns
+
+
+def award(rule, claims, units):
+    turns = units_in_turn(rule, tuple(claims))[:units]
+    return [turns.count(x) for x in range(len(claims))]
 
 
 @functools.lru_cache(maxsize=None)
@@ -110,15 +116,17 @@ def pay(net, paid, keep=1000):
 
 
 def least(net, keep=1000):
-    """Raises one debt by one unit as long as its debtor's rule gives more."""
+    """Raises one debt as long as its debtor's rule gives more: by one unit, and by all of it where much is owed."""
     paid = [0] * len(net.debts)
+    by_units = sum(debt.claim for debt in net.debts) <= 400
     while True:
         may = pay(net, paid, keep)
         assert all(paid[x] <= may[x] for x in range(len(paid)))
         rising = [x for x in range(len(paid)) if paid[x] < may[x]]
         if not rising:
             return paid
-        paid[rising[0]] += 1
+        x = rising[0]
+        paid[x] = paid[x] + 1 if by_units else may[x]
 
 
 def falling(net):
@@ -273,10 +281,13 @@ def debts_text(net):
         line(*debt_fields(net, debt), debt.claim) for debt in net.debts)
 
 
+def counts_text(net):
+    owed_by_all = sum(debt.claim for debt in net.debts)
+    return line("banks", len(net.banks)) + line("debts", len(net.debts)) + line("owed", owed_by_all) + cash_line(net)
+
+
 def check_text(net):
-    counts = line("banks", len(net.banks)) + line("debts", len(net.debts))
-    counts += line("owed", sum(debt.claim for debt in net.debts)) + cash_line(net)
-    return counts + "\n" + banks_text(net, any(bank.outside for bank in net.banks)) + "\n" + debts_text(net)
+    return counts_text(net) + "\n" + banks_text(net, any(bank.outside for bank in net.banks)) + "\n" + debts_text(net)
 
 
 def journal_text(net, raises, rounds):
@@ -307,8 +318,54 @@ def random_net(rng):
     return Net(banks, debts)
 
 
+def wide_net(rng):
+    """One bank with many debts of up to some hundred units, so that its rule has much to round."""
+    count = rng.randint(4, 8)
+    most = rng.choice([30, 100, 400])
+    debts = [Debt(0, creditor, cls, rng.choice([rng.randint(0, most), most, most // 2]))
+             for cls in range(1, 4) for creditor in range(1, count) if rng.random() < 0.8]
+    debts.append(Debt(1, 0, 1, rng.randint(0, most)))
+    rng.shuffle(debts)
+    rules = [rng.choice(RULES) for _ in range(count)]
+    debt_of_first = sum(debt.claim for debt in debts if debt.debtor == 0)
+    banks = [Bank(name, rng.randint(0, debt_of_first) if i == 0 else rng.choice([0, most]), rules[i], 0)
+             for i, name in enumerate(rng.sample(NAMES[:8], count))]
+    return Net(banks, debts)
+
+
+def generated_words(seed):
+    """The successive words of PCG32 on the stream 0 (O'Neill 2014)."""
+    mask, state = 2**64 - 1, 0
+    step = lambda state: (state * 6364136223846793005 + 1) & mask
+    state = step((step(state) + seed) & mask)
+    while True:
+        mixed, turn = (((state >> 18) ^ state) >> 27) & 0xFFFFFFFF, state >> 59
+        yield ((mixed >> turn) | (mixed << (32 - turn))) & 0xFFFFFFFF
+        state = step(state)
+
+
+def generated(seed, size, tries):
+    words = generated_words(seed)
+    banks = [Bank(f"N{i}", next(words) % 2000, RULES[next(words) % 6], 0) for i in range(size)]
+    debts, seen = [], set()
+    for _ in range(tries):
+        key = (next(words) % size, next(words) % size, 1 + next(words) % 3)
+        claim = 1 + next(words) % 500
+        if key[0] != key[1] and key not in seen:
+            seen.add(key)
+            debts.append(Debt(*key, claim))
+    return Net(banks, debts)
+
+
+def gen_text(net):
+    paid = least(net)
+    equity = sum(estate(net, paid, i) - sum(paid[x] for x in row(net, i)) for i in range(len(net.banks)))
+    defaults = sum(state(net, paid, i) != "sound" for i in range(len(net.banks)))
+    return counts_text(net) + line("paid", sum(paid)) + line("defaults", defaults) + line("equity", equity)
+
+
 def dressed(rng, text, numbers):
-    """A file of records with other line ends, quotes, blanks, zeros and blank records; the same where rng is None."""
+    """A file of records as it is printed, or with other line ends, quotes, blanks, zeros and blank records."""
     lines = text.splitlines()
     if rng.random() < 0.5:
         return text.encode()
@@ -406,7 +463,7 @@ def add_case(folder, number, words, text, status=0):
 
 
 def make_one(folder, rng):
-    net = random_net(rng)
+    net = wide_net(rng) if rng.random() < 0.2 else random_net(rng)
     os.makedirs(folder)
     second = any(bank.outside for bank in net.banks) or rng.random() < 0.3
     put(folder, "banks.csv", dressed(rng, banks_text(net, second), {1, 3}))
@@ -429,8 +486,13 @@ def make_one(folder, rng):
         cases.append((["costs", *files, "--keep", str(keep)], costs_text(net, keep)))
     for i in rng.sample(range(len(net.banks)), min(3, len(net.banks))):
         name = net.banks[i].name
+        if due(net, i) - net.banks[i].cash > 100:
+            continue
         words = ["rescue", *files, "--bank", name, *how()]
         cases.append((words, "", 2) if name.startswith("-") else (words, rescue_text(net, i)))
+    seed, size, tries = rng.choice([rng.randrange(100), rng.randrange(2**64)]), rng.randint(1, 8), rng.randint(0, 40)
+    made = ["gen", "--seed", str(seed), "--size", str(size), "--tries", str(tries)]
+    cases.append((made, gen_text(generated(seed, size, tries))))
     raises = random_journal(rng, net)
     for n in range(4):
         tried = raises if n == 0 else changed_journal(rng, net, raises)
