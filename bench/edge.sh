@@ -181,8 +181,8 @@ part_pipes() {
         judge "a pipe for $which" 0 "" whole.csv
         wait
         (
-            while IFS= read -r part; do
-                echo "$part"
+            while IFS= read -r record; do
+                echo "$record"
                 sleep 0.1
             done <$which.csv
         ) >pipe &
@@ -375,21 +375,21 @@ fill() { # the file, the front, the part that is repeated, the end; each as prin
 
 junk_records() { # the task and the words before the junk, the file's word, the header
     words=$1 name=$2 header=$3
-    for part in ',' '"' '\001' '\000' 'a' '[' '\r' '\377' '7' '""' '"a",' '\001,' '\357\273\277'; do
-        fill junk '' "$part" ''
-        try "8 MB of $part as $name" 4 "clearing: $name row 0: header (1)" $words --$name junk
+    for piece in ',' '"' '\001' '\000' 'a' '[' '\r' '\377' '7' '""' '"a",' '\001,' '\357\273\277'; do
+        fill junk '' "$piece" ''
+        try "8 MB of $piece as $name" 4 "clearing: $name row 0: header (1)" $words --$name junk
     done
     fill junk '"' 'a' '"'
     try "8 MB in quotes as $name" 4 "clearing: $name row 0: header (1)" $words --$name junk
-    for part in '"' '""' '\000' 'a' '[' '7' '\377' '"a",' 'a,' 'a\001'; do
-        fill junk "$header\n" "$part" ''
-        try "8 MB of $part below the header of $name" 4 "clearing: $name row 1: fields (2)" $words --$name junk
+    for piece in '"' '""' '\000' 'a' '[' '7' '\377' '"a",' 'a,' 'a\001'; do
+        fill junk "$header\n" "$piece" ''
+        try "8 MB of $piece below the header of $name" 4 "clearing: $name row 1: fields (2)" $words --$name junk
     done
     fill junk "$header\n\"" 'a' '"'
     try "8 MB in quotes below the header of $name" 4 "clearing: $name row 1: fields (2)" $words --$name junk
-    for part in ',' '\001' '\r' ' ,' ' \001' '\t' '\001,' ',,,,\001'; do
-        fill junk "$header\n" "$part" ''
-        try "8 MB of $part below the header of $name" 0 "" $words --$name junk
+    for piece in ',' '\001' '\r' ' ,' ' \001' '\t' '\001,' ',,,,\001'; do
+        fill junk "$header\n" "$piece" ''
+        try "8 MB of $piece below the header of $name" 0 "" $words --$name junk
     done
 }
 
@@ -411,18 +411,18 @@ part_junk() {
     try "8 MB of blanks behind a field" 0 "" check --banks junk --debts no-debts.csv
     fill junk 'debtor,creditor,class,claim\n' 'a' ',B,1,1\n'
     try "a debtor of 8 MB" 4 "clearing: debts row 1: name (3)" check --banks banks.csv --debts junk
-    for part in ',' '"' '\000' 'a' '[' '{' '\r' '\377' '7' 'a.' '[a.' '[[' 'a={' 'a=[' '=' "'" '\\' '\357\273\277' '[a]\001' '{a=' '-'; do
-        fill junk '' "$part" ''
-        try "8 MB of $part as scenarios" 4 "clearing: scenarios row 0: toml (16)" stress $files --scenarios junk
+    for piece in ',' '"' '\000' 'a' '[' '{' '\r' '\377' '7' 'a.' '[a.' '[[' 'a={' 'a=[' '=' "'" '\\' '\357\273\277' '[a]\001' '{a=' '-'; do
+        fill junk '' "$piece" ''
+        try "8 MB of $piece as scenarios" 4 "clearing: scenarios row 0: toml (16)" stress $files --scenarios junk
     done
-    for part in '\001' '\r\001' ' ' '\t' '#'; do
-        fill junk '' "$part" ''
-        try "8 MB of $part as scenarios" 0 "" stress $files --scenarios junk
+    for piece in '\001' '\r\001' ' ' '\t' '#'; do
+        fill junk '' "$piece" ''
+        try "8 MB of $piece as scenarios" 0 "" stress $files --scenarios junk
     done
     for front in 'a = ' 'scenario = ' '[[scenario]]\nname = ' '[[scenario]]\nname = "a"\nloss = '; do
-        for part in '[' '{a=' '{a.a=' '"' "'" '7' '[[],' '\000'; do
-            fill junk "$front" "$part" '\n'
-            try "8 MB of $part after $front" 4 "" stress $files --scenarios junk
+        for piece in '[' '{a=' '{a.a=' '"' "'" '7' '[[],' '\000'; do
+            fill junk "$front" "$piece" '\n'
+            try "8 MB of $piece after $front" 4 "" stress $files --scenarios junk
         done
     done
     fill junk 'a = ' '[' ']'
