@@ -1,12 +1,12 @@
 #!/bin/sh
-# Tries the program at its edges: what stands in the place of a file, where its output goes, how much memory and how many
-# descriptors it has, what its words are, and files of 8 MB of junk.
+# Tries the program at its edges: what stands in the place of a file, where its output goes, how much memory it has, what its
+# words are, each fault of a file, and files of 8 MB of junk.
 #
 #   bench/edge.sh [PART ..]    files pipes outputs memory junk sizes faults words, and all of them where none is named
 #
-# What is tried stands in bench/edge. A case is wrong where the status is not the one of docs/FORMATS.md, the message is not that of the status in one line, there
-# is output that the status does not allow, or the program crashes or does not end in two minutes. Each wrong case is printed, and
-# the last line is `N cases, 0 wrong`; the script ends with 1 where some are wrong.
+# What is tried stands in bench/edge. A case is wrong where the status is not the one of docs/FORMATS.md, the message is not
+# that of the status in one line, there is output that the status does not allow, or the program crashes or does not end in two
+# minutes. Each wrong case is printed, and the last line is `N cases, 0 wrong`; the script ends with 1 where some are wrong.
 parts=${*:-files pipes outputs memory junk sizes faults words}
 . "$(dirname "$0")/lib.sh"
 LC_ALL=C
