@@ -1,5 +1,29 @@
 # Numbers and sizes at their limits, and one past them. Read by bench/edge.sh.
 
+# One unit goes round two banks until all that may be owed is paid: 10,000,000 raises, and then one more.
+longest_journal() {
+    printf 'name,cash,rule\nA,1,order\nB,0,order\n' >ring-banks.csv
+    awk 'BEGIN {
+        print "debtor,creditor,class,claim"
+        for (class = 1; class <= 5; class++) print "A,B," class ",1000000\nB,A," class ",1000000"
+    }' >ring-debts.csv
+    awk 'BEGIN {
+        print "stamp,debtor,creditor,class,to"
+        for (class = 1; class <= 5; class++)
+            for (to = 1; to <= 1000000; to++) {
+                print ++stamp ",A,B," class "," to
+                print ++stamp ",B,A," class "," to
+            }
+    }' >long.csv
+    run replay --banks ring-banks.csv --debts ring-debts.csv --journal long.csv
+    judge "10,000,000 raises" 0
+    [ "$(head -n 1 out.csv)" = "lawful,10000000" ] || fail "10,000,000 raises" "$(head -n 1 out.csv)"
+    echo "10000001,A,B,1,1" >>long.csv
+    try "a raise too many" 4 "clearing: journal row 10000001: too many (12)" \
+        replay --banks ring-banks.csv --debts ring-debts.csv --journal long.csv
+    rm long.csv
+}
+
 part_sizes() {
     for which in banks debts; do
         run check $files
@@ -21,6 +45,7 @@ part_sizes() {
     # The longest journal takes gigabytes of memory, so it is tried where that is asked for.
     if [ -n "${CLEARING_LARGE:-}" ]; then
         try "an endless journal" 4 "clearing: journal row 0: file size (14)" replay $files --journal /dev/zero
+        longest_journal
     fi
     { cat large-banks.csv; echo "one more,1,order"; } >more.csv
     try "1,001 banks" 4 "clearing: banks row 1001: too many (12)" check --banks more.csv --debts no-debts.csv
