@@ -3,13 +3,14 @@
 # A file of 8 MB: a front, then one thing again and again, then an end.
 fill() { # the file, the front, the part that is repeated, the end; each as printf has it
     front=$(printf -- "$2" | wc -c) end=$(printf -- "$4" | wc -c)
+    printf -- "$3" >block
+    for _ in 1 2 3 4 5 6 7 8 9 10 11 12 13 14; do
+        cat block block >twice
+        mv twice block
+    done
     {
         printf -- "$2"
-        if [ "$3" = '\000' ]; then
-            head -c $((limit - front - end)) /dev/zero
-        else
-            yes -- "$(printf -- "$3x")" | sed 's/x$//' | tr -d '\n' | head -c $((limit - front - end)) | tr '\001' '\n'
-        fi
+        while cat block; do :; done 2>/dev/null | head -c $((limit - front - end))
         printf -- "$4"
     } >"$1"
     [ "$(wc -c <"$1")" = $limit ] || fail "the script" "$1 is not as long as it should be"
@@ -17,19 +18,19 @@ fill() { # the file, the front, the part that is repeated, the end; each as prin
 
 junk_records() { # the task and the words before the junk, the file's word, the header
     words=$1 name=$2 header=$3
-    for piece in ',' '"' '\001' '\000' 'a' '[' '\r' '\377' '7' '""' '"a",' '\001,' '\357\273\277'; do
+    for piece in ',' '"' '\n' '\000' 'a' '[' '\r' '\377' '7' '""' '"a",' '\n,' '\357\273\277'; do
         fill junk '' "$piece" ''
         try "8 MB of $piece as $name" 4 "clearing: $name row 0: header (1)" $words --$name junk
     done
     fill junk '"' 'a' '"'
     try "8 MB in quotes as $name" 4 "clearing: $name row 0: header (1)" $words --$name junk
-    for piece in '"' '""' '\000' 'a' '[' '7' '\377' '"a",' 'a,' 'a\001'; do
+    for piece in '"' '""' '\000' 'a' '[' '7' '\377' '"a",' 'a,' 'a\n'; do
         fill junk "$header\n" "$piece" ''
         try "8 MB of $piece below the header of $name" 4 "clearing: $name row 1: fields (2)" $words --$name junk
     done
     fill junk "$header\n\"" 'a' '"'
     try "8 MB in quotes below the header of $name" 4 "clearing: $name row 1: fields (2)" $words --$name junk
-    for piece in ',' '\001' '\r' ' ,' ' \001' '\t' '\001,' ',,,,\001'; do
+    for piece in ',' '\n' '\r' ' ,' ' \n' '\t' '\n,' ',,,,\n'; do
         fill junk "$header\n" "$piece" ''
         try "8 MB of $piece below the header of $name" 0 "" $words --$name junk
     done
@@ -53,11 +54,11 @@ part_junk() {
     try "8 MB of blanks behind a field" 0 "" check --banks junk --debts no-debts.csv
     fill junk 'debtor,creditor,class,claim\n' 'a' ',B,1,1\n'
     try "a debtor of 8 MB" 4 "clearing: debts row 1: name (3)" check --banks banks.csv --debts junk
-    for piece in ',' '"' '\000' 'a' '[' '{' '\r' '\377' '7' 'a.' '[a.' '[[' 'a={' 'a=[' '=' "'" '\\' '\357\273\277' '[a]\001' '{a=' '-'; do
+    for piece in ',' '"' '\000' 'a' '[' '{' '\r' '\377' '7' 'a.' '[a.' '[[' 'a={' 'a=[' '=' "'" '\\' '\357\273\277' '[a]\n' '{a=' '-'; do
         fill junk '' "$piece" ''
         try "8 MB of $piece as scenarios" 4 "clearing: scenarios row 0: toml (16)" stress $files --scenarios junk
     done
-    for piece in '\001' '\r\001' ' ' '\t' '#'; do
+    for piece in '\n' '\r\n' ' ' '\t' '#'; do
         fill junk '' "$piece" ''
         try "8 MB of $piece as scenarios" 0 "" stress $files --scenarios junk
     done
@@ -77,11 +78,11 @@ part_junk() {
     try "a key of 4 million parts" 4 "" stress $files --scenarios junk
     fill junk '[a' '.a' ']\n'
     try "a table of 4 million parts" 4 "" stress $files --scenarios junk
-    fill junk '' '[[scenario]]\001' '#\n'
+    fill junk '' '[[scenario]]\n' '#\n'
     try "8 MB of scenarios" 4 "" stress $files --scenarios junk
-    fill junk '[[scenario]]\nname="a"\n' '[[scenario.loss]]\001' '#\n'
+    fill junk '[[scenario]]\nname="a"\n' '[[scenario.loss]]\n' '#\n'
     try "8 MB of losses" 4 "" stress $files --scenarios junk
-    fill junk '' '[[scenario.loss.a]]\001' '#\n'
+    fill junk '' '[[scenario.loss.a]]\n' '#\n'
     try "8 MB of nested losses" 4 "" stress $files --scenarios junk
     fill junk '[[scenario]]\nname="' 'a' '"\n'
     try "a scenario's name of 8 MB" 4 "clearing: scenarios row 1: name (3)" stress $files --scenarios junk
