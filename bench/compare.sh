@@ -1,14 +1,14 @@
 #!/bin/sh
-# Compares the program with a plain model, bench/model.py, on random networks of 2 to 8 banks, byte for byte.
+# Compares the program with a plain model, bench/model.py, on random networks of 2 to 8 banks (bench/networks.py), byte for byte.
 #
 #   bench/compare.sh [N [SEED]]    100 networks and seed 1 where none is given
 #
-# Of each network: clear, central, defaults, bounds, costs, rescue, stress, check and convert; journals of the model's, lawful and
+# Of each network: clear, central, defaults, bounds, costs, rescue, stress, check and convert, and gen of another; journals of the model's, lawful and
 # changed, are replayed; the journal of a run of two workers is replayed and judged by the model, and so is what compress prints.
 # Each difference is printed, and the last line is `N networks, M differ`; the script ends with 1 where some differ, and the
 # networks that do stay in a folder that it names. Wants Python 3.
 . "$(dirname "$0")/lib.sh"
-python3 "$root/bench/model.py" make networks "${1:-100}" "${2:-1}" || exit 1
+python3 "$root/bench/networks.py" make networks "${1:-100}" "${2:-1}" || exit 1
 files="--banks banks.csv --debts debts.csv"
 : >"$work/differ.txt"
 
@@ -46,7 +46,7 @@ for place in networks/*; do
     "$program" compress $files >compressed.csv 2>told.txt || differs "$n" "compress: $(cat told.txt)"
 done
 cd "$work" || exit 1
-python3 "$root/bench/model.py" judge networks >judged.txt 2>&1 || { cat judged.txt; exit 1; }
+python3 "$root/bench/networks.py" judge networks >judged.txt 2>&1 || { cat judged.txt; exit 1; }
 while read -r n fault; do
     differs "$n" "$fault"
 done <judged.txt
