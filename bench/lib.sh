@@ -1,9 +1,14 @@
-# What the benchmarks share: where the program is, a folder to work in, and the least time of several runs.
+# What the benchmarks share: where the program is (CLEARING, or the repository's own), a folder to work in, and the least time of
+# several runs.
 root=$(cd "$(dirname "$0")/.." && pwd) || exit 1
 work=$(mktemp -d) || exit 1
 trap 'rm -rf "$work"' EXIT
-"$root/clearing" >/dev/null 2>&1   # builds it, if need be
-program=$root/crates/clear_main/out/clear_main
+if [ -n "${CLEARING:-}" ]; then
+    program=$(realpath -- "$CLEARING") || exit 1
+else
+    "$root/clearing" >/dev/null 2>&1   # builds it, if need be
+    program=$root/crates/clear_main/out/clear_main
+fi
 [ -x "$program" ] || { echo "the program is not built" >&2; exit 1; }
 cd "$work" || exit 1
 
