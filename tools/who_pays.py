@@ -7,9 +7,10 @@ In:   PAYMENTS   what `clearing clear` prints: debtor,creditor,class,claim,paid 
 Out:  up to 40 banks a graph as Graphviz text, above that a matrix of debtors by creditors as SVG; --form chooses one.
       It goes to standard output, or to the file of --output.
 
-In the graph a bank is a circle whose area is what it owes, coloured by its state; a debt is an arrow from debtor to creditor, as
-wide as its claim, grey where it is paid in full and from orange to dark red by the share that is not paid. In the matrix each
-square is what one bank owes another, coloured alike; banks in default come first, and stripes at the edge have their state.
+In the graph, banks stand in a ring, in the order of the file. A bank is a circle whose area is what it owes, coloured by its
+state; a debt is an arrow from debtor to creditor, as wide as its claim, grey where it is paid in full and from orange to dark
+red by the share that is not paid. In the matrix each square is what one bank owes another, coloured alike; banks in default come
+first, and stripes at the edge have their state.
 
 Example:
     clearing clear --banks banks.csv --debts debts.csv >payments.csv
@@ -19,6 +20,7 @@ Example:
 Ends with 0, with 1 where a file cannot be read or is not such a text, and with 2 where the command line is not understood.
 """
 import argparse
+import math
 import sys
 from collections import namedtuple
 from xml.sax.saxutils import escape
@@ -132,6 +134,18 @@ def quoted(text):
     return '"' + text.replace("&", "&amp;").replace("\\", "\\\\") + '"'
 
 
+def on_a_circle(widths):
+    """Where circles of these widths stand on a larger circle, the first at the top and each with room beside it."""
+    room = [width + 0.9 for width in widths]
+    radius = max(1.5, sum(room) / (2 * math.pi))
+    turned, places = -room[0] / 2, []
+    for part in room:
+        angle = 2 * math.pi * (turned + part / 2) / sum(room)
+        places.append((radius * math.sin(angle), radius * math.cos(angle)))
+        turned += part
+    return places
+
+
 def graph(debts, banks):
     """The network as Graphviz text."""
     place = {bank.name: f"bank{i}" for i, bank in enumerate(banks)}
@@ -139,16 +153,16 @@ def graph(debts, banks):
     most_claim = max([debt.claim for debt in debts], default=0) or 1
     out = [
         "digraph who_pays {",
-        "  layout=neato; overlap=false; splines=true; pad=0.2; outputorder=edgesfirst;",
+        "  layout=neato; splines=line; pad=0.2; outputorder=edgesfirst;",
         '  node [shape=circle, fixedsize=shape, style=filled, fontname="sans-serif", fontsize=13, color="#4a4a4a"];',
-        '  edge [arrowsize=0.8, len=2.6];',
+        '  edge [arrowsize=0.8];',
         '  fontname="sans-serif"; fontsize=12; labelloc=b;',
         f"  label={legend(banks)};",
     ]
-    for bank in banks:
-        width = max(0.25, 1.6 * (bank.owed / most_owed) ** 0.5)
+    widths = [max(0.25, 1.6 * (bank.owed / most_owed) ** 0.5) for bank in banks]
+    for bank, width, (x, y) in zip(banks, widths, on_a_circle(widths)):
         out.append(
-            f"  {place[bank.name]} [label={quoted(bank.name)}, width={width:.2f}, fillcolor=\"{FILL[bank.state]}\","
+            f"  {place[bank.name]} [label={quoted(bank.name)}, pos=\"{x:.2f},{y:.2f}!\", width={width:.2f}, fillcolor=\"{FILL[bank.state]}\","
             f" fontcolor=\"{INK[bank.state]}\", tooltip={quoted(f'{bank.name}: {bank.state}, pays {bank.paid} of {bank.owed}')}];"
         )
     # The widest first, so that thin arrows are drawn over them.
@@ -185,11 +199,11 @@ def matrix(debts, banks):
         pairs[debt.debtor, debt.creditor] = claim + debt.claim, paid + debt.paid
     cell = max(1.0, min(16.0, 960 / len(order)))
     named = cell >= 8
-    edge = (10 + 6 * max(min(len(bank.name), 24) for bank in order) if named else 12) + cell
+    edge = (14 + 7 * max(min(len(bank.name), 24) for bank in order) if named else 12) + cell
     side = edge + cell * len(order)
     most = max([claim for claim, _ in pairs.values()], default=0) or 1
     out = [
-        f'<svg xmlns="http://www.w3.org/2000/svg" width="{side + 10:.0f}" height="{side + 34:.0f}"'
+        f'<svg xmlns="http://www.w3.org/2000/svg" width="{max(side + 10, 680):.0f}" height="{side + 34:.0f}"'
         f' font-family="sans-serif" font-size="{min(12, 0.75 * cell if named else 11):.1f}">',
         '<rect width="100%" height="100%" fill="#ffffff"/>',
         f'<rect x="{edge:.1f}" y="{edge:.1f}" width="{side - edge:.1f}" height="{side - edge:.1f}" fill="#f4f5f6"/>',
