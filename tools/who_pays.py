@@ -162,7 +162,8 @@ def graph(debts, banks):
     widths = [max(0.25, 1.6 * (bank.owed / most_owed) ** 0.5) for bank in banks]
     for bank, width, (x, y) in zip(banks, widths, on_a_circle(widths)):
         out.append(
-            f"  {place[bank.name]} [label={quoted(bank.name)}, pos=\"{x:.2f},{y:.2f}!\", width={width:.2f}, fillcolor=\"{FILL[bank.state]}\","
+            f"  {place[bank.name]} [label={quoted(bank.name)}, pos=\"{x:.2f},{y:.2f}!\", width={width:.2f},"
+            f" fillcolor=\"{FILL[bank.state]}\","
             f" fontcolor=\"{INK[bank.state]}\", tooltip={quoted(f'{bank.name}: {bank.state}, pays {bank.paid} of {bank.owed}')}];"
         )
     # The widest first, so that thin arrows are drawn over them.
@@ -189,6 +190,14 @@ def legend(banks):
     )
 
 
+def square(x, y, width, height, colour, title):
+    """A rectangle of SVG that says what it is when the pointer is on it."""
+    return (
+        f'<rect x="{x:.2f}" y="{y:.2f}" width="{width:.2f}" height="{height:.2f}" fill="{colour}">'
+        f"<title>{shown(title)}</title></rect>"
+    )
+
+
 def matrix(debts, banks):
     """The network as an SVG matrix: a row for each debtor, a column for each creditor."""
     order = sorted(banks, key=lambda bank: (bank.state == "sound", -bank.owed))
@@ -210,10 +219,10 @@ def matrix(debts, banks):
     ]
     for i, bank in enumerate(order):
         at, near = edge + i * cell, edge - max(cell, 6) - 2
-        title = f"<title>{shown(f'{bank.name}: {bank.state}, pays {bank.paid} of {bank.owed}')}</title>"
+        title = f"{bank.name}: {bank.state}, pays {bank.paid} of {bank.owed}"
         stripe = max(cell, 6)
-        out.append(f'<rect x="{edge - stripe:.1f}" y="{at:.2f}" width="{stripe:.1f}" height="{cell:.2f}" fill="{FILL[bank.state]}">{title}</rect>')
-        out.append(f'<rect x="{at:.2f}" y="{edge - stripe:.1f}" width="{cell:.2f}" height="{stripe:.1f}" fill="{FILL[bank.state]}">{title}</rect>')
+        out.append(square(edge - stripe, at, stripe, cell, FILL[bank.state], title))
+        out.append(square(at, edge - stripe, cell, stripe, FILL[bank.state], title))
         if named:
             text = shown(bank.name if len(bank.name) <= 24 else bank.name[:23] + "…")
             out.append(f'<text x="{near:.1f}" y="{at + 0.75 * cell:.2f}" text-anchor="end">{text}</text>')
@@ -222,12 +231,10 @@ def matrix(debts, banks):
     for (debtor, creditor), (claim, paid) in pairs.items():
         size = max(min(cell, 2.0), cell * (claim / most) ** 0.5)
         x, y = (edge + place[name] * cell + (cell - size) / 2 for name in (creditor, debtor))
-        out.append(
-            f'<rect x="{x:.2f}" y="{y:.2f}" width="{size:.2f}" height="{size:.2f}" fill="{unpaid_colour(unpaid_share(claim, paid))}">'
-            f"<title>{shown(say(Debt(debtor, creditor, '', claim, paid)))}</title></rect>"
-        )
-    words = "rows owe columns; grey is paid in full, orange to dark red by the share not paid; the edge has the state of each bank"
-    out.append(f'<text x="6" y="{side + 22:.0f}" font-size="11">{words}</text>')
+        colour = unpaid_colour(unpaid_share(claim, paid))
+        out.append(square(x, y, size, size, colour, say(Debt(debtor, creditor, "", claim, paid))))
+    meaning = "grey is paid in full, orange to dark red by the share not paid; the edge has the state of each bank"
+    out.append(f'<text x="6" y="{side + 22:.0f}" font-size="11">rows owe columns; {meaning}</text>')
     return "\n".join([*out, "</svg>", ""])
 
 
