@@ -46,7 +46,8 @@ def least(jobs):
 def output(words):
     """What a run prints, or None where it passes the limit."""
     try:
-        return subprocess.run(words, stdin=subprocess.DEVNULL, stdout=subprocess.PIPE, stderr=subprocess.DEVNULL, timeout=LIMIT).stdout
+        run = subprocess.run(words, stdin=subprocess.DEVNULL, capture_output=True, timeout=LIMIT)
+        return run.stdout
     except subprocess.TimeoutExpired:
         return None
 
@@ -118,7 +119,8 @@ def clearing_table(pair, names):
         agree = [same(jobs[job], jobs["peer"]) if best[job] else "-" for job in ("clear", "one", "central")]
         print(
             f"{name:20}{ms(best['clear']):>9}{ms(best['one']):>9}{ms(best['central']):>9}{ms(best['peer']):>8}"
-            f" |{ratio(best['clear'], best['peer']):>8}{ratio(best['one'], best['peer']):>7}{ratio(best['central'], best['peer']):>9}"
+            f" |{ratio(best['clear'], best['peer']):>8}{ratio(best['one'], best['peer']):>7}"
+            f"{ratio(best['central'], best['peer']):>9}"
             f" |{memory(best['one'], jobs['one']):>6}{memory(best['peer'], jobs['peer']):>6}  {' '.join(agree)}",
             flush=True,
         )
@@ -141,9 +143,8 @@ def other_tables(pair):
             )
     print(f"\n{'a journal replayed, a hundred scenarios':44}{head}")
     with open("journal.csv", "wb") as file:
-        subprocess.run(
-            pair.words("clear", "long-journal", "--workers", "1", "--sweeps", "1000", "--show", "journal"), stdout=file, check=True
-        )
+        words = pair.words("clear", "long-journal", "--workers", "1", "--sweeps", "1000", "--show", "journal")
+        subprocess.run(words, stdout=file, check=True)
     pair.row(
         "replay, long-journal",
         pair.words("replay", "long-journal", "--journal", "journal.csv"),
@@ -165,7 +166,7 @@ def main():
     if unknown:
         sys.exit(f"table.py: no such input: {' '.join(unknown)}; there are {' '.join(NETWORKS)}")
     print(f"milliseconds, the least of {RUNS} runs by turns; over: above {LIMIT:g} seconds; MB: the most memory held")
-    print("clear: 4 workers and 1 sweep; 1 worker: with 1000 sweeps; NAME/: its time by the peer's\n")
+    print("clear: 4 workers and 1 sweep; 1 worker: with 1,000 sweeps; NAME/: its time by that of the peer\n")
     clearing_table(pair, named or NETWORKS)
     if not named:
         other_tables(pair)
