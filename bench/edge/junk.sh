@@ -2,7 +2,7 @@
 
 # A file of 8 MB: a front, then one thing again and again, then an end.
 fill() { # the file, the front, the part that is repeated, the end; each as printf has it
-    front=$(printf -- "$2" | wc -c) end=$(printf -- "$4" | wc -c)
+    around=$(printf -- "$2$4" | wc -c)
     printf -- "$3" >block
     for _ in 1 2 3 4 5 6 7 8 9 10 11 12 13 14; do
         cat block block >twice
@@ -10,7 +10,7 @@ fill() { # the file, the front, the part that is repeated, the end; each as prin
     done
     {
         printf -- "$2"
-        while cat block; do :; done 2>/dev/null | head -c $((limit - front - end))
+        while cat block; do :; done 2>/dev/null | head -c $((limit - around))
         printf -- "$4"
     } >"$1"
     [ "$(wc -c <"$1")" = $limit ] || fail "the script" "$1 is not as long as it should be"
