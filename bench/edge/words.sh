@@ -67,5 +67,7 @@ part_words() {
     try "10,000 unknown options" 2 "" check $(seq 1 10000 | sed 's/^/--/')
     long=$(head -c 100000 /dev/zero | tr '\0' 'x')
     try "a long name" 3 "clearing: cannot read $long" check --banks "$long" --debts debts.csv
-    try "a name of two lines" 3 "" check --banks "$(printf 'a\nb')" --debts debts.csv
+    # The name stands in the message as it was given.
+    two_lines=$(printf 'a\nb')
+    try "a name of two lines" 3 "clearing: cannot read $two_lines" check --banks "$two_lines" --debts debts.csv
 }
