@@ -18,29 +18,12 @@ import argparse
 import sys
 from collections import namedtuple
 
+from texts import DEFAULTS_HEADERS, Refused, number, text_of
+
 Standing = namedtuple("Standing", "share state")
 Scenario = namedtuple("Scenario", "name banks")
 
-DEFAULTS_HEADERS = ("bank,estate,paid,owed,equity,state", "bank,estate,outside_paid,paid,owed,equity,state")
 STATES = ("sound", "fundamental", "contagion")
-
-
-class Refused(Exception):
-    """A file that cannot be read, or is not what it should be."""
-
-
-def text_of(name):
-    try:
-        with open(name, encoding="utf-8", newline="") as file:
-            return file.read()
-    except (OSError, UnicodeDecodeError) as fault:
-        raise Refused(f"{name}: cannot be read: {fault}") from fault
-
-
-def number(name, line, field):
-    if not field.isascii() or not field.isdigit():
-        raise Refused(f"{name}: line {line}: {field!r} is not a number")
-    return int(field)
 
 
 def read_scenario(name, first, lines):
