@@ -1,8 +1,8 @@
--- A ring, and a take, keep the rule of a board.
+-- A ring, a glance and a take keep the rule of a board.
 use Rattle.std.proofs.Common.{◌≡◌, ◌≢◌, ◌⊎◌, ℕ, ◌+◌, ◌<◌, ◌≤◌, ◌==◌, List, length, set, Bool, true, false, true≢false, inl, inr, refl, sym, ap, ◌∙◌, subst, ⊎_elim, arith, le_trans, le_of_eq, length-set, get_or-set_same, get_or-set_other}
 use Rattle.std.specs.Prelude.{slice_index, if◌then◌else◌, ◌&&◌, ◌||◌, not}
 use Rattle.std.proofs.lemmas.Bool.{cases_Bool, eqb-true, eq-eqb, ne_eqb, and_parts, and_from}
-use Rattle.std.proofs.lemmas.List.{get_or_past}
+use Rattle.std.proofs.lemmas.List.{get_or_past, set-get_or}
 use mathlib.Core.Option.{some, none}
 use mathlib.Core.Logic.{dite}
 use native.Mathlib.Decide.{ℕ_discrete, dec_lt}
@@ -17,7 +17,7 @@ use Rattle.pay_words.specs.declared.view.Shown.{Shown}
 use Rattle.pay_words.specs.declared.view.View.{View}
 use Rattle.pay_words.specs.Traces.{Traces, ending}
 use Rattle.pay_words.specs.Views.{IsSound, IsCalm, OwesRing, holds, is_marked, tabled, rung, took}
-use Rattle.pay_words.specs.Kept.{Ledger, Suits, IsKept, Tower, HasBells, IsCalled, IsRung, TakeTells, Rings, Takes, after_take, bell, taken_of, made_of, showing}
+use Rattle.pay_words.specs.Kept.{Ledger, Suits, IsKept, Tower, HasBells, IsCalled, IsRung, TakeTells, Rings, Glances, Takes, after_take, bell, taken_of, made_of, showing}
 use Rattle.pay_words.proofs.Tables.{tabled_at, length-tabled}
 use Rattle.pay_words.proofs.Marks.{chooses, refuses}
 use Rattle.pay_words.proofs.Bells.{changed, changed_here, changed_else, sum_views, has_set, sum_changed, one_less}
@@ -356,6 +356,31 @@ take_tells d k roll count id v words views b lt at on mine h f =
     not_called down calm x l is (inl e) = absurd (omega (arith, down, e, ap (bell d.net words) (of x is)))
     not_called down calm x l is (inr e) = absurd (true≢false (sym e ∙ sym ((h.has id v at on).pend x (within x l) (held x (of x is))) ∙ calm x l is))
 
+-- what the bell tells in a table that is kept, by a load or by a swap
+told_at : (d : Deed) (s : State (Unit {0}) View) (id : ℕ) (v : View) (i b : ℕ) → IsKept d s.words s.views → get_elem? s.views id ≡ some v → i ≡ length d.net.debts + 1 + b → b < length d.net.banks → v.live ≡ true
+    → holds v.shown b ≡ true → TakeTells v.shown b (slice_index s.words i)
+told_at d s id v i b h at place lt on mine =
+    subst (λ (j : ℕ). TakeTells v.shown b (slice_index s.words j)) (sym place)
+    (take_tells d h.ledger (slice_index s.words 0) (length s.views) id v s.words s.views b lt at on mine h.rung (h.fits id v at on))
+
+-- a step that leaves its word and its view as they are
+unmoved : (d : Deed) (s : State (Unit {0}) View) (id : ℕ) (v : View) (i : ℕ) → IsKept d s.words s.views → get_elem? s.views id ≡ some v → IsKept d (set s.words i (slice_index s.words i)) (set s.views id v)
+unmoved d s id v i h at = subst (λ (y : List ℕ × List View). IsKept d y.0 y.1) (λ a. (sym (set-get_or s.words i 0) a, sym (set_again s.views id v at) a)) h
+
+pub glances : (d : Deed) (slots id : ℕ) (me : Me (Unit {0}) View) (i b : ℕ) → i ≡ length d.net.debts + 1 + b → b < length d.net.banks → me.0.live ≡ true → me.0.shown.net ≡ d.net → holds me.0.shown b ≡ true
+    → Allows (rule d) slots id me i (λ n. n) (Glances (step slots i 0 0 none) me)
+glances d slots id me i b here lt on over mine s h sized at small = (
+  me.0,
+  keeps,
+  tt,
+  unmoved d s id me.0 i h at,
+  (
+    refl,
+    λ c e. let same : b ≡ c = omega (arith, e, here, ap (λ (m : Net). length m.debts) over) in
+        subst (λ (z : ℕ). TakeTells me.0.shown z (slice_index s.words i)) same (told_at d s id me.0 i b h at here lt on mine),
+  ),
+)
+
 pub takes : (d : Deed) (slots id : ℕ) (me : Me (Unit {0}) View) (i b : ℕ) → i ≡ length d.net.debts + 1 + b → b < length d.net.banks → me.0.live ≡ true → me.0.shown.net ≡ d.net → holds me.0.shown b ≡ true
     → Allows (rule d) slots id me i (λ _. 0) (Takes (step slots i 0 0 none) me)
 takes d slots id me i b place lt on over mine s h sized at small =
@@ -365,24 +390,20 @@ takes d slots id me i b place lt on over mine s h sized at small =
     let n : ℕ = slice_index s.words i in
     let is : n ≡ bell d.net s.words b = ap (slice_index s.words) place in
     let w = showing v (after_take v.shown b n) in
-    let tells : TakeTells v.shown b n = subst (TakeTells v.shown b) (sym is) (take_tells d k (slice_index s.words 0) (length s.views) id v s.words s.views b lt at on mine h.rung f) in
+    let tells : TakeTells v.shown b n = told_at d s id v i b h at place lt on mine in
     let alone : NoOther s.views id b = λ j u ne e t. not_both d k (slice_index s.words 0) (length s.views) id j u v b ne f mine (h.fits j u e t) in
     let long : length v.shown.fresh ≡ length d.net.banks = f.sound.over.fresh ∙ ap (λ (m : Net). length m.banks) f.net_is in (
       w,
       keeps,
       tt,
-      subst (λ (j : ℕ). IsKept d (set s.words j 0) (set s.views id w)) (sym place)
-          (dite (ℕ_discrete n 0)
-          (λ e.
-          let same : showing v (after_take v.shown b n) ≡ v = ap (λ (m : ℕ). showing v (after_take v.shown b m)) e in
-          let words : set s.words (length d.net.debts + 1 + b) 0 ≡ s.words = ap (set s.words (length d.net.debts + 1 + b)) (sym e ∙ is) ∙ Rattle.std.proofs.lemmas.List.set-get_or s.words (length d.net.debts + 1 + b) 0 in
-          let views : set s.views id (showing v (after_take v.shown b n)) ≡ s.views = ap (set s.views id) same ∙ set_again s.views id v at in
-          subst (λ (y : List ℕ × List View). IsKept d y.0 y.1) (λ a. (sym words a, sym views a)) h)
+      (dite (ℕ_discrete n 0)
+          (λ e. subst (λ (m : ℕ × View). IsKept d (set s.words i m.0) (set s.views id m.1)) (λ a. (e a, ap (λ (m : ℕ). showing v (after_take v.shown b m)) (sym e) a)) (unmoved d s id v i h at))
           (λ ne.
           let one : n ≡ 1 = omega (arith, ne, tells.up_or_down) in
-          subst (λ (m : ℕ). IsKept d (set s.words (length d.net.debts + 1 + b) 0) (set s.views id (showing v (after_take v.shown b m)))) (sym one)
+          subst (λ (j : ℕ). IsKept d (set s.words j 0) (set s.views id w)) (sym place)
+          (subst (λ (m : ℕ). IsKept d (set s.words (length d.net.debts + 1 + b) 0) (set s.views id (showing v (after_take v.shown b m)))) (sym one)
           (struck_kept d s id v at h b 0 lt _ v.shown.owes_ring _ (v.shown.taken + 1) on (sound_took v.shown b f.sound)
-          (rung_take d k.trace s.words s.views id v at on h.size h.rung b lt over mine alone long (sym is ∙ one))))),
+          (rung_take d k.trace s.words s.views id v at on h.size h.rung b lt over mine alone long (sym is ∙ one)))))),
       λ c e. let same : b ≡ c = omega (arith, e, place, ap (λ (m : Net). length m.debts) over) in
           subst (λ (z : ℕ). (◌≡◌ {A = Me (Unit {0}) View} (w, me.1) (showing v (after_take v.shown z n), me.1)) × TakeTells v.shown z n) same (refl, tells),
     )

@@ -184,10 +184,10 @@ module _ {S : Type 0} where
   abbrev pub Rolls : Step S → Me S View → ℕ → Me S View → Type 0
   Rolls s v n w = w ≡ (record v.0 { rolled = n }, v.1)
 
--- What a take tells, where it found n at the bell of the bank b: n is 1 or 0, and 1 where the bell
--- was never taken. Where it found 0 and none of the debts to the bank is pending, the bank has seen
--- at least the floor of each; and all that is paid, where besides the seat holds all banks and owes
--- no ring.
+-- What a take tells, or a load, where it found n at the bell of the bank b: n is 1 or 0, and 1 where
+-- the bell was never taken. Where it found 0 and none of the debts to the bank is pending, the bank
+-- has seen at least the floor of each; and all that is paid, where besides the seat holds all banks
+-- and owes no ring.
 pub record TakeTells (s : Shown) (b n : ℕ) : Type 0 where
   pub up_or_down : n ≤ 1
   pub up_if_fresh : is_marked s.fresh b ≡ true → n ≡ 1
@@ -202,6 +202,11 @@ module _ {S : Type 0} where
   abbrev pub Rings : Step S → Me S View → ℕ → Me S View → Type 0
   Rings s v n w = (b : ℕ) → s.word ≡ length v.0.shown.net.debts + 1 + b
       → w ≡ (showing v.0 (rung v.0.shown b), v.1)
+
+  -- a load of a bell leaves the view as it is, and tells what a take does
+  abbrev pub Glances : Step S → Me S View → ℕ → Me S View → Type 0
+  Glances s v n w = (w ≡ v) × ((b : ℕ) → s.word ≡ length v.0.shown.net.debts + 1 + b
+      → TakeTells v.0.shown b n)
 
   abbrev pub Takes : Step S → Me S View → ℕ → Me S View → Type 0
   Takes s v n w = (b : ℕ) → s.word ≡ length v.0.shown.net.debts + 1 + b

@@ -4,6 +4,7 @@ ghost use Rattle.clr_net.specs.Net.{creditor_of, debtor_of};
 ghost use Rattle.clr_net.specs.Amounts.{IsAtMost};
 ghost use Rattle.pay_words.specs.Belongs.{Belongs};
 ghost use Rattle.pay_words.specs.Ends.{AreAfter, AreLawful, HaveLowStamps, Replay, payments_of, values};
+ghost use Rattle.pay_words.specs.Kept.{TakeTells, after_take};
 ghost use Rattle.pay_words.specs.Views.{HasSeenAll, HasSeenFloor, HoldsAll, HoldsAllOf, IsAt, IsCalm, OwesNoRing, OwesRing, handed, holds, is_marked, looked, opening, raised, rejoined, rung, took, without};
 ghost use Rattle.std.specs.Prelude.{◌≡◌, ℕ, ◌+◌, ◌<◌, ◌≤◌, ◌++◌, IfOk, OnErr, OnOk, if◌then◌else◌, false, length, slice_index, true};
 
@@ -12,7 +13,7 @@ use crate::opening::{debtors_of, greatest_stamp, opening_words};
 use crate::paid::Paid;
 use crate::payment::Payment;
 use crate::record::Record;
-use crate::rule::{Both, Chosen, Clearing, Look, Part, Ring, Rise, Roll, Take};
+use crate::rule::{Both, Chosen, Clearing, Glance, Look, Part, Ring, Rise, Roll, Take};
 use crate::seat::PaySeat;
 use crate::view::View;
 use atomic_table::{Seat, Table};
@@ -180,8 +181,8 @@ impl Board {
         self.table.shared.store::<Ring>(&mut seat.seat, bell, 1);
     }
 
-    /// Takes the bell of a bank of the seat down, by one atomic swap, and answers whether it was
-    /// up. Takes no memory.
+    /// Takes the bell of a bank of the seat down, by one atomic load and where that finds it up one
+    /// atomic swap, and answers whether it was up. Takes no memory.
     pub fn take(&self, seat: &mut PaySeat, bank: BankId) -> bool
         requires seat { IsAt self.now seat.old }
         requires held { holds seat.old.shows bank.0 ≡ true }
@@ -195,9 +196,43 @@ impl Board {
             → HoldsAll seat.old.shows → OwesNoRing seat.old.shows
             → HasSeenAll seat.old.shows bank.0 }
     {
+        if self.glance(seat, bank) == 0 {
+            return false;
+        }
+        self.lower(seat, bank) != 0
+    }
+
+    // What stands at the bell of a bank of the seat, by one atomic load.
+    fn glance(&self, seat: &mut PaySeat, bank: BankId) -> u64
+        requires seat { IsAt self.now seat.old }
+        requires held { holds seat.old.shows bank.0 ≡ true }
+        ensures table { seat.new.table ≡ seat.old.table }
+        ensures same { seat.new.shows ≡ seat.old.shows }
+        ensures tells { TakeTells seat.old.shows bank.0 result }
+    {
         let bell = self.debts + 1 + bank.0 as usize;
-        let found = self.table.shared.swap::<Take>(&mut seat.seat, bell, 0);
-        found != 0
+        self.table.shared.load::<Glance>(&mut seat.seat, bell)
+    }
+
+    // Takes the bell of a bank of the seat down, by one atomic swap, and answers what stood there.
+    fn lower(&self, seat: &mut PaySeat, bank: BankId) -> u64
+        requires seat { IsAt self.now seat.old }
+        requires held { holds seat.old.shows bank.0 ≡ true }
+        ensures table { seat.new.table ≡ seat.old.table }
+        ensures taken { seat.new.shows ≡ after_take seat.old.shows bank.0 result }
+        ensures tells { TakeTells seat.old.shows bank.0 result }
+    {
+        let bell = self.debts + 1 + bank.0 as usize;
+        self.table.shared.swap::<Take>(&mut seat.seat, bell, 0)
+    }
+
+    /// Whether the bell of a bank was up, by one atomic load. Promises nothing: the answer may be
+    /// out of date at once. Takes no memory.
+    pub fn is_up(&self, bank: BankId) -> bool
+        requires bank { bank.0 < length self.now.net.banks }
+    {
+        let bell = self.debts + 1 + bank.0 as usize;
+        self.table.shared.peek(bell) != 0
     }
 
     /// Hands the banks of a worker to a new seat. Where there is no memory nothing has changed.

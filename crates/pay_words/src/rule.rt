@@ -51,6 +51,15 @@ impl Play<(), View> for Ring {
     ghost then = { Rings };
 }
 
+/// A load of a bell.
+pub(crate) struct Glance;
+
+impl Play<(), View> for Glance {
+    ghost use Rattle.pay_words.specs.Kept.{Glances};
+
+    ghost then = { Glances };
+}
+
 /// A swap of a bell.
 pub(crate) struct Take;
 

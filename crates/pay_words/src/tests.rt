@@ -177,7 +177,9 @@ fn a_seat_is_handed_out_again(rt: HostRuntime) -> Result<(), Fail> {
     board.take_back(&mut master, second);
     let mut again = board.hand(alloc, &mut master, 1)?;
     assert_eq!(rt; again.clock(), 1);
+    assert!(rt; board.is_up(BankId(1)));
     assert!(rt; board.take(&mut again, BankId(1)));
+    assert!(rt; !board.is_up(BankId(1)));
     assert!(rt; !board.take(&mut again, BankId(1)));
     let seen = board.look(&mut again, DebtId(0));
     assert_eq!(rt; seen, Payment { value: 1, stamp: 1 });
