@@ -7,7 +7,7 @@ ghost use Rattle.settle.specs.Drives.{IsDriven, IsOf, IsPlan};
 ghost use Rattle.std.specs.Prelude.{◌≡◌, ◌*◌, ◌≤◌, IfOk, length};
 
 use crate::plan::{Driven, Plan};
-use crate::teams::{offices_of, round};
+use crate::teams::{calls_two_workers, offices_of, round};
 use clear_core::{Journal, Raise};
 use clr_edge::Gate;
 use clr_net::{MAX_BANKS, Mem, Network};
@@ -17,7 +17,9 @@ use std::alloc::Global;
 use std::thread::Threads;
 
 /// Makes rounds on a board that was just opened, until a round raises nothing. Each round hands a
-/// seat to each worker, lets all workers make their rounds side by side, and takes the seats back.
+/// seat to each worker, lets all workers make their rounds, and takes the seats back. The workers
+/// go side by side in the first round, and where one look found bells of two of them up; else they
+/// go one after another, since threads cost more than so little work.
 ///
 /// After Ok [`nobody_can_pay_more`](crate::nobody_can_pay_more) may be called. After `Mem` the
 /// master may hold fewer banks, and the caller drops the board.
@@ -52,6 +54,7 @@ pub fn drive<R: Threads + Sync, G: Gate + Sync>(
     let mut rounds = 0;
     let mut visits = 0;
     loop {
+        let beside = rounds == 0 || calls_two_workers(net, board, plan.workers);
         let (units, more) = round(
             rt,
             alloc,
@@ -62,6 +65,7 @@ pub fn drive<R: Threads + Sync, G: Gate + Sync>(
             gate,
             &mut journal,
             &mut offices,
+            beside,
         )?;
         rounds += 1;
         visits += more;

@@ -55,8 +55,8 @@ pub fn settle<R: Threads + Sync, G: Gate + Sync>(
 }
 
 /// Clears a network as [`settle`] does, from what the raises of a past left on its debts: those of
-/// an earlier run on this network, or on one whose banks had less. Its journal begins with the past.
-/// `Mem` is want of memory.
+/// an earlier run on this network, or on one whose banks had less. Its journal begins with the
+/// past. `Mem` is want of memory.
 pub fn settle_from<R: Threads + Sync, G: Gate + Sync>(
     rt: &R,
     alloc: Global,

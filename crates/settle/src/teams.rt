@@ -13,7 +13,7 @@ use crate::work::work;
 use bank_worker::{Office, Visit, Worker};
 use clear_core::{Journal, Raise};
 use clr_edge::Gate;
-use clr_net::{Mem, Network};
+use clr_net::{BankId, Mem, Network};
 use pay_words::{Board, PaySeat};
 use std::alloc::Global;
 use std::thread::Threads;
@@ -109,13 +109,14 @@ fn add_all(journal: &mut Journal, raises: &[Raise]) -> Result<(), Mem>
     Ok(())
 }
 
-// The rounds of these workers, side by side.
+// The rounds of these workers, side by side or one after another.
 fn work_all<R: Threads + Sync, G: Gate + Sync>(
     rt: &R,
     board: &Board,
     sweeps: u32,
     gate: &G,
     workers: &mut Vec<Worker>,
+    beside: bool,
 ) -> Visit
     requires sweeps { (1 ≤ sweeps) × (sweeps ≤ 1000) }
     requires some { (1 ≤ length workers.old.items) × (length workers.old.items ≤ 64) }
@@ -123,10 +124,32 @@ fn work_all<R: Threads + Sync, G: Gate + Sync>(
     ensures rounded { WhenRaised result (λ n.
         AreRounded sweeps n workers.old.items workers.new.items) }
 {
-    work(rt, board, sweeps, gate, workers.as_mut_slice())
+    work(rt, board, sweeps, gate, workers.as_mut_slice(), beside)
 }
 
-// A round of all workers. Answers by how many units payments rose, and how many visits there were.
+// Whether two workers have a bell up, by one look at each bell.
+pub(crate) fn calls_two_workers(net: &Network, board: &Board, workers: u32) -> bool
+    requires workers { 1 ≤ workers }
+    requires net { net.now ≡ board.now.net }
+{
+    if workers == 1 {
+        return false;
+    }
+    let mut called = None;
+    for bank in 0..net.banks() {
+        if board.is_up(BankId(bank)) {
+            let worker = bank % workers;
+            match called {
+                Some(other) if other != worker => return true,
+                _ => called = Some(worker),
+            }
+        }
+    }
+    false
+}
+
+// A round of all workers, side by side or one after another. Answers by how many units payments
+// rose, and how many visits there were.
 pub(crate) fn round<R: Threads + Sync, G: Gate + Sync>(
     rt: &R,
     alloc: Global,
@@ -137,6 +160,7 @@ pub(crate) fn round<R: Threads + Sync, G: Gate + Sync>(
     gate: &G,
     journal: &mut Journal,
     offices: &mut Vec<Office>,
+    beside: bool,
 ) -> Result<(u64, u64), Mem>
     requires offices { AreOffices net.now plan.workers plan.workers offices.old.items }
     requires plan { IsPlan plan }
@@ -154,7 +178,7 @@ pub(crate) fn round<R: Threads + Sync, G: Gate + Sync>(
         master.old.shows.raises master.new.shows.raises) }
 {
     let mut workers = open_workers(alloc, net, plan.workers, board, master, offices)?;
-    let Visit::Raised(units) = work_all(rt, board, plan.sweeps, gate, &mut workers) else {
+    let Visit::Raised(units) = work_all(rt, board, plan.sweeps, gate, &mut workers, beside) else {
         return Err(Mem);
     };
     let visits = close_workers(board, master, workers, journal, offices)?;

@@ -134,6 +134,7 @@ fn asked_after<R: Threads + Sync>(
             &OpenGate,
             &mut journal,
             &mut offices,
+            true,
         )?;
     }
     Ok(nobody_can_pay_more(net, board, &mut master))

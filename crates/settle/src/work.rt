@@ -9,8 +9,8 @@ use clr_edge::Gate;
 use pay_words::Board;
 use std::thread::{Threads, join_mut};
 
-// A round of each of these workers, beside the others: each half of the list in a thread of its
-// own, down to one worker.
+// A round of each of these workers: beside the others, each half of the list in a thread of its
+// own, down to one worker, or one after another in this thread.
 #[cycle(halves)]
 pub(crate) fn work<R: Threads + Sync, G: Gate + Sync>(
     rt: &R,
@@ -18,6 +18,7 @@ pub(crate) fn work<R: Threads + Sync, G: Gate + Sync>(
     sweeps: u32,
     gate: &G,
     workers: &mut [Worker],
+    beside: bool,
 ) -> Visit
     requires sweeps { (1 ≤ sweeps) × (sweeps ≤ 1000) }
     requires some { (1 ≤ length workers.old) × (length workers.old ≤ 64) }
@@ -29,9 +30,14 @@ pub(crate) fn work<R: Threads + Sync, G: Gate + Sync>(
         return worker.round(board, sweeps, gate);
     }
     let (front, back) = workers.split_at_mut(workers.len() / 2);
-    both_halves(rt, board, sweeps, gate, front, back)
+    if beside {
+        both_halves(rt, board, sweeps, gate, front, back)
+    } else {
+        halves_in_turn(rt, board, sweeps, gate, front, back)
+    }
 }
 
+// Each half in a thread of its own.
 #[cycle(halves)]
 fn both_halves<R: Threads + Sync, G: Gate + Sync>(
     rt: &R,
@@ -53,13 +59,36 @@ fn both_halves<R: Threads + Sync, G: Gate + Sync>(
         requires { IsSync R.row × IsSync G.row × (1 ≤ sweeps) × (sweeps ≤ 1000)
             × (1 ≤ length front.now) × (length front.now ≤ 64) × AreReady board.now front.now }
         ensures { WhenRaised result (λ n. AreRounded sweeps n front.entry.now front.exit.now) }
-    { work(rt, board, sweeps, gate, front) };
+    { work(rt, board, sweeps, gate, front, true) };
     let mut high = || -> Visit
         requires { IsSync R.row × IsSync G.row × (1 ≤ sweeps) × (sweeps ≤ 1000)
             × (1 ≤ length back.now) × (length back.now ≤ 64) × AreReady board.now back.now }
         ensures { WhenRaised result (λ n. AreRounded sweeps n back.entry.now back.exit.now) }
-    { work(rt, board, sweeps, gate, back) };
+    { work(rt, board, sweeps, gate, back, true) };
     let (a, b) = join_mut(rt, &mut low, &mut high);
+    added(a, b)
+}
+
+// One half after the other, in this thread.
+#[cycle(halves)]
+fn halves_in_turn<R: Threads + Sync, G: Gate + Sync>(
+    rt: &R,
+    board: &Board,
+    sweeps: u32,
+    gate: &G,
+    front: &mut [Worker],
+    back: &mut [Worker],
+) -> Visit
+    requires sweeps { (1 ≤ sweeps) × (sweeps ≤ 1000) }
+    requires some { (1 ≤ length front.old) × (1 ≤ length back.old)
+        × (length front.old + length back.old ≤ 64) }
+    requires front { AreReady board.now front.old }
+    requires back { AreReady board.now back.old }
+    ensures rounded { WhenRaised result (λ n.
+        AreRounded sweeps n (front.old ++ back.old) (front.new ++ back.new)) }
+{
+    let a = work(rt, board, sweeps, gate, front, false);
+    let b = work(rt, board, sweeps, gate, back, false);
     added(a, b)
 }
 

@@ -8,8 +8,8 @@ use Rattle.settle.proofs.AllDown.{idle_between}
 use Rattle.settle.proofs.Driving.{DrivenTo, driven_none, driven_more, driven_out, fewer_left, rounds_low, seats_low}
 use Rattle.settle.proofs.drives.drive.Goals as goal
 
-pub loop-offices-init : goal.loop-offices-init
-loop-offices-init g c =
+pub loop-rounds-init : goal.loop-rounds-init
+loop-rounds-init g c =
     let net = c.args.net.now in
     let past = c.args.past.now in
     let s = c.args.master.now.shows in
@@ -25,34 +25,34 @@ loop-offices-init g c =
 
 pub round-requires-clause-seats : goal.round-requires-clause-seats
 round-requires-clause-seats g c κs within =
-    seats_low c.args.net.now c.args.past.now c.args.plan.workers c.loop-offices.master.shows c.loop-offices.journal.raises c.loop-offices.rounds c.loop-offices.visits c.requires.plan.few_workers c.loop-offices.invariant.driven
+    seats_low c.args.net.now c.args.past.now c.args.plan.workers c.loop-rounds.master.shows c.loop-rounds.journal.raises c.loop-rounds.rounds c.loop-rounds.visits c.requires.plan.few_workers c.loop-rounds.invariant.driven
 
 pub overflow_add-rounds : goal.overflow_add-rounds
 overflow_add-rounds g c =
-    let h = c.loop-offices.invariant.driven in
-    record { fits = omega (arith, rounds_low c.args.net.now c.args.past.now c.args.plan.workers c.loop-offices.master.shows c.loop-offices.journal.raises c.loop-offices.rounds c.loop-offices.visits h) }
+    let h = c.loop-rounds.invariant.driven in
+    record { fits = omega (arith, rounds_low c.args.net.now c.args.past.now c.args.plan.workers c.loop-rounds.master.shows c.loop-rounds.journal.raises c.loop-rounds.rounds c.loop-rounds.visits h) }
 
 pub overflow_add-visits : goal.overflow_add-visits
 overflow_add-visits g c =
-    let h = c.loop-offices.invariant.driven in
-    record { fits = omega (arith, rounds_low c.args.net.now c.args.past.now c.args.plan.workers c.loop-offices.master.shows c.loop-offices.journal.raises c.loop-offices.rounds c.loop-offices.visits h, h.few, c.in_ok-units.ensures.round.few_visits) }
+    let h = c.loop-rounds.invariant.driven in
+    record { fits = omega (arith, rounds_low c.args.net.now c.args.past.now c.args.plan.workers c.loop-rounds.master.shows c.loop-rounds.journal.raises c.loop-rounds.rounds c.loop-rounds.visits h, h.few, c.in_ok-units.ensures.round.few_visits) }
 
-pub loop-offices-smaller : goal.loop-offices-smaller
-loop-offices-smaller g c = fewer_left c.args.net.now c.args.plan c.in_ok-units.units c.in_ok-units.more c.loop-offices.master.shows c.round.new.master.shows c.if-units-eq0.false c.in_ok-units.ensures.round
+pub loop-rounds-smaller : goal.loop-rounds-smaller
+loop-rounds-smaller g c = fewer_left c.args.net.now c.args.plan c.in_ok-units.units c.in_ok-units.more c.loop-rounds.master.shows c.round.new.master.shows c.if-units-eq0.false c.in_ok-units.ensures.round
 
-pub loop-offices-preserved : goal.loop-offices-preserved
-loop-offices-preserved g c = record {
-  table = c.in_ok-units.ensures.table ∙ c.loop-offices.invariant.table;
+pub loop-rounds-preserved : goal.loop-rounds-preserved
+loop-rounds-preserved g c = record {
+  table = c.in_ok-units.ensures.table ∙ c.loop-rounds.invariant.table;
   offices = c.in_ok-units.ensures.offices;
-  driven = driven_more c.args.net.now c.args.past.now c.args.plan c.loop-offices.master.shows c.round.new.master.shows c.loop-offices.journal.raises c.round.new.journal.raises
-      c.loop-offices.rounds c.loop-offices.visits c.in_ok-units.units c.in_ok-units.more c.in_ok-units.ensures.between c.in_ok-units.ensures.round c.in_ok-units.ensures.noted c.if-units-eq0.false c.loop-offices.invariant.driven;
-  few_visits = omega (arith, c.loop-offices.invariant.few_visits, c.in_ok-units.ensures.round.visits_by_banks);
+  driven = driven_more c.args.net.now c.args.past.now c.args.plan c.loop-rounds.master.shows c.round.new.master.shows c.loop-rounds.journal.raises c.round.new.journal.raises
+      c.loop-rounds.rounds c.loop-rounds.visits c.in_ok-units.units c.in_ok-units.more c.in_ok-units.ensures.between c.in_ok-units.ensures.round c.in_ok-units.ensures.noted c.if-units-eq0.false c.loop-rounds.invariant.driven;
+  few_visits = omega (arith, c.loop-rounds.invariant.few_visits, c.in_ok-units.ensures.round.visits_by_banks);
 }
 
 pub returns-clause-driven : goal.returns-clause-driven
 returns-clause-driven g c =
-    let h = driven_out c.args.net.now c.args.past.now c.args.plan c.loop-offices.master.shows c.round.new.master.shows c.loop-offices.journal.raises c.round.new.journal.raises
-    c.loop-offices.rounds c.loop-offices.visits c.in_ok-units.units c.in_ok-units.more c.in_ok-units.ensures.between c.in_ok-units.ensures.round c.in_ok-units.ensures.noted c.if-units-eq0.true c.loop-offices.invariant.driven in
+    let h = driven_out c.args.net.now c.args.past.now c.args.plan c.loop-rounds.master.shows c.round.new.master.shows c.loop-rounds.journal.raises c.round.new.journal.raises
+    c.loop-rounds.rounds c.loop-rounds.visits c.in_ok-units.units c.in_ok-units.more c.in_ok-units.ensures.between c.in_ok-units.ensures.round c.in_ok-units.ensures.noted c.if-units-eq0.true c.loop-rounds.invariant.driven in
     record {
       settled = h.settled;
       journal = c.in_ok-journal.ensures ∙ ap ordered (append-nil c.round.new.journal.raises ∙ h.journal_is);
@@ -65,4 +65,4 @@ pub returns-clause-idle : goal.returns-clause-idle
 returns-clause-idle g c = idle_between c.args.net.now c.round.new.master.shows c.in_ok-units.ensures.between
 
 pub returns-clause-few_visits : goal.returns-clause-few_visits
-returns-clause-few_visits g c = omega (arith, c.loop-offices.invariant.few_visits, c.in_ok-units.ensures.round.visits_by_banks)
+returns-clause-few_visits g c = omega (arith, c.loop-rounds.invariant.few_visits, c.in_ok-units.ensures.round.visits_by_banks)

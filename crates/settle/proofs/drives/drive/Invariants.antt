@@ -7,13 +7,13 @@ use Rattle.settle.proofs.drives.drive.Given as goal
 abbrev pub invariant-loop-raise : goal.invariant-loop-raise
 invariant-loop-raise g l = l.journal.raises ≡ take l.raise-index l.past
 
-abbrev pub invariant-loop-offices : goal.invariant-loop-offices
-invariant-loop-offices g l = record {
+abbrev pub invariant-loop-rounds : goal.invariant-loop-rounds
+invariant-loop-rounds g l = record {
   table : l.master.table ≡ l.fn.master.table;
   offices : AreOffices l.net l.plan.workers l.plan.workers l.offices.items;
   driven : DrivenTo l.net l.past l.plan.workers l.master.shows l.journal.raises l.rounds l.visits;
   few_visits : l.visits ≤ l.rounds * (l.plan.sweeps * length l.net.banks);
 }
 
-abbrev pub decreases-loop-offices : goal.decreases-loop-offices
-decreases-loop-offices g l = units_owed l.net - sum l.master.shows.paid
+abbrev pub decreases-loop-rounds : goal.decreases-loop-rounds
+decreases-loop-rounds g l = units_owed l.net - sum l.master.shows.paid
