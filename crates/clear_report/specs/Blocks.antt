@@ -2,7 +2,7 @@
 use Rattle.std.specs.Prelude.{ℕ, List, [], ◌∷◌, ◌++◌, codes}
 use Rattle.std.specs.List.{flat_map}
 use Rattle.clr_net.specs.Lines.{line}
-use Rattle.clear_report.specs.Words.{empty_line, one_above_other}
+use Rattle.clear_report.specs.Words.{empty_line}
 
 -- the block of a scenario of this name: a line of the name, then these texts of what is paid and of
 -- who defaults
@@ -14,8 +14,3 @@ scenario_block name payments defaults =
 abbrev pub stress_text : List (List ℕ) → List ℕ
 stress_text [] = []
 stress_text (first ∷ blocks) = first ++ flat_map (λ block. empty_line ++ block) blocks
-
--- a text with a block more: the first block is the text
-abbrev pub with_block : List ℕ → List ℕ → List ℕ
-with_block [] block = block
-with_block (byte ∷ text) block = one_above_other (byte ∷ text) block

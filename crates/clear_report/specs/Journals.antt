@@ -12,11 +12,6 @@ use Rattle.clear_report.specs.Text.{payments_text}
 abbrev pub journal_and_rounds : Net → List Raise → ℕ → List ℕ
 journal_and_rounds net rs rounds = journal_text net rs ++ rounds_line rounds
 
--- the payments P above it
-abbrev pub payments_and_journal : Net → List ℕ → List Raise → ℕ → List ℕ
-payments_and_journal net P rs rounds =
-    one_above_other (payments_text net P) (journal_and_rounds net rs rounds)
-
 -- the verdict on a lawful journal of so many raises, and below it the payments P
 abbrev pub lawful_and_payments : Net → ℕ → List ℕ → List ℕ
 lawful_and_payments net raises P =

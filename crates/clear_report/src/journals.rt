@@ -1,4 +1,4 @@
-ghost use Rattle.clear_report.specs.Journals.{NamesBankOf, journal_and_rounds, lawful_and_payments, payments_and_journal};
+ghost use Rattle.clear_report.specs.Journals.{NamesBankOf, journal_and_rounds, lawful_and_payments};
 ghost use Rattle.raise_journal.specs.Texts.{verdict_line};
 ghost use Rattle.clr_net.specs.Lines.{line};
 ghost use Rattle.std.specs.Fmt.{decimal};
@@ -24,27 +24,6 @@ pub fn journal_text(
 {
     let mut text = print_journal(alloc, net, journal)?;
     push_number_line(&mut text, "rounds", rounds)?;
-    Ok(text)
-}
-
-/// The text of some payments, and below it, after an empty line, that of a journal and its rounds.
-///
-/// `paid` has a place for each debt, in file order, in units. `Mem` for want of memory alone.
-pub fn pay_and_journal_text(
-    alloc: Global,
-    net: &Network,
-    paid: &[u64],
-    journal: &[Raise],
-    rounds: u64,
-) -> Result<Vec<u8>, Mem>
-    requires over { length paid.now ≡ length net.now.debts }
-    requires debts { All (λ r. r.debt.0 < length net.now.debts) journal.now }
-    ensures { IfOk result
-        (λ text. text.items ≡ payments_and_journal net.now paid.now journal.now rounds) }
-{
-    let below = journal_text(alloc, net, journal, rounds)?;
-    let mut text = pay_text(alloc, net, paid)?;
-    push_below(&mut text, &below)?;
     Ok(text)
 }
 

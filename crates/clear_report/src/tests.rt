@@ -1,16 +1,11 @@
-ghost use Rattle.std.specs.Prelude.{◌≡◌};
-
 use crate::{
-    add_block, bounds_text, check_text, compress_text, cost_text, default_text, journal_text,
-    lawful_text, pay_and_journal_text, pay_text, rescue_text, scenario_text, summary_text,
-    verdict_text,
+    bounds_text, check_text, compress_text, cost_text, default_text, pay_text, rescue_text,
+    summary_text,
 };
 use cascade::{Health, Standing};
-use clear_core::Raise;
-use clr_net::{BankId, DebtId, Mem, Name};
+use clr_net::BankId;
 use costs::CostStanding;
 use net_samples::{chain, ring};
-use raise_journal::Verdict;
 use rescue::Rescued;
 use std::test::Fail;
 
@@ -122,107 +117,6 @@ fn sums_go_beyond_64_bits(rt: HostRuntime) -> Result<(), Fail> {
     write!(numbers, "total,{twice},{twice},{twice},{twice},0\ncash,1\n")?;
     assert!(rt; text.as_slice().ends_with(numbers.as_bytes()));
     Ok(())
-}
-
-#[test]
-fn blocks_stand_apart(rt: HostRuntime) -> Result<(), Fail> {
-    let alloc = rt.alloc();
-    let mut text = Vec::new(alloc);
-    for name in [b"one", b"two"] {
-        let Ok(name) = Name::of(alloc, name) else {
-            return Err(Fail::from(Mem));
-        };
-        let block = scenario_text(alloc, &name, b"payments\n", b"defaults\n")?;
-        add_block(&mut text, &block)?;
-    }
-    assert!(rt;
-        has_lines(
-            &text,
-            &[
-                "scenario,one",
-                "payments",
-                "defaults",
-                "",
-                "scenario,two",
-                "payments",
-                "defaults",
-            ],
-        )
-    );
-    Ok(())
-}
-
-#[test]
-fn journals_and_verdicts_are_told(rt: HostRuntime) -> Result<(), Fail> {
-    let alloc = rt.alloc();
-    let net = chain(alloc)?;
-    assert_eq!(rt; (net.banks(), net.debts()), (3, 2));
-    let journal = [raise(1, 0, 7), raise(2, 1, 8)];
-    let alone = journal_text(alloc, &net, &journal, 2)?;
-    assert!(rt;
-        has_lines(
-            &alone,
-            &[
-                "stamp,debtor,creditor,class,to",
-                "1,A,B,1,7",
-                "2,B,C,1,8",
-                "rounds,2",
-            ],
-        )
-    );
-    let both = pay_and_journal_text(alloc, &net, &[7, 8], &journal, 2)?;
-    assert!(rt;
-        has_lines(
-            &both,
-            &[
-                "debtor,creditor,class,claim,paid",
-                "A,B,1,10,7",
-                "B,C,1,9,8",
-                "",
-                "stamp,debtor,creditor,class,to",
-                "1,A,B,1,7",
-                "2,B,C,1,8",
-                "rounds,2",
-            ],
-        )
-    );
-    let lawful = lawful_text(alloc, &net, 2, &[7, 8])?;
-    assert!(rt;
-        has_lines(
-            &lawful,
-            &[
-                "lawful,2",
-                "",
-                "debtor,creditor,class,claim,paid",
-                "A,B,1,10,7",
-                "B,C,1,9,8",
-            ],
-        )
-    );
-    let (entry, had, allowed) = (1, 0, 1);
-    let unlawful = Verdict::Unlawful {
-        entry,
-        had,
-        allowed,
-    };
-    let told = verdict_text(alloc, &net, 2, unlawful)?;
-    assert!(rt; has_lines(&told, &["unlawful,1,0,1"]));
-    let (entry, last, stamp) = (2, 2, 1);
-    let told = verdict_text(alloc, &net, 2, Verdict::Falls { entry, last, stamp })?;
-    assert!(rt; has_lines(&told, &["falls,2,2,1"]));
-    let told = verdict_text(alloc, &net, 1, Verdict::Unfinished { bank: BankId(1) })?;
-    assert!(rt; has_lines(&told, &["unfinished,B"]));
-    Ok(())
-}
-
-fn raise(stamp: u64, debt: u32, to: u64) -> Raise
-    ensures { result.debt.0 ≡ debt }
-{
-    Raise {
-        stamp,
-        debt: DebtId(debt),
-        to,
-    }
 }
 
 #[test]
