@@ -1,7 +1,7 @@
 ghost use Rattle.bank_worker.specs.Raises.{AreOwedBy, IsNotBelow, IsRaised, IsWithin};
 ghost use Rattle.clr_net.specs.Net.{numbers};
 ghost use Rattle.pay_words.specs.Views.{IsAt, IsOver};
-ghost use Rattle.std.specs.Prelude.{◌≡◌, ◌+◌, ◌<◌, ◌≤◌, ◌^◌, false, length, slice_index, sum, sum_by};
+ghost use Rattle.std.specs.Prelude.{◌≡◌, ◌+◌, ◌<◌, ◌≤◌, ◌^◌, ◌++◌, [], ◌∷◌, false, length, slice_index, sum, sum_by};
 
 use clear_core::{Journal, Raise};
 use clr_net::DebtId;
@@ -44,11 +44,20 @@ pub(crate) fn raise_all(
                 debt: *id,
                 to,
             };
-            let Ok(()) = journal.push(raise) else {
-                unreachable!()
-            };
+            note(journal, raise);
             units += to - before;
         }
     }
     units
+}
+
+// Adds a raise at the end of a journal that has room for it.
+fn note(journal: &mut Journal, raise: Raise)
+    requires room { 0 < journal.old.spare }
+    ensures added { journal.new.raises ≡ journal.old.raises ++ raise ∷ [] }
+    ensures room { journal.old.spare ≤ journal.new.spare + 1 }
+{
+    let Ok(()) = journal.push(raise) else {
+        unreachable!()
+    };
 }

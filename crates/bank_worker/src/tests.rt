@@ -2,12 +2,12 @@ ghost use Rattle.bank_worker.specs.Offices.{IsOfficeFor, banks_of_worker};
 ghost use Rattle.bank_worker.specs.Views.{desks_held};
 ghost use Rattle.bank_worker.specs.Visits.{IsAllCalm, MayRest};
 ghost use Rattle.pay_words.specs.Views.{HoldsAll, IsAt, OwesNoRing};
-ghost use Rattle.std.specs.Prelude.{◌≡◌, ◌+◌, ◌<◌, ◌≤◌, IfOk, OnOk, true};
+ghost use Rattle.std.specs.Prelude.{◌≡◌, ◌+◌, ◌<◌, ◌≤◌, IfOk, OnOk, length, true};
 
 use crate::{Office, SeatBack, Visit, Worker};
 use clear_core::Journal;
 use clr_edge::OpenGate;
-use clr_net::{DebtId, Mem, Network};
+use clr_net::{BankId, DebtId, Mem, Network};
 use net_samples::{chain, ring};
 use pay_words::{Board, PaySeat, Payment};
 use std::alloc::Global;
@@ -66,6 +66,10 @@ fn payments_flow_down_a_chain(rt: HostRuntime) -> Result<(), Fail> {
     }
     let (units, visits, journal) = round_alone(alloc, &net, &board, &mut master, 1)?;
     assert_eq!(rt; (units, visits, journal.as_slice().len()), (0, 0, 0));
+    // No bell is up any more.
+    assert!(rt; !board.take(&mut master, BankId(0)));
+    assert!(rt; !board.take(&mut master, BankId(1)));
+    assert!(rt; !board.take(&mut master, BankId(2)));
     Ok(())
 }
 
@@ -159,25 +163,58 @@ fn a_worker_without_banks_makes_no_visit(rt: HostRuntime) -> Result<(), Fail> {
     Ok(())
 }
 
+// One visit of a worker's first desk: its answer, how many raises were noted, and the clock then.
+fn visit_once(board: &Board, worker: Worker) -> (Visit, usize, u64)
+    requires seat { IsAt board.now worker.seat }
+    requires desk { 0 < length worker.desks }
+    requires visits { worker.visits ≡ 0 }
+{
+    let mut worker = worker;
+    let answer = worker.visit(board, 0, &OpenGate);
+    let (seat, journal) = worker.finish();
+    (answer, journal.as_slice().len(), seat.clock())
+}
+
 #[test]
-fn a_visit_without_memory_pays_nothing(rt: HostRuntime) -> Result<(), Fail> {
+fn a_visit_without_memory_leaves_all_as_it_was(rt: HostRuntime) -> Result<(), Fail> {
     let alloc = rt.alloc();
     let net = chain(alloc)?;
-    let (board, mut master) = Board::make(alloc, &net, 2, &[UNPAID, UNPAID], &[])?;
+    let (board, mut master) = Board::make(alloc, &net, 3, &[UNPAID, UNPAID], &[])?;
     let seat = board.hand(alloc, &mut master, 0)?;
-    let mut other = board.hand(alloc, &mut master, 1)?;
-    let mut worker = match Worker::make(alloc, &net, seat, 0, 2) {
-        Ok(worker) => worker,
-        Err(SeatBack { seat: _ }) => return Err(Mem.into()),
+    let next = board.hand(alloc, &mut master, 1)?;
+    let mut other = board.hand(alloc, &mut master, 2)?;
+    let (Ok(first), Ok(second)) = (
+        Worker::make(alloc, &net, seat, 0, 3),
+        Worker::make(alloc, &net, next, 1, 3),
+    ) else {
+        return Err(Mem.into());
     };
-    assert_eq!(rt; worker.desks(), 2);
-    let answer = worker.visit(&board, 0, &OpenGate);
-    let (_, journal) = worker.finish();
-    let seen = board.look(&mut other, DebtId(0));
-    let told = (seen.value, seen.stamp, journal.as_slice().len());
-    match answer {
-        Visit::Raised(units) => assert_eq!(rt; (units, told), (7, (7, 1, 1))),
-        Visit::Mem => assert_eq!(rt; told, (0, 0, 0)),
+    assert_eq!(rt; (first.desks(), second.desks()), (1, 1));
+    // What A pays has a stamp, so that a look of B would move the clock.
+    let (before, _, _) = visit_once(&board, first);
+    let (answer, raises, clock) = visit_once(&board, second);
+    let word = board.look(&mut other, DebtId(1));
+    let told = (word.value, word.stamp, raises, clock);
+    match (before, answer) {
+        (Visit::Raised(_), Visit::Raised(units)) => assert_eq!(rt;
+            (units, told),
+            (8, (8, 2, 1, 2))
+        ),
+        (Visit::Mem, Visit::Raised(units)) => assert_eq!(rt; (units, told), (1, (1, 1, 1, 1))),
+        (_, Visit::Mem) => assert_eq!(rt; told, (0, 0, 0, 0)),
     }
+    Ok(())
+}
+
+#[test]
+fn a_bell_is_up_where_a_payment_is_new(rt: HostRuntime) -> Result<(), Fail> {
+    let alloc = rt.alloc();
+    let net = ring(alloc)?;
+    let (board, mut master) = Board::make(alloc, &net, 1, &[UNPAID, UNPAID], &[])?;
+    let (units, visits, _) = round_alone(alloc, &net, &board, &mut master, 1)?;
+    assert_eq!(rt; (units, visits), (2, 2));
+    // B was visited after A, and paid A then.
+    assert!(rt; !board.take(&mut master, BankId(1)));
+    assert!(rt; board.take(&mut master, BankId(0)));
     Ok(())
 }
