@@ -1,8 +1,6 @@
-use Rattle.std.proofs.Common.{◌≡◌, ℕ, ◌<◌, Bool, false, List, length, sym, ap, ◌∙◌, subst, arith}
-use Rattle.clr_net.specs.Net.{Net}
+use Rattle.std.proofs.Common.{◌≡◌, sym, ap, ◌∙◌, subst}
 use Rattle.pay_words.specs.declared.view.Shown.{Shown}
-use Rattle.pay_words.specs.Views.{OwesNoRing, handed, holds, is_marked, is_of_worker, rejoined, without}
-use Rattle.pay_words.proofs.Tables.{tabled_at}
+use Rattle.pay_words.specs.Views.{OwesNoRing, handed, rejoined, without}
 use Rattle.bank_worker.specs.Offices.{IsOfficeFor}
 use Rattle.bank_worker.specs.Views.{Crew, banks_held, desks_held}
 use Rattle.bank_worker.specs.Visits.{IsAllCalm, MayRest}
