@@ -6,3 +6,5 @@ pub mod Answering
 pub mod Stacking
 pub mod Rescuing
 pub mod Writing
+pub mod Shocked
+pub mod Made

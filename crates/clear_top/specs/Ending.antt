@@ -64,12 +64,16 @@ IsThere files job k =
     (name : List ℕ) × (bytes : List ℕ) × (name_in job k ≡ Some name)
     × (whole files k name ≡ Some (Ok bytes))
 
+-- the banks file and the debts file of the job are
+abbrev pub AreBothThere : Files → Job → Type 0
+AreBothThere files job = IsThere files job file.Banks × IsThere files job file.Debts
+
 -- each file that is fetched before that of a kind is there, and no longer than a file may be
 abbrev pub AreThereBefore : Files → Job → FileKind → Type 0
 AreThereBefore files job file.Banks = Unit {0}
 AreThereBefore files job file.Debts = IsThere files job file.Banks
-AreThereBefore files job file.Scenarios = IsThere files job file.Banks × IsThere files job file.Debts
-AreThereBefore files job file.Journal = IsThere files job file.Banks × IsThere files job file.Debts
+AreThereBefore files job file.Scenarios = AreBothThere files job
+AreThereBefore files job file.Journal = AreBothThere files job
 AreThereBefore files job file.Words = Unit {0}
 
 -- where the shelf tells its files, this holds of them

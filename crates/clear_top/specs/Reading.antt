@@ -1,5 +1,5 @@
 -- What a job works on, from its files.
-use Rattle.std.specs.Prelude.{ℕ, List, [], position, Option, None, Some, Result, Ok, Err}
+use Rattle.std.specs.Prelude.{◌≡◌, ℕ, List, [], position, Option, None, Some, Result, Ok, Err}
 use Rattle.std.specs.Option.{ok_or, option_map}
 use Rattle.clr_net.specs.Net.{Net, has_name}
 use Rattle.clear_core.specs.declared.event.Raise.{Raise}
@@ -10,6 +10,7 @@ use Rattle.net_check.specs.declared.fault.Fault.{Fault}
 use Rattle.net_check.specs.declared.fault.FileKind.{FileKind}
 use Rattle.net_check.specs.declared.fault.FileKind.TheVariants as file
 use Rattle.net_check.specs.declared.fault.FaultKind.TheVariants as fault
+use Rattle.net_csv.specs.Printing.{banks_text, debts_text}
 use Rattle.net_csv.specs.Reading.{is_within_limit, network_of}
 use Rattle.net_gen.specs.Generated.{generated}
 use Rattle.raise_journal.specs.ReadJournal.{journal_of}
@@ -70,6 +71,10 @@ alone net = record { net = net; scenarios = []; journal = []; bank = 0 }
 -- the network of both files, or their first fault
 abbrev pub net_in : List ℕ × List ℕ → Result Net Fault
 net_in both = network_of both.0 both.1
+
+-- what is printed of a network is read back as that network
+abbrev pub IsReadBack : Net → Type 0
+IsReadBack net = net_in (banks_text net, debts_text net) ≡ Ok net
 
 -- the bank of this name, or the fault that there is none
 abbrev pub bank_called : List ℕ → Net → Result ℕ Fault

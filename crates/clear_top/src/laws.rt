@@ -1,13 +1,21 @@
-//! What follows from how a run ends. A law has nothing to run; its `ensures` is proved.
+//! What follows from how a run ends, and of the networks that a run works on. A law has nothing to
+//! run; its `ensures` is proved.
 ghost use Rattle.clear_top.specs.Ending.{IfTold, IsRefusedOrMem, IsUsageOrMem, NoneRose, RunEnds};
-ghost use Rattle.clear_top.specs.Ending.{IsUntouched, ShelfCall, SinkCall, SinkRose, WasPartWritten};
-ghost use Rattle.clear_top.specs.Ending.{WasWritten, WritesText};
-ghost use Rattle.clear_top.specs.Reading.{Given, reading};
+ghost use Rattle.clear_top.specs.Ending.{IsUntouched, ShelfCall, SinkCall, SinkRose};
+ghost use Rattle.clear_top.specs.Ending.{WasPartWritten, WasWritten, WritesText};
+ghost use Rattle.clear_top.specs.Reading.{Given, IsReadBack, reading};
 ghost use Rattle.clear_top.specs.declared.status.Ended.{Ended};
 ghost use Rattle.clear_top.specs.declared.status.Status.{Status};
 ghost use Rattle.clear_words.specs.declared.job.Job.{Job};
+ghost use Rattle.clr_net.specs.Limits.{IsNetwork};
+ghost use Rattle.clr_net.specs.Net.{Net};
 ghost use Rattle.net_check.specs.declared.fault.Fault.{Fault};
-ghost use Rattle.std.specs.Prelude.{◌≡◌, ◌≢◌, ◌⊎◌, ℕ, List, Option, None, Some, Ok, Err};
+ghost use Rattle.net_csv.specs.Printing.{KeepsNames};
+ghost use Rattle.net_csv.specs.Reading.{network_of};
+ghost use Rattle.net_gen.specs.Generated.{generated};
+ghost use Rattle.std.specs.Prelude.{◌≡◌, ◌≢◌, ◌≤◌, ◌⊎◌, ℕ, List, Option, None, Some, Ok, Err};
+ghost use Rattle.stress.specs.Shocks.{shocked};
+ghost use Rattle.stress.specs.declared.scenario.Scenario.{Scenario};
 
 /// A usage fault comes exactly where the words ask for no job, unless memory is wanting.
 pub fn usage_comes_where_no_job_is_asked_for()
@@ -22,7 +30,8 @@ pub fn usage_comes_where_no_job_is_asked_for()
 pub fn the_first_fault_is_refused()
     ensures { (shelf : ShelfCall) (sink : SinkCall) (job : Job) (e : Ended) (f : Fault)
         → RunEnds shelf sink (Some job) e
-        → IfTold shelf.files (λ told. (e.status ≡ Status.Refused f → reading told job ≡ Some (Err f))
+        → IfTold shelf.files (λ told.
+        (e.status ≡ Status.Refused f → reading told job ≡ Some (Err f))
         × (reading told job ≡ Some (Err f) → NoneRose shelf job → IsRefusedOrMem f e.status)) }
 {}
 
@@ -53,4 +62,23 @@ pub fn nothing_else_is_written()
     ensures { (shelf : ShelfCall) (sink : SinkCall) (job : Option Job) (e : Ended)
         → RunEnds shelf sink job e → ¬ (WritesText e.status) → e.status ≢ Status.WriteFault
         → IsUntouched sink e.sealed }
+{}
+
+/// What is printed of the network that a scenario leaves is read back as that network, where no
+/// name begins or ends with a space.
+pub fn a_shocked_network_is_read_back()
+    ensures { (net : Net) (s : Scenario) → IsNetwork net → KeepsNames net
+        → IsReadBack (shocked net s) }
+{}
+
+/// So it is, whatever the scenario, of every network that is read from files.
+pub fn a_shock_of_what_is_read_is_read_back()
+    ensures { (banks debts : List ℕ) (net : Net) (s : Scenario)
+        → network_of banks debts ≡ Ok net → IsReadBack (shocked net s) }
+{}
+
+/// What is printed of a generated network is read back as that network.
+pub fn a_generated_network_is_read_back()
+    ensures { (seed size tries : ℕ) → 1 ≤ size → size ≤ 1000 → tries ≤ 20000
+        → IsReadBack (generated seed size tries) }
 {}

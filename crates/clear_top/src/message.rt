@@ -37,7 +37,8 @@ pub fn tell<E: Sink>(err: &mut E, status: Status, job: Option<&Job>)
 /// Writes a text, up to a fault of the sink. Takes no memory.
 pub fn put_text<S: Sink>(sink: &mut S, text: &str)
     ensures { TakesText
-        (sink_call (S.written sink.old) (S.written sink.new) (S.faults sink.old) (S.faults sink.new))
+        (sink_call
+        (S.written sink.old) (S.written sink.new) (S.faults sink.old) (S.faults sink.new))
         text.now }
 {
     let _ = put_all(sink, text.as_bytes());
@@ -120,7 +121,8 @@ fn tell_fault<E: Sink>(err: &mut E, fault: Fault)
 // Writes pieces one after another, up to a fault of the sink.
 fn put_pieces<S: Sink>(sink: &mut S, pieces: &[&[u8]])
     ensures { TakesText
-        (sink_call (S.written sink.old) (S.written sink.new) (S.faults sink.old) (S.faults sink.new))
+        (sink_call
+        (S.written sink.old) (S.written sink.new) (S.faults sink.old) (S.faults sink.new))
         (concat (map (λ piece. piece.now) pieces.now)) }
 {
     for piece in pieces {

@@ -17,6 +17,39 @@ use std::thread::Threads;
 
 const CLEAR: &[&str] = &["clear", "--banks", "b.csv", "--debts", "d.csv"];
 
+const REPLAY: &[&str] = &[
+    "replay",
+    "--banks",
+    "b.csv",
+    "--debts",
+    "d.csv",
+    "--journal",
+    "j.csv",
+];
+
+const STRESS: &[&str] = &[
+    "stress",
+    "--banks",
+    "b.csv",
+    "--debts",
+    "d.csv",
+    "--scenarios",
+    "s.toml",
+];
+
+// Clearing by one worker, with payments and journal shown.
+const CLEAR_BOTH: &[&str] = &[
+    "clear",
+    "--banks",
+    "b.csv",
+    "--debts",
+    "d.csv",
+    "--show",
+    "both",
+    "--workers",
+    "1",
+];
+
 const CHECK: &[&str] = &["check", "--banks", "b.csv", "--debts", "d.csv"];
 
 const CENTRAL: &[&str] = &["central", "--banks", "b.csv", "--debts", "d.csv"];
@@ -29,6 +62,9 @@ const CHAIN_DEBTS: &str = "debtor,creditor,class,claim\nA,B,1,10\nB,C,1,9\n";
 
 const CHAIN_TEXT: &str = "debtor,creditor,class,claim,paid\nA,B,1,10,7\nB,C,1,9,8\n";
 
+const CHAIN_BOTH: &str = "debtor,creditor,class,claim,paid\nA,B,1,10,7\nB,C,1,9,8\n\n\
+stamp,debtor,creditor,class,to\n1,A,B,1,7\n2,B,C,1,8\nrounds,2\n";
+
 // The chain's banks in the second form of their file, with no outside claims and with some.
 const CHAIN_BANKS_2: &str = "name,cash,rule,outside\nA,7,order,0\nB,1,order,0\nC,0,order,0\n";
 
@@ -39,17 +75,19 @@ const TWO_BANKS: &str = "name,cash,rule\nA,0,order\nB,0,order\n";
 // The most that may be owed, and a debt of one unit more.
 const TOTAL_AND_ONE_MORE: &str =
     "debtor,creditor,class,claim\nA,B,1,1000000\nA,B,2,1000000\nA,B,3,1000000\n\
-A,B,4,1000000\nA,B,5,1000000\nA,B,6,1000000\nA,B,7,1000000\nA,B,8,1000000\nA,B,9,1000000\nB,A,1,1000000\nB,A,2,1\n";
+A,B,4,1000000\nA,B,5,1000000\nA,B,6,1000000\nA,B,7,1000000\nA,B,8,1000000\n\
+A,B,9,1000000\nB,A,1,1000000\nB,A,2,1\n";
 
 // The most that may be owed, and a debt of no unit more.
 const TOTAL_AND_NO_MORE: &str =
     "debtor,creditor,class,claim\nA,B,1,1000000\nA,B,2,1000000\nA,B,3,1000000\n\
-A,B,4,1000000\nA,B,5,1000000\nA,B,6,1000000\nA,B,7,1000000\nA,B,8,1000000\nA,B,9,1000000\nB,A,1,1000000\nB,A,2,0\n";
+A,B,4,1000000\nA,B,5,1000000\nA,B,6,1000000\nA,B,7,1000000\nA,B,8,1000000\n\
+A,B,9,1000000\nB,A,1,1000000\nB,A,2,0\n";
 
 // Nothing is there to be paid.
 const TOTAL_PAYMENTS: &str = "debtor,creditor,class,claim,paid\nA,B,1,1000000,0\nA,B,2,1000000,0\n\
-A,B,3,1000000,0\nA,B,4,1000000,0\nA,B,5,1000000,0\nA,B,6,1000000,0\nA,B,7,1000000,0\nA,B,8,1000000,0\n\
-A,B,9,1000000,0\nB,A,1,1000000,0\nB,A,2,0,0\n";
+A,B,3,1000000,0\nA,B,4,1000000,0\nA,B,5,1000000,0\nA,B,6,1000000,0\nA,B,7,1000000,0\n\
+A,B,8,1000000,0\nA,B,9,1000000,0\nB,A,1,1000000,0\nB,A,2,0,0\n";
 
 const CHAIN_CHECKED: &str = "banks,3\ndebts,2\nowed,19\ncash,8\n\n\
 name,cash,rule\nA,7,order\nB,1,order\nC,0,order\n\n\
@@ -172,7 +210,8 @@ fn payments_of_small_networks(rt: HostRuntime) -> Result<(), Fail> {
             "debtor,creditor,class,claim\nA,B,1,10\nB,C,1,9\nA,B,2,2\n",
             "debtor,creditor,class,claim,paid\nA,B,1,10,7\nB,C,1,9,8\nA,B,2,2,0\n",
         ),
-        // A byte order mark, line ends of two bytes, spaces round fields, and none after the last record.
+        // A byte order mark, line ends of two bytes, spaces round fields, and no line end after the
+        // last record.
         done(
             CLEAR,
             "\u{FEFF}name,cash,rule\r\n Crédit A ,7,order\r\nB,1,order\r\nC,0,order",
@@ -185,6 +224,13 @@ fn payments_of_small_networks(rt: HostRuntime) -> Result<(), Fail> {
             CHAIN_OUTSIDE,
             CHAIN_DEBTS,
             "debtor,creditor,class,claim,paid\nA,B,1,10,4\nB,C,1,9,5\n",
+        ),
+        // All six rules, over three classes.
+        done(
+            CLEAR,
+            twelve_banks::BANKS,
+            twelve_banks::DEBTS,
+            twelve_banks::PAYMENTS,
         ),
         // A owes more outside than it has.
         done(
@@ -297,44 +343,45 @@ fn words_that_are_no_job(rt: HostRuntime) -> Result<(), Fail> {
     Ok(())
 }
 
-// Runs the words of clearing on some files, and compares the message.
-fn cannot_read<R: Threads + Sync + Abort>(
+// Runs words on some files, and compares how the run ends and what is told, for which there is so
+// much room.
+fn ends<R: Threads + Sync + Abort>(
     rt: &R,
     alloc: Global,
+    words: &[&str],
     files: &mut MemShelf,
-    kind: FileKind,
-    message: &str,
+    room: usize,
+    (wanted, message): (Status, &str),
 ) -> Result<(), Fail> {
     let mut out = MemSink::with_room(alloc, 1000, 1000, 0)?;
-    let mut err = MemSink::with_room(alloc, 1000, 1000, 0)?;
-    let Ended { status, .. } = run(rt, alloc, CLEAR, files, &mut out, &mut err, &OpenGate);
-    assert_eq!(rt; status, Status::ReadFault(kind));
-    assert_eq!(rt; status.code(), 3);
-    assert_eq!(rt; out.written(), b"".as_slice());
-    assert_eq!(rt; err.written(), message.as_bytes());
+    let mut err = MemSink::with_room(alloc, room, 1000, 0)?;
+    let Ended { status, .. } = run(rt, alloc, words, files, &mut out, &mut err, &OpenGate);
+    assert_eq!(rt; status, wanted);
+    assert_eq!(rt; out.written().is_empty(), wanted != Status::Done);
+    assert_eq!(rt;
+        err.written(),
+        &message.as_bytes()[..message.len().min(room)]
+    );
     Ok(())
 }
 
 #[test]
-fn files_that_cannot_be_read(rt: HostRuntime) -> Result<(), Fail> {
+fn files_that_are_missing(rt: HostRuntime) -> Result<(), Fail> {
     let alloc = rt.alloc();
-    let (no_banks, no_debts) = (
+    let no_banks = (
+        Status::ReadFault(FileKind::Banks),
         "clearing: cannot read b.csv\n",
+    );
+    let no_debts = (
+        Status::ReadFault(FileKind::Debts),
         "clearing: cannot read d.csv\n",
     );
-    for (fail_at, kind, message) in [
-        (1, FileKind::Banks, no_banks),
-        (2, FileKind::Debts, no_debts),
-    ] {
-        let mut files = shelf(alloc, CHAIN_BANKS, CHAIN_DEBTS)?;
-        files.fail_at(fail_at)?;
-        cannot_read(&rt, alloc, &mut files, kind, message)?;
-    }
-    // A shelf without the file: neither is there, and then the banks file alone.
     let mut files = MemShelf::make(alloc);
-    cannot_read(&rt, alloc, &mut files, FileKind::Banks, no_banks)?;
+    ends(&rt, alloc, CLEAR, &mut files, 1000, no_banks)?;
     files.add("b.csv", b"no header")?;
-    cannot_read(&rt, alloc, &mut files, FileKind::Debts, no_debts)
+    ends(&rt, alloc, CLEAR, &mut files, 1000, no_debts)?;
+    // A message of which nothing can be written changes nothing.
+    ends(&rt, alloc, CLEAR, &mut files, 0, no_debts)
 }
 
 #[test]
@@ -355,25 +402,31 @@ fn an_output_that_breaks(rt: HostRuntime) -> Result<(), Fail> {
 }
 
 #[test]
-fn a_banks_file_that_is_too_long(rt: HostRuntime) -> Result<(), Fail> {
+fn banks_files_that_are_no_text(rt: HostRuntime) -> Result<(), Fail> {
     let alloc = rt.alloc();
+    let refusal = |row: u32, kind: FaultKind| -> Status {
+        Status::Refused(Fault {
+            file: FileKind::Banks,
+            row,
+            kind,
+        })
+    };
+    // Longer than a banks file may be; the debts file is not looked for.
     let mut files = MemShelf::make(alloc);
     files.add("b.csv", vec![in alloc; b'\n'; 8_388_609]?.as_slice())?;
-    let mut out = MemSink::with_room(alloc, 1000, 1000, 0)?;
-    let mut err = MemSink::with_room(alloc, 1000, 1000, 0)?;
-    let Ended { status, .. } = run(&rt, alloc, CLEAR, &mut files, &mut out, &mut err, &OpenGate);
-    let fault = Fault {
-        file: FileKind::Banks,
-        row: 0,
-        kind: FaultKind::FileSize,
-    };
-    assert_eq!(rt; status, Status::Refused(fault));
-    assert_eq!(rt; out.written(), b"".as_slice());
-    assert_eq!(rt;
-        err.written(),
-        b"clearing: banks row 0: file size (14)\n".as_slice()
+    let too_long = (
+        refusal(0, FaultKind::FileSize),
+        "clearing: banks row 0: file size (14)\n",
     );
-    Ok(())
+    ends(&rt, alloc, CLEAR, &mut files, 1000, too_long)?;
+    // A name that is no UTF-8.
+    files.add("b.csv", b"name,cash,rule\n\xFF,7,order\n")?;
+    files.add("d.csv", CHAIN_DEBTS.as_bytes())?;
+    let no_name = (
+        refusal(1, FaultKind::Name),
+        "clearing: banks row 1: name (3)\n",
+    );
+    ends(&rt, alloc, CLEAR, &mut files, 1000, no_name)
 }
 
 // The payments of a network, by the run and centrally.

@@ -1,7 +1,10 @@
 //! Faults at every fetch and at every put, files that are cut off anywhere, and hostile fields and
 //! journals.
 
-use super::{CHAIN_BANKS, CHAIN_DEBTS, CHAIN_TEXT, CLEAR, Case, check_all, done, refused, shelf};
+use super::{
+    CHAIN_BANKS, CHAIN_BOTH, CHAIN_DEBTS, CHAIN_TEXT, CLEAR, CLEAR_BOTH, Case, REPLAY, STRESS,
+    check_all, done, ends, refused, shelf,
+};
 use crate::{Ended, Status, run};
 use clr_edge::{MemSink, OpenGate};
 use net_check::{Fault, FaultKind, FileKind};
@@ -10,77 +13,76 @@ use std::process::Abort;
 use std::test::Fail;
 use std::thread::Threads;
 
-const REPLAY: &[&str] = &[
-    "replay",
-    "--banks",
-    "b.csv",
-    "--debts",
-    "d.csv",
-    "--journal",
-    "j.csv",
-];
-
 #[test]
 fn every_put_may_fail(rt: HostRuntime) -> Result<(), Fail> {
     let alloc = rt.alloc();
-    let text = CHAIN_TEXT.as_bytes();
-    for fail_at in 1..56_u64 {
-        let mut files = shelf(alloc, CHAIN_BANKS, CHAIN_DEBTS)?;
-        let mut out = MemSink::with_room(alloc, 100, 1, fail_at)?;
-        let mut err = MemSink::with_room(alloc, 100, 100, 0)?;
-        let Ended { status, .. } = run(
-            &rt, alloc, CLEAR, &mut files, &mut out, &mut err, &OpenGate,
-        );
-        let whole = fail_at == 55;
-        let wanted = if whole {
-            Status::Done
-        } else {
-            Status::WriteFault
-        };
-        assert_eq!(rt; status, wanted);
-        assert_eq!(rt; out.written(), &text[..fail_at as usize - 1]);
+    for (words, text) in [(CLEAR, CHAIN_TEXT), (CLEAR_BOTH, CHAIN_BOTH)] {
+        for before in 0..text.len() + 1 {
+            let mut files = shelf(alloc, CHAIN_BANKS, CHAIN_DEBTS)?;
+            let mut out = MemSink::with_room(alloc, 200, 1, before as u64 + 1)?;
+            let mut err = MemSink::with_room(alloc, 100, 100, 0)?;
+            let Ended { status, .. } = run(
+                &rt, alloc, words, &mut files, &mut out, &mut err, &OpenGate,
+            );
+            let wanted = if before == text.len() {
+                Status::Done
+            } else {
+                Status::WriteFault
+            };
+            assert_eq!(rt; status, wanted);
+            assert_eq!(rt; out.written(), &text.as_bytes()[..before]);
+        }
     }
     Ok(())
 }
 
-// A later fetch fails, and then a second run finds all files.
-#[test]
-fn every_fetch_may_fail(rt: HostRuntime) -> Result<(), Fail> {
-    let alloc = rt.alloc();
-    for (fail_at, status, message) in [
-        (
-            1,
+// How a job ends where the fetch of this number fails, with a third file of this kind or none, and
+// what is told.
+fn unread(fail_at: u64, third: Option<FileKind>) -> (Status, &'static str) {
+    match (fail_at, third) {
+        (1, _) => (
             Status::ReadFault(FileKind::Banks),
             "clearing: cannot read b.csv\n",
         ),
-        (
-            2,
+        (2, _) => (
             Status::ReadFault(FileKind::Debts),
             "clearing: cannot read d.csv\n",
         ),
-        (
-            3,
+        (3, Some(FileKind::Journal)) => (
             Status::ReadFault(FileKind::Journal),
             "clearing: cannot read j.csv\n",
         ),
+        (3, Some(_)) => (
+            Status::ReadFault(FileKind::Scenarios),
+            "clearing: cannot read s.toml\n",
+        ),
+        _ => (Status::Done, ""),
+    }
+}
+
+// Each fetch of a job fails in turn, and then a second run finds all files; beyond the last fetch
+// the first run does.
+#[test]
+fn every_fetch_may_fail(rt: HostRuntime) -> Result<(), Fail> {
+    let alloc = rt.alloc();
+    for (words, third) in [
+        (CLEAR, None),
+        (REPLAY, Some(FileKind::Journal)),
+        (STRESS, Some(FileKind::Scenarios)),
     ] {
-        let mut files = shelf(alloc, CHAIN_BANKS, CHAIN_DEBTS)?;
-        files.add(
-            "j.csv",
-            b"stamp,debtor,creditor,class,to\n1,A,B,1,7\n2,B,C,1,8\n",
-        )?;
-        files.fail_at(fail_at)?;
-        for wanted in [status, Status::Done] {
-            let mut out = MemSink::with_room(alloc, 1000, 1000, 0)?;
-            // A message that cannot be written changes nothing.
-            let mut err = MemSink::with_room(alloc, 1000, 5, 2)?;
-            let Ended { status, .. } = run(
-                &rt, alloc, REPLAY, &mut files, &mut out, &mut err, &OpenGate,
-            );
-            assert_eq!(rt; status, wanted);
-            let message = if wanted == Status::Done { "" } else { message };
-            let taken = message.len().min(5);
-            assert_eq!(rt; err.written(), &message.as_bytes()[..taken]);
+        for fail_at in 1..5 {
+            let mut files = shelf(alloc, CHAIN_BANKS, CHAIN_DEBTS)?;
+            files.add(
+                "j.csv",
+                b"stamp,debtor,creditor,class,to\n1,A,B,1,7\n2,B,C,1,8\n",
+            )?;
+            files.add("s.toml", b"scenario = [{name = \"none\"}]")?;
+            files.fail_at(fail_at)?;
+            let first = unread(fail_at, third);
+            ends(&rt, alloc, words, &mut files, 5, first)?;
+            if first.0 != Status::Done {
+                ends(&rt, alloc, words, &mut files, 5, (Status::Done, ""))?;
+            }
         }
     }
     Ok(())

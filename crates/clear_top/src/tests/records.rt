@@ -99,7 +99,8 @@ fn scenarios_are_cleared_on_boards(rt: HostRuntime) -> Result<(), Fail> {
     let mut files = shelf(alloc, CHAIN_BANKS, CHAIN_DEBTS)?;
     files.add(
         "s.toml",
-        b"scenario = [{name = \"none\"}, {name = \"half\", cut = 500}, {name = \"all\", cut = 1000}]",
+        b"scenario = [{name = \"none\"}, {name = \"half\", cut = 500},\n\
+        {name = \"all\", cut = 1000}]",
     )?;
     let mut out = MemSink::with_room(alloc, 2000, 1000, 0)?;
     let mut err = MemSink::with_room(alloc, 1000, 1000, 0)?;

@@ -1,9 +1,9 @@
 //! Each task on small networks: the text that it writes, byte for byte.
 
 use super::{
-    CENTRAL, CHAIN_BANKS, CHAIN_BANKS_2, CHAIN_CHECKED, CHAIN_DEBTS, CHAIN_OUTSIDE,
-    CHAIN_OUTSIDE_CHECKED, CHAIN_TEXT, CHECK, CLEAR, CONVERT, Case, TWO_BANKS, check_all, done,
-    twelve_banks,
+    CENTRAL, CHAIN_BANKS, CHAIN_BANKS_2, CHAIN_BOTH, CHAIN_CHECKED, CHAIN_DEBTS, CHAIN_OUTSIDE,
+    CHAIN_OUTSIDE_CHECKED, CHAIN_TEXT, CHECK, CLEAR, CLEAR_BOTH, CONVERT, Case, REPLAY, STRESS,
+    TWO_BANKS, check_all, done, twelve_banks,
 };
 use crate::Status;
 use clr_net::BankId;
@@ -12,26 +12,6 @@ use raise_journal::Verdict;
 use std::test::Fail;
 
 const DEFAULTS: &[&str] = &["defaults", "--banks", "b.csv", "--debts", "d.csv"];
-
-const REPLAY: &[&str] = &[
-    "replay",
-    "--banks",
-    "b.csv",
-    "--debts",
-    "d.csv",
-    "--journal",
-    "j.csv",
-];
-
-const STRESS: &[&str] = &[
-    "stress",
-    "--banks",
-    "b.csv",
-    "--debts",
-    "d.csv",
-    "--scenarios",
-    "s.toml",
-];
 
 const BOUNDS: &[&str] = &[
     "bounds",
@@ -124,40 +104,21 @@ fn tasks_on_the_chain(rt: HostRuntime) -> Result<(), Fail> {
 
 #[test]
 fn journals_are_shown(rt: HostRuntime) -> Result<(), Fail> {
-    let (both, one) = (
-        &[
-            "clear",
-            "--banks",
-            "b.csv",
-            "--debts",
-            "d.csv",
-            "--show",
-            "both",
-            "--workers",
-            "1",
-        ][..],
-        &[
-            "clear",
-            "--banks",
-            "b.csv",
-            "--debts",
-            "d.csv",
-            "--workers",
-            "1",
-            "--sweeps",
-            "1",
-            "--show",
-            "journal",
-        ][..],
-    );
+    let one = &[
+        "clear",
+        "--banks",
+        "b.csv",
+        "--debts",
+        "d.csv",
+        "--workers",
+        "1",
+        "--sweeps",
+        "1",
+        "--show",
+        "journal",
+    ];
     let cases = [
-        done(
-            both,
-            CHAIN_BANKS,
-            CHAIN_DEBTS,
-            "debtor,creditor,class,claim,paid\nA,B,1,10,7\nB,C,1,9,8\n\n\
-             stamp,debtor,creditor,class,to\n1,A,B,1,7\n2,B,C,1,8\nrounds,2\n",
-        ),
+        done(CLEAR_BOTH, CHAIN_BANKS, CHAIN_DEBTS, CHAIN_BOTH),
         // One unit goes round five times.
         done(
             one,
@@ -201,6 +162,27 @@ fn every_plan_pays_the_same(rt: HostRuntime) -> Result<(), Fail> {
             );
             super::check(&rt, rt.alloc(), &case)?;
         }
+    }
+    Ok(())
+}
+
+#[test]
+fn a_generated_network_is_summed_up(rt: HostRuntime) -> Result<(), Fail> {
+    for workers in ["1", "8"] {
+        let words = [
+            "gen",
+            "--seed",
+            "1",
+            "--size",
+            "200",
+            "--tries",
+            "2000",
+            "--workers",
+            workers,
+        ];
+        let sums = "banks,200\ndebts,1979\nowed,499394\ncash,206031\npaid,453789\n\
+                    defaults,58\nequity,206031\n";
+        super::check(&rt, rt.alloc(), &done(&words, "", "", sums))?;
     }
     Ok(())
 }
