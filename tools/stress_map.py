@@ -4,8 +4,8 @@
 In:   STRESS     what `clearing stress` prints
 Out:  a map with a column for each scenario, in file order, and a row for each bank that defaults in one of them, those that
       default most often first. A cell is coloured by the share of what the bank owes in the network that it leaves unpaid; a dot
-      marks a default that is the bank's own (fundamental), so that a coloured cell without one is contagion. The kind of picture
-      is the ending of OUTPUT: .svg, .png or .pdf.
+      marks a default that is the bank's own (fundamental), so that a coloured cell without one is contagion. The margins count
+      the defaults of each scenario and of each bank. The kind of picture is the ending of OUTPUT: .svg, .png or .pdf.
 
 Example:
     clearing stress --banks banks.csv --debts debts.csv --scenarios scenarios.toml >stress.txt
@@ -84,7 +84,7 @@ def draw(pyplot, scenarios, most, output):
     figure, axes = pyplot.subplots(figsize=size, layout="constrained")
     left_out = f", {len(shown)} shown" if len(shown) < len(rows) else ""
     title = f"{len(rows)} of {len(scenarios[0].banks)} banks default in at least one of {len(scenarios)} scenarios{left_out}"
-    axes.set_title(f"{title}\ndot: fundamental, without a dot: contagion", fontsize=10, loc="left")
+    axes.set_title(f"{title}\ndot: fundamental, without a dot: contagion; numbers: defaults", fontsize=10, loc="left", pad=14)
     if shown:
         shares = [[scenario.banks[bank].share for scenario in scenarios] for bank in shown]
         colours = pyplot.get_cmap("YlOrRd").copy()
@@ -98,7 +98,13 @@ def draw(pyplot, scenarios, most, output):
         ]
         if own:
             axes.scatter(*zip(*own), s=4, color="#1a1a1a")
-        figure.colorbar(image, ax=axes, label="share unpaid", pad=0.02, format=lambda share, _: f"{100 * share:.0f}%")
+        for column, scenario in enumerate(scenarios):
+            count = sum(standing.state != "sound" for standing in scenario.banks.values())
+            axes.text(column, -0.62, count, ha="center", va="bottom", fontsize=6)
+        for row, bank in enumerate(shown):
+            count = sum(scenario.banks[bank].state != "sound" for scenario in scenarios)
+            axes.text(len(scenarios) - 0.4, row, count, ha="left", va="center", fontsize=6)
+        figure.colorbar(image, ax=axes, label="share unpaid", pad=0.05, format=lambda share, _: f"{100 * share:.0f}%")
     axes.set_yticks(range(len(shown)), [plain(bank) for bank in shown], fontsize=7)
     axes.set_xticks(range(len(scenarios)), [plain(scenario.name) for scenario in scenarios], rotation=90, fontsize=7)
     figure.savefig(output, dpi=150)

@@ -1,8 +1,10 @@
 """What the pictures share: how the texts of the program are read, and the colours of the banks' states."""
 from collections import namedtuple
 
-Bank = namedtuple("Bank", "name owed paid state")
+Bank = namedtuple("Bank", "name estate owed paid state")
+Debt = namedtuple("Debt", "debtor creditor rank claim paid")
 
+PAYMENTS_HEADER = "debtor,creditor,class,claim,paid"
 DEFAULTS_HEADERS = ("bank,estate,paid,owed,equity,state", "bank,estate,outside_paid,paid,owed,equity,state")
 BOUNDS_HEADER = "bank,wave,gridlock,equity"
 FILL = {"sound": "#cfe3ea", "fundamental": "#9c1c2c", "contagion": "#f0a04b", "gridlock": "#7a5ea8"}
@@ -43,7 +45,8 @@ def read_defaults(name):
         fields = line.split(",")
         if len(fields) != lines[0].count(",") + 1 or fields[-1] not in FILL:
             raise Refused(f"{name}: line {at}: not the record of a bank")
-        banks.append(Bank(fields[0], number(name, at, fields[-3]), number(name, at, fields[-4]), fields[-1]))
+        estate, paid, owed = (number(name, at, fields[place]) for place in (1, -4, -3))
+        banks.append(Bank(fields[0], estate, owed, paid, fields[-1]))
     return banks
 
 
@@ -61,3 +64,28 @@ def read_gridlock(name):
         if fields[2] == "yes":
             found.add(fields[0])
     return found
+
+
+def read_payments(name):
+    """The debts with what is paid on each, in file order."""
+    lines = lines_of(name)
+    if lines[0] != PAYMENTS_HEADER:
+        raise Refused(f"{name}: line 1: not the header {PAYMENTS_HEADER}")
+    debts = []
+    for at, line in enumerate(lines[1:], 2):
+        if not line:
+            break
+        fields = line.split(",")
+        if len(fields) != 5:
+            raise Refused(f"{name}: line {at}: not 5 fields")
+        debts.append(Debt(*fields[:3], *(number(name, at, field) for field in fields[3:])))
+    return debts
+
+
+def check_same_network(debts, banks, payments_name, defaults_name):
+    """Refuses payments of banks that the table of defaults does not have."""
+    known = {bank.name for bank in banks}
+    for debt in debts:
+        for name in (debt.debtor, debt.creditor):
+            if name not in known:
+                raise Refused(f"{defaults_name}: it has no bank {name!r}, which {payments_name} has")

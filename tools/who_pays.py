@@ -8,7 +8,7 @@ Out:  up to 40 banks a graph as Graphviz text, above that a matrix of debtors by
       It goes to standard output, or to the file of --output.
 
 In the graph, banks stand in a ring, in the order of the file. A bank is a circle whose area is what it owes, coloured by its
-state; a debt is an arrow from debtor to creditor, as wide as its claim, grey where it is paid in full and from orange to dark
+state and labelled with the share that it leaves unpaid; a debt is an arrow from debtor to creditor, as wide as its claim, grey where it is paid in full and from orange to dark
 red by the share that is not paid. In the matrix each square is what one bank owes another, coloured alike; banks in default come
 first, and stripes at the edge have their state.
 
@@ -22,40 +22,12 @@ Ends with 0, with 1 where a file cannot be read or is not such a text, and with 
 import argparse
 import math
 import sys
-from collections import namedtuple
 from xml.sax.saxutils import escape
 
-from texts import FILL, Refused, lines_of, number, read_defaults, read_gridlock
-
-Debt = namedtuple("Debt", "debtor creditor rank claim paid")
+from texts import FILL, Debt, Refused, check_same_network, read_defaults, read_gridlock, read_payments
 
 MOST_IN_GRAPH = 40
-PAYMENTS_HEADER = "debtor,creditor,class,claim,paid"
 INK = {"sound": "#1a1a1a", "fundamental": "#ffffff", "contagion": "#1a1a1a", "gridlock": "#ffffff"}
-
-
-def read_payments(name):
-    """The debts with what is paid on each, in file order."""
-    lines = lines_of(name)
-    if lines[0] != PAYMENTS_HEADER:
-        raise Refused(f"{name}: line 1: not the header {PAYMENTS_HEADER}")
-    debts = []
-    for at, line in enumerate(lines[1:], 2):
-        if not line:
-            break
-        fields = line.split(",")
-        if len(fields) != 5:
-            raise Refused(f"{name}: line {at}: not 5 fields")
-        debts.append(Debt(*fields[:3], *(number(name, at, field) for field in fields[3:])))
-    return debts
-
-
-def check_same_network(debts, banks, payments_name, defaults_name):
-    known = {bank.name for bank in banks}
-    for debt in debts:
-        for name in (debt.debtor, debt.creditor):
-            if name not in known:
-                raise Refused(f"{defaults_name}: it has no bank {name!r}, which {payments_name} has")
 
 
 def unpaid_share(claim, paid):
@@ -78,6 +50,12 @@ def say(debt):
 def quoted(text):
     """A Graphviz string that shows the text as it is. A name has no double quote."""
     return '"' + text.replace("&", "&amp;").replace("\\", "\\\\") + '"'
+
+
+def label(bank):
+    """A bank's name, and below it the share that it leaves unpaid, where it does."""
+    share = unpaid_share(bank.owed, bank.paid)
+    return quoted(bank.name) if share <= 0 else f"{quoted(bank.name)[:-1]}\\n{100 * share:.1f}%\""
 
 
 def on_a_circle(widths):
@@ -108,7 +86,7 @@ def graph(debts, banks):
     widths = [max(0.25, 1.6 * (bank.owed / most_owed) ** 0.5) for bank in banks]
     for bank, width, (x, y) in zip(banks, widths, on_a_circle(widths)):
         out.append(
-            f"  {place[bank.name]} [label={quoted(bank.name)}, pos=\"{x:.2f},{y:.2f}!\", width={width:.2f},"
+            f"  {place[bank.name]} [label={label(bank)}, pos=\"{x:.2f},{y:.2f}!\", width={width:.2f},"
             f" fillcolor=\"{FILL[bank.state]}\","
             f" fontcolor=\"{INK[bank.state]}\", tooltip={quoted(f'{bank.name}: {bank.state}, pays {bank.paid} of {bank.owed}')}];"
         )
@@ -131,7 +109,7 @@ def legend(banks):
     second = "".join(cell(unpaid_colour(share), "#1a1a1a" if share < 0.4 else "#ffffff", words) for share, words in shades)
     return (
         '<<table border="0" cellspacing="4">'
-        f'<tr><td align="right">a bank, its area what it owes:</td>{first}</tr>'
+        f'<tr><td align="right">a bank, its area what it owes, and the share unpaid:</td>{first}</tr>'
         f'<tr><td align="right">a debt, as wide as its claim:</td>{second}</tr></table>>'
     )
 
