@@ -60,6 +60,10 @@ fn every_plan_pays_the_same(rt: HostRuntime) -> Result<(), Fail> {
             assert_eq!(rt; paid.as_slice(), [5, 5].as_slice());
             assert_eq!(rt; sealed.journal().len(), 10);
             assert_eq!(rt; sealed.seats(), rounds * workers as u64);
+            // One worker that sweeps often enough finds it all in its first round.
+            if workers == 1 {
+                assert_eq!(rt; rounds, if sweeps == 1 { 6 } else { 2 });
+            }
         }
     }
     Ok(())
