@@ -12,10 +12,10 @@ use Rattle.clear_report.specs.Compression.{compressed_text}
 use Rattle.clear_report.specs.Costs.{costs_text}
 use Rattle.clear_report.specs.Defaults.{defaults_text}
 use Rattle.clear_report.specs.Journals.{journal_and_rounds, lawful_and_payments}
-use Rattle.clear_report.specs.Journals.{payments_and_journal}
 use Rattle.clear_report.specs.Rescues.{rescued_text}
 use Rattle.clear_report.specs.Summary.{summary_lines}
 use Rattle.clear_report.specs.Text.{checked_text, payments_text}
+use Rattle.clear_report.specs.Words.{one_above_other}
 use Rattle.clear_words.specs.declared.job.Job.{Job}
 use Rattle.clear_words.specs.declared.show.Show.{Show}
 use Rattle.clear_words.specs.declared.show.Show.TheVariants as show
@@ -77,7 +77,8 @@ pub record Settles (net : Net) (job : Job) (shown : List Raise → ℕ → List 
 abbrev pub clear_text : Show → Net → List Raise → ℕ → List ℕ
 clear_text show.Payments net journal rounds = payments_text net (least net)
 clear_text show.Journal net journal rounds = journal_and_rounds net journal rounds
-clear_text show.Both net journal rounds = payments_and_journal net (least net) journal rounds
+clear_text show.Both net journal rounds =
+    one_above_other (payments_text net (least net)) (journal_and_rounds net journal rounds)
 
 -- what is answered of a journal, by the verdict on it
 abbrev pub answer_to : Net → List Raise → Verdict → Outcome
