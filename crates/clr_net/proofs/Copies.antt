@@ -1,14 +1,18 @@
--- A network is made again bank by bank, and then debt by debt.
-use Rattle.std.proofs.Common.{◌≡◌, ℕ, zero, suc, ◌+◌, ◌<◌, ◌≤◌, List, [], ◌∷◌, ◌++◌, take, length, get_or, slice_get, Result, Ok, Err, false, true≢false, Option, Some, refl, sym, ap, ◌∙◌, arith}
+-- A network is made again bank by bank, and then debt by debt; and the names of its banks are indexed again.
+use Rattle.std.proofs.Common.{◌≡◌, ℕ, zero, suc, ◌+◌, ◌<◌, ◌≤◌, List, [], ◌∷◌, ◌++◌, take, map, length, get_or, slice_get, Result, Ok, Err, false, true≢false, Option, Some, Vec, Global, refl, sym, ap, ◌∙◌, arith}
 use Rattle.std.specs.Option.{option_map_or}
 use Rattle.std.specs.Result.{OnOk, is_err}
-use Rattle.std.proofs.lemmas.List.{take_more, take_all, length-take-le}
+use Rattle.std.specs.Str.{bytes_eq}
+use Rattle.std.proofs.lemmas.List.{take_more, take_all, length-take-le, map-append}
 use Rattle.std.proofs.lemmas.List.Sums.{sum_by_more_le}
 use Rattle.std.proofs.lemmas.Option.{slice_get_within, get_or_from_slice_get}
+use Rattle.indexmap.specs.IndexSet.{insert_key}
 use Rattle.clr_net.specs.declared.bank.Bank.{Bank}
 use Rattle.clr_net.specs.declared.debt.Debt.{Debt}
-use Rattle.clr_net.specs.Limits.{IsNetwork, IsNewBank, IsNewDebt}
+use Rattle.clr_net.specs.Kept.{HaveOwnNames}
+use Rattle.clr_net.specs.Limits.{IsNetwork, IsNewBank, IsNewDebt, IsNewName}
 use Rattle.clr_net.specs.Net.{Net, with_bank, with_debt}
+use Rattle.clr_net.proofs.BankNames.{names_grow}
 
 pub ok_told : {T E P : Type 0} (r : Result T E) → is_err r ≡ false → OnOk r P → P
 ok_told (Ok x) e p = p
@@ -84,3 +88,21 @@ banks_copied net n l = rw (take_all n net.banks l)
 
 pub debts_copied : (net : Net) (n : ℕ) → length net.debts ≤ n → first_debts net n ≡ net
 debts_copied net n l = rw (take_all n net.debts l)
+
+-- the name of a bank is none of those before it
+pub next_name_is_new : (net : Net) → HaveOwnNames net → (n : ℕ) (b : Bank) → slice_get net.banks n ≡ Some b → IsNewName (first_banks net n) b.name
+next_name_is_new net own n b at j m e =
+    let l = slice_get_within net.banks n b at in
+    let len : length (take n net.banks) ≡ n = length-take-le n net.banks (omega arith) in
+    own n j l (omega arith) (name_at (sym (slice_get-take net.banks n j (omega arith) (omega arith))) ∙ e ∙ name_at (sym at))
+
+-- the index of the first n names, with the next one
+pub names_indexed : (net : Net) → HaveOwnNames net → (ks : List (Vec ℕ Global)) (v : Vec ℕ Global) (n : ℕ) (b : Bank) → slice_get net.banks n ≡ Some b → v.items ≡ b.name
+    → map (λ k. k.items) ks ≡ map (λ b. b.name) (first_banks net n).banks
+    → map (λ k. k.items) (insert_key (λ x y. bytes_eq x.items y.items) ks v) ≡ map (λ b. b.name) (first_banks net (n + 1)).banks
+names_indexed net own ks v n b at named so_far =
+    let new : IsNewName (first_banks net n) v.items = rw named (next_name_is_new net own n b at) in
+    names_grow (first_banks net n) ks v so_far new
+    ∙ ap (λ ns. ns ++ v.items ∷ []) so_far
+    ∙ ap (λ m. map (λ b. b.name) (take n net.banks) ++ m ∷ []) named
+    ∙ sym (ap (map (λ b. b.name)) (take_next net.banks n b at) ∙ map-append (λ b. b.name) (take n net.banks) (b ∷ []))

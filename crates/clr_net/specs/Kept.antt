@@ -1,7 +1,8 @@
 -- How the type `Network` keeps its banks and debts: the accounts of the banks, the index of names, and the totals.
-use Rattle.std.specs.Prelude.{◌≡◌, ℕ, List, map, sum, slice_get, Some}
+use Rattle.std.specs.Prelude.{◌≡◌, ◌≢◌, ℕ, ◌<◌, List, length, map, sum, slice_get, Some}
 use Rattle.clr_net.specs.Limits.{IsNetwork}
-use Rattle.clr_net.specs.Net.{Net, numbers, row, column, claims_of, units_owed, all_cash, all_outside}
+use Rattle.clr_net.specs.Net.{Net, name_of, numbers, row, column}
+use Rattle.clr_net.specs.Net.{claims_of, units_owed, all_cash, all_outside}
 use Rattle.clr_net.specs.declared.debt.Debt.{Debt}
 use Rattle.clr_net.specs.declared.account.Account.{Account}
 use Rattle.clr_net.specs.declared.network.Network.TheInside.{Inside}
@@ -13,6 +14,10 @@ net_of accounts debts = record { banks = map (λ c. c.bank) accounts; debts = de
 -- the network that contracts see
 abbrev pub net_within : Inside → Net
 net_within a = net_of a.accounts.items a.debts.items
+
+-- no two banks of one name
+abbrev pub HaveOwnNames : Net → Type 0
+HaveOwnNames net = (i j : ℕ) → i < length net.banks → j < i → name_of net j ≢ name_of net i
 
 -- what the account of the bank i holds beside the bank
 pub record IsAccountOf (net : Net) (i : ℕ) (c : Account) : Type 0 where

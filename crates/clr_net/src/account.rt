@@ -1,10 +1,15 @@
 ghost use Rattle.clr_net.specs.declared.account.Account.{Account};
 ghost use Rattle.clr_net.specs.Accounts.{shown, owing, owed_one_more, entered, HasRowRoom, HasColumnRoom, HaveRoom};
-ghost use Rattle.std.specs.Prelude.{◌≡◌, ◌≢◌, ◌+◌, ◌<◌, ◌^◌, map, slice_get, vec_len, OnOk, Some};
+ghost use Rattle.std.specs.Prelude.{◌≡◌, ◌≢◌, ◌+◌, ◌<◌, ◌^◌, map, slice_get};
+ghost use Rattle.std.specs.Prelude.{vec_len, vec_capacity, IfOk, OnOk, Some};
 
 use crate::Mem;
 use crate::bank::Bank;
 use crate::debt::{BankId, DebtId};
+use std::alloc::Global;
+
+// How many debts a list of debts gets room for at once, when it gets its first.
+const FIRST_ROOM: usize = 32;
 
 /// A bank with the debts that it owes, those that are owed to it, and how many units it owes.
 #[derive(Drop)]
@@ -16,13 +21,24 @@ pub struct Account {
 }
 
 impl Account {
+    /// The same account, in memory of its own.
+    pub fn copy(&self, alloc: Global) -> Result<Account, Mem>
+        ensures { IfOk result (λ c. shown c ≡ shown self.now) }
+    {
+        Ok(Account {
+            bank: self.bank.copy(alloc)?,
+            row: Vec::from_slice(alloc, self.row.as_slice())?,
+            column: Vec::from_slice(alloc, self.column.as_slice())?,
+            owed: self.owed,
+        })
+    }
+
     // Room for one more debt that the bank owes.
     fn reserve_row(&mut self) -> Result<(), Mem>
         ensures shown { shown self.new ≡ shown self.old }
         ensures ok { OnOk result (HasRowRoom self.new) }
     {
-        self.row.reserve(1)?;
-        Ok(())
+        reserve_one(&mut self.row)
     }
 
     // Room for one more debt that is owed to the bank.
@@ -30,8 +46,7 @@ impl Account {
         ensures shown { shown self.new ≡ shown self.old }
         ensures ok { OnOk result (HasColumnRoom self.new) }
     {
-        self.column.reserve(1)?;
-        Ok(())
+        reserve_one(&mut self.column)
     }
 
     fn owe(&mut self, id: DebtId, claim: u64)
@@ -49,6 +64,16 @@ impl Account {
     {
         self.column.push_reserved(id);
     }
+}
+
+// Room for one more debt in a list: for many at once where it is empty, since most lists get more.
+fn reserve_one(ids: &mut Vec<DebtId>) -> Result<(), Mem>
+    ensures same { ids.new.items ≡ ids.old.items }
+    ensures ok { OnOk result (vec_len ids.new < vec_capacity ids.new) }
+{
+    let more = if ids.is_empty() { FIRST_ROOM } else { 1 };
+    ids.reserve(more)?;
+    Ok(())
 }
 
 /// Room in the accounts of a debtor and a creditor for one more debt.

@@ -7,6 +7,7 @@
 mod account;
 mod amounts;
 mod bank;
+mod copying;
 mod debt;
 pub mod laws;
 mod name;

@@ -11,6 +11,7 @@ ghost use Rattle.std.specs.Prelude.{◌≡◌, ◌<◌, ◌≤◌, ◌↔◌, So
 use crate::Mem;
 use crate::account::{Account, enter, make_room};
 use crate::bank::Bank;
+use crate::copying::{copies, index_of};
 use crate::debt::{BankId, Debt, DebtId};
 use indexmap::IndexSet;
 use std::alloc::Global;
@@ -125,17 +126,14 @@ impl Network {
     pub fn copy(&self, alloc: Global) -> Result<Network, Mem>
         ensures { IfOk result (λ net. net ≡ self.now) }
     {
-        let mut net = Network::empty(alloc);
-        for bank in 0..self.banks() {
-            let bank = self.bank(BankId(bank)).copy(alloc)?;
-            if net.add_bank(bank).is_err() {
-                return Err(Mem);
-            }
-        }
-        for debt in 0..self.debts() {
-            net.add_debt(self.debt(DebtId(debt)))?;
-        }
-        Ok(net)
+        Ok(Network {
+            accounts: copies(alloc, self.accounts.as_slice())?,
+            debts: Vec::from_slice(alloc, self.debts.as_slice())?,
+            names: index_of(alloc, self.accounts.as_slice())?,
+            owed: self.owed,
+            cash: self.cash,
+            outside: self.outside,
+        })
     }
 
     /// How many banks there are.

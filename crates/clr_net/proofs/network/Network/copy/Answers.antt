@@ -1,29 +1,30 @@
-use Rattle.std.proofs.Common.{sym, ap, ◌∙◌}
-use Rattle.clr_net.specs.Net.{with_bank, with_debt}
-use Rattle.clr_net.proofs.Copies.{ok_told, next_bank_is_new, next_debt_is_new, bank_copied, debt_copied, first_banks}
+-- The copied accounts show what the network's show, so they make the same network.
+use Rattle.std.proofs.Common.{◌≡◌, List, [], map, sym, ap, ◌∙◌, subst}
+use Rattle.clr_net.specs.Accounts.{shown}
+use Rattle.clr_net.specs.Kept.{net_of, HaveOwnNames}
+use Rattle.clr_net.specs.declared.account.Account.{Account}
+use Rattle.clr_net.proofs.Keeping.{AreKept-alike, net_of-alike}
 use Rattle.clr_net.proofs.network.Network.copy.Goals as goal
 
-pub add_bank-requires-clause-new_name : goal.add_bank-requires-clause-new_name
-add_bank-requires-clause-new_name c =
-    let net = c.args.self.now in
-    let new = next_bank_is_new net c.banks-bank-end.ensures.network c.loop-bank.bank c.bank.result.now c.bank.ensures in
-    rw (c.loop-bank.invariant.so_far, c.in_ok-bank.ensures) new.only_of_its_name
+pub index_of-requires : goal.index_of-requires
+index_of-requires c = subst (λ all. HaveOwnNames (net_of all [])) (sym c.as_slice-3.ensures.value)
+    (λ i j l m. (c.self.invariant.network.each_bank i l).only_of_its_name j m)
 
-pub loop-bank-preserved : goal.loop-bank-preserved
-loop-bank-preserved c = record {
-  so_far = ok_told c.add_bank.result (sym c.is_err.ensures.value ∙ c.if-is_err.false) c.add_bank.ensures.ok
-      ∙ ap (λ n. with_bank n c.in_ok-bank.bank) c.loop-bank.invariant.so_far
-      ∙ ap (λ b. with_bank (first_banks c.args.self.now c.loop-bank.bank) b) c.in_ok-bank.ensures
-      ∙ bank_copied c.args.self.now c.loop-bank.bank c.bank.result.now c.bank.ensures;
-}
+-- what the copies of the accounts show, which are the items of a slice of them
+shows_same : (all given copied : List Account) → given ≡ all → map shown copied ≡ map shown given → map shown copied ≡ map shown all
+shows_same all given copied is shows = shows ∙ ap (map shown) is
 
-pub add_debt-requires : goal.add_debt-requires
-add_debt-requires c =
-    rw c.loop-debt.invariant.so_far
-    (next_debt_is_new c.args.self.now c.debts-debt-end.ensures.network c.loop-debt.debt c.debt.result c.debt.ensures)
+pub invariant_of-result : goal.invariant_of-result
+invariant_of-result c =
+    let shows = shows_same _ _ _ c.as_slice.ensures.value c.in_ok-copies.ensures in
+    let names = c.in_ok-index_of.ensures
+    ∙ ap (λ all. map (λ b. b.name) (net_of all []).banks) c.as_slice-3.ensures.value
+    ∙ sym c.self.invariant.names in
+    rw (c.in_ok-from_slice.ensures.items ∙ c.as_slice-2.ensures.value, names)
+    (AreKept-alike _ _ _ _ _ _ _ shows c.self.invariant)
 
-pub loop-debt-preserved : goal.loop-debt-preserved
-loop-debt-preserved c = record {
-  so_far = c.in_ok-add_debt.ensures.ok ∙ ap (λ n. with_debt n c.debt.result) c.loop-debt.invariant.so_far
-      ∙ debt_copied c.args.self.now c.loop-debt.debt c.debt.result c.debt.ensures;
-}
+pub returns : goal.returns
+returns c =
+    ap (net_of c.in_ok-copies.field-0.items) (c.in_ok-from_slice.ensures.items ∙ c.as_slice-2.ensures.value)
+    ∙ net_of-alike _ _ _ (shows_same _ _ _ c.as_slice.ensures.value c.in_ok-copies.ensures)
+    ∙ c.self.view_is
