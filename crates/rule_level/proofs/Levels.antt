@@ -1,5 +1,5 @@
 -- The awards at a level are given in turn.
-use Rattle.std.proofs.Common.{◌≡◌, ℕ, zero, suc, ◌+◌, ◌-◌, ◌*◌, ◌/◌, ◌<◌, ◌≤◌, true, List, [], ◌∷◌, get_or, sum, min, sym, refl, ap, arith, mul-le-mul_left, ⊎_elim}
+use Rattle.std.proofs.Common.{◌≡◌, ℕ, zero, suc, ◌+◌, ◌-◌, ◌*◌, ◌/◌, ◌<◌, ◌≤◌, true, List, [], ◌∷◌, get_or, min, sym, refl, ap, arith, mul-le-mul_left, ⊎_elim}
 use Rattle.std.proofs.Math.Nat.{lt_of_mul-lt-mul_left, mul-lt-mul_of_pos_left, lt-mul-div-succ, le-mul_of_pos_right}
 use Rattle.std.proofs.lemmas.Bool.{cases_lt, lt-ltb}
 use Rattle.std.proofs.lemmas.List.{length-map}
@@ -9,7 +9,6 @@ use Rattle.clr_net.specs.declared.rule.RuleKind.{RuleKind}
 use Rattle.clr_net.specs.declared.rule.RuleKind.TheVariants as kind
 use Rattle.clr_net.specs.Division.{goes_before}
 use Rattle.clr_net.specs.InPlace.{IsWithin}
-use Rattle.clr_net.proofs.Lists.{sum-cons}
 use Rattle.rule_level.specs.Levels.{at_level, level_awards}
 
 -- ratios on the two sides of a level t / n: c / u is at least the level and d / v below it, or c / u above it and d / v at most the level
@@ -101,21 +100,3 @@ level_awards_within kind t claims = record {
   as_many = length-map claims (at_level kind t);
   within = λ k. omega (arith, level_awards_at kind t claims k, at_level_within kind t (get_or claims k 0));
 }
-
--- at the level 0 no claim within the limit gets anything
-at_level_0 : (kind : RuleKind) (c : ℕ) → c ≤ MAX_CLAIM → at_level kind 0 c ≡ 0
-at_level_0 kind.Order c l = refl
-at_level_0 kind.Equal c l = omega arith
-at_level_0 kind.Losses c l = omega arith
-at_level_0 kind.Jefferson c l = omega arith
-at_level_0 kind.Webster c l = omega arith
-at_level_0 kind.Adams c l = omega arith
-
-pub no_units_at_0 : (kind : RuleKind) (claims : List ℕ) → ((k : ℕ) → get_or claims k 0 ≤ MAX_CLAIM) → sum (level_awards kind 0 claims) ≡ 0
-no_units_at_0 kind [] h = refl
-no_units_at_0 kind (x ∷ claims) h = omega (
-  arith,
-  sum-cons (at_level kind 0 x) (level_awards kind 0 claims),
-  at_level_0 kind x (h 0),
-  no_units_at_0 kind claims (λ k. h (suc k)),
-)

@@ -1,10 +1,10 @@
--- From one level to the next each claim gets at most one unit more and none less, and at the top level every claim is met.
-use Rattle.std.proofs.Common.{◌≡◌, ◌≢◌, ℕ, zero, suc, ◌+◌, ◌<◌, ◌≤◌, map, List, [], ◌∷◌, get_or, sum, refl, sym, arith}
+-- From one level to the next each claim gets at most one unit more and none less; where each claim is met, all is given.
+use Rattle.std.proofs.Common.{◌≡◌, ℕ, zero, suc, ◌+◌, ◌≤◌, map, List, [], ◌∷◌, get_or, sum, refl, sym, arith}
 use Rattle.rule_unit.specs.declared.TheConstants.{MAX_CLAIM}
 use Rattle.clr_net.specs.declared.rule.RuleKind.{RuleKind}
 use Rattle.clr_net.specs.declared.rule.RuleKind.TheVariants as kind
 use Rattle.clr_net.proofs.Lists.{sum-cons}
-use Rattle.rule_level.specs.Levels.{at_level, level_awards, step_at, top_level}
+use Rattle.rule_level.specs.Levels.{at_level, level_awards, step_at}
 use Rattle.rule_level.proofs.Levels.{at_level_of_none}
 
 pub level_rises : (rule : RuleKind) (t c : ℕ) → at_level rule t c ≤ at_level rule (t + 1) c
@@ -22,23 +22,6 @@ level_more kind.Losses t c l = omega arith
 level_more kind.Jefferson t c l = omega arith
 level_more kind.Webster t c l = omega arith
 level_more kind.Adams t c l = omega arith
-
-level_full : (rule : RuleKind) (c : ℕ) → rule ≢ kind.Order → c ≤ MAX_CLAIM → c ≤ at_level rule (top_level rule) c
-level_full kind.Order c ne l = absurd (ne refl)
-level_full kind.Equal c ne l = omega arith
-level_full kind.Losses c ne l = omega arith
-level_full kind.Jefferson c ne l = omega arith
-level_full kind.Webster c ne l = omega arith
-level_full kind.Adams c ne l = omega arith
-
--- the top level of each rule but Order is above 0
-pub top_above_0 : (rule : RuleKind) → rule ≢ kind.Order → 0 < top_level rule
-top_above_0 kind.Order ne = absurd (ne refl)
-top_above_0 kind.Equal ne = omega arith
-top_above_0 kind.Losses ne = omega arith
-top_above_0 kind.Jefferson ne = omega arith
-top_above_0 kind.Webster ne = omega arith
-top_above_0 kind.Adams ne = omega arith
 
 pub step_of_none : (rule : RuleKind) (t : ℕ) → step_at rule t 0 ≡ 0
 step_of_none rule t = omega (arith, at_level_of_none rule t, at_level_of_none rule (t + 1))
@@ -62,14 +45,26 @@ sum_next_level rule t (x ∷ claims) = omega (
   sum_next_level rule t claims,
 )
 
--- at the top level all that is claimed
-pub sum_top_level : (rule : RuleKind) (claims : List ℕ) → rule ≢ kind.Order → ((k : ℕ) → get_or claims k 0 ≤ MAX_CLAIM)
-    → sum claims ≤ sum (level_awards rule (top_level rule) claims)
-sum_top_level rule [] ne h = omega arith
-sum_top_level rule (x ∷ claims) ne h = omega (
-  arith,
-  sum-cons x claims,
-  sum-cons (at_level rule (top_level rule) x) (level_awards rule (top_level rule) claims),
-  level_full rule x ne (h 0),
-  sum_top_level rule claims ne (λ k. h (suc k)),
-)
+module _ (rule : RuleKind) (t greatest : ℕ) where
+  -- at a level at which each claim up to the greatest is met: all that is claimed
+  pub sum_met : ((c : ℕ) → c ≤ greatest → c ≤ at_level rule t c) → (claims : List ℕ) → ((k : ℕ) → get_or claims k 0 ≤ greatest)
+      → sum claims ≤ sum (level_awards rule t claims)
+  sum_met met [] h = omega arith
+  sum_met met (x ∷ claims) h = omega (
+    arith,
+    sum-cons x claims,
+    sum-cons (at_level rule t x) (level_awards rule t claims),
+    met x (h 0),
+    sum_met met claims (λ k. h (suc k)),
+  )
+
+  -- at a level at which none of these claims gets a unit: nothing
+  pub sum_none : ((c : ℕ) → c ≤ greatest → at_level rule t c ≡ 0) → (claims : List ℕ) → ((k : ℕ) → get_or claims k 0 ≤ greatest)
+      → sum (level_awards rule t claims) ≡ 0
+  sum_none none [] h = refl
+  sum_none none (x ∷ claims) h = omega (
+    arith,
+    sum-cons (at_level rule t x) (level_awards rule t claims),
+    none x (h 0),
+    sum_none none claims (λ k. h (suc k)),
+  )

@@ -1,4 +1,4 @@
--- What a claim gets at a level, from 0 to the top level of its rule. Awards at one level are given
+-- What a claim gets at a level, from 0 to MAX_LEVEL. Awards at one level are given
 -- in turn. One level more is at most one unit more for each claim, and of such units none goes
 -- before another.
 use Rattle.std.specs.Prelude.{ℕ, ◌+◌, ◌-◌, ◌*◌, ◌/◌, min, sum, List, map}
@@ -8,15 +8,6 @@ use Rattle.rule_unit.specs.declared.TheConstants.{MAX_CLAIM}
 use Rattle.clr_net.specs.Division.{class_claims, place_sums}
 use Rattle.clr_net.specs.declared.rule.RuleKind.{RuleKind}
 use Rattle.clr_net.specs.declared.rule.RuleKind.TheVariants as kind
-
--- the level at which each claim within the limit is met; Order has no levels
-abbrev pub top_level : RuleKind → ℕ
-top_level kind.Order = 0
-top_level kind.Equal = MAX_CLAIM
-top_level kind.Losses = MAX_CLAIM
-top_level kind.Jefferson = MAX_LEVEL
-top_level kind.Webster = MAX_LEVEL
-top_level kind.Adams = MAX_LEVEL
 
 -- the units of a claim at the level t. Equal: up to t units; Losses: all but MAX_CLAIM - t units;
 -- Jefferson, Webster, Adams: the claim times t / MAX_LEVEL, rounded down, to the nearest (half up),

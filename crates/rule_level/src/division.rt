@@ -8,7 +8,8 @@ ghost use Rattle.rule_unit.specs.Units.{awards_after};
 ghost use Rattle.rule_unit.specs.declared.TheConstants.{MAX_CLAIM};
 ghost use Rattle.std.specs.Prelude.{◌≡◌, ◌≢◌, ◌-◌, ◌<◌, ◌≤◌, All, length, min, sum};
 
-use crate::level::{level_for, set_awards, units_at};
+use crate::level::set_awards;
+use crate::search::level_for;
 use clr_net::RuleKind;
 use rule_class::{class_total, last_class, share_in_order};
 
@@ -75,8 +76,7 @@ fn one_class(
     if total <= left {
         return total;
     }
-    let level = level_for(kind, claims, classes, class, left);
-    let units = units_at(kind, claims, classes, class, level);
+    let (level, units) = level_for(kind, claims, classes, class, total, left);
     set_awards(kind, claims, classes, class, level, left - units, into);
     left
 }

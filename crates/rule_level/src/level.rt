@@ -1,27 +1,14 @@
 ghost use Rattle.clr_net.specs.Division.{class_claims};
-ghost use Rattle.clr_net.specs.declared.rule.RuleKind.TheVariants.{Order};
 ghost use Rattle.rule_class.specs.declared.TheConstants.{MAX_CLAIMS};
 ghost use Rattle.rule_level.specs.ClassSet.{IsClassSet};
 ghost use Rattle.rule_level.specs.Levels.{at_level, awards_above, class_units, step_at};
-ghost use Rattle.rule_level.specs.Levels.{top_level as top_level_of};
 ghost use Rattle.rule_level.specs.declared.TheConstants.{MAX_LEVEL};
 ghost use Rattle.rule_unit.specs.declared.TheConstants.{MAX_CLAIM};
-ghost use Rattle.std.specs.Prelude.{◌≡◌, ◌≢◌, ◌+◌, ◌<◌, ◌≤◌, All, length, sum};
+ghost use Rattle.std.specs.Prelude.{◌≡◌, ◌+◌, ◌<◌, ◌≤◌, All, length, min, sum};
 
 use crate::MAX_LEVEL;
 use clr_net::RuleKind;
 use rule_unit::MAX_CLAIM;
-
-// The level at which each claim is met.
-fn top_level(kind: RuleKind) -> u64
-    ensures { result ≡ top_level_of kind }
-{
-    match kind {
-        RuleKind::Order => 0,
-        RuleKind::Equal | RuleKind::Losses => MAX_CLAIM,
-        RuleKind::Jefferson | RuleKind::Webster | RuleKind::Adams => MAX_LEVEL,
-    }
-}
 
 // What a debt gets at a level.
 fn award_at(kind: RuleKind, level: u64, claim: u64) -> u64
@@ -50,6 +37,19 @@ fn step_of(kind: RuleKind, level: u64, claim: u64) -> u64
     award_at(kind, level + 1, claim) - award_at(kind, level, claim)
 }
 
+// What a debt gets of so many units of the next level that are left.
+fn more_at(kind: RuleKind, level: u64, claim: u64, left: u64) -> u64
+    requires level { level < MAX_LEVEL }
+    requires claim { claim ≤ MAX_CLAIM }
+    ensures more { result ≡ min left (step_at kind level claim) }
+    ensures small { at_level kind level claim + result ≤ claim }
+{
+    if left == 0 {
+        return 0;
+    }
+    left.min(step_of(kind, level, claim))
+}
+
 // What the debts of one class get together at a level.
 pub fn units_at(kind: RuleKind, claims: &[u64], classes: &[u8], class: u8, level: u64) -> u64
     requires a_class_each { length claims.now ≡ length classes.now }
@@ -65,34 +65,6 @@ pub fn units_at(kind: RuleKind, claims: &[u64], classes: &[u8], class: u8, level
         }
     }
     units
-}
-
-// The level at which the units for one class end: at it the debts get no more than these, and at
-// the next no less. Where the debts get just these at a level that is looked at, the search ends
-// there.
-pub fn level_for(kind: RuleKind, claims: &[u64], classes: &[u8], class: u8, units: u64) -> u64
-    requires has_levels { kind ≢ Order }
-    requires a_class_each { length claims.now ≡ length classes.now }
-    requires limit { All (λ c. c ≤ MAX_CLAIM) claims.now }
-    requires total { sum claims.now ≤ MAX_CLAIMS }
-    requires short { units ≤ sum (class_claims class claims.now classes.now) }
-    ensures level { result < MAX_LEVEL }
-    ensures low { class_units kind result class claims.now classes.now ≤ units }
-    ensures high { units ≤ class_units kind (result + 1) class claims.now classes.now }
-{
-    let mut low = 0;
-    let mut high = if units == 0 { 0 } else { top_level(kind) };
-    while low + 1 < high {
-        let middle = (low + high) / 2;
-        let given = units_at(kind, claims, classes, class, middle);
-        if given <= units {
-            low = middle;
-        }
-        if units <= given {
-            high = middle;
-        }
-    }
-    low
 }
 
 // Gives the debts of one class what they get at a level, and so many units of the next level: to
@@ -118,7 +90,7 @@ pub fn set_awards(
     let mut left = above;
     for (debt, claim) in claims.iter().enumerate() {
         if classes[debt] == class {
-            let more = left.min(step_of(kind, level, *claim));
+            let more = more_at(kind, level, *claim, left);
             into[debt] = award_at(kind, level, *claim) + more;
             left -= more;
         }

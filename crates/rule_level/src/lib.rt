@@ -6,13 +6,15 @@
 //! a level and the next none goes before another, so that what is left goes to the earliest debts,
 //! in one walk.
 //!
-//! A division goes over its row once for each binary digit of a level, at most: 20 times by `Equal`
-//! and `Losses`, and 41 times by the divisors. It takes no memory.
+//! A division goes over its row some six times, and at most twice for each binary digit of a level:
+//! of the greatest claim by `Equal` and `Losses`, of [`MAX_LEVEL`] by the divisors. It takes no
+//! memory.
 #![tactic(auto)]
 
 mod division;
 pub mod laws;
 mod level;
+mod search;
 
 pub use division::share_by_level;
 

@@ -26,15 +26,16 @@ returns-clause-given_out c =
     let classes = c.args.classes.now in
     let class = c.args.class in
     let had = c.args.into.now in
-    let level = c.level_for-level.result in
+    let level = c.level_for-level.result.0 in
+    let found = c.level_for-level.ensures in
     let set : IsClassSet class classes
-    (awards_above kind level (c.args.left - c.units_at-units.result) (class_claims class claims classes)) had c.set_awards.new.into =
+    (awards_above kind level (c.args.left - c.level_for-level.result.1) (class_claims class claims classes)) had c.set_awards.new.into =
     c.set_awards.ensures in
     level_turn kind claims classes class c.requires.first had c.requires.within c.args.left c.requires.met level
     c.set_awards.new.into (class_claim_in_limit class claims classes c.requires.limit)
-    c.level_for-level.ensures.low c.level_for-level.ensures.high
+    (omega (arith, found.given, found.low)) found.high
     (subst (λ u. IsClassSet class classes (awards_above kind level (c.args.left - u) (class_claims class claims classes)) had
-    c.set_awards.new.into) c.units_at-units.ensures set)
+    c.set_awards.new.into) found.given set)
 
 pub returns-clause-still_within : goal.returns-clause-still_within
 returns-clause-still_within c =

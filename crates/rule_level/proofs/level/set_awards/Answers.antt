@@ -38,24 +38,24 @@ loop-debt-preserved c =
       | then-classes-debt w ↦
           let claim : get_or mine debt 0 ≡ get_or claims debt 0 =
           class_claims_here class claims classes debt c.requires.first w.if-classes-debt.true in
-          let step : w.step_of.result ≡ get_or steps debt 0 =
-          w.step_of.ensures.step ∙ ap (step_at kind level) (sym claim) ∙ sym mine_step in
+          let step : step_at kind level (get_or claims debt 0) ≡ get_or steps debt 0 =
+          ap (step_at kind level) (sym claim) ∙ sym mine_step in
           let base : w.award_at.result ≡ at_level kind level (get_or mine debt 0) =
           w.award_at.ensures ∙ ap (at_level kind level) (sym claim) in
-          let award : w.award_at.result + w.min-more.result ≡ get_or own debt 0 = omega (
+          let award : w.award_at.result + w.more_at-more.result ≡ get_or own debt 0 = omega (
             arith,
             above_at kind level c.args.above mine (class_claim_in_limit class claims classes c.requires.limit) debt,
             base,
             step,
             mine_step,
-            w.min-more.ensures,
+            w.more_at-more.ensures.more,
             left_is,
           ) in
           record {
             set = subst (IsClassSetTo class classes own had (debt + 1)) (sym w.into-is)
                 (set_here class classes own had debt c.loop-debt.into (omega (arith, c.requires.a_place_each))
-                c.loop-debt.invariant.set w.if-classes-debt.true (w.award_at.result + w.min-more.result) award);
-            left = omega (arith, w.left-is, w.min-more.ensures, step, left_is, more_taken);
+                c.loop-debt.invariant.set w.if-classes-debt.true (w.award_at.result + w.more_at-more.result) award);
+            left = omega (arith, w.left-is, w.more_at-more.ensures.more, step, left_is, more_taken);
           }
       | else-classes-debt w ↦
           let none = class_claims_other class claims classes debt w.if-classes-debt.false in

@@ -2,34 +2,36 @@ use Rattle.std.proofs.Common.{◌≡◌, ◌+◌, ◌<◌, ◌≤◌, ℕ, sum, 
 use Rattle.std.proofs.lemmas.Bool.{cases_lt}
 use Rattle.clr_net.specs.Division.{class_claims}
 use Rattle.rule_level.specs.Levels.{level_awards}
-use Rattle.rule_level.proofs.Levels.{no_units_at_0}
-use Rattle.rule_level.proofs.Limits.{class_claim_in_limit}
-use Rattle.rule_level.proofs.Steps.{sum_next_level, sum_top_level, top_above_0}
-use Rattle.rule_level.proofs.level.level_for.Goals.{then-units-eq0, else-units-eq0}
-use Rattle.rule_level.proofs.level.level_for.Goals as goal
+use Rattle.rule_level.proofs.Steps.{sum_met, sum_next_level, sum_none}
+use Rattle.rule_level.proofs.search.level_for.Goals.{then-units-eq0, else-units-eq0}
+use Rattle.rule_level.proofs.search.level_for.Goals as goal
 
 pub loop-low-init : goal.loop-low-init
 loop-low-init c =
     let kind = c.args.kind in
     let mine = class_claims c.args.class c.args.claims.now c.args.classes.now in
-    let limit = class_claim_in_limit c.args.class c.args.claims.now c.args.classes.now c.requires.limit in
-    let positive = top_above_0 kind c.requires.has_levels in
-    let none = no_units_at_0 kind mine limit in
+    let around = c.levels_around-low.ensures in
+    let greatest = c.greatest_claim.result in
+    let none = sum_none kind c.levels_around-low.result.0 greatest around.none mine c.greatest_claim.ensures.greatest in
+    let met = sum_met kind c.levels_around-low.result.1 greatest around.met mine c.greatest_claim.ensures.greatest in
     elim c.if-units-eq0.branch [
       | then-units-eq0 w ↦ record {
-        between = omega arith;
-        below_top = positive;
-        top = omega (arith, w.high-is);
+        between = omega (arith, w.high-is);
+        below_top = around.in_order.1;
+        top = omega (arith, w.high-is, around.in_order.1);
         low = omega (arith, none);
         high = omega (arith, w.if-units-eq0.true);
+        part = omega arith;
+        whole = c.requires.short;
       }
       | else-units-eq0 w ↦ record {
-        between = omega arith;
-        below_top = positive;
-        top = omega (arith, w.high-is, w.top_level-high.ensures);
+        between = omega (arith, w.high-is, around.in_order.0);
+        below_top = around.in_order.1;
+        top = omega (arith, w.high-is, around.in_order.2);
         low = omega (arith, none);
-        high = rw (w.high-is, w.top_level-high.ensures)
-            (omega (arith, c.requires.short, sum_top_level kind mine c.requires.has_levels limit));
+        high = rw w.high-is (omega (arith, c.requires.short, c.requires.claimed, met));
+        part = omega arith;
+        whole = c.requires.short;
       }
     ]
 
