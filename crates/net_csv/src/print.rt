@@ -6,6 +6,7 @@ ghost use Rattle.std.specs.Prelude.{◌≡◌, ◌<◌, ◌∷◌, ◌++◌, [],
 
 use crate::layout::Version;
 use clr_net::{Bank, BankId, Debt, DebtId, Mem, Network, RuleKind};
+use itoa::Buffer;
 use std::alloc::Global;
 
 /// The banks file of a network: its header, and a line for each bank, in file order. It is of
@@ -39,9 +40,8 @@ fn banks_file(alloc: Global, net: &Network, version: Version) -> Result<Vec<u8>,
         Version::One => Vec::from_slice(alloc, b"name,cash,rule\n")?,
         Version::Two => Vec::from_slice(alloc, b"name,cash,rule,outside\n")?,
     };
-    let mut digits = String::new(alloc);
     for i in 0..net.banks() {
-        push_bank(&mut text, &mut digits, version, net.bank(BankId(i)))?;
+        push_bank(&mut text, version, net.bank(BankId(i)))?;
     }
     Ok(text)
 }
@@ -51,44 +51,38 @@ pub fn print_debts(alloc: Global, net: &Network) -> Result<Vec<u8>, Mem>
     ensures { IfOk result (λ text. text.items ≡ debts_text net.now) }
 {
     let mut text = Vec::from_slice(alloc, b"debtor,creditor,class,claim\n")?;
-    let mut digits = String::new(alloc);
     for i in 0..net.debts() {
-        push_debt(&mut text, &mut digits, net, net.debt(DebtId(i)))?;
+        push_debt(&mut text, net, net.debt(DebtId(i)))?;
     }
     Ok(text)
 }
 
-// Appends the line of a bank. `digits` is scratch space.
-fn push_bank(
-    text: &mut Vec<u8>,
-    digits: &mut String,
-    version: Version,
-    bank: &Bank,
-) -> Result<(), Mem>
+// Appends the line of a bank.
+fn push_bank(text: &mut Vec<u8>, version: Version, bank: &Bank) -> Result<(), Mem>
     ensures { OnOk result (text.new.items ≡ text.old.items ++ bank_line version bank.now) }
 {
     push_field(text, bank.name.bytes(), b',')?;
-    push_number(text, digits, bank.cash, b',')?;
+    push_number(text, bank.cash, b',')?;
     let rule = rule_word(bank.rule).as_bytes();
     match version {
         Version::One => push_field(text, rule, b'\n'),
         Version::Two => {
             push_field(text, rule, b',')?;
-            push_number(text, digits, bank.outside, b'\n')
+            push_number(text, bank.outside, b'\n')
         }
     }
 }
 
-// Appends the line of a debt. `digits` is scratch space.
-fn push_debt(text: &mut Vec<u8>, digits: &mut String, net: &Network, debt: Debt) -> Result<(), Mem>
+// Appends the line of a debt.
+fn push_debt(text: &mut Vec<u8>, net: &Network, debt: Debt) -> Result<(), Mem>
     requires debtor { debt.debtor.0 < length net.now.banks }
     requires creditor { debt.creditor.0 < length net.now.banks }
     ensures { OnOk result (text.new.items ≡ text.old.items ++ debt_line net.now debt) }
 {
     push_field(text, name(net, debt.debtor), b',')?;
     push_field(text, name(net, debt.creditor), b',')?;
-    push_number(text, digits, u64::from(debt.class), b',')?;
-    push_number(text, digits, debt.claim, b'\n')
+    push_number(text, u64::from(debt.class), b',')?;
+    push_number(text, debt.claim, b'\n')
 }
 
 // The name of a bank.
@@ -109,12 +103,10 @@ fn push_field(text: &mut Vec<u8>, field: &[u8], end: u8) -> Result<(), Mem>
 }
 
 // Appends a number in decimal digits and the byte that ends it.
-fn push_number(text: &mut Vec<u8>, digits: &mut String, number: u64, end: u8) -> Result<(), Mem>
+fn push_number(text: &mut Vec<u8>, number: u64, end: u8) -> Result<(), Mem>
     ensures { OnOk result (text.new.items ≡ text.old.items ++ (decimal number ++ end ∷ [])) }
 {
-    digits.clear();
-    write!(digits, "{number}")?;
-    push_field(text, digits.as_bytes(), end)
+    push_field(text, Buffer::new().format(number).as_bytes(), end)
 }
 
 // The word by which a file names a rule.
