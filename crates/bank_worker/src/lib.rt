@@ -7,6 +7,7 @@
 //! division at what the worker last saw, and each debt to them was seen at least at the floor.
 #![tactic(auto)]
 
+mod calls;
 mod looks;
 mod office;
 mod raises;

@@ -2,6 +2,7 @@ ghost use Rattle.bank_worker.specs.Offices.{IsOfficeFor, banks_of_worker};
 ghost use Rattle.bank_worker.specs.Rings.{AreMarksUpTo};
 ghost use Rattle.std.specs.Prelude.{◌≡◌, ◌≤◌, IfOk, length};
 
+use crate::calls::Calls;
 use bank_desk::Desk;
 use clr_net::{BankId, DebtId, Mem, Network};
 use std::alloc::Global;
@@ -20,6 +21,8 @@ pub struct Office {
     pub(crate) marks: Vec<u64>,
     // What the bank that is visited should pay on each of its debts.
     pub(crate) targets: Vec<u64>,
+    // The desks whose bells the worker rang itself and has not taken since.
+    pub(crate) calls: Calls,
 }
 
 impl Model for Office {
@@ -66,6 +69,7 @@ impl Office {
             creditors,
             marks,
             targets,
+            calls: Calls::none(worker, workers),
         })
     }
 }

@@ -1,7 +1,8 @@
 ghost use Rattle.bank_worker.specs.Raises.{AreOwedBy, IsNotBelow, IsRaised, IsWithin};
 ghost use Rattle.clr_net.specs.Net.{numbers};
 ghost use Rattle.pay_words.specs.Views.{IsAt, IsOver};
-ghost use Rattle.std.specs.Prelude.{◌≡◌, ◌+◌, ◌<◌, ◌≤◌, ◌^◌, ◌++◌, [], ◌∷◌, false, length, slice_index, sum, sum_by};
+ghost use Rattle.std.specs.Prelude.{◌≡◌, ◌+◌, ◌<◌, ◌≤◌, ◌^◌, ◌++◌, [], ◌∷◌, false, length};
+ghost use Rattle.std.specs.Prelude.{slice_index, sum, sum_by};
 
 use clear_core::{Journal, Raise};
 use clr_net::DebtId;

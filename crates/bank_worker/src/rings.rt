@@ -3,18 +3,20 @@ ghost use Rattle.pay_words.specs.Views.{IsAt};
 ghost use Rattle.clr_net.specs.Limits.{IsNetwork};
 ghost use Rattle.std.specs.Prelude.{◌≡◌, length};
 
+use crate::calls::Calls;
 use clear_core::Raise;
 use clr_net::BankId;
 use pay_words::{Board, PaySeat};
 
 // Rings the creditor of each raised debt once, in order. A creditor that was rung is marked with
-// the number of the visit.
+// the number of the visit, and its desk is called.
 pub(crate) fn ring_all(
     board: &Board,
     seat: &mut PaySeat,
     raises: &[Raise],
     creditors: &[u32],
     marks: &mut [u64],
+    calls: &mut Calls,
     visit: u64,
 )
     requires seat { IsAt board.now seat.old }
@@ -31,6 +33,7 @@ pub(crate) fn ring_all(
         let creditor = creditors[raise.debt.0 as usize];
         if marks[creditor as usize] != visit {
             board.ring(seat, BankId(creditor));
+            calls.call(creditor);
             marks[creditor as usize] = visit;
         }
     }

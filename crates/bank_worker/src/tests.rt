@@ -4,6 +4,7 @@ ghost use Rattle.bank_worker.specs.Visits.{IsAllCalm, MayRest};
 ghost use Rattle.pay_words.specs.Views.{HoldsAll, IsAt, OwesNoRing};
 ghost use Rattle.std.specs.Prelude.{◌≡◌, ◌+◌, ◌<◌, ◌≤◌, IfOk, OnOk, length, true};
 
+use crate::calls::Calls;
 use crate::{Office, SeatBack, Visit, Worker};
 use clear_core::Journal;
 use clr_edge::OpenGate;
@@ -15,8 +16,44 @@ use std::test::Fail;
 
 const UNPAID: Payment = Payment { value: 0, stamp: 0 };
 
-// A round of the only worker of a board: the units by which payments rose, its visits and its
-// journal.
+// A round of the only worker of a board, who takes a seat to this office and leaves it again: the
+// units by which payments rose, the visits and the journal of this seat, and the office.
+fn round_at(
+    alloc: Global,
+    net: &Network,
+    board: &Board,
+    master: &mut PaySeat,
+    office: Office,
+    sweeps: u32,
+) -> Result<(u64, u64, Journal, Office), Mem>
+    requires board { (net.now ≡ board.now.net) × (board.now.workers ≡ 1) }
+    requires sweeps { (1 ≤ sweeps) × (sweeps ≤ 1000) }
+    requires office { IsOfficeFor net.now (banks_of_worker net.now 1 0) office }
+    requires master { IsAt board.now master.old × (master.old.shows.master ≡ true) }
+    requires seats { master.old.shows.seats < 4294967295 }
+    requires all { HoldsAll master.old.shows }
+    requires idle { OwesNoRing master.old.shows × IsAllCalm master.old.shows
+        × MayRest master.old.shows (desks_held master.old.shows) }
+    ensures office { IfOk result (λ r. IsOfficeFor net.now (banks_of_worker net.now 1 0) r.3) }
+    ensures master { IsAt board.now master.new }
+    ensures is_the_master { OnOk result (master.new.shows.master ≡ true) }
+    ensures seats { OnOk result (master.new.shows.seats ≡ master.old.shows.seats + 1) }
+    ensures all { OnOk result (HoldsAll master.new.shows) }
+    ensures idle { OnOk result (OwesNoRing master.new.shows × IsAllCalm master.new.shows
+        × MayRest master.new.shows (desks_held master.new.shows)) }
+{
+    let seat = board.hand(alloc, master, 0)?;
+    let mut worker = Worker::with(alloc, office, seat);
+    let Visit::Raised(units) = worker.round(board, sweeps, &OpenGate) else {
+        return Err(Mem);
+    };
+    let visits = worker.visits();
+    let (seat, journal, office) = worker.leave();
+    board.take_back(master, seat);
+    Ok((units, visits, journal, office))
+}
+
+// The same, of a worker with an office of its own: the units, its visits and its journal.
 fn round_alone(
     alloc: Global,
     net: &Network,
@@ -38,17 +75,8 @@ fn round_alone(
     ensures idle { OnOk result (OwesNoRing master.new.shows × IsAllCalm master.new.shows
         × MayRest master.new.shows (desks_held master.new.shows)) }
 {
-    let seat = board.hand(alloc, master, 0)?;
-    let mut worker = match Worker::make(alloc, net, seat, 0, 1) {
-        Ok(worker) => worker,
-        Err(SeatBack { seat: _ }) => return Err(Mem),
-    };
-    let Visit::Raised(units) = worker.round(board, sweeps, &OpenGate) else {
-        return Err(Mem);
-    };
-    let visits = worker.visits();
-    let (seat, journal) = worker.finish();
-    board.take_back(master, seat);
+    let office = Office::of(alloc, net, 0, 1)?;
+    let (units, visits, journal, _) = round_at(alloc, net, board, master, office, sweeps)?;
     Ok((units, visits, journal))
 }
 
@@ -97,52 +125,17 @@ fn sweeps_find_it_all_in_one_round(rt: HostRuntime) -> Result<(), Fail> {
     Ok(())
 }
 
-// A round of the only worker of a board, who takes a seat to this office and leaves it again: the
-// units by which payments rose, the visits and raises of this seat, and the office.
-fn round_at(
-    alloc: Global,
-    net: &Network,
-    board: &Board,
-    master: &mut PaySeat,
-    office: Office,
-) -> Result<(u64, u64, usize, Office), Mem>
-    requires board { (net.now ≡ board.now.net) × (board.now.workers ≡ 1) }
-    requires office { IsOfficeFor net.now (banks_of_worker net.now 1 0) office }
-    requires master { IsAt board.now master.old × (master.old.shows.master ≡ true) }
-    requires seats { master.old.shows.seats < 4294967295 }
-    requires all { HoldsAll master.old.shows }
-    requires idle { OwesNoRing master.old.shows × IsAllCalm master.old.shows
-        × MayRest master.old.shows (desks_held master.old.shows) }
-    ensures office { IfOk result (λ r. IsOfficeFor net.now (banks_of_worker net.now 1 0) r.3) }
-    ensures master { IsAt board.now master.new }
-    ensures is_the_master { OnOk result (master.new.shows.master ≡ true) }
-    ensures seats { OnOk result (master.new.shows.seats ≡ master.old.shows.seats + 1) }
-    ensures all { OnOk result (HoldsAll master.new.shows) }
-    ensures idle { OnOk result (OwesNoRing master.new.shows × IsAllCalm master.new.shows
-        × MayRest master.new.shows (desks_held master.new.shows)) }
-{
-    let seat = board.hand(alloc, master, 0)?;
-    let mut worker = Worker::with(alloc, office, seat);
-    let Visit::Raised(units) = worker.round(board, 1, &OpenGate) else {
-        return Err(Mem);
-    };
-    let visits = worker.visits();
-    let (seat, journal, office) = worker.leave();
-    board.take_back(master, seat);
-    Ok((units, visits, journal.as_slice().len(), office))
-}
-
 #[test]
 fn a_worker_takes_another_seat(rt: HostRuntime) -> Result<(), Fail> {
     let alloc = rt.alloc();
     let net = ring(alloc)?;
     let (board, mut master) = Board::make(alloc, &net, 1, &[UNPAID, UNPAID], &[])?;
     let office = Office::of(alloc, &net, 0, 1)?;
-    let (units, visits, raises, office) = round_at(alloc, &net, &board, &mut master, office)?;
-    assert_eq!(rt; (units, visits, raises), (2, 2, 2));
+    let (units, visits, journal, office) = round_at(alloc, &net, &board, &mut master, office, 1)?;
+    assert_eq!(rt; (units, visits, journal.as_slice().len()), (2, 2, 2));
     // Visits and raises begin anew with the seat.
-    let (units, visits, raises, _) = round_at(alloc, &net, &board, &mut master, office)?;
-    assert_eq!(rt; (units, visits, raises), (2, 2, 2));
+    let (units, visits, journal, _) = round_at(alloc, &net, &board, &mut master, office, 1)?;
+    assert_eq!(rt; (units, visits, journal.as_slice().len()), (2, 2, 2));
     Ok(())
 }
 
@@ -216,5 +209,27 @@ fn a_bell_is_up_where_a_payment_is_new(rt: HostRuntime) -> Result<(), Fail> {
     // B was visited after A, and paid A then.
     assert!(rt; !board.take(&mut master, BankId(1)));
     assert!(rt; board.take(&mut master, BankId(0)));
+    Ok(())
+}
+
+#[test]
+fn a_worker_calls_the_desks_of_its_own_banks(rt: HostRuntime) -> Result<(), Fail> {
+    let mut calls = Calls::none(1, 3);
+    // Banks 4 and 301 are of the worker, at its desks 1 and 100; bank 5 is not.
+    for bank in [301, 5, 4] {
+        calls.call(bank);
+    }
+    assert_eq!(rt;
+        (calls.next(false, 0, 200), calls.next(false, 2, 200)),
+        (Some(1), Some(100))
+    );
+    assert_eq!(rt; calls.next(true, 0, 200), Some(0));
+    calls.end(1);
+    assert_eq!(rt;
+        (calls.next(false, 0, 200), calls.next(false, 0, 100)),
+        (Some(100), None)
+    );
+    calls.end(100);
+    assert!(rt; calls.is_empty());
     Ok(())
 }

@@ -2,15 +2,21 @@ ghost use Rattle.bank_worker.specs.Raises.{debts_of};
 ghost use Rattle.bank_worker.specs.Rings.{AreMarksBelow, AreMarksUpTo, creditors_of};
 ghost use Rattle.bank_worker.specs.Offices.{IsOfficeFor};
 ghost use Rattle.bank_worker.specs.Views.{desk_at, desks_held, banks_held};
-ghost use Rattle.bank_worker.specs.Visits.{AreNoted, IsAllCalm, IsRounded, IsSameCrew, IsSameSeat, IsVisited, LooksOnce, MayRest, PaysOut, RingsAll, VisitsByBells, WhenMem, WhenRaised};
+ghost use Rattle.bank_worker.specs.Visits.{AreNoted, AreSettled, IsAllCalm, IsRounded, IsSameCrew};
+ghost use Rattle.bank_worker.specs.Visits.{IsSameSeat, IsVisited, LooksOnce, MayRest, PaysOut, RingsAll};
+ghost use Rattle.bank_worker.specs.Visits.{VisitsByBells, WhenMem, WhenRaised};
 ghost use Rattle.clear_core.specs.Buffers.{HasRoom};
 ghost use Rattle.bank_desk.specs.Desks.{desk_of, target};
 ghost use Rattle.clr_net.specs.Limits.{IsNetwork};
 ghost use Rattle.clr_net.specs.declared.TheConstants.{MAX_BANKS, MAX_OWED};
-ghost use Rattle.pay_words.specs.Views.{HasSeenFloor, IsAt, IsCalm, OwesNoRing, holds, is_marked, is_of_worker, took};
+ghost use Rattle.pay_words.specs.Views.{HasSeenFloor, IsAt, IsCalm, OwesNoRing, holds, is_marked};
+ghost use Rattle.pay_words.specs.Views.{is_of_worker, took};
 ghost use Rattle.std.specs.List.{range_with_len};
-ghost use Rattle.std.specs.Prelude.{◌≡◌, ◌+◌, ◌*◌, ◌^◌, ◌<◌, ◌≤◌, ℕ, [], IfErr, IfOk, false, filter, if◌then◌else◌, length, map, replicate, true, vec_capacity, vec_len};
+ghost use Rattle.std.specs.Prelude.{◌≡◌, ◌+◌, ◌*◌, ◌^◌, ◌<◌, ◌≤◌, ℕ, [], IfErr, IfOk, false};
+ghost use Rattle.std.specs.Prelude.{filter, if◌then◌else◌, length, map, replicate, true};
+ghost use Rattle.std.specs.Prelude.{vec_capacity, vec_len};
 
+use crate::calls::Calls;
 use crate::looks::look_at_all;
 use crate::office::{Office, unmark};
 use crate::raises::raise_all;
@@ -48,6 +54,8 @@ pub struct Worker {
     marks: Vec<u64>,
     // What the bank that is visited should pay on each of its debts.
     targets: Vec<u64>,
+    // The desks whose bells the worker rang itself and has not taken since.
+    calls: Calls,
 }
 
 impl Model for Worker {
@@ -130,8 +138,10 @@ impl Worker {
             creditors,
             mut marks,
             targets,
+            mut calls,
         } = office;
         unmark(&mut marks);
+        calls.clear();
         Worker {
             seat,
             desks,
@@ -141,6 +151,7 @@ impl Worker {
             creditors,
             marks,
             targets,
+            calls,
         }
     }
 
@@ -194,14 +205,17 @@ impl Worker {
             self.creditors.as_slice(),
             &mut self.marks,
             &mut self.targets,
+            &mut self.calls,
             self.visits,
         );
         Visit::Raised(units)
     }
 
     /// Goes over the desks in order, so many times: takes each desk's bell, and visits the desk
-    /// where it was up. Ends early after a sweep that found no bell up. Answers the units of all
-    /// visits, or `Mem` at the first visit that answers so, and then does no more.
+    /// where it was up. After the first time goes over those desks alone whose bells the worker
+    /// rang itself, if there are any. Ends early after a sweep over all desks that found no bell
+    /// up. Answers the units of all visits, or `Mem` at the first visit that answers so, and then
+    /// does no more.
     pub fn round<G: Gate>(&mut self, board: &Board, sweeps: u32, gate: &G) -> Visit
         requires seat { IsAt board.now self.old.seat }
         requires sweeps { (1 ≤ sweeps) × (sweeps ≤ 1000) }
@@ -216,13 +230,14 @@ impl Worker {
         let desks = self.desks();
         prove!(desks <= MAX_BANKS as usize);
         let mut units = 0;
-        for _ in 0..sweeps {
+        for number in 0..sweeps {
+            let whole = number == 0 || self.calls.is_empty();
             let visits = self.visits;
-            match self.sweep(board, gate) {
+            match self.sweep(board, whole, gate) {
                 Visit::Raised(more) => units += more,
                 Visit::Mem => return Visit::Mem,
             }
-            if self.visits == visits {
+            if whole && self.visits == visits {
                 break;
             }
         }
@@ -256,6 +271,7 @@ impl Worker {
             creditors,
             marks,
             targets,
+            calls,
             ..
         } = self;
         let office = Office {
@@ -264,29 +280,35 @@ impl Worker {
             creditors,
             marks,
             targets,
+            calls,
         };
         (seat, journal, office)
     }
 
-    // One sweep over the desks.
-    fn sweep<G: Gate>(&mut self, board: &Board, gate: &G) -> Visit
+    // One sweep over the desks: over all, or, where all are settled, over those alone that are
+    // called.
+    fn sweep<G: Gate>(&mut self, board: &Board, whole: bool, gate: &G) -> Visit
         requires seat { IsAt board.now self.old.seat }
         requires visits { self.old.visits < 2 ^ 62 + 2 ^ 61 }
         requires idle { IsAllCalm self.old.seat.shows
             × MayRest self.old.seat.shows self.old.desks }
+        requires settled { whole ≡ false → AreSettled self.old.seat.shows self.old.desks }
         ensures same { IsSameCrew self.old self.new }
         ensures visits { VisitsByBells 1 self.old self.new }
         ensures raised { WhenRaised result (λ n. IsRounded n self.old self.new) }
         ensures few { WhenRaised result (λ n. n ≤ length self.old.desks * MAX_OWED) }
     {
+        let desks = self.desks();
         let mut units = 0;
-        for place in 0..self.desks() {
+        let mut from = 0;
+        while let Some(place) = self.calls.next(whole, from, desks) {
             if self.take(board, place) {
                 match self.visit(board, place, gate) {
                     Visit::Raised(more) => units += more,
                     Visit::Mem => return Visit::Mem,
                 }
             }
+            from = place + 1;
         }
         Visit::Raised(units)
     }
@@ -309,7 +331,11 @@ impl Worker {
             → HasSeenFloor self.old.seat.shows (desk_at self.old.desks place).bank }
     {
         let bank = self.desks[place].bank();
-        board.take(&mut self.seat, bank)
+        let up = board.take(&mut self.seat, bank);
+        if up {
+            self.calls.end(place);
+        }
+        up
     }
 }
 
@@ -323,6 +349,7 @@ fn visit_bank(
     creditors: &[u32],
     marks: &mut [u64],
     targets: &mut Vec<u64>,
+    calls: &mut Calls,
     visit: u64,
 ) -> u64
     requires seat { IsAt board.now seat.old }
@@ -358,7 +385,7 @@ fn visit_bank(
     let from = journal.as_slice().len();
     let units = raise_all(board, seat, debts, targets.as_slice(), journal);
     let (_, made) = journal.as_slice().split_at(from);
-    ring_all(board, seat, made, creditors, marks, visit);
+    ring_all(board, seat, made, creditors, marks, calls, visit);
     units
 }
 
