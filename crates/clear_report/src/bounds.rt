@@ -1,5 +1,6 @@
 ghost use Rattle.cascade.specs.Standings.{bank_numbers};
-ghost use Rattle.clear_report.specs.Bounds.{bounds_line, bounds_tables, debts_table as debts_table_of, wave_line, wave_line_of};
+ghost use Rattle.clear_report.specs.Bounds.{bounds_line, bounds_tables};
+ghost use Rattle.clear_report.specs.Bounds.{debts_table as debts_table_of, wave_line, wave_line_of};
 ghost use Rattle.clr_net.specs.Limits.{IsNetwork};
 ghost use Rattle.clr_net.specs.Net.{name_of};
 ghost use Rattle.std.specs.List.{flat_map};

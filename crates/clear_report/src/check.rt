@@ -1,20 +1,17 @@
-ghost use Rattle.clear_report.specs.Text.{checked_text, totals_text};
+ghost use Rattle.clear_report.specs.Text.{totals_text};
 ghost use Rattle.std.specs.Prelude.{◌≡◌, ◌++◌, IfOk, OnOk};
 
-use crate::line::{push_below, push_number_line};
+use crate::line::push_number_line;
 use clr_net::{Mem, Network};
 use std::alloc::Global;
 
-/// The text of a network that was checked: the numbers of its banks and debts, the units owed and
-/// the cash, a line each, then the two files of its banks and of its debts, as they were printed,
-/// with an empty line before each.
-pub fn check_text(alloc: Global, net: &Network, banks: &[u8], debts: &[u8]) -> Result<Vec<u8>, Mem>
-    ensures { IfOk result (λ text. text.items ≡ checked_text net.now banks.now debts.now) }
+/// The totals of a network: the numbers of its banks and debts, the units owed and the cash, a line
+/// each. `Mem` for want of memory alone.
+pub fn totals_text(alloc: Global, net: &Network) -> Result<Vec<u8>, Mem>
+    ensures { IfOk result (λ text. text.items ≡ totals_text net.now) }
 {
     let mut text = Vec::new(alloc);
     push_totals(&mut text, net)?;
-    push_below(&mut text, banks)?;
-    push_below(&mut text, debts)?;
     Ok(text)
 }
 

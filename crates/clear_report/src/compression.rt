@@ -1,5 +1,7 @@
 ghost use Rattle.cascade.specs.Standings.{bank_numbers};
-ghost use Rattle.clear_report.specs.Compression.{claim_line, claims_text, class_lines, compressed_text, has_debt_of, rank_line, rank_line_of};
+ghost use Rattle.clear_report.specs.Compression.{claim_line, claims_text, class_lines};
+ghost use Rattle.clear_report.specs.Compression.{compressed_text, has_debt_of, rank_line};
+ghost use Rattle.clear_report.specs.Compression.{rank_line_of};
 ghost use Rattle.clr_net.specs.Limits.{IsNetwork};
 ghost use Rattle.clr_net.specs.Net.{name_of};
 ghost use Rattle.clr_net.specs.declared.TheConstants.{MAX_CLASS};

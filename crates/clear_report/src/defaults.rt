@@ -1,5 +1,6 @@
 ghost use Rattle.cascade.specs.Standings.{bank_numbers};
-ghost use Rattle.clear_report.specs.Defaults.{bank_line, defaults_header, defaults_text, owes_outside as owes_any_outside, standing_line, total_line};
+ghost use Rattle.clear_report.specs.Defaults.{bank_line, defaults_text, standing_line, total_line};
+ghost use Rattle.clear_report.specs.Defaults.{defaults_header, owes_outside as owes_any_outside};
 ghost use Rattle.std.specs.List.{flat_map};
 ghost use Rattle.std.specs.Prelude.{◌≡◌, ◌++◌, length, IfOk, OnOk};
 

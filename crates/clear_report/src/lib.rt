@@ -22,7 +22,7 @@ mod tests;
 mod with_costs;
 
 pub use bounds::bounds_text;
-pub use check::check_text;
+pub use check::totals_text;
 pub use compression::compress_text;
 pub use defaults::default_text;
 pub use journals::{journal_text, lawful_text, verdict_text};

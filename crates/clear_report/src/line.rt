@@ -1,6 +1,7 @@
 // Lines, appended to a text piece by piece.
 ghost use Rattle.clear_report.specs.Text.{debt_fields};
-ghost use Rattle.clear_report.specs.Words.{empty_line, state_word as word_of_state, with_commas, yes_or_no as word_of_test};
+ghost use Rattle.clear_report.specs.Words.{empty_line, state_word as word_of_state, with_commas};
+ghost use Rattle.clear_report.specs.Words.{yes_or_no as word_of_test};
 ghost use Rattle.clr_net.specs.Limits.{IsNetwork};
 ghost use Rattle.clr_net.specs.Lines.{line};
 ghost use Rattle.clr_net.specs.Net.{name_of};

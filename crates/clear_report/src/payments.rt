@@ -1,10 +1,13 @@
 ghost use Rattle.clear_report.specs.Text.{payment_line, payments_text};
 ghost use Rattle.clr_net.specs.Limits.{IsNetwork};
-ghost use Rattle.std.specs.Prelude.{◌≡◌, ◌++◌, ◌<◌, length, IfOk, OnOk};
+ghost use Rattle.std.specs.Prelude.{◌≡◌, ◌++◌, ◌^◌, ◌<◌, length, IfOk, OnOk};
 
 use crate::line::push_debt;
 use clr_net::{DebtId, Mem, Network};
 use std::alloc::Global;
+
+// About how many bytes the line of a debt takes.
+const LINE: usize = 48;
 
 /// The text of some payments: a header, and a line for each debt, in file order.
 ///
@@ -13,11 +16,28 @@ pub fn pay_text(alloc: Global, net: &Network, paid: &[u64]) -> Result<Vec<u8>, M
     requires { length paid.now ≡ length net.now.debts }
     ensures { IfOk result (λ text. text.items ≡ payments_text net.now paid.now) }
 {
-    let mut text = Vec::from_slice(alloc, b"debtor,creditor,class,claim,paid\n")?;
-    for x in 0..net.debts() {
-        push_payment(&mut text, net, paid, DebtId(x))?;
-    }
+    let mut text = Vec::with_capacity(alloc, payments_room(net))?;
+    push_payments(&mut text, net, paid)?;
     Ok(text)
+}
+
+// About how many bytes the text of payments takes: a hint, for a text may grow beyond it.
+pub fn payments_room(net: &Network) -> usize
+    ensures { result < 2 ^ 40 }
+{
+    (net.debts() as usize + 1) * LINE
+}
+
+// Appends the text of some payments.
+pub fn push_payments(text: &mut Vec<u8>, net: &Network, paid: &[u64]) -> Result<(), Mem>
+    requires { length paid.now ≡ length net.now.debts }
+    ensures { OnOk result (text.new.items ≡ text.old.items ++ payments_text net.now paid.now) }
+{
+    text.extend_from_slice(b"debtor,creditor,class,claim,paid\n")?;
+    for x in 0..net.debts() {
+        push_payment(text, net, paid, DebtId(x))?;
+    }
+    Ok(())
 }
 
 // Appends the line of a debt.

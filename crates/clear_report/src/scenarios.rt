@@ -1,26 +1,33 @@
 ghost use Rattle.clear_report.specs.Blocks.{scenario_block};
+ghost use Rattle.clear_report.specs.Text.{payments_text};
 ghost use Rattle.std.specs.Prelude.{◌≡◌, ◌<◌, IfOk, length};
 
 use crate::line::push_field;
-use clr_net::{Mem, Name};
+use crate::payments::{payments_room, push_payments};
+use clr_net::{Mem, Name, Network};
 use std::alloc::Global;
 
-/// The block of a scenario: a line of its name, then the texts of its payments and of who defaults.
-/// `Mem` for want of memory alone.
+/// The block of a scenario: a line of its name, then the text of the payments that it comes to, and
+/// that of who defaults then.
+///
+/// `paid` has a place for each debt of the network that the scenario leaves, in file order, in
+/// units. `Mem` for want of memory alone.
 pub fn scenario_text(
     alloc: Global,
     name: &Name,
-    pay: &[u8],
+    net: &Network,
+    paid: &[u64],
     defaults: &[u8],
 ) -> Result<Vec<u8>, Mem>
-    ensures block { IfOk result
-        (λ text. text.items ≡ scenario_block name.now pay.now defaults.now) }
+    requires { length paid.now ≡ length net.now.debts }
+    ensures block { IfOk result (λ text.
+        text.items ≡ scenario_block name.now (payments_text net.now paid.now) defaults.now) }
     ensures some { IfOk result (λ text. 0 < length text.items) }
 {
-    let mut text = Vec::new(alloc);
+    let mut text = Vec::with_capacity(alloc, payments_room(net) + defaults.len())?;
     push_field(&mut text, b"scenario", b',')?;
     push_field(&mut text, name.bytes(), b'\n')?;
-    text.extend_from_slice(pay)?;
+    push_payments(&mut text, net, paid)?;
     text.extend_from_slice(defaults)?;
     Ok(text)
 }

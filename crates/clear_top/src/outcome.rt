@@ -23,15 +23,22 @@ pub struct Outcome {
 }
 
 impl Outcome {
+    /// Done, with a text and no record. Takes no memory.
+    pub fn of(text: Text) -> Outcome
+        ensures { IsPlain text result }
+    {
+        Outcome {
+            status: Status::Done,
+            sealed: None,
+            text,
+        }
+    }
+
     /// Done, with a text of one piece and no record.
     pub fn plain(alloc: Global, text: Vec<u8>) -> Result<Outcome, Mem>
         ensures { IfOk result (IsPlain text.items) }
     {
-        Ok(Outcome {
-            status: Status::Done,
-            sealed: None,
-            text: Text::of(alloc, text)?,
-        })
+        Ok(Outcome::of(Text::of(alloc, text)?))
     }
 
     /// Done, with a record and a text. Takes no memory.
@@ -96,6 +103,14 @@ impl Text {
     {
         let line = vec![in alloc; b'\n']?;
         self.add(line)
+    }
+
+    /// Adds a piece at the end, with an empty line before it.
+    pub fn add_below(&mut self, alloc: Global, piece: Vec<u8>) -> Result<(), Mem>
+        ensures { OnOk result (self.new ≡ self.old ++ (empty_line ++ piece.items)) }
+    {
+        self.add_line(alloc)?;
+        self.add(piece)
     }
 
     /// Writes the text. At a fault some bytes from its front have been written, but not all, and

@@ -3,11 +3,11 @@ ghost use Rattle.clear_core.specs.Clearing.{least};
 ghost use Rattle.clear_report.specs.Text.{checked_text, payments_text};
 ghost use Rattle.clear_top.specs.Meaning.{IsCompressed, IsPlain, costs_report};
 ghost use Rattle.net_csv.specs.Printing.{banks_text, banks_text_2, debts_text};
-ghost use Rattle.std.specs.Prelude.{◌≡◌, ◌≤◌, IfOk};
+ghost use Rattle.std.specs.Prelude.{◌≤◌, IfOk};
 
-use crate::outcome::Outcome;
+use crate::outcome::{Outcome, Text};
 use clear_least::central;
-use clear_report::{check_text, compress_text, cost_text, pay_text};
+use clear_report::{compress_text, cost_text, pay_text, totals_text};
 use clr_net::{MAX_BANKS, Mem, Network};
 use compress::{Compressed, compress};
 use costs::{cost_standings, least_with_costs};
@@ -19,10 +19,10 @@ pub fn check(alloc: Global, net: &Network) -> Result<Outcome, Mem>
     ensures { IfOk result
         (IsPlain (checked_text net.now (banks_text net.now) (debts_text net.now))) }
 {
-    let banks = print_banks(alloc, net)?;
-    let debts = print_debts(alloc, net)?;
-    let text = check_text(alloc, net, banks.as_slice(), debts.as_slice())?;
-    Outcome::plain(alloc, text)
+    let mut text = Text::of(alloc, totals_text(alloc, net)?)?;
+    text.add_below(alloc, print_banks(alloc, net)?)?;
+    text.add_below(alloc, print_debts(alloc, net)?)?;
+    Ok(Outcome::of(text))
 }
 
 /// The least payments, computed centrally.

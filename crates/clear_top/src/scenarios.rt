@@ -4,14 +4,14 @@ ghost use Rattle.clear_report.specs.Blocks.{scenario_block, stress_text};
 ghost use Rattle.clear_report.specs.Text.{payments_text};
 ghost use Rattle.clear_top.specs.Meaning.{IsPlain, block_of, defaults_report, plan_of};
 ghost use Rattle.settle.specs.Drives.{IsPlan};
-ghost use Rattle.std.specs.Prelude.{◌≡◌, ◌++◌, ◌∷◌, ◌<◌, ◌≤◌, [], All, IfOk, OnOk, length, map};
+ghost use Rattle.std.specs.Prelude.{◌≡◌, ◌++◌, ◌≤◌, All, IfOk, OnOk, length, map};
 ghost use Rattle.std.specs.Thread.{IsSync};
 ghost use Rattle.stress.specs.Shocks.{IsScenarioOf};
 
 use crate::clear::settle_for;
-use crate::outcome::Outcome;
+use crate::outcome::{Outcome, Text};
 use crate::reports::defaults_of;
-use clear_report::{pay_text, scenario_text};
+use clear_report::scenario_text;
 use clear_words::Job;
 use clr_edge::Gate;
 use clr_net::{Mem, Name, Network};
@@ -38,7 +38,7 @@ pub fn report_scenarios<R: Threads + Sync, G: Gate + Sync>(
 {
     let mut all = Vec::new(alloc);
     add_groups(rt, alloc, net, scenarios, job, gate, &mut all)?;
-    Outcome::plain(alloc, stacked(alloc, all.as_slice())?)
+    Ok(Outcome::of(stacked(alloc, all)?))
 }
 
 // Adds the blocks of some scenarios to those before them, a group at a time.
@@ -65,28 +65,19 @@ fn add_groups<R: Threads + Sync, G: Gate + Sync>(
     add_groups(rt, alloc, net, rest, job, gate, all)
 }
 
-// Some blocks in one text, one below the other, with an empty line between each two.
-fn stacked(alloc: Global, all: &[Vec<u8>]) -> Result<Vec<u8>, Mem>
-    ensures { IfOk result (λ text.
-        text.items ≡ stress_text (map (λ block. block.items) all.now)) }
+// A text of which these blocks are the pieces, with an empty line between each two.
+fn stacked(alloc: Global, all: Vec<Vec<u8>>) -> Result<Text, Mem>
+    ensures { IfOk result (λ text. text ≡ stress_text (map (λ block. block.items) all.items)) }
 {
-    let mut text = Vec::new(alloc);
-    for (place, block) in all.iter().enumerate() {
-        separate(&mut text, place)?;
-        text.extend_from_slice(block.as_slice())?;
+    let mut blocks = all.into_iter();
+    let Some(first) = blocks.next() else {
+        return Ok(Text::empty(alloc));
+    };
+    let mut text = Text::of(alloc, first)?;
+    for block in blocks {
+        text.add_below(alloc, block)?;
     }
     Ok(text)
-}
-
-// Adds an empty line to a text, but before its first block.
-fn separate(text: &mut Vec<u8>, place: usize) -> Result<(), Mem>
-    ensures first { OnOk result (place ≡ 0 → text.new.items ≡ text.old.items) }
-    ensures later { OnOk result (0 < place → text.new.items ≡ text.old.items ++ 10 ∷ []) }
-{
-    if place > 0 {
-        text.push(b'\n')?;
-    }
-    Ok(())
 }
 
 // The blocks of some scenarios, which are cleared beside each other: each half of them in a thread
@@ -181,7 +172,6 @@ fn block_text(alloc: Global, left: &Network, name: &Name, paid: &[u64]) -> Resul
     ensures { IfOk result (λ text. text.items ≡ scenario_block name.now
         (payments_text left.now (least left.now)) (defaults_report left.now)) }
 {
-    let payments = pay_text(alloc, left, paid)?;
     let states = defaults_of(alloc, left, paid)?;
-    scenario_text(alloc, name, payments.as_slice(), states.as_slice())
+    scenario_text(alloc, name, left, paid, states.as_slice())
 }

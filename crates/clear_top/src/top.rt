@@ -1,5 +1,5 @@
 //! The top call: a run of the program.
-ghost use Rattle.clear_top.specs.Ending.{IsUsable, JobEnds, RunEnds, asked, shelf_call, sink_call};
+ghost use Rattle.clear_top.specs.Ending.{JobEnds, RunEnds, asked, shelf_call, sink_call};
 ghost use Rattle.clear_top.specs.Message.{message, TakesText};
 ghost use Rattle.clear_top.specs.declared.status.Status.{Status};
 ghost use Rattle.clear_words.specs.Limits.{IsJob};

@@ -102,9 +102,9 @@ fn tasks_on_the_chain(rt: HostRuntime) -> Result<(), Fail> {
     check_all(&rt, rt.alloc(), &cases)
 }
 
-#[test]
-fn journals_are_shown(rt: HostRuntime) -> Result<(), Fail> {
-    let one = &[
+// The words of a clearing by one worker, of which the journal is shown.
+fn by_one_worker<'a>(sweeps: &'a str) -> [&'a str; 11] {
+    [
         "clear",
         "--banks",
         "b.csv",
@@ -113,19 +113,31 @@ fn journals_are_shown(rt: HostRuntime) -> Result<(), Fail> {
         "--workers",
         "1",
         "--sweeps",
-        "1",
+        sweeps,
         "--show",
         "journal",
-    ];
+    ]
+}
+
+#[test]
+fn journals_are_shown(rt: HostRuntime) -> Result<(), Fail> {
+    let (one, seven) = (by_one_worker("1"), by_one_worker("7"));
     let cases = [
         done(CLEAR_BOTH, CHAIN_BANKS, CHAIN_DEBTS, CHAIN_BOTH),
-        // One unit goes round five times.
+        // One unit goes round five times, once in a sweep, and the last round raises nothing.
         done(
-            one,
+            &one,
             RING_BANKS,
             RING_DEBTS,
             "stamp,debtor,creditor,class,to\n1,A,B,1,1\n2,B,A,1,1\n3,A,B,1,2\n4,B,A,1,2\n\
              5,A,B,1,3\n6,B,A,1,3\n7,A,B,1,4\n8,B,A,1,4\n9,A,B,1,5\n10,B,A,1,5\nrounds,6\n",
+        ),
+        done(
+            &seven,
+            RING_BANKS,
+            RING_DEBTS,
+            "stamp,debtor,creditor,class,to\n1,A,B,1,1\n2,B,A,1,1\n3,A,B,1,2\n4,B,A,1,2\n\
+             5,A,B,1,3\n6,B,A,1,3\n7,A,B,1,4\n8,B,A,1,4\n9,A,B,1,5\n10,B,A,1,5\nrounds,2\n",
         ),
         done(
             &[

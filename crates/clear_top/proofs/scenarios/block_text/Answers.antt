@@ -5,14 +5,17 @@ use Rattle.clear_report.specs.Text.{payments_text}
 use Rattle.clear_top.proofs.Runs.{least_places}
 use Rattle.clear_top.proofs.scenarios.block_text.Goals as goal
 
-pub pay_text-requires : goal.pay_text-requires
-pay_text-requires c = ap length c.requires ∙ least_places c.args.left.now
+pub scenario_text-requires : goal.scenario_text-requires
+scenario_text-requires c = ap length c.requires ∙ least_places c.args.left.now
 
 pub returns : goal.returns
 returns c =
     let left = c.args.left.now in
     let name = c.args.name.now in
     let r = c.scenario_text.result in
-    subst (λ d. IfOk r (λ text. text.items ≡ scenario_block name (payments_text left (least left)) d)) (c.as_slice-2.ensures.value ∙ c.in_ok-states.ensures)
-    (subst (λ p. IfOk r (λ text. text.items ≡ scenario_block name p c.as_slice-2.result.now))
-    (c.as_slice.ensures.value ∙ c.in_ok-payments.ensures ∙ ap (payments_text left) c.requires) c.scenario_text.ensures.block)
+    subst (λ d. IfOk r (λ text. text.items
+    ≡ scenario_block name (payments_text left (least left)) d))
+    (c.as_slice.ensures.value ∙ c.in_ok-states.ensures)
+    (subst (λ P. IfOk r (λ text. text.items
+    ≡ scenario_block name (payments_text left P) c.as_slice.result.now)) c.requires
+    c.scenario_text.ensures.block)
