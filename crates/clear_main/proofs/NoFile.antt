@@ -3,6 +3,7 @@ use Rattle.std.proofs.Common.{◌≡◌, refl, Option, None, Some, inr}
 use Rattle.clear_words.specs.declared.job.Job.{Job}
 use Rattle.clear_top.specs.Ending.{RunEnds, ShelfCall, SinkCall}
 use Rattle.clear_top.specs.Message.{message}
+use Rattle.clear_top.specs.declared.status.Ended.{Ended}
 use Rattle.clear_top.specs.declared.status.Status.{Status}
 use Rattle.clear_top.specs.declared.status.Status.TheVariants as status
 
@@ -11,8 +12,7 @@ pub message_of_mem : (ending : Status) → ending ≡ status.Mem → (job : Opti
 message_of_mem ending is_mem job = rw is_mem refl
 
 -- want of memory may end any run in which nothing is written
-pub ends_in_mem : (shelf : ShelfCall) (sink : SinkCall) (job : Option Job) (ending : Status)
-    → ending ≡ status.Mem → sink.new ≡ sink.old
-    → RunEnds shelf sink job (record { status = ending; sealed = None })
-ends_in_mem shelf sink None ending is_mem same = (inr is_mem, (same, refl))
-ends_in_mem shelf sink (Some job) ending is_mem same = rw is_mem (same, refl)
+pub ends_in_mem : (shelf : ShelfCall) (sink : SinkCall) (job : Option Job) (ended : Ended)
+    → ended.status ≡ status.Mem → ended.sealed ≡ None → sink.new ≡ sink.old → RunEnds shelf sink job ended
+ends_in_mem shelf sink None ended is_mem unsealed same = (inr is_mem, (same, unsealed))
+ends_in_mem shelf sink (Some job) ended is_mem unsealed same = rw is_mem (same, unsealed)

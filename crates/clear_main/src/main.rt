@@ -11,20 +11,18 @@ mod start;
 mod std_sink;
 
 use dir_shelf::DirShelf;
-use start::{arguments, refuse, start};
-use std::process::ExitCode;
+use start::{Ending, arguments, refuse, start};
 use std_sink::StdSink;
 
 #[cfg(test)]
 mod tests;
 
-fn main(rt: HostRuntime) -> ExitCode {
+fn main(rt: HostRuntime) -> Ending {
     let mut files = DirShelf::new(&rt);
     let mut out = StdSink::new(rt.stdout());
     let mut err = StdSink::new(rt.stderr());
-    let status = match arguments(&rt) {
-        Ok(args) => start(&rt, &args, &mut files, &mut out, &mut err).status,
+    match arguments(&rt) {
+        Ok(args) => start(&rt, &args, &mut files, &mut out, &mut err),
         Err(fault) => refuse(&mut err, fault.kind()),
-    };
-    ExitCode::from(status.code())
+    }
 }

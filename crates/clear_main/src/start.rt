@@ -1,17 +1,35 @@
 ghost use Rattle.clear_main.specs.Words.{words_of};
 ghost use Rattle.clear_top.specs.Ending.{RunEnds, shelf_call, sink_call};
 ghost use Rattle.clear_top.specs.Message.{message, TakesText};
+ghost use Rattle.clear_top.specs.Status.{code_of};
 ghost use Rattle.clear_top.specs.declared.status.Status.{Status};
 ghost use Rattle.clear_words.specs.Job.{job_of};
 ghost use Rattle.std.specs.Prelude.{◌≡◌, ◌⊎◌, ◌↔◌, IfOk, None, map};
+ghost use Rattle.std.specs.Process.{exit_status};
 
 use clear_top::{Ended, Status, put_text, run};
 use clr_edge::{OpenGate, Shelf, Sink};
 use std::alloc::{AllocError, Global};
 use std::env::Env;
-use std::io::ErrorKind;
+use std::io::{Eprint, ErrorKind};
+use std::process::{ExitCode, Termination};
 use std::thread::Threads;
 use std::{env, io};
+
+/// How the process ends. [`start`] and [`refuse`] alone make one, so that the process ends with the
+/// code of what they answer and with no other.
+#[derive(Drop)]
+pub struct Ending {
+    ended: Ended,
+}
+
+impl Termination for Ending {
+    fn report<R: Eprint>(self, _rt: &R) -> ExitCode
+        ensures { exit_status result ≡ code_of self.ended.status }
+    {
+        ExitCode::from(self.ended.status.code())
+    }
+}
 
 /// The arguments of the process, of which the first is the program's name.
 pub fn arguments<R: Env + AllocGlobal>(rt: &R) -> io::Result<Vec<String>> {
@@ -27,44 +45,53 @@ pub fn start<R: Threads + Sync + AllocGlobal, F: Shelf, O: Sink, E: Sink>(
     files: &mut F,
     out: &mut O,
     err: &mut E,
-) -> Ended
+) -> Ending
     ensures ends { RunEnds
         (shelf_call (F.files files.old) (F.faults files.old) (F.faults files.new))
         (sink_call (O.written out.old) (O.written out.new) (O.faults out.old) (O.faults out.new))
-        (job_of (words_of args.now)) result }
+        (job_of (words_of args.now)) result.ended }
     ensures told { TakesText
         (sink_call (E.written err.old) (E.written err.new) (E.faults err.old) (E.faults err.new))
-        (message result.status (job_of (words_of args.now))) }
-    ensures quiet { result.status ≡ Status.Done → E.written err.new ≡ E.written err.old }
+        (message result.ended.status (job_of (words_of args.now))) }
+    ensures quiet { result.ended.status ≡ Status.Done → E.written err.new ≡ E.written err.old }
 {
     let alloc = rt.alloc();
     match words(alloc, args) {
-        Ok(words) => run(rt, alloc, words.as_slice(), files, out, err, &OpenGate),
-        Err(_) => Ended {
-            status: refuse(err, ErrorKind::OutOfMemory),
-            sealed: None,
+        Ok(words) => Ending {
+            ended: run(rt, alloc, words.as_slice(), files, out, err, &OpenGate),
         },
+        Err(_) => refuse(err, ErrorKind::OutOfMemory),
     }
 }
 
-/// Writes why the words of the command line cannot be collected, and answers the status with which
-/// the program ends: want of memory where that is the cause, and else a command line that is not
-/// understood.
-pub fn refuse<E: Sink>(err: &mut E, cause: ErrorKind) -> Status
-    ensures mem { (result ≡ Status.Mem) ↔ (cause ≡ ErrorKind.OutOfMemory) }
-    ensures usage { (result ≡ Status.Mem) ⊎ (result ≡ Status.Usage) }
+/// Writes why the words of the command line cannot be collected, and answers how the program ends:
+/// for want of memory where that is the cause, and else with a command line that is not understood.
+pub fn refuse<E: Sink>(err: &mut E, cause: ErrorKind) -> Ending
+    ensures mem { (result.ended.status ≡ Status.Mem) ↔ (cause ≡ ErrorKind.OutOfMemory) }
+    ensures usage { (result.ended.status ≡ Status.Mem) ⊎ (result.ended.status ≡ Status.Usage) }
+    ensures unsealed { result.ended.sealed ≡ None }
     ensures told { TakesText
         (sink_call (E.written err.old) (E.written err.new) (E.faults err.old) (E.faults err.new))
-        (message result None) }
+        (message result.ended.status None) }
 {
     match cause {
         ErrorKind::OutOfMemory => {
             put_text(err, "clearing: out of memory\n");
-            Status::Mem
+            Ending {
+                ended: Ended {
+                    status: Status::Mem,
+                    sealed: None,
+                },
+            }
         }
         _ => {
             put_text(err, "clearing: the command line is not understood\n");
-            Status::Usage
+            Ending {
+                ended: Ended {
+                    status: Status::Usage,
+                    sealed: None,
+                },
+            }
         }
     }
 }

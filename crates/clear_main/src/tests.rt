@@ -1,8 +1,8 @@
 use super::*;
-use clear_top::{Ended, Status};
 use clr_edge::{FetchFault, MemShelf, MemSink, Shelf, Sink, SinkFault};
 use std::fs;
 use std::io::ErrorKind;
+use std::process::{ExitCode, Termination};
 use std::test::Fail;
 
 // 10 bytes
@@ -43,13 +43,19 @@ fn words_that_cannot_be_collected_end_the_program_with_a_message(
     rt: HostRuntime,
 ) -> Result<(), Fail> {
     let mut err = MemSink::with_room(rt.alloc(), 100, 100, 0)?;
-    assert_eq!(rt; refuse(&mut err, ErrorKind::InvalidData), Status::Usage);
+    assert_eq!(rt;
+        refuse(&mut err, ErrorKind::InvalidData).report(&rt),
+        ExitCode::from(2)
+    );
     assert_eq!(rt;
         err.written(),
         b"clearing: the command line is not understood\n".as_slice()
     );
     let mut err = MemSink::with_room(rt.alloc(), 100, 100, 0)?;
-    assert_eq!(rt; refuse(&mut err, ErrorKind::OutOfMemory), Status::Mem);
+    assert_eq!(rt;
+        refuse(&mut err, ErrorKind::OutOfMemory).report(&rt),
+        ExitCode::from(6)
+    );
     assert_eq!(rt; err.written(), b"clearing: out of memory\n".as_slice());
     Ok(())
 }
@@ -64,8 +70,8 @@ fn the_name_of_the_program_is_no_word(rt: HostRuntime) -> Result<(), Fail> {
     let mut files = MemShelf::make(alloc);
     let mut out = MemSink::with_room(alloc, 100, 100, 0)?;
     let mut err = MemSink::with_room(alloc, 100, 100, 0)?;
-    let Ended { status, .. } = start(&rt, args.as_slice(), &mut files, &mut out, &mut err);
-    assert_eq!(rt; status.code(), 3);
+    let ending = start(&rt, args.as_slice(), &mut files, &mut out, &mut err);
+    assert_eq!(rt; ending.report(&rt), ExitCode::from(3));
     assert_eq!(rt; err.written(), b"clearing: cannot read b.csv\n".as_slice());
     Ok(())
 }
