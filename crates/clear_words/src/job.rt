@@ -6,8 +6,7 @@ ghost use Rattle.clear_words.specs.Limits.{IsJob};
 ghost use Rattle.clear_words.specs.Options.{all_options, greatest, kind_of};
 ghost use Rattle.std.specs.List.{list_all};
 ghost use Rattle.std.specs.Option.{option_map};
-ghost use Rattle.std.specs.Prelude.{◌≡◌, ◌≤◌, IfOk, IsErrOf, None, Some, codes, false, max};
-ghost use Rattle.std.specs.Prelude.{option_and_then, true};
+ghost use Rattle.std.specs.Prelude.{◌≡◌, ◌≤◌, IfOk, IsErrOf, None, Some, false, max, true};
 
 use crate::command::{TASK, command};
 use crate::fault::WordsFault;

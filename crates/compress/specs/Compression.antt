@@ -1,6 +1,7 @@
 -- What a compression of a network is: debts of one class that run round a cycle of banks are
 -- lowered together, until no cycle is left.
-use Rattle.std.specs.Prelude.{◌≡◌, ℕ, ◌+◌, ◌-◌, ◌*◌, ◌<◌, ◌≤◌, ◌==◌, ◌&&◌, nat_lt, max, Bool, List, [], ◌∷◌, length, map, filter, sum, sum_by, slice_index, All}
+use Rattle.std.specs.Prelude.{◌≡◌, ℕ, ◌+◌, ◌-◌, ◌*◌, ◌<◌, ◌≤◌, ◌==◌, ◌&&◌, nat_lt, max}
+use Rattle.std.specs.Prelude.{Bool, List, [], ◌∷◌, length, map, filter, sum, sum_by, slice_index, All}
 use Rattle.clr_net.specs.declared.TheConstants.{MAX_CLASS}
 use Rattle.clr_net.specs.Amounts.{IsAtMost}
 use Rattle.clr_net.specs.Net.{Net, debtor_of, creditor_of, class_of, debt_numbers, column, units_owed}

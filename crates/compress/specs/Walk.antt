@@ -1,5 +1,6 @@
 -- A walk from a bank back along debts above 0 of one class, and what is known of each bank.
-use Rattle.std.specs.Prelude.{◌≡◌, ◌≢◌, ℕ, ◌+◌, ◌<◌, ◌≤◌, List, [], ◌∷◌, length, map, sum_by, slice_index, slice_index_or}
+use Rattle.std.specs.Prelude.{◌≡◌, ◌≢◌, ℕ, ◌+◌, ◌<◌, ◌≤◌, List, [], ◌∷◌, length, map, sum_by}
+use Rattle.std.specs.Prelude.{slice_index, slice_index_or}
 use Rattle.clr_net.specs.Amounts.{IsAtMost}
 use Rattle.clr_net.specs.Net.{Net, debtor_of, creditor_of, class_of, column, numbers}
 use Rattle.compress.specs.declared.mark.Mark.{Mark}

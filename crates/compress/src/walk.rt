@@ -1,9 +1,10 @@
 ghost use Rattle.clr_net.specs.Limits.{IsNetwork};
 ghost use Rattle.clr_net.specs.Net.{debtor_of, numbers};
-ghost use Rattle.compress.specs.Walk.{HasNoWalk, IsAtRest, IsKept, IsReady, IsSizedFor, IsUnderWay, LeadsOn, end_of as end_of_walk, mark_of, steps_left};
+ghost use Rattle.compress.specs.Walk.{IsAtRest, IsKept, IsReady, IsUnderWay};
+ghost use Rattle.compress.specs.Walk.{LeadsOn, end_of as end_of_walk, mark_of, steps_left};
 ghost use Rattle.compress.specs.declared.mark.Mark.TheVariants.{Done, New};
 ghost use Rattle.std.specs.Bool.{OnFalse, OnTrue};
-ghost use Rattle.std.specs.Prelude.{◌≡◌, ◌<◌, ℕ, [], IfOk, OnOk, length, sum, sum_by};
+ghost use Rattle.std.specs.Prelude.{◌≡◌, ◌<◌, [], IfOk, OnOk, length, sum_by};
 
 use crate::cancel::cancel;
 use crate::mark::Mark;

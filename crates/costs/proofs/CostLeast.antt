@@ -1,6 +1,6 @@
 -- With costs too there are least payments that clear: they are no more where less is kept, and the
 -- old least where all is.
-use Rattle.std.proofs.Common.{◌≡◌, ℕ, zero, suc, ◌≤◌, List, length, sum, refl, sym, ap, ◌∙◌, subst, arith}
+use Rattle.std.proofs.Common.{◌≡◌, ℕ, zero, suc, ◌≤◌, List, length, refl, sym, ap, ◌∙◌, subst, arith}
 use Rattle.std.proofs.lemmas.List.{length-replicate}
 use Rattle.clr_net.specs.Amounts.{IsAtMost}
 use Rattle.clr_net.specs.Net.{Net, units_owed}

@@ -8,12 +8,12 @@ use Rattle.clr_net.specs.Amounts.{IsAtMost}
 use Rattle.clr_net.specs.Limits.{IsNetwork}
 use Rattle.clr_net.specs.Net.{Net, debt_numbers, debtor_of, creditor_of, place_in_row, row, column, units_owed}
 use Rattle.clr_net.proofs.Lists.{sum-le}
-use Rattle.clr_net.proofs.RowsAndColumns.{debt_in_row, row_place, column_place}
+use Rattle.clr_net.proofs.RowsAndColumns.{debt_in_row, column_place}
 use Rattle.clear_core.specs.Buffers.{AreInLimit, HasRoom}
 use Rattle.clear_core.specs.Clearing.{receipts, zeros, least}
 use Rattle.clear_core.proofs.Least.{zeros_le}
 use Rattle.clear_core.proofs.Rows.{claim_in_limit}
-use Rattle.costs.specs.Costs.{cost_division, cost_part, cost_pay, cost_least, CostClears, IsCostLeast}
+use Rattle.costs.specs.Costs.{cost_division, cost_part, cost_pay, cost_least, IsCostLeast}
 use Rattle.costs.specs.Sweeps.{is_marked, IsQuietWithCosts, IsOnCostWay, IsRaised}
 use Rattle.costs.proofs.CostPay.{cost_pay_at, cost_pay_row, cost_pay_mono, cost_pay_within, sum-cost_pay_le, length-cost_pay}
 use Rattle.costs.proofs.CostLeast.{cost_least_is, cost_clears_only_at_least, cost_least_mono, cost_least_all}

@@ -1,9 +1,8 @@
 -- Worked cases of clearing with costs of default.
-use Rattle.std.specs.Prelude.{◌≡◌, ℕ, List, [], ◌∷◌, map, codes, refl}
-use Rattle.clr_net.specs.declared.bank.Bank.{Bank}
+use Rattle.std.specs.Prelude.{◌≡◌, ℕ, [], ◌∷◌, codes, refl}
 use Rattle.clr_net.specs.declared.rule.RuleKind.TheVariants as kind
 use Rattle.clr_net.specs.Net.{Net}
-use Rattle.clr_net.specs.Samples.{bank, debt, chain}
+use Rattle.clr_net.specs.Samples.{debt, chain}
 use Rattle.clr_net.specs.Division.{award, share_from}
 use Rattle.clear_core.specs.Rounds.{rounds_of}
 use Rattle.net_samples.specs.Networks.{ring, ruled}

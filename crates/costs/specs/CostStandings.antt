@@ -1,6 +1,7 @@
 -- How banks stand under payments where default costs: what each has, loses and pays, and what is
 -- left to its owners.
-use Rattle.std.specs.Prelude.{◌≡◌, ℕ, ◌+◌, ◌-◌, ◌<◌, ◌≤◌, nat_le, nat_lt, min, List, map, sum_by, if◌then◌else◌}
+use Rattle.std.specs.Prelude.{◌≡◌, ℕ, ◌+◌, ◌-◌, ◌<◌, ◌≤◌, nat_le, nat_lt, min, List, map, sum_by}
+use Rattle.std.specs.Prelude.{if◌then◌else◌}
 use Rattle.clr_net.specs.Net.{Net, outside_of, all_cash}
 use Rattle.clear_core.specs.Clearing.{estate}
 use Rattle.cascade.specs.declared.standing.Health.{Health}

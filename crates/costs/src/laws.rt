@@ -1,5 +1,5 @@
 //! The laws of clearing with costs of default. A law has nothing to run; its `ensures` is proved.
-ghost use Rattle.clear_core.specs.Clearing.{Clears, least, pay};
+ghost use Rattle.clear_core.specs.Clearing.{least, pay};
 ghost use Rattle.clr_net.specs.Amounts.{IsAtMost};
 ghost use Rattle.clr_net.specs.Limits.{IsNetwork};
 ghost use Rattle.clr_net.specs.Net.{Net};

@@ -1,6 +1,7 @@
 ghost use Rattle.cascade.specs.Standings.{worth as worth_of};
 ghost use Rattle.clr_net.specs.Limits.{IsNetwork};
-ghost use Rattle.costs.specs.CostStandings.{CostAddsUp, PaysFromKept, cost_standing, cost_standings as standings_of, health_at};
+ghost use Rattle.costs.specs.CostStandings.{CostAddsUp, PaysFromKept, cost_standing};
+ghost use Rattle.costs.specs.CostStandings.{cost_standings as standings_of, health_at};
 ghost use Rattle.costs.specs.Costs.{CostClears};
 ghost use Rattle.std.specs.Prelude.{◌≡◌, ◌<◌, ◌≤◌, ℕ, IfOk, OnOk, length};
 

@@ -1,6 +1,7 @@
 -- Worked cases: what documents give beside the chain, where A has 7 and B has 1, and what shocks
 -- leave of it.
-use Rattle.std.specs.Prelude.{◌≡◌, ⊤, ℕ, List, [], ◌∷◌, ◌++◌, codes, map, replicate, refl, Result, Ok, Err, true}
+use Rattle.std.specs.Prelude.{◌≡◌, ⊤, ℕ, List, [], ◌∷◌, ◌++◌, codes, map, replicate, refl}
+use Rattle.std.specs.Prelude.{Result, Ok, Err, true}
 use Rattle.std.specs.Str.{is_utf8, chars}
 use lib.Utf8.{encode}
 use Rattle.toml.proofs.OnLiterals.{toml_on_literals}

@@ -1,5 +1,6 @@
 -- What a scenarios document means: its scenarios in file order, or the first fault.
-use Rattle.std.specs.Prelude.{ℕ, ◌+◌, nat_le, nat_lt, not, List, [], ◌∷◌, ◌++◌, length, position, codes, Option, None, Result, Ok, if◌then◌else◌}
+use Rattle.std.specs.Prelude.{ℕ, ◌+◌, nat_le, nat_lt, not, List, [], ◌∷◌, ◌++◌, length, position}
+use Rattle.std.specs.Prelude.{codes, Option, None, Result, Ok, if◌then◌else◌}
 use Rattle.std.specs.List.{list_any}
 use Rattle.std.specs.Option.{ok_or}
 use Rattle.std.specs.Str.{is_utf8}

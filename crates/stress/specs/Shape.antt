@@ -1,8 +1,11 @@
 -- The shape of a scenarios document: which keys its tables have, and what stands at them.
-use Rattle.std.specs.Prelude.{ℕ, ◌&&◌, nat_le, Bool, true, ℤ, pos, negsuc, List, [], ◌∷◌, codes, Option, Some, None, is_some, option_map, option_and_then, if◌then◌else◌}
+use Rattle.std.specs.Prelude.{ℕ, ◌&&◌, nat_le, Bool, true, ℤ, pos, negsuc, if◌then◌else◌}
+use Rattle.std.specs.Prelude.{List, [], ◌∷◌, codes, Option, Some, None, is_some, option_map}
+use Rattle.std.specs.Prelude.{option_and_then}
 use Rattle.std.specs.List.{list_any}
 use Rattle.std.specs.Str.{bytes_eq}
-use Rattle.toml.specs.Data.{Data, Items, no_items, item, Members, no_members, member, as_str, as_integer, as_array, as_table, get_member}
+use Rattle.toml.specs.Data.{Data, Items, no_items, item, Members, no_members, member, as_str}
+use Rattle.toml.specs.Data.{as_integer, as_array, as_table, get_member}
 
 -- a table has no key but these words
 abbrev pub has_only : List (List ℕ) → Members → Bool

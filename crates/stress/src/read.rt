@@ -3,7 +3,8 @@ ghost use Rattle.net_check.specs.declared.fault.FaultKind.{FaultKind};
 ghost use Rattle.std.specs.Prelude.{◌≡◌, [], Ok, Err, IfOk, IsErrOf};
 ghost use Rattle.std.specs.List.{All};
 ghost use Rattle.stress.specs.Reading.{loss_in, read_all as read_all_of, read_losses as read_losses_of};
-ghost use Rattle.stress.specs.Reading.{scenario_in, scenario_in_row as scenario_in_row_of, scenarios_in, scenarios_of};
+ghost use Rattle.stress.specs.Reading.{scenario_in, scenario_in_row as scenario_in_row_of};
+ghost use Rattle.stress.specs.Reading.{scenarios_in, scenarios_of};
 ghost use Rattle.stress.specs.Shocks.{HasLossesInLimit, IsScenarioOf};
 ghost use Rattle.toml.specs.View.{items_view, table_view, view};
 

@@ -151,7 +151,9 @@ fn other_forms_of_a_document_are_read_alike(rt: HostRuntime) -> Result<(), Fail>
     for document in [
         "[[scenario]]\nname = \"half\"\ncut = 500\n[[scenario.loss]]\nbank = 'A'\namount = 3\n",
         "scenario = [{ cut = 0x1F4, loss = [{ amount = +3, bank = 'A' }], name = 'half' }]",
-        "\u{FEFF}[[ \"scenario\" ]]\r\n'name' = 'nnnnnnnnnnnnnnnnnnnnnnnnnnnnnnnnnnnnnnnnnnnnnnnnnnnnnnnnnnnnnnnn'\r\n\"c\\u0075t\" = 5_00\r\n[[scenario . loss]]\r\namount = 3\r\nbank = \"\\u0041\"",
+        "\u{FEFF}[[ \"scenario\" ]]\r\n\
+         'name' = 'nnnnnnnnnnnnnnnnnnnnnnnnnnnnnnnnnnnnnnnnnnnnnnnnnnnnnnnnnnnnnnnn'\r\n\
+         \"c\\u0075t\" = 5_00\r\n[[scenario . loss]]\r\namount = 3\r\nbank = \"\\u0041\"",
     ] {
         let all = read_scenarios(alloc, &net, document.as_bytes())?;
         assert_eq!(rt; all.len(), 1, "at {document}");

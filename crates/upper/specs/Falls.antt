@@ -1,5 +1,6 @@
 -- By how much the receipts of banks fell, and which banks were hit by that.
-use Rattle.std.specs.Prelude.{ℕ, ◌+◌, ◌<◌, ◌≤◌, ◌==◌, Bool, List, length, slice_index, slice_index_or, sum_by, if◌then◌else◌, IsTrue}
+use Rattle.std.specs.Prelude.{ℕ, ◌+◌, ◌<◌, ◌≤◌, ◌==◌, Bool, List, length, slice_index}
+use Rattle.std.specs.Prelude.{slice_index_or, sum_by, if◌then◌else◌, IsTrue}
 use Rattle.std.specs.List.{list_any}
 use Rattle.clr_net.specs.declared.debt.BankId.{BankId}
 

@@ -1,4 +1,3 @@
-ghost use Rattle.clr_net.specs.Limits.{IsNetwork};
 ghost use Rattle.std.specs.Prelude.{◌≡◌, ◌+◌, ◌^◌, ◌<◌, IfOk, length, replicate, slice_index, slice_set};
 ghost use Rattle.upper.specs.Falls.{AreHit};
 

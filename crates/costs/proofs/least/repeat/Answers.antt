@@ -1,6 +1,6 @@
 use Rattle.std.proofs.Common.{arith}
 use Rattle.std.proofs.lemmas.Bool.{OnTrue_at}
-use Rattle.costs.proofs.Sweeping.{way_begins, way_within_owed}
+use Rattle.costs.proofs.Sweeping.{way_within_owed}
 use Rattle.costs.proofs.least.repeat.Goals as goal
 
 pub loop-smaller : goal.loop-smaller

@@ -1,5 +1,6 @@
-use Rattle.std.proofs.Common.{◌+◌, length, get_or, refl, sym, ap, ◌∙◌, subst, replicate, arith, eq-eqb}
+use Rattle.std.proofs.Common.{◌≡◌, ◌+◌, length, get_or, refl, sym, ap, ◌∙◌, subst, replicate, arith, eq-eqb}
 use Rattle.std.proofs.lemmas.Bool.{true≢false, eqb-true}
+use Rattle.upper.specs.Bounds.{greatest, waves}
 use Rattle.upper.proofs.Descents.{down_in_limit, down_falls}
 use Rattle.upper.proofs.Reached.{IsReached, reached_first, reached_less, reached_more, reached_ends}
 use Rattle.upper.proofs.descent.descend.Goals as goal
@@ -31,27 +32,24 @@ take_over-requires-clause-lower c k = omega (
       k,
 )
 
-pub returns-then-is_empty-clause-paid : goal.returns-then-is_empty-clause-paid
-returns-then-is_empty-clause-paid c =
-    (reached_ends c.args.net.now c.loop-round.round c.loop-round.paid c.take_over.new.paid
+-- where no bank is left, the payments are the greatest, and the waves theirs
+at_end : (c : goal.Then-is_empty) → (c.take_over.new.paid ≡ greatest c.args.net.now)
+    × (c.mark_short.new.waves ≡ waves c.args.net.now)
+at_end c =
+    reached_ends c.args.net.now c.loop-round.round c.loop-round.paid c.take_over.new.paid
     c.loop-round.next c.loop-round.last
     c.loop-round.falls c.take_over.new.falls c.loop-round.waves c.mark_short.new.waves
     c.banks.result.now
     c.loop-round.invariant.reached c.mark_short.ensures
     (c.take_over.ensures.paid ∙ c.pay_round.ensures.next)
     c.take_over.ensures.falls c.banks.ensures
-    (eqb-true (length c.banks.result.now) 0 (sym c.is_empty.ensures ∙ c.if-is_empty.true))).0
+    (eqb-true (length c.banks.result.now) 0 (sym c.is_empty.ensures ∙ c.if-is_empty.true))
+
+pub returns-then-is_empty-clause-paid : goal.returns-then-is_empty-clause-paid
+returns-then-is_empty-clause-paid c = (at_end c).0
 
 pub returns-then-is_empty-clause-waves : goal.returns-then-is_empty-clause-waves
-returns-then-is_empty-clause-waves c =
-    (reached_ends c.args.net.now c.loop-round.round c.loop-round.paid c.take_over.new.paid
-    c.loop-round.next c.loop-round.last
-    c.loop-round.falls c.take_over.new.falls c.loop-round.waves c.mark_short.new.waves
-    c.banks.result.now
-    c.loop-round.invariant.reached c.mark_short.ensures
-    (c.take_over.ensures.paid ∙ c.pay_round.ensures.next)
-    c.take_over.ensures.falls c.banks.ensures
-    (eqb-true (length c.banks.result.now) 0 (sym c.is_empty.ensures ∙ c.if-is_empty.true))).1
+returns-then-is_empty-clause-waves c = (at_end c).1
 
 pub loop-round-smaller : goal.loop-round-smaller
 loop-round-smaller c =
