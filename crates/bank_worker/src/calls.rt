@@ -1,9 +1,12 @@
-ghost use Rattle.std.specs.Prelude.{◌≡◌, ◌<◌, ◌≤◌, IfSome, IsNone, true};
+ghost use Rattle.std.specs.Prelude.{◌≡◌, ◌≤◌, true};
 
 use clr_net::MAX_BANKS;
 
 // As many words of 64 bits as are needed for all banks.
 const WORDS: usize = MAX_BANKS as usize / 64 + 1;
+
+// A place past all desks.
+const NONE: usize = WORDS * 64;
 
 // The desks whose bells a worker rang itself and has not taken since: a bit for each desk.
 //
@@ -31,13 +34,20 @@ impl Calls {
         self.words = [0; WORDS];
     }
 
-    // Calls the desk of a bank that was rung, where it is a bank of the worker.
+    // Calls the desk of a bank that was rung, where it is a bank of the worker. Of one worker the
+    // desks are in the places of their banks, which saves it a division.
     pub(crate) fn call(&mut self, bank: u32) {
-        if self.workers != 0 && bank % self.workers == self.worker {
-            let place = (bank / self.workers) as usize;
-            if let Some(word) = self.words.get_mut(place / 64) {
-                *word |= 1 << (place % 64);
-            }
+        if self.workers <= 1 {
+            self.note(bank as usize);
+        } else if bank % self.workers == self.worker {
+            self.note((bank / self.workers) as usize);
+        }
+    }
+
+    // Notes the call of the desk in this place.
+    fn note(&mut self, place: usize) {
+        if let Some(word) = self.words.get_mut(place / 64) {
+            *word |= 1 << (place % 64);
         }
     }
 
@@ -50,33 +60,31 @@ impl Calls {
 
     // Whether no desk is called.
     pub(crate) fn is_empty(&self) -> bool {
-        self.first(0).is_none()
+        self.first(0) == NONE
     }
 
-    // The next of so many desks, from this place on, in a sweep over all or over the called alone.
-    pub(crate) fn next(&self, whole: bool, from: usize, desks: usize) -> Option<usize>
-        ensures ahead { IfSome result (λ place. (from ≤ place) × (place < desks)) }
-        ensures all { IfSome result (λ place. whole ≡ true → place ≡ from) }
-        ensures to_the_end { IsNone result → whole ≡ true → desks ≤ from }
+    // The next place from this one on, in a sweep over all desks or over the called alone.
+    pub(crate) fn next(&self, whole: bool, from: usize) -> usize
+        ensures ahead { from ≤ result }
+        ensures all { whole ≡ true → result ≡ from }
     {
-        let place = if whole { from } else { self.first(from)? };
-        if from <= place && place < desks {
-            Some(place)
+        if whole {
+            from
         } else {
-            None
+            self.first(from).max(from)
         }
     }
 
-    // The first called desk from this place on.
-    fn first(&self, from: usize) -> Option<usize> {
+    // The first called desk from this place on, or a place past all desks.
+    fn first(&self, from: usize) -> usize {
         let mut mask = u64::MAX << (from % 64);
         for index in from / 64..WORDS {
             let word = self.words[index] & mask;
             if word != 0 {
-                return Some(index * 64 + word.trailing_zeros() as usize);
+                return index * 64 + word.trailing_zeros() as usize;
             }
             mask = u64::MAX;
         }
-        None
+        NONE
     }
 }

@@ -219,17 +219,17 @@ fn a_worker_calls_the_desks_of_its_own_banks(rt: HostRuntime) -> Result<(), Fail
     for bank in [301, 5, 4] {
         calls.call(bank);
     }
-    assert_eq!(rt;
-        (calls.next(false, 0, 200), calls.next(false, 2, 200)),
-        (Some(1), Some(100))
-    );
-    assert_eq!(rt; calls.next(true, 0, 200), Some(0));
+    assert_eq!(rt; (calls.next(false, 0), calls.next(false, 2)), (1, 100));
+    assert_eq!(rt; calls.next(true, 0), 0);
     calls.end(1);
-    assert_eq!(rt;
-        (calls.next(false, 0, 200), calls.next(false, 0, 100)),
-        (Some(100), None)
-    );
+    assert_eq!(rt; calls.next(false, 0), 100);
+    // There is no desk after it.
+    assert!(rt; calls.next(false, 101) >= 1_000);
     calls.end(100);
     assert!(rt; calls.is_empty());
+    // Of the only worker each bank is at the desk of its number.
+    let mut all = Calls::none(0, 1);
+    all.call(301);
+    assert_eq!(rt; all.next(false, 0), 301);
     Ok(())
 }

@@ -1,4 +1,3 @@
-ghost use Rattle.bank_worker.specs.Raises.{debts_of};
 ghost use Rattle.bank_worker.specs.Rings.{AreMarksBelow, AreMarksUpTo, creditors_of};
 ghost use Rattle.bank_worker.specs.Offices.{IsOfficeFor};
 ghost use Rattle.bank_worker.specs.Views.{desk_at, desks_held, banks_held};
@@ -11,9 +10,8 @@ ghost use Rattle.clr_net.specs.Limits.{IsNetwork};
 ghost use Rattle.clr_net.specs.declared.TheConstants.{MAX_BANKS, MAX_OWED};
 ghost use Rattle.pay_words.specs.Views.{HasSeenFloor, IsAt, IsCalm, OwesNoRing, holds, is_marked};
 ghost use Rattle.pay_words.specs.Views.{is_of_worker, took};
-ghost use Rattle.std.specs.List.{range_with_len};
 ghost use Rattle.std.specs.Prelude.{◌≡◌, ◌+◌, ◌*◌, ◌^◌, ◌<◌, ◌≤◌, ℕ, [], IfErr, IfOk, false};
-ghost use Rattle.std.specs.Prelude.{filter, if◌then◌else◌, length, map, replicate, true};
+ghost use Rattle.std.specs.Prelude.{if◌then◌else◌, length, true};
 ghost use Rattle.std.specs.Prelude.{vec_capacity, vec_len};
 
 use crate::calls::Calls;
@@ -301,7 +299,11 @@ impl Worker {
         let desks = self.desks();
         let mut units = 0;
         let mut from = 0;
-        while let Some(place) = self.calls.next(whole, from, desks) {
+        'sweep: loop {
+            let place = self.calls.next(whole, from);
+            if place >= desks {
+                return Visit::Raised(units);
+            }
             if self.take(board, place) {
                 match self.visit(board, place, gate) {
                     Visit::Raised(more) => units += more,
@@ -310,7 +312,6 @@ impl Worker {
             }
             from = place + 1;
         }
-        Visit::Raised(units)
     }
 
     // Takes the bell of a desk's bank, and answers whether it was up.
@@ -375,7 +376,7 @@ fn visit_bank(
     ensures no_rings { OwesNoRing seat.new.shows }
     ensures few { result ≤ MAX_OWED }
     ensures marks { AreMarksUpTo visit marks.new }
-    ensures room { vec_capacity targets.new ≡ vec_capacity targets.old }
+    ensures room { vec_capacity targets.old ≤ vec_capacity targets.new }
 {
     let _clock = seat.clock();
     let received = look_at_all(board, seat, desk.debts_in());
@@ -394,7 +395,7 @@ fn lay_out(desk: &Desk, received: u64, targets: &mut Vec<u64>)
     requires received { received ≤ MAX_OWED }
     requires room { length desk.now.debts_out ≤ vec_capacity targets.old }
     ensures targets { targets.new.items ≡ target desk.now received }
-    ensures room { vec_capacity targets.new ≡ vec_capacity targets.old }
+    ensures room { vec_capacity targets.old ≤ vec_capacity targets.new }
 {
     blank(targets, desk.debts_out().len());
     desk.target(received, targets.as_mut_slice());
@@ -404,10 +405,10 @@ fn lay_out(desk: &Desk, received: u64, targets: &mut Vec<u64>)
 fn blank(targets: &mut Vec<u64>, places: usize)
     requires { places ≤ vec_capacity targets.old }
     ensures places { vec_len targets.new ≡ places }
-    ensures room { vec_capacity targets.new ≡ vec_capacity targets.old }
+    ensures room { vec_capacity targets.old ≤ vec_capacity targets.new }
 {
     targets.clear();
-    for _ in 0..places {
-        targets.push_reserved(0);
-    }
+    let Ok(()) = targets.resize(places, 0) else {
+        unreachable!()
+    };
 }

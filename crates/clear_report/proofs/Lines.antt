@@ -4,7 +4,6 @@ use Rattle.std.specs.Prelude.{slice_get}
 use Rattle.std.specs.List.{flat_map, join_with_byte, range_with_len}
 use Rattle.std.specs.Option.{option_map_or}
 use Rattle.std.proofs.lemmas.List.{flat_map_more, map-id}
-use Rattle.std.proofs.lemmas.List.Concat.{flat_map-append}
 use Rattle.std.proofs.lemmas.List.FromFn.{map-range_with_len_more}
 use Rattle.clr_net.specs.Lines.{line}
 use Rattle.clear_report.specs.Words.{with_commas}
@@ -53,18 +52,11 @@ line_is first (next ∷ fields) last =
     ∙ line_is next fields last)
     ∙ sym (append_assoc first (44 ∷ join_with_byte 44 (next ∷ (fields ++ last ∷ []))) (10 ∷ []))
 
--- fields of a line in two parts
-pub line_in_parts : (first : List ℕ) (fields more : List (List ℕ)) (last : List ℕ)
-    → with_commas (first ∷ fields) ++ (with_commas more ++ (last ++ 10 ∷ []))
-    ≡ line (first ∷ (fields ++ (more ++ last ∷ [])))
-line_in_parts first fields more last =
-    append_assoc (first ++ 44 ∷ []) (with_commas fields) (with_commas more ++ (last ++ 10 ∷ []))
-    ∙ ap (λ (t : List ℕ). (first ++ 44 ∷ []) ++ t)
-    (sym (append_assoc (with_commas fields) (with_commas more) (last ++ 10 ∷ []))
-    ∙ ap (λ (t : List ℕ). t ++ (last ++ 10 ∷ []))
-    (sym (flat_map-append (λ (f : List ℕ). f ++ 44 ∷ []) fields more)))
-    ∙ line_is first (fields ++ more) last
-    ∙ ap (λ (fs : List (List ℕ)). line (first ∷ fs)) (append_assoc fields more (last ∷ []))
+-- the beginning of a line, and its last field
+pub line_by_head : (first : List ℕ) (fields : List (List ℕ)) (last : List ℕ)
+    → with_commas (first ∷ fields) ++ (last ++ 10 ∷ []) ≡ line (first ∷ (fields ++ last ∷ []))
+line_by_head first fields last =
+    append_assoc (first ++ 44 ∷ []) (with_commas fields) (last ++ 10 ∷ []) ∙ line_is first fields last
 
 -- two pieces appended one after the other
 pub two_pieces : (t₀ t₁ t₂ a b : List ℕ) → t₁ ≡ t₀ ++ a → t₂ ≡ t₁ ++ b → t₂ ≡ t₀ ++ (a ++ b)

@@ -6,10 +6,11 @@ ghost use Rattle.clr_net.specs.Net.{name_of};
 ghost use Rattle.std.specs.List.{flat_map};
 ghost use Rattle.std.specs.Prelude.{◌≡◌, ◌++◌, ◌<◌, length, IfOk, OnOk};
 
-use crate::line::{push_below, push_debt, push_field, push_name, push_number, yes_or_no};
+use crate::line::{push_below, push_debt, push_name, yes_or_no};
 use crate::sums::is_default;
 use cascade::Standing;
 use clr_net::{BankId, DebtId, Mem, Network};
+use net_csv::line::{Line, push_field, push_number};
 use std::alloc::Global;
 
 /// The text of the least and of the greatest payments that clear: a table of the debts, in file
@@ -53,8 +54,9 @@ fn debts_table(
     ensures { IfOk result (λ text. text.items ≡ debts_table_of net.now least.now greatest.now) }
 {
     let mut text = Vec::from_slice(alloc, b"debtor,creditor,class,claim,least,greatest\n")?;
+    let mut line = Line::empty();
     for x in 0..net.debts() {
-        push_bounds(&mut text, net, least, greatest, DebtId(x))?;
+        push_bounds(&mut text, &mut line, net, least, greatest, DebtId(x))?;
     }
     Ok(text)
 }
@@ -62,6 +64,7 @@ fn debts_table(
 // Appends the line of a debt.
 fn push_bounds(
     text: &mut Vec<u8>,
+    line: &mut Line,
     net: &Network,
     least: &[u64],
     greatest: &[u64],
@@ -76,7 +79,10 @@ fn push_bounds(
 {
     let claim = net.debt(id).claim;
     let place = id.0 as usize;
-    push_debt(text, net, id, &[claim, least[place]], greatest[place])
+    line.begin(greatest[place]);
+    line.add_number(least[place]);
+    line.add_number(claim);
+    push_debt(text, line, net, id)
 }
 
 // Appends a line for each bank, in file order.

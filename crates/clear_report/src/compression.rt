@@ -8,8 +8,9 @@ ghost use Rattle.clr_net.specs.declared.TheConstants.{MAX_CLASS};
 ghost use Rattle.std.specs.List.{flat_map, range_with_len};
 ghost use Rattle.std.specs.Prelude.{◌≡◌, ◌++◌, ◌*◌, ◌<◌, ◌≤◌, length, IfOk, OnOk};
 
-use crate::line::{push_below, push_debt, push_name, push_number, push_number_line};
+use crate::line::{push_below, push_debt, push_name, push_number_line};
 use clr_net::{BankId, DebtId, MAX_CLASS, Mem, Network};
+use net_csv::line::{Line, push_number};
 use std::alloc::Global;
 
 /// The text of claims that were compressed: the debts file with these claims, and below it, after
@@ -43,20 +44,28 @@ fn claims_file(alloc: Global, net: &Network, claims: &[u64]) -> Result<Vec<u8>, 
     ensures { IfOk result (λ text. text.items ≡ claims_text net.now claims.now) }
 {
     let mut text = Vec::from_slice(alloc, b"debtor,creditor,class,claim\n")?;
+    let mut line = Line::empty();
     for x in 0..net.debts() {
-        push_claim(&mut text, net, claims, DebtId(x))?;
+        push_claim(&mut text, &mut line, net, claims, DebtId(x))?;
     }
     Ok(text)
 }
 
 // Appends the line of a debt.
-fn push_claim(text: &mut Vec<u8>, net: &Network, claims: &[u64], id: DebtId) -> Result<(), Mem>
+fn push_claim(
+    text: &mut Vec<u8>,
+    line: &mut Line,
+    net: &Network,
+    claims: &[u64],
+    id: DebtId,
+) -> Result<(), Mem>
     requires network { IsNetwork net.now }
     requires in_range { id.0 < length net.now.debts }
     requires each_claim { length claims.now ≡ length net.now.debts }
     ensures { OnOk result (text.new.items ≡ text.old.items ++ claim_line net.now claims.now id.0) }
 {
-    push_debt(text, net, id, &[], claims[id.0 as usize])
+    line.begin(claims[id.0 as usize]);
+    push_debt(text, line, net, id)
 }
 
 // Appends the ranks, class by class.

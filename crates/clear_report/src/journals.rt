@@ -4,11 +4,12 @@ ghost use Rattle.clr_net.specs.Lines.{line};
 ghost use Rattle.std.specs.Fmt.{decimal};
 ghost use Rattle.std.specs.Prelude.{◌≡◌, ◌<◌, ◌++◌, ◌∷◌, [], All, IfOk, OnOk, length};
 
-use crate::line::{push_below, push_field, push_name, push_number_line, push_row};
-use crate::payments::pay_text;
+use crate::line::{push_name, push_number_line, push_row};
+use crate::payments::push_payments_below;
 use clear_core::Raise;
 use clr_net::{Mem, Network};
 use itoa::Buffer;
+use net_csv::line::push_field;
 use raise_journal::{Verdict, print_journal};
 use std::alloc::Global;
 
@@ -65,7 +66,7 @@ pub fn lawful_text(alloc: Global, net: &Network, raises: u64, paid: &[u64]) -> R
     ensures { IfOk result (λ text. text.items ≡ lawful_and_payments net.now raises paid.now) }
 {
     let mut text = verdict_text(alloc, net, raises, Verdict::Lawful)?;
-    push_below(&mut text, &pay_text(alloc, net, paid)?)?;
+    push_payments_below(&mut text, net, paid)?;
     Ok(text)
 }
 

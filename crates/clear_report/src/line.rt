@@ -5,28 +5,12 @@ ghost use Rattle.clear_report.specs.Words.{yes_or_no as word_of_test};
 ghost use Rattle.clr_net.specs.Limits.{IsNetwork};
 ghost use Rattle.clr_net.specs.Lines.{line};
 ghost use Rattle.clr_net.specs.Net.{name_of};
-ghost use Rattle.std.specs.Fmt.{decimal};
-ghost use Rattle.std.specs.Prelude.{◌≡◌, ◌<◌, ◌++◌, ◌∷◌, [], OnOk, length, map};
+ghost use Rattle.std.specs.Prelude.{◌≡◌, ◌<◌, ◌≤◌, ◌++◌, ◌∷◌, [], OnOk, length, map};
 
 use cascade::Health;
 use clr_net::{BankId, DebtId, Mem, Network};
-use itoa::{Buffer, Integer};
-
-// Appends a field and the byte that ends it.
-pub fn push_field(text: &mut Vec<u8>, field: &[u8], end: u8) -> Result<(), Mem>
-    ensures { OnOk result (text.new.items ≡ text.old.items ++ (field.now ++ end ∷ [])) }
-{
-    text.extend_from_slice(field)?;
-    text.push(end)?;
-    Ok(())
-}
-
-// Appends a number in decimal digits and the byte that ends it.
-pub fn push_number<I: Integer>(text: &mut Vec<u8>, number: I, end: u8) -> Result<(), Mem>
-    ensures { OnOk result (text.new.items ≡ text.old.items ++ (I.text number ++ end ∷ [])) }
-{
-    push_field(text, Buffer::new().format(number).as_bytes(), end)
-}
+use itoa::Integer;
+use net_csv::line::{Line, push_field, push_number};
 
 // Appends numbers, each in decimal digits with a comma after it.
 fn push_numbers<I: Integer>(text: &mut Vec<u8>, numbers: &[I]) -> Result<(), Mem>
@@ -80,35 +64,20 @@ pub fn name(net: &Network, bank: BankId) -> &[u8]
     net.bank(bank).name.bytes()
 }
 
-// Appends the line of a debt: its debtor, creditor and class, some numbers and a last number.
-pub fn push_debt(
-    text: &mut Vec<u8>,
-    net: &Network,
-    id: DebtId,
-    numbers: &[u64],
-    last: u64,
-) -> Result<(), Mem>
+// Appends a line of a debt: its debtor, creditor and class, and then the fields of this line.
+pub fn push_debt(text: &mut Vec<u8>, line: &mut Line, net: &Network, id: DebtId) -> Result<(), Mem>
     requires network { IsNetwork net.now }
     requires in_range { id.0 < length net.now.debts }
-    ensures { OnOk result (text.new.items ≡ text.old.items
-        ++ line (debt_fields net.now id.0 ++ map decimal numbers.now ++ decimal last ∷ [])) }
-{
-    push_debt_fields(text, net, id)?;
-    push_numbers(text, numbers)?;
-    push_number(text, last, b'\n')
-}
-
-// Appends the fields that say which debt a debt is, each with a comma after it.
-fn push_debt_fields(text: &mut Vec<u8>, net: &Network, id: DebtId) -> Result<(), Mem>
-    requires network { IsNetwork net.now }
-    requires in_range { id.0 < length net.now.debts }
-    ensures { OnOk result
-        (text.new.items ≡ text.old.items ++ with_commas (debt_fields net.now id.0)) }
+    requires room { length line.old ≤ 63 }
+    ensures { OnOk result (text.new.items
+        ≡ text.old.items ++ (with_commas (debt_fields net.now id.0) ++ line.old)) }
 {
     let debt = net.debt(id);
-    push_name(text, net, debt.debtor, b',')?;
-    push_name(text, net, debt.creditor, b',')?;
-    push_number(text, debt.class, b',')
+    line.add_number(u64::from(debt.class));
+    line.add_name(&net.bank(debt.creditor).name);
+    line.add_name(&net.bank(debt.debtor).name);
+    text.extend_from_slice(line.bytes())?;
+    Ok(())
 }
 
 // Appends another text, with an empty line before it.

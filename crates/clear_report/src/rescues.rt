@@ -1,9 +1,10 @@
 ghost use Rattle.clear_report.specs.Rescues.{rescue_lines, rescued_text};
 ghost use Rattle.std.specs.Prelude.{◌≡◌, ◌++◌, ◌<◌, IfOk, OnOk, length};
 
-use crate::line::{push_below, push_field, push_name, push_number, push_number_line};
-use crate::payments::pay_text;
+use crate::line::{push_name, push_number_line};
+use crate::payments::push_payments_below;
 use clr_net::{BankId, Mem, Network};
+use net_csv::line::{push_field, push_number};
 use rescue::Rescued;
 use std::alloc::Global;
 
@@ -26,7 +27,7 @@ pub fn rescue_text(
 {
     let mut text = Vec::new(alloc);
     push_rescue(&mut text, net, bank, found)?;
-    push_below(&mut text, &pay_text(alloc, net, paid)?)?;
+    push_payments_below(&mut text, net, paid)?;
     Ok(text)
 }
 

@@ -8,3 +8,4 @@ pub mod Rescuing
 pub mod Writing
 pub mod Shocked
 pub mod Made
+pub mod Begun

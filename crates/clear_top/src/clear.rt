@@ -15,7 +15,26 @@ use settle::{Plan, Settled, settle};
 use std::alloc::Global;
 use std::thread::Threads;
 
-/// Clears a network by the workers and sweeps of a job. `Mem` is want of memory.
+/// Clears a network by the workers and sweeps of a job. The network goes into the record. `Mem` is
+/// want of memory.
+pub fn settle_own<R: Threads + Sync, G: Gate + Sync>(
+    rt: &R,
+    alloc: Global,
+    net: Network,
+    job: &Job,
+    gate: &G,
+) -> Result<Settled, Mem>
+    requires plan { IsPlan (plan_of job.now) }
+    ensures paid { IfOk result (λ s. s.paid ≡ least net) }
+    ensures record_is { IfOk result (λ s. IsRecordOf net (plan_of job.now) s.rounds s.sealed) }
+    ensures run { IfOk result (λ s. IsRun net s.sealed.journal s.rounds) }
+    ensures can_go_on { IfOk result (λ s. CanGoOn net s.sealed.journal) }
+{
+    prove!(net.banks() <= MAX_BANKS);
+    settle(rt, alloc, net, plan_of(job), gate)
+}
+
+/// Clears a copy of a network that is still needed.
 pub fn settle_for<R: Threads + Sync, G: Gate + Sync>(
     rt: &R,
     alloc: Global,
@@ -30,8 +49,7 @@ pub fn settle_for<R: Threads + Sync, G: Gate + Sync>(
     ensures run { IfOk result (λ s. IsRun net.now s.sealed.journal s.rounds) }
     ensures can_go_on { IfOk result (λ s. CanGoOn net.now s.sealed.journal) }
 {
-    prove!(net.banks() <= MAX_BANKS);
-    settle(rt, alloc, net, plan_of(job), gate)
+    settle_own(rt, alloc, net.copy(alloc)?, job, gate)
 }
 
 /// The workers and sweeps of a job.
@@ -48,22 +66,22 @@ pub fn plan_of(job: &Job) -> Plan
 pub fn clear<R: Threads + Sync, G: Gate + Sync>(
     rt: &R,
     alloc: Global,
-    net: &Network,
+    net: Network,
     job: &Job,
     gate: &G,
 ) -> Result<Outcome, Mem>
     requires plan { IsPlan (plan_of job.now) }
-    ensures { IfOk result (Settles net.now job.now (clear_text job.now.show net.now)) }
+    ensures { IfOk result (Settles net job.now (clear_text job.now.show net)) }
 {
     let Settled {
         paid,
         sealed,
         rounds,
         ..
-    } = settle_for(rt, alloc, net, job, gate)?;
+    } = settle_own(rt, alloc, net, job, gate)?;
     let text = shown(
         alloc,
-        net,
+        sealed.net(),
         job.show,
         paid.as_slice(),
         sealed.journal(),

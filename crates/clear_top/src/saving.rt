@@ -35,14 +35,7 @@ pub fn save<R: Threads + Sync, G: Gate + Sync>(
     let before = settle_for(rt, alloc, net, job, gate)?;
     let found = rescue(alloc, net, bank, before.paid.as_slice())?;
     let saved = added(alloc, net, bank, found.added)?;
-    let Settled { paid, sealed, .. } = go_on(
-        rt,
-        alloc,
-        &saved,
-        job,
-        before.sealed.journal(),
-        gate,
-    )?;
+    let Settled { paid, sealed, .. } = go_on(rt, alloc, saved, job, before.sealed.journal(), gate)?;
     let text = rescue_text(alloc, net, bank, &found, paid.as_slice())?;
     Ok(Outcome::with_record(sealed, Text::of(alloc, text)?))
 }
@@ -51,17 +44,17 @@ pub fn save<R: Threads + Sync, G: Gate + Sync>(
 fn go_on<R: Threads + Sync, G: Gate + Sync>(
     rt: &R,
     alloc: Global,
-    net: &Network,
+    net: Network,
     job: &Job,
     past: &[Raise],
     gate: &G,
 ) -> Result<Settled, Mem>
     requires plan { IsPlan (plan_of job.now) }
-    requires past { CanGoOn net.now past.now }
-    ensures paid { IfOk result (λ s. s.paid ≡ least net.now) }
+    requires past { CanGoOn net past.now }
+    ensures paid { IfOk result (λ s. s.paid ≡ least net) }
     ensures record_is { IfOk result (λ s.
-        IsRecordAfter net.now past.now (plan_of job.now) s.rounds s.sealed) }
-    ensures run { IfOk result (λ s. IsRun net.now s.sealed.journal s.rounds) }
+        IsRecordAfter net past.now (plan_of job.now) s.rounds s.sealed) }
+    ensures run { IfOk result (λ s. IsRun net s.sealed.journal s.rounds) }
 {
     prove!(net.banks() <= MAX_BANKS);
     settle_from(rt, alloc, net, plan_of(job), past, gate)

@@ -1,27 +1,27 @@
 //! Stress scenarios, cleared four at once.
 ghost use Rattle.clear_core.specs.Clearing.{least};
 ghost use Rattle.clear_report.specs.Blocks.{scenario_block, stress_text};
-ghost use Rattle.clear_report.specs.Text.{payments_text};
+ghost use Rattle.clear_report.specs.Text.{AreHeadsOf, payments_text};
 ghost use Rattle.clear_top.specs.Meaning.{IsPlain, block_of, defaults_report, plan_of};
 ghost use Rattle.settle.specs.Drives.{IsPlan};
-ghost use Rattle.std.specs.Prelude.{◌≡◌, ◌++◌, ◌≤◌, All, IfOk, OnOk, length, map};
+ghost use Rattle.std.specs.Prelude.{◌≡◌, ◌++◌, ◌≤◌, All, IfOk, length, map};
 ghost use Rattle.std.specs.Thread.{IsSync};
-ghost use Rattle.stress.specs.Shocks.{IsScenarioOf};
+ghost use Rattle.stress.specs.Shocks.{IsOfOtherCash, IsScenarioOf};
 
-use crate::clear::settle_for;
+use crate::clear::settle_own;
 use crate::outcome::{Outcome, Text};
 use crate::reports::defaults_of;
-use clear_report::scenario_text;
+use clear_report::{line_heads, scenario_text};
 use clear_words::Job;
 use clr_edge::Gate;
 use clr_net::{Mem, Name, Network};
 use settle::Settled;
 use std::alloc::Global;
 use std::thread::{Threads, join};
-use stress::{Scenario, shocked};
+use stress::{Scenario, shock_again};
 
-// How many scenarios are cleared at once.
-const GROUP: usize = 4;
+// How many threads clear scenarios side by side, each its share of them in turn.
+const THREADS: usize = 4;
 
 /// Clears the network that each scenario leaves, four at once, and reports on each in file order.
 pub fn report_scenarios<R: Threads + Sync, G: Gate + Sync>(
@@ -36,33 +36,18 @@ pub fn report_scenarios<R: Threads + Sync, G: Gate + Sync>(
     requires scenarios { All (IsScenarioOf net.now) scenarios.now }
     ensures { IfOk result (IsPlain (stress_text (map (block_of net.now) scenarios.now))) }
 {
-    let mut all = Vec::new(alloc);
-    add_groups(rt, alloc, net, scenarios, job, gate, &mut all)?;
+    let heads = line_heads(alloc, net)?;
+    let all = blocks(
+        rt,
+        alloc,
+        net,
+        heads.as_slice(),
+        scenarios,
+        THREADS,
+        job,
+        gate,
+    )?;
     Ok(Outcome::of(stacked(alloc, all)?))
-}
-
-// Adds the blocks of some scenarios to those before them, a group at a time.
-fn add_groups<R: Threads + Sync, G: Gate + Sync>(
-    rt: &R,
-    alloc: Global,
-    net: &Network,
-    scenarios: &[Scenario],
-    job: &Job,
-    gate: &G,
-    all: &mut Vec<Vec<u8>>,
-) -> Result<(), Mem>
-    requires plan { IsPlan (plan_of job.now) }
-    requires scenarios { All (IsScenarioOf net.now) scenarios.now }
-    ensures { OnOk result (map (λ block. block.items) all.new.items
-        ≡ map (λ block. block.items) all.old.items ++ map (block_of net.now) scenarios.now) }
-{
-    if scenarios.is_empty() {
-        return Ok(());
-    }
-    let (group, rest) = scenarios.split_at(scenarios.len().min(GROUP));
-    let mut more = blocks(rt, alloc, net, group, job, gate)?;
-    all.append(&mut more)?;
-    add_groups(rt, alloc, net, rest, job, gate, all)
 }
 
 // A text of which these blocks are the pieces, with an empty line between each two.
@@ -80,29 +65,30 @@ fn stacked(alloc: Global, all: Vec<Vec<u8>>) -> Result<Text, Mem>
     Ok(text)
 }
 
-// The blocks of some scenarios, which are cleared beside each other: each half of them in a thread
-// of its own, down to one scenario.
+// The blocks of some scenarios, by so many threads: each half of the scenarios by half of them, down
+// to one thread.
 #[cycle(halves)]
 fn blocks<R: Threads + Sync, G: Gate + Sync>(
     rt: &R,
     alloc: Global,
     net: &Network,
+    heads: &[Vec<u8>],
     scenarios: &[Scenario],
+    threads: usize,
     job: &Job,
     gate: &G,
 ) -> Result<Vec<Vec<u8>>, Mem>
     requires plan { IsPlan (plan_of job.now) }
-    requires some { 1 ≤ length scenarios.now }
+    requires heads { AreHeadsOf net.now heads.now }
     requires scenarios { All (IsScenarioOf net.now) scenarios.now }
     ensures { IfOk result (λ all. map (λ block. block.items) all.items
         ≡ map (block_of net.now) scenarios.now) }
 {
-    if scenarios.len() == 1 {
-        let text = block(rt, alloc, net, &scenarios[0], job, gate)?;
-        return Ok(vec![in alloc; text]?);
+    if threads <= 1 || scenarios.len() <= 1 {
+        return blocks_in_turn(rt, alloc, net, heads, scenarios, job, gate);
     }
     let (front, back) = scenarios.split_at(scenarios.len() / 2);
-    both_halves(rt, alloc, net, front, back, job, gate)
+    both_halves(rt, alloc, net, heads, front, back, threads / 2, job, gate)
 }
 
 #[cycle(halves)]
@@ -110,12 +96,15 @@ fn both_halves<R: Threads + Sync, G: Gate + Sync>(
     rt: &R,
     alloc: Global,
     net: &Network,
+    heads: &[Vec<u8>],
     front: &[Scenario],
     back: &[Scenario],
+    threads: usize,
     job: &Job,
     gate: &G,
 ) -> Result<Vec<Vec<u8>>, Mem>
     requires plan { IsPlan (plan_of job.now) }
+    requires heads { AreHeadsOf net.now heads.now }
     requires some { (1 ≤ length front.now) × (1 ≤ length back.now) }
     requires front { All (IsScenarioOf net.now) front.now }
     requires back { All (IsScenarioOf net.now) back.now }
@@ -124,16 +113,16 @@ fn both_halves<R: Threads + Sync, G: Gate + Sync>(
 {
     let low = || -> Result<Vec<Vec<u8>>, Mem>
         requires { IsSync R.row × IsSync G.row × IsPlan (plan_of job.now)
-            × (1 ≤ length front.now) × All (IsScenarioOf net.now) front.now }
+            × AreHeadsOf net.now heads.now × All (IsScenarioOf net.now) front.now }
         ensures { IfOk result (λ all. map (λ block. block.items) all.items
             ≡ map (block_of net.entry.now) front.entry.now) }
-    { blocks(rt, alloc, net, front, job, gate) };
+    { blocks(rt, alloc, net, heads, front, threads, job, gate) };
     let high = || -> Result<Vec<Vec<u8>>, Mem>
         requires { IsSync R.row × IsSync G.row × IsPlan (plan_of job.now)
-            × (1 ≤ length back.now) × All (IsScenarioOf net.now) back.now }
+            × AreHeadsOf net.now heads.now × All (IsScenarioOf net.now) back.now }
         ensures { IfOk result (λ all. map (λ block. block.items) all.items
             ≡ map (block_of net.entry.now) back.entry.now) }
-    { blocks(rt, alloc, net, back, job, gate) };
+    { blocks(rt, alloc, net, heads, back, threads, job, gate) };
     let (a, b) = join(rt, low, high);
     both(a?, b?)
 }
@@ -148,30 +137,70 @@ fn both(front: Vec<Vec<u8>>, back: Vec<Vec<u8>>) -> Result<Vec<Vec<u8>>, Mem>
     Ok(all)
 }
 
-// The block of one scenario.
+// The blocks of some scenarios, which are cleared one after another, on one copy of the network.
+fn blocks_in_turn<R: Threads + Sync, G: Gate + Sync>(
+    rt: &R,
+    alloc: Global,
+    net: &Network,
+    heads: &[Vec<u8>],
+    scenarios: &[Scenario],
+    job: &Job,
+    gate: &G,
+) -> Result<Vec<Vec<u8>>, Mem>
+    requires plan { IsPlan (plan_of job.now) }
+    requires heads { AreHeadsOf net.now heads.now }
+    requires scenarios { All (IsScenarioOf net.now) scenarios.now }
+    ensures { IfOk result (λ all. map (λ block. block.items) all.items
+        ≡ map (block_of net.now) scenarios.now) }
+{
+    let mut all = Vec::with_capacity(alloc, scenarios.len())?;
+    let mut copy = net.copy(alloc)?;
+    for scenario in scenarios {
+        let (text, left) = block(rt, alloc, net, heads, copy, scenario, job, gate)?;
+        all.push(text)?;
+        copy = left;
+    }
+    Ok(all)
+}
+
+// The block of one scenario, and the copy of the network on which it was cleared.
 fn block<R: Threads + Sync, G: Gate + Sync>(
     rt: &R,
     alloc: Global,
     net: &Network,
+    heads: &[Vec<u8>],
+    copy: Network,
     scenario: &Scenario,
     job: &Job,
     gate: &G,
-) -> Result<Vec<u8>, Mem>
+) -> Result<(Vec<u8>, Network), Mem>
     requires plan { IsPlan (plan_of job.now) }
+    requires heads { AreHeadsOf net.now heads.now }
+    requires alike { IsOfOtherCash net.now copy }
     requires scenario { IsScenarioOf net.now scenario.now }
-    ensures { IfOk result (λ text. text.items ≡ block_of net.now scenario.now) }
+    ensures text { IfOk result (λ r. r.0.items ≡ block_of net.now scenario.now) }
+    ensures alike { IfOk result (λ r. IsOfOtherCash net.now r.1) }
 {
-    let left = shocked(alloc, net, scenario)?;
-    let Settled { paid, .. } = settle_for(rt, alloc, &left, job, gate)?;
-    block_text(alloc, &left, &scenario.name, paid.as_slice())
+    let mut left = copy;
+    shock_again(net, scenario, &mut left);
+    let Settled { paid, sealed, .. } = settle_own(rt, alloc, left, job, gate)?;
+    let text = block_text(alloc, sealed.net(), heads, &scenario.name, paid.as_slice())?;
+    Ok((text, sealed.into_net()))
 }
 
 // The block of a scenario of this name, which leaves a network with these least payments.
-fn block_text(alloc: Global, left: &Network, name: &Name, paid: &[u64]) -> Result<Vec<u8>, Mem>
-    requires { paid.now ≡ least left.now }
+fn block_text(
+    alloc: Global,
+    left: &Network,
+    heads: &[Vec<u8>],
+    name: &Name,
+    paid: &[u64],
+) -> Result<Vec<u8>, Mem>
+    requires heads { AreHeadsOf left.now heads.now }
+    requires paid { paid.now ≡ least left.now }
     ensures { IfOk result (λ text. text.items ≡ scenario_block name.now
         (payments_text left.now (least left.now)) (defaults_report left.now)) }
 {
     let states = defaults_of(alloc, left, paid)?;
-    scenario_text(alloc, name, left, paid, states.as_slice())
+    scenario_text(alloc, name, left, heads, paid, states.as_slice())
 }

@@ -441,7 +441,9 @@ fn clears<R: Threads + Sync + Abort>(
         sweeps: 1,
     };
     assert_eq!(rt;
-        settle(rt, alloc, net, plan, &OpenGate)?.paid.as_slice(),
+        settle(rt, alloc, net.copy(alloc)?, plan, &OpenGate)?
+            .paid
+            .as_slice(),
         paid
     );
     assert_eq!(rt; central(alloc, net)?.as_slice(), paid);

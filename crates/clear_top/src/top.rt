@@ -89,7 +89,7 @@ fn carry_out<R: Threads + Sync, F: Shelf, O: Sink, G: Gate + Sync>(
         Err(Stop::Refused(fault)) => return without_record(Status::Refused(fault)),
         Err(Stop::Mem) => return without_record(Status::Mem),
     };
-    let Ok(outcome) = work(rt, alloc, job, &input, gate) else {
+    let Ok(outcome) = work(rt, alloc, job, input, gate) else {
         return without_record(Status::Mem);
     };
     let Outcome {

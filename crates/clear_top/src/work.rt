@@ -24,26 +24,31 @@ pub fn work<R: Threads + Sync, G: Gate + Sync>(
     rt: &R,
     alloc: Global,
     job: &Job,
-    input: &Input,
+    input: Input,
     gate: &G,
 ) -> Result<Outcome, Mem>
     requires job { IsJob job.now }
-    requires usable { IsUsable (source_of job.now.task) input.now }
-    ensures { IfOk result (ComesTo job.now.task job.now input.now) }
+    requires usable { IsUsable (source_of job.now.task) input }
+    ensures { IfOk result (ComesTo job.now.task job.now input) }
 {
-    let net = &input.net;
+    let Input {
+        net,
+        scenarios,
+        journal,
+        bank,
+    } = input;
     match job.task {
-        Task::Check => check(alloc, net),
+        Task::Check => check(alloc, &net),
         Task::Clear => clear(rt, alloc, net, job, gate),
-        Task::Central => clear_centrally(alloc, net),
-        Task::Defaults => report_defaults(rt, alloc, net, job, gate),
-        Task::Stress => { report_scenarios(rt, alloc, net, input.scenarios.as_slice(), job, gate) }
-        Task::Replay => judge(alloc, net, input.journal.as_slice()),
-        Task::Gen => report_summary(rt, alloc, net, job, gate),
-        Task::Convert => convert(alloc, net),
-        Task::Bounds => report_bounds(rt, alloc, net, job, gate),
-        Task::Rescue => save(rt, alloc, net, input.bank, job, gate),
-        Task::Compress => cancel_cycles(alloc, net),
-        Task::Costs => clear_with_costs(alloc, net, job.keep),
+        Task::Central => clear_centrally(alloc, &net),
+        Task::Defaults => report_defaults(rt, alloc, &net, job, gate),
+        Task::Stress => { report_scenarios(rt, alloc, &net, scenarios.as_slice(), job, gate) }
+        Task::Replay => judge(alloc, &net, journal.as_slice()),
+        Task::Gen => report_summary(rt, alloc, &net, job, gate),
+        Task::Convert => convert(alloc, &net),
+        Task::Bounds => report_bounds(rt, alloc, &net, job, gate),
+        Task::Rescue => save(rt, alloc, &net, bank, job, gate),
+        Task::Compress => cancel_cycles(alloc, &net),
+        Task::Costs => clear_with_costs(alloc, &net, job.keep),
     }
 }

@@ -6,6 +6,7 @@ mod debts;
 mod file;
 pub mod laws;
 mod layout;
+pub mod line;
 mod print;
 mod read;
 pub mod records;

@@ -1,12 +1,10 @@
-ghost use Rattle.clr_net.specs.Net.{name_of};
 ghost use Rattle.net_csv.specs.Printing.{bank_line, banks_text, banks_text_2, banks_text_in, debt_line, debts_text, rule_word as word_of_rule};
 ghost use Rattle.net_csv.specs.Reading.{network_of};
-ghost use Rattle.std.specs.Fmt.{decimal};
-ghost use Rattle.std.specs.Prelude.{◌≡◌, ◌<◌, ◌∷◌, ◌++◌, [], ℕ, List, Ok, length, IfOk, OnOk};
+ghost use Rattle.std.specs.Prelude.{◌≡◌, ◌<◌, ◌++◌, ℕ, List, Ok, length, IfOk, OnOk};
 
 use crate::layout::Version;
+use crate::line::{Line, push_field, push_number};
 use clr_net::{Bank, BankId, Debt, DebtId, Mem, Network, RuleKind};
-use itoa::Buffer;
 use std::alloc::Global;
 
 /// The banks file of a network: its header, and a line for each bank, in file order. It is of
@@ -51,8 +49,9 @@ pub fn print_debts(alloc: Global, net: &Network) -> Result<Vec<u8>, Mem>
     ensures { IfOk result (λ text. text.items ≡ debts_text net.now) }
 {
     let mut text = Vec::from_slice(alloc, b"debtor,creditor,class,claim\n")?;
+    let mut line = Line::empty();
     for i in 0..net.debts() {
-        push_debt(&mut text, net, net.debt(DebtId(i)))?;
+        push_debt(&mut text, &mut line, net, net.debt(DebtId(i)))?;
     }
     Ok(text)
 }
@@ -74,39 +73,17 @@ fn push_bank(text: &mut Vec<u8>, version: Version, bank: &Bank) -> Result<(), Me
 }
 
 // Appends the line of a debt.
-fn push_debt(text: &mut Vec<u8>, net: &Network, debt: Debt) -> Result<(), Mem>
+fn push_debt(text: &mut Vec<u8>, line: &mut Line, net: &Network, debt: Debt) -> Result<(), Mem>
     requires debtor { debt.debtor.0 < length net.now.banks }
     requires creditor { debt.creditor.0 < length net.now.banks }
     ensures { OnOk result (text.new.items ≡ text.old.items ++ debt_line net.now debt) }
 {
-    push_field(text, name(net, debt.debtor), b',')?;
-    push_field(text, name(net, debt.creditor), b',')?;
-    push_number(text, u64::from(debt.class), b',')?;
-    push_number(text, debt.claim, b'\n')
-}
-
-// The name of a bank.
-fn name(net: &Network, bank: BankId) -> &[u8]
-    requires { bank.0 < length net.now.banks }
-    ensures { result.now ≡ name_of net.now bank.0 }
-{
-    net.bank(bank).name.bytes()
-}
-
-// Appends a field and the byte that ends it.
-fn push_field(text: &mut Vec<u8>, field: &[u8], end: u8) -> Result<(), Mem>
-    ensures { OnOk result (text.new.items ≡ text.old.items ++ (field.now ++ end ∷ [])) }
-{
-    text.extend_from_slice(field)?;
-    text.push(end)?;
+    line.begin(debt.claim);
+    line.add_number(u64::from(debt.class));
+    line.add_name(&net.bank(debt.creditor).name);
+    line.add_name(&net.bank(debt.debtor).name);
+    text.extend_from_slice(line.bytes())?;
     Ok(())
-}
-
-// Appends a number in decimal digits and the byte that ends it.
-fn push_number(text: &mut Vec<u8>, number: u64, end: u8) -> Result<(), Mem>
-    ensures { OnOk result (text.new.items ≡ text.old.items ++ (decimal number ++ end ∷ [])) }
-{
-    push_field(text, Buffer::new().format(number).as_bytes(), end)
 }
 
 // The word by which a file names a rule.

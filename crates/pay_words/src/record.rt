@@ -32,6 +32,14 @@ impl Record {
         &self.net
     }
 
+    /// The network of the board, for which the rest of the record is given up.
+    pub fn into_net(self) -> Network
+        ensures { result ≡ self.net }
+    {
+        let Record { net, .. } = self;
+        net
+    }
+
     /// The raises of the past and those that were made on the board, in order of stamp, debt number and amount.
     pub fn journal(&self) -> &[Raise]
         ensures { result.now ≡ self.now.journal }

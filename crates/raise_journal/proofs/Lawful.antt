@@ -1,5 +1,5 @@
 -- A journal is lawful where it stands and leaves all banks quiet, and it pays the least clearing payments then.
-use Rattle.std.proofs.Common.{◌≡◌, ◌↔◌, ℕ, List, length, ap, ◌∙◌}
+use Rattle.std.proofs.Common.{◌≡◌, ◌↔◌, List, ap, ◌∙◌}
 use Rattle.clr_net.specs.Limits.{IsNetwork}
 use Rattle.clr_net.specs.Net.{Net}
 use Rattle.clear_core.specs.declared.event.Raise.{Raise}

@@ -1,5 +1,3 @@
-ghost use Rattle.clear_core.specs.Clearing.{least};
-ghost use Rattle.clr_net.specs.Amounts.{IsAtMost};
 ghost use Rattle.pay_words.specs.Traces.{start_of};
 ghost use Rattle.pay_words.specs.Views.{opening};
 ghost use Rattle.settle.specs.Bells.{IsIdle};
@@ -16,10 +14,13 @@ use raise_journal::gather;
 use std::alloc::Global;
 use std::thread::Threads;
 
+// After a round of fewer visits threads would cost more than they save.
+const MANY_VISITS: u64 = 512;
+
 /// Makes rounds on a board that was just opened, until a round raises nothing. Each round hands a
 /// seat to each worker, lets all workers make their rounds, and takes the seats back. The workers
-/// go side by side in the first round, and where one look found bells of two of them up; else they
-/// go one after another, since threads cost more than so little work.
+/// go side by side in the first round, and after a round of many visits where one look found bells
+/// of two of them up; else they go one after another, since threads cost more than so little work.
 ///
 /// After Ok [`nobody_can_pay_more`](crate::nobody_can_pay_more) may be called. After `Mem` the
 /// master may hold fewer banks, and the caller drops the board.
@@ -53,8 +54,10 @@ pub fn drive<R: Threads + Sync, G: Gate + Sync>(
     let mut offices = offices_of(alloc, net, plan.workers)?;
     let mut rounds = 0;
     let mut visits = 0;
+    let mut last = MANY_VISITS;
     loop {
-        let beside = rounds == 0 || calls_two_workers(net, board, plan.workers);
+        let many = last >= MANY_VISITS;
+        let beside = rounds == 0 || many && calls_two_workers(net, board, plan.workers);
         let (units, more) = round(
             rt,
             alloc,
@@ -69,6 +72,7 @@ pub fn drive<R: Threads + Sync, G: Gate + Sync>(
         )?;
         rounds += 1;
         visits += more;
+        last = more;
         if units == 0 {
             break;
         }

@@ -28,28 +28,28 @@ pub struct Settled {
     pub visits: u64,
 }
 
-/// Clears a network by rounds of workers on one board, until a round raises nothing. `Mem` is want
-/// of memory.
+/// Clears a network by rounds of workers on one board, until a round raises nothing. The network
+/// goes into the record. `Mem` is want of memory.
 pub fn settle<R: Threads + Sync, G: Gate + Sync>(
     rt: &R,
     alloc: Global,
-    net: &Network,
+    net: Network,
     plan: Plan,
     gate: &G,
 ) -> Result<Settled, Mem>
     requires plan { IsPlan plan }
-    ensures paid { IfOk result (λ s. s.paid ≡ least net.now) }
+    ensures paid { IfOk result (λ s. s.paid ≡ least net) }
     ensures verdict { IfOk result (λ s.
-        (judged net.now s.sealed.journal).verdict ≡ Verdict.Lawful) }
-    ensures lawful { IfOk result (λ s. Stands net.now s.sealed.journal
-        × IsTraced net.now s.sealed.journal) }
-    ensures replays { IfOk result (λ s. replayed net.now s.sealed.journal ≡ s.paid) }
+        (judged net s.sealed.journal).verdict ≡ Verdict.Lawful) }
+    ensures lawful { IfOk result (λ s. Stands net s.sealed.journal
+        × IsTraced net s.sealed.journal) }
+    ensures replays { IfOk result (λ s. replayed net s.sealed.journal ≡ s.paid) }
     ensures in_order { IfOk result (λ s. ordered s.sealed.journal ≡ s.sealed.journal) }
     ensures low_stamps { IfOk result (λ s. All (λ r. r.stamp ≤ sum s.paid) s.sealed.journal) }
-    ensures can_go_on { IfOk result (λ s. CanGoOn net.now s.sealed.journal) }
-    ensures record_is { IfOk result (λ s. IsRecordOf net.now plan s.rounds s.sealed) }
+    ensures can_go_on { IfOk result (λ s. CanGoOn net s.sealed.journal) }
+    ensures record_is { IfOk result (λ s. IsRecordOf net plan s.rounds s.sealed) }
     ensures bounds { IfOk result (λ s.
-        IsWithin net.now plan s.rounds s.visits (length s.sealed.journal)) }
+        IsWithin net plan s.rounds s.visits (length s.sealed.journal)) }
 {
     settle_from(rt, alloc, net, plan, &[], gate)
 }
@@ -60,37 +60,36 @@ pub fn settle<R: Threads + Sync, G: Gate + Sync>(
 pub fn settle_from<R: Threads + Sync, G: Gate + Sync>(
     rt: &R,
     alloc: Global,
-    net: &Network,
+    net: Network,
     plan: Plan,
     past: &[Raise],
     gate: &G,
 ) -> Result<Settled, Mem>
     requires plan { IsPlan plan }
-    requires past { CanGoOn net.now past.now }
-    ensures paid { IfOk result (λ s. s.paid ≡ least net.now) }
+    requires past { CanGoOn net past.now }
+    ensures paid { IfOk result (λ s. s.paid ≡ least net) }
     ensures verdict { IfOk result (λ s.
-        (judged net.now s.sealed.journal).verdict ≡ Verdict.Lawful) }
-    ensures lawful { IfOk result (λ s. Stands net.now s.sealed.journal
-        × IsTraced net.now s.sealed.journal) }
-    ensures replays { IfOk result (λ s. replayed net.now s.sealed.journal ≡ s.paid) }
+        (judged net s.sealed.journal).verdict ≡ Verdict.Lawful) }
+    ensures lawful { IfOk result (λ s. Stands net s.sealed.journal
+        × IsTraced net s.sealed.journal) }
+    ensures replays { IfOk result (λ s. replayed net s.sealed.journal ≡ s.paid) }
     ensures in_order { IfOk result (λ s. ordered s.sealed.journal ≡ s.sealed.journal) }
     ensures low_stamps { IfOk result (λ s. All (λ r. r.stamp ≤ sum s.paid) s.sealed.journal) }
-    ensures can_go_on { IfOk result (λ s. CanGoOn net.now s.sealed.journal) }
+    ensures can_go_on { IfOk result (λ s. CanGoOn net s.sealed.journal) }
     ensures record_is { IfOk result (λ s.
-        IsRecordAfter net.now past.now plan s.rounds s.sealed) }
+        IsRecordAfter net past.now plan s.rounds s.sealed) }
     ensures bounds { IfOk result (λ s.
-        IsWithinAfter net.now past.now plan s.rounds s.visits s.sealed.made) }
+        IsWithinAfter net past.now plan s.rounds s.visits s.sealed.made) }
 {
     prove!(net.banks() <= MAX_BANKS);
-    let mut payments = payments_after(alloc, net, past)?;
-    let copy = net.copy(alloc)?;
-    let (board, mut master) = Board::make(alloc, net, plan.workers, payments.as_slice(), past)?;
+    let mut payments = payments_after(alloc, &net, past)?;
+    let (board, mut master) = Board::make(alloc, &net, plan.workers, payments.as_slice(), past)?;
     let Driven {
         journal,
         rounds,
         visits,
-    } = drive(rt, alloc, net, plan, past, &board, &mut master, gate)?;
-    let sealed = board.seal(master, payments.as_mut_slice(), copy, journal);
+    } = drive(rt, alloc, &net, plan, past, &board, &mut master, gate)?;
+    let sealed = board.seal(master, payments.as_mut_slice(), net, journal);
     let paid = values_of(alloc, payments.as_slice())?;
     Ok(Settled {
         paid,

@@ -2,7 +2,8 @@
 //!
 //! A scenario cuts all cash by so many per mille and takes losses from single banks.
 //! [`read_scenarios`] gives the scenarios of a document, or its first fault; each of them may be
-//! given to [`shocked`], which answers the network that is to be cleared in its place.
+//! given to [`shocked`], which answers the network that is to be cleared in its place, and such a
+//! network may be given to [`shock_again`] for the next scenario.
 #![tactic(auto)]
 
 mod document;
@@ -16,7 +17,7 @@ mod tests;
 
 pub use read::read_scenarios;
 pub use scenario::{Loss, Losses, Scenario};
-pub use shock::shocked;
+pub use shock::{shock_again, shocked};
 
 /// The most scenarios of a document.
 pub const MAX_SCENARIOS: usize = 100;

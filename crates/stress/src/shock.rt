@@ -1,8 +1,8 @@
 ghost use Rattle.clr_net.specs.Limits.{IsNetwork};
 ghost use Rattle.clr_net.specs.declared.TheConstants.{MAX_CASH};
 ghost use Rattle.std.specs.Prelude.{◌≡◌, ◌≤◌, ◌-◌, [], IfOk};
-ghost use Rattle.stress.specs.Shocks.{IsScenarioOf, KeepsAllButCash, after_cut as cash_after_cut};
-ghost use Rattle.stress.specs.Shocks.{after_shock, shocked as shocked_net};
+ghost use Rattle.stress.specs.Shocks.{IsOfOtherCash, IsScenarioOf, KeepsAllButCash};
+ghost use Rattle.stress.specs.Shocks.{after_cut as cash_after_cut, after_shock, shocked as shocked_net};
 ghost use Rattle.stress.specs.declared.TheConstants.{MAX_CUT};
 
 use crate::scenario::Scenario;
@@ -21,24 +21,36 @@ pub fn shocked(alloc: Global, net: &Network, scenario: &Scenario) -> Result<Netw
     ensures kept { IfOk result (λ left. KeepsAllButCash net.now left) }
 {
     let mut left = net.copy(alloc)?;
-    cut_cash(&mut left, scenario.cut);
+    shock_again(net, scenario, &mut left);
+    Ok(left)
+}
+
+/// Makes a copy of a network, whatever cash its banks have by now, the network that a scenario
+/// leaves of the first, as [`shocked`] does. Takes no memory.
+pub fn shock_again(net: &Network, scenario: &Scenario, left: &mut Network)
+    requires scenario { IsScenarioOf net.now scenario.now }
+    requires alike { IsOfOtherCash net.now left.old }
+    ensures left { left.new ≡ shocked_net net.now scenario.now }
+    ensures alike { IsOfOtherCash net.now left.new }
+{
+    cut_cash(net, scenario.cut, left);
     for loss in scenario.losses.as_slice() {
         let cash = left.bank(loss.bank).cash;
         left.set_cash(loss.bank, after_loss(cash, loss.amount));
     }
-    Ok(left)
 }
 
-// Cuts the cash of each bank.
-fn cut_cash(net: &mut Network, cut: u32)
-    requires { cut ≤ MAX_CUT }
-    ensures network { IsNetwork net.old }
-    ensures left { net.new ≡ after_shock cut [] net.old }
+// Leaves each bank of a copy what a cut leaves of its cash in the network.
+fn cut_cash(net: &Network, cut: u32, left: &mut Network)
+    requires cut { cut ≤ MAX_CUT }
+    requires alike { IsOfOtherCash net.now left.old }
+    ensures network { IsNetwork net.now }
+    ensures left { left.new ≡ after_shock cut [] net.now }
 {
     for number in 0..net.banks() {
         let bank = BankId(number);
         let cash = net.bank(bank).cash;
-        net.set_cash(bank, after_cut(cash, cut));
+        left.set_cash(bank, after_cut(cash, cut));
     }
 }
 

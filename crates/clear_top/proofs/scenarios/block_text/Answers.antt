@@ -5,8 +5,8 @@ use Rattle.clear_report.specs.Text.{payments_text}
 use Rattle.clear_top.proofs.Runs.{least_places}
 use Rattle.clear_top.proofs.scenarios.block_text.Goals as goal
 
-pub scenario_text-requires : goal.scenario_text-requires
-scenario_text-requires c = ap length c.requires ∙ least_places c.args.left.now
+pub scenario_text-requires-clause-paid : goal.scenario_text-requires-clause-paid
+scenario_text-requires-clause-paid c = ap length c.requires.paid ∙ least_places c.args.left.now
 
 pub returns : goal.returns
 returns c =
@@ -17,5 +17,5 @@ returns c =
     ≡ scenario_block name (payments_text left (least left)) d))
     (c.as_slice.ensures.value ∙ c.in_ok-states.ensures)
     (subst (λ P. IfOk r (λ text. text.items
-    ≡ scenario_block name (payments_text left P) c.as_slice.result.now)) c.requires
+    ≡ scenario_block name (payments_text left P) c.as_slice.result.now)) c.requires.paid
     c.scenario_text.ensures.block)

@@ -1,6 +1,6 @@
 use Rattle.std.proofs.Common.{◌≡◌, false, ap, ◌∙◌}
 use Rattle.std.proofs.lemmas.Bool.{OnFalse_at, OnFalse_from}
-use Rattle.clear_core.specs.Clearing.{division_of, receipts}
+use Rattle.clear_core.specs.Clearing.{division_of}
 use Rattle.costs.specs.Costs.{cost_division}
 use Rattle.costs.specs.Sweeps.{IsQuietWithCosts}
 use Rattle.costs.proofs.Sweeping.{awards_rise, quiet_where_same, way_in_limit, way_on}

@@ -1,4 +1,4 @@
-use Rattle.std.proofs.Common.{◌≡◌, ◌<◌, All, false, length, get_or, take, sym, ap, ◌∙◌, subst, arith, Some}
+use Rattle.std.proofs.Common.{◌≡◌, ◌<◌, All, false, length, get_or, take, sym, ap, ◌∙◌, subst, arith}
 use Rattle.std.specs.List.{list_any}
 use Rattle.std.proofs.lemmas.List.{length-map, take_all}
 use Rattle.clr_net.specs.Net.{numbers, is_of_kind, is_debt_of}

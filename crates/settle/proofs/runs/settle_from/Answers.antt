@@ -14,19 +14,19 @@ use Rattle.settle.proofs.Finished.{after_a_past, goes_on, lawful_at_least, paid_
 use Rattle.settle.proofs.runs.settle_from.Goals as goal
 
 pub payments_after-requires : goal.payments_after-requires
-payments_after-requires g c = stands_in_range c.args.net.now c.args.past.now c.requires.past.stands
+payments_after-requires g c = stands_in_range c.args.net c.args.past.now c.requires.past.stands
 
 pub make-requires-clause-belongs : goal.make-requires-clause-belongs
 make-requires-clause-belongs g c =
-    subst (λ ps. Belongs c.args.net.now ps c.args.past.now) (sym (c.as_slice.ensures.value ∙ c.in_ok-payments.ensures)) c.requires.past
+    subst (λ ps. Belongs c.args.net ps c.args.past.now) (sym (c.as_slice.ensures.value ∙ c.in_ok-payments.ensures)) c.requires.past
 
 pub drive-requires-clause-opened : goal.drive-requires-clause-opened
 drive-requires-clause-opened g c κs within =
-    c.in_ok-board.ensures.master.1 ∙ ap (opening c.args.net.now) (c.as_slice.ensures.value ∙ c.in_ok-payments.ensures)
+    c.in_ok-board.ensures.master.1 ∙ ap (opening c.args.net) (c.as_slice.ensures.value ∙ c.in_ok-payments.ensures)
 
 pub returns : goal.returns
 returns g c =
-    let net = c.args.net.now in
+    let net = c.args.net in
     let past = c.args.past.now in
     let t = c.drive.new.master.shows in
     let d = c.in_ok-journal.ensures.driven in

@@ -1,6 +1,6 @@
 use Rattle.std.proofs.Common.{◌≡◌, take}
 use Rattle.stress.specs.Shocks.{after_shock}
-use Rattle.stress.proofs.shock.shocked.Given as goal
+use Rattle.stress.proofs.shock.shock_again.Given as goal
 
 abbrev pub invariant-loop-loss : goal.invariant-loop-loss
 invariant-loop-loss l = record {
