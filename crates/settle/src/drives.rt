@@ -54,9 +54,8 @@ pub fn drive<R: Threads + Sync, G: Gate + Sync>(
     let mut offices = offices_of(alloc, net, plan.workers)?;
     let mut rounds = 0;
     let mut visits = 0;
-    let mut last = MANY_VISITS;
+    let mut many = false;
     loop {
-        let many = last >= MANY_VISITS;
         let beside = rounds == 0 || many && calls_two_workers(net, board, plan.workers);
         let (units, more) = round(
             rt,
@@ -72,7 +71,7 @@ pub fn drive<R: Threads + Sync, G: Gate + Sync>(
         )?;
         rounds += 1;
         visits += more;
-        last = more;
+        many = more >= MANY_VISITS;
         if units == 0 {
             break;
         }
