@@ -9,7 +9,7 @@ use Rattle.std.proofs.lemmas.List.Edits.{get_or-remove_below, get_or-remove_abov
 use Rattle.std.proofs.lemmas.Iterator.Adapters.{option_map_id}
 use Rattle.clr_net.specs.declared.rule.RuleKind.{RuleKind}
 use Rattle.clr_net.specs.Division.{is_unmet, precedes, next_of}
-use Rattle.clr_net.specs.InPlace.{place_without}
+use Rattle.rule_unit.specs.Choice.{place_without}
 use Rattle.clr_net.proofs.Next.{IsNextSoFar, next_of_is_best, next_of_best}
 
 -- the place j of some lists stands for the place f j of others, and the other places of those are met
@@ -63,33 +63,6 @@ module _ (rule : RuleKind) (f : ℕ → ℕ) (claims awards part_claims part_awa
   pub next_of_part : next_of rule claims awards ≡ option_map f (next_of rule part_claims part_awards)
   next_of_part = next_of_is_best rule claims awards (option_map f (next_of rule part_claims part_awards))
       (part_best (next_of rule part_claims part_awards) (next_of_best rule part_claims part_awards))
-
--- two pairs of lists of one length that agree in each place that is unmet in either
-pub record AgreeWhereUnmet (claims awards other_claims other_awards : List ℕ) : Type 0 where
-  pub as_many : length claims ≡ length other_claims
-  pub where_unmet : (k : ℕ) → is_unmet claims awards k ≡ true
-      → (get_or claims k 0 ≡ get_or other_claims k 0) × (get_or awards k 0 ≡ get_or other_awards k 0)
-  pub where_other_unmet : (k : ℕ) → is_unmet other_claims other_awards k ≡ true
-      → (get_or claims k 0 ≡ get_or other_claims k 0) × (get_or awards k 0 ≡ get_or other_awards k 0)
-
--- their next place is the same, or none in both
-pub next_of_agree : (rule : RuleKind) (claims awards other_claims other_awards : List ℕ)
-    → AgreeWhereUnmet claims awards other_claims other_awards
-    → next_of rule claims awards ≡ next_of rule other_claims other_awards
-next_of_agree rule claims awards other_claims other_awards agree =
-    next_of_part rule (λ k. k) claims awards other_claims other_awards part ∙ option_map_id (next_of rule other_claims other_awards)
-  where
-    other_unmet : (k : ℕ) → is_unmet claims awards k ≡ true → is_unmet other_claims other_awards k ≡ true
-    other_unmet k u = let same = agree.where_unmet k u in cc
-
-    part : IsPartOf (λ k. k) claims awards other_claims other_awards
-    part = record {
-      in_range = λ k l. omega (arith, agree.as_many);
-      in_order = λ i j l m. l;
-      same_claim = λ k u. (agree.where_other_unmet k u).0;
-      same_award = λ k u. (agree.where_other_unmet k u).1;
-      no_other = λ k l u. (k, omega (arith, agree.as_many), other_unmet k u, refl);
-    }
 
 pub unmet_in_range : (claims awards : List ℕ) (j : ℕ) → is_unmet claims awards j ≡ true → j < length claims
 unmet_in_range claims awards j u = ⊎_elim

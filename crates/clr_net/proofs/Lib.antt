@@ -5,11 +5,8 @@ pub mod Best
 pub mod Next
 pub mod LeftOut
 pub mod Award
-pub mod UnitByUnit
 pub mod Classes
 pub mod Share
-pub mod Turn
-pub mod InPlace
 pub mod Filters
 pub mod RowsAndColumns
 pub mod Networks

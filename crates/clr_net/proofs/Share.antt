@@ -1,113 +1,122 @@
--- The laws of `share`: each debt gets at most its claim, all together what there is, and no share falls as the estate grows.
-use Rattle.std.proofs.Common.{◌≡◌, ℕ, zero, suc, ◌+◌, ◌-◌, ◌<◌, ◌≤◌, min, List, length, get_or, sum, ap, ◌∙◌, ⊎_elim, arith}
+-- A division over classes by any lawful choice: each debt gets at most its claim, all together what there is,
+-- and no debt gets less of a larger estate.
+use Rattle.std.proofs.Common.{◌≡◌, ℕ, zero, suc, ◌+◌, ◌-◌, ◌<◌, ◌≤◌, min, List, length, get_or, replicate, sum, Option, ap, sym, ◌∙◌, ⊎_elim, arith}
 use Rattle.std.proofs.lemmas.Bool.{cases_eq}
 use Rattle.std.proofs.lemmas.List.{length-replicate}
 use Rattle.std.proofs.lemmas.List.Folds.{sum_by-replicate}
 use Rattle.clr_net.specs.declared.TheConstants.{MAX_CLASS}
+use Rattle.clr_net.specs.Division.{AreClasses, class_claims, next_of, share, share_by, share_by_from}
 use Rattle.clr_net.specs.declared.rule.RuleKind.{RuleKind}
-use Rattle.clr_net.specs.Amounts.{IsAtMost}
-use Rattle.clr_net.specs.Division.{award, class_claims, place_sums, share_from, share, AreClasses}
 use Rattle.clr_net.proofs.Lists.{same_from_sum, zeros_at}
-use Rattle.clr_net.specs.InPlace.{IsWithin}
-use Rattle.clr_net.proofs.Award.{award_within, sum_award, award_mono}
+use Rattle.clr_net.proofs.Award.{kind_is_unit_choice}
 use Rattle.clr_net.proofs.Classes.{length-class_claims, class_claims_le, class_claims_other, length-place_sums, get_or-place_sums, sum-place_sums, class_total, class_total_all}
+use Rattle.rule_unit.specs.Awards.{IsAtMost, IsWithin}
+use Rattle.rule_unit.specs.Choice.{IsUnitChoice}
+use Rattle.rule_unit.specs.Units.{award}
+use Rattle.rule_unit.proofs.UnitByUnit.{award_within, awards_mono, sum_award}
 
 -- shares from the class c on: as many as the claims, each at most its claim, and nothing to a class below c
 pub record IsShare (claims classes : List ℕ) (c : ℕ) (shares : List ℕ) : Type 0 where
   pub as_many : length shares ≡ length claims
   pub within : IsAtMost shares claims
-  pub later : (k : ℕ) → get_or classes k 0 < c → get_or shares k 0 ≡ 0
+  pub earlier : (k : ℕ) → get_or classes k 0 < c → get_or shares k 0 ≡ 0
 
-is_share_next : (claims classes : List ℕ) (c : ℕ) (here rest : List ℕ) → IsWithin (class_claims c claims classes) here
-    → IsShare claims classes (c + 1) rest → IsShare claims classes c (place_sums here rest)
-is_share_next claims classes c here rest w s = record {
-  as_many = length-place_sums here rest ∙ w.as_many ∙ length-class_claims c claims classes;
-  within = λ k. ⊎_elim
-      (λ (e : get_or classes k 0 ≡ c). omega (arith, at k, s.later k (omega arith), w.within k, class_claims_le c claims classes k))
-      (λ (ne : get_or classes k 0 ≡ c → ⊥). omega (arith, at k, w.within k, class_claims_other c claims classes k ne, s.within k))
-      (cases_eq (get_or classes k 0) c);
-  later = λ k l. omega (arith, at k, s.later k (omega arith), w.within k, class_claims_other c claims classes k (omega arith));
-}
-  where
-    at : (k : ℕ) → get_or (place_sums here rest) k 0 ≡ get_or here k 0 + get_or rest k 0
-    at k = get_or-place_sums here rest k (omega (arith, w.as_many, length-class_claims c claims classes, s.as_many))
+module _ (choice : List ℕ → List ℕ → Option ℕ) (lawful : IsUnitChoice choice) (claims classes : List ℕ) where
+  pub share_by_from_is : (c n e : ℕ) → IsShare claims classes c (share_by_from choice claims classes c n e)
+  unfolding share_by_from
+  share_by_from_is c zero e = record {
+    as_many = length-replicate (length claims) 0;
+    within = λ k. omega (arith, zeros_at (length claims) k);
+    earlier = λ k l. zeros_at (length claims) k;
+  }
+  share_by_from_is c (suc n) e =
+      let mine = class_claims c claims classes in
+      let given = min (sum mine) e in
+      let here = award choice mine given in
+      let w : IsWithin mine here = award_within choice lawful mine given in
+      let rest = share_by_from choice claims classes (c + 1) n (e - given) in
+      let r : IsShare claims classes (c + 1) rest = share_by_from_is (c + 1) n (e - given) in
+      let at = λ (k : ℕ). get_or-place_sums here rest k (w.as_many ∙ length-class_claims c claims classes ∙ sym r.as_many) in
+      record {
+        as_many = length-place_sums here rest ∙ w.as_many ∙ length-class_claims c claims classes;
+        within = λ k. ⊎_elim
+            (λ (s : get_or classes k 0 ≡ c).
+            omega (arith, at k, r.earlier k (omega arith), w.within k, class_claims_le c claims classes k))
+            (λ (ne : get_or classes k 0 ≡ c → ⊥).
+            omega (arith, at k, w.within k, class_claims_other c claims classes k ne, r.within k))
+            (cases_eq (get_or classes k 0) c);
+        earlier = λ k l. omega
+            (arith, at k, r.earlier k (omega arith), w.within k, class_claims_other c claims classes k (omega arith));
+      }
 
-pub share_from_is : (rule : RuleKind) (claims classes : List ℕ) (c n e : ℕ)
-    → IsShare claims classes c (share_from rule claims classes c n e)
-unfolding share_from
-share_from_is rule claims classes c zero e =
-    record {
-      as_many = length-replicate (length claims) 0;
-      within = λ k. omega (arith, zeros_at (length claims) k);
-      later =
-          λ k l. zeros_at (length claims) k;
-    }
-share_from_is rule claims classes c (suc n) e =
-    let given = min (sum (class_claims c claims classes)) e in
-    is_share_next claims classes c (award rule (class_claims c claims classes) given)
-    (share_from rule claims classes (c + 1) n (e - given)) (award_within rule (class_claims c claims classes) given)
-    (share_from_is rule claims classes (c + 1) n (e - given))
+  -- each debt gets at most its claim
+  pub share_by_within : (e : ℕ) → IsAtMost (share_by choice claims classes e) claims
+  share_by_within e = (share_by_from_is 1 MAX_CLASS e).within
 
-pub length-share : (rule : RuleKind) (claims classes : List ℕ) (e : ℕ) → length (share rule claims classes e) ≡ length claims
-length-share rule claims classes e = (share_from_is rule claims classes 1 MAX_CLASS e).as_many
+  pub lengths_agree : (c n d e : ℕ)
+      → length (award choice (class_claims c claims classes) d) ≡ length (share_by_from choice claims classes (c + 1) n e)
+  lengths_agree c n d e =
+      (award_within choice lawful (class_claims c claims classes) d).as_many ∙ length-class_claims c claims classes
+      ∙ sym (share_by_from_is (c + 1) n e).as_many
 
-pub share_within : (rule : RuleKind) (claims classes : List ℕ) (e : ℕ) → IsAtMost (share rule claims classes e) claims
-share_within rule claims classes e = (share_from_is rule claims classes 1 MAX_CLASS e).within
+  sum_share_by_from : (c n e : ℕ) → sum (share_by_from choice claims classes c n e) ≡ min e (class_total claims classes c n)
+  unfolding share_by_from class_total
+  sum_share_by_from c zero e = omega (arith, sum_by-replicate (λ n. n) (length claims) 0)
+  sum_share_by_from c (suc n) e =
+      let mine = class_claims c claims classes in
+      let given = min (sum mine) e in
+      omega (
+        arith,
+        sum-place_sums (award choice mine given) (share_by_from choice claims classes (c + 1) n (e - given))
+            (lengths_agree c n given (e - given)),
+        sum_award choice lawful mine given,
+        sum_share_by_from (c + 1) n (e - given),
+      )
 
-pub lengths_agree : (rule : RuleKind) (claims classes : List ℕ) (c n d e : ℕ)
-    → length (award rule (class_claims c claims classes) d) ≡ length (share_from rule claims classes (c + 1) n e)
-lengths_agree rule claims classes c n d e =
-    omega (
-      arith,
-      (award_within rule (class_claims c claims classes) d).as_many,
-      length-class_claims c claims classes,
-      (share_from_is rule claims classes (c + 1) n e).as_many,
-    )
+  -- all is given out, up to all that is claimed
+  pub sum_share_by : (e : ℕ) → length claims ≡ length classes → AreClasses classes 1 MAX_CLASS
+      → sum (share_by choice claims classes e) ≡ min e (sum claims)
+  sum_share_by e l h = sum_share_by_from 1 MAX_CLASS e ∙ ap (λ t. min e t) (class_total_all claims classes 1 MAX_CLASS l h)
 
-sum_share_from : (rule : RuleKind) (claims classes : List ℕ) (c n e : ℕ)
-    → sum (share_from rule claims classes c n e) ≡ min e (class_total claims classes c n)
-unfolding share_from class_total
-sum_share_from rule claims classes c zero e = omega (arith, sum_by-replicate (λ n. n) (length claims) 0)
-sum_share_from rule claims classes c (suc n) e =
-    let given = min (sum (class_claims c claims classes)) e in
-    omega (
-      arith,
-      sum-place_sums (award rule (class_claims c claims classes) given)
-          (share_from rule claims classes (c + 1) n (e - given)) (lengths_agree rule claims classes c n given (e - given)),
-      sum_award rule (class_claims c claims classes) given,
-      sum_share_from rule claims classes (c + 1) n (e - given),
-    )
+  share_by_from_mono : (c n d e : ℕ) → d ≤ e
+      → IsAtMost (share_by_from choice claims classes c n d) (share_by_from choice claims classes c n e)
+  unfolding share_by_from
+  share_by_from_mono c zero d e l = λ k. omega arith
+  share_by_from_mono c (suc n) d e l =
+      let mine = class_claims c claims classes in
+      let less = min (sum mine) d in
+      let more = min (sum mine) e in
+      λ k. omega (
+        arith,
+        get_or-place_sums (award choice mine less) (share_by_from choice claims classes (c + 1) n (d - less)) k
+            (lengths_agree c n less (d - less)),
+        get_or-place_sums (award choice mine more) (share_by_from choice claims classes (c + 1) n (e - more)) k
+            (lengths_agree c n more (e - more)),
+        awards_mono choice mine (replicate (length mine) 0) less more (omega arith) k,
+        share_by_from_mono (c + 1) n (d - less) (e - more) (omega arith) k,
+      )
 
-pub sum_share : (rule : RuleKind) (claims classes : List ℕ) (e : ℕ) → length claims ≡ length classes
-    → AreClasses classes 1 MAX_CLASS → sum (share rule claims classes e) ≡ min e (sum claims)
-sum_share rule claims classes e l h =
-    sum_share_from rule claims classes 1 MAX_CLASS e ∙ ap (λ t. min e t) (class_total_all claims classes 1 MAX_CLASS l h)
+  -- no debt gets less of a larger estate
+  pub share_by_mono : (d e : ℕ) → d ≤ e → IsAtMost (share_by choice claims classes d) (share_by choice claims classes e)
+  share_by_mono d e l = share_by_from_mono 1 MAX_CLASS d e l
 
-pub share_from_mono : (rule : RuleKind) (claims classes : List ℕ) (c n d e : ℕ) → d ≤ e
-    → IsAtMost (share_from rule claims classes c n d) (share_from rule claims classes c n e)
-unfolding share_from
-share_from_mono rule claims classes c zero d e l = λ k. omega arith
-share_from_mono rule claims classes c (suc n) d e l =
-    let mine = class_claims c claims classes in
-    let less = min (sum mine) d in
-    let more = min (sum mine) e in
-    λ k. omega (
-      arith,
-      get_or-place_sums (award rule mine less) (share_from rule claims classes (c + 1) n (d - less)) k
-          (lengths_agree rule claims classes c n less (d - less)),
-      get_or-place_sums (award rule mine more) (share_from rule claims classes (c + 1) n (e - more)) k
-          (lengths_agree rule claims classes c n more (e - more)),
-      award_mono rule mine less more (omega arith) k,
-      share_from_mono rule claims classes (c + 1) n (d - less) (e - more) (omega arith) k,
-    )
+-- the same of each kind of rule
+module _ (rule : RuleKind) (claims classes : List ℕ) where
+  pub length-share : (e : ℕ) → length (share rule claims classes e) ≡ length claims
+  length-share e = (share_by_from_is (next_of rule) (kind_is_unit_choice rule) claims classes 1 MAX_CLASS e).as_many
 
-pub share_mono : (rule : RuleKind) (claims classes : List ℕ) (d e : ℕ) → d ≤ e
-    → IsAtMost (share rule claims classes d) (share rule claims classes e)
-share_mono rule claims classes d e l = share_from_mono rule claims classes 1 MAX_CLASS d e l
+  pub share_within : (e : ℕ) → IsAtMost (share rule claims classes e) claims
+  share_within e = share_by_within (next_of rule) (kind_is_unit_choice rule) claims classes e
 
--- where the estate is at least all claims, the share of each debt is its claim
-pub share_full : (rule : RuleKind) (claims classes : List ℕ) (e : ℕ) → length claims ≡ length classes
-    → AreClasses classes 1 MAX_CLASS → sum claims ≤ e → share rule claims classes e ≡ claims
-share_full rule claims classes e l h enough =
-    same_from_sum (share rule claims classes e) claims (length-share rule claims classes e) (share_within rule claims classes e)
-    (omega (arith, sum_share rule claims classes e l h))
+  pub sum_share : (e : ℕ) → length claims ≡ length classes → AreClasses classes 1 MAX_CLASS
+      → sum (share rule claims classes e) ≡ min e (sum claims)
+  sum_share e l h = sum_share_by (next_of rule) (kind_is_unit_choice rule) claims classes e l h
+
+  pub share_mono : (d e : ℕ) → d ≤ e → IsAtMost (share rule claims classes d) (share rule claims classes e)
+  share_mono d e l = share_by_mono (next_of rule) (kind_is_unit_choice rule) claims classes d e l
+
+  -- where the estate is at least all claims, the share of each debt is its claim
+  pub share_full : (e : ℕ) → length claims ≡ length classes → AreClasses classes 1 MAX_CLASS → sum claims ≤ e
+      → share rule claims classes e ≡ claims
+  share_full e l h enough = same_from_sum (share rule claims classes e) claims (length-share e) (share_within e)
+      (omega (arith, sum_share e l h))

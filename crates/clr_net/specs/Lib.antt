@@ -3,7 +3,6 @@ pub mod Name
 pub mod Net
 pub mod Limits
 pub mod Division
-pub mod InPlace
 pub mod Cases
 pub mod Samples
 pub mod Accounts

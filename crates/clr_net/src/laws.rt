@@ -1,7 +1,8 @@
 //! The laws of the division: what holds of every rule. A law has nothing to run; its `ensures` is proved.
 ghost use Rattle.clr_net.specs.Amounts.{IsAtMost};
 ghost use Rattle.clr_net.specs.Division.{AreClasses, award, next_of, share};
-ghost use Rattle.clr_net.specs.InPlace.{IsWithin, place_without, share_in_place};
+ghost use Rattle.rule_unit.specs.Awards.{IsWithin};
+ghost use Rattle.rule_unit.specs.Choice.{place_without};
 ghost use Rattle.clr_net.specs.declared.TheConstants.{MAX_CLASS};
 ghost use Rattle.clr_net.specs.declared.rule.RuleKind.{RuleKind};
 ghost use Rattle.std.specs.List.{sum};
@@ -61,11 +62,4 @@ pub fn share_never_falls()
 pub fn share_meets_claims()
     ensures { (rule : RuleKind) (claims classes : List ℕ) (e : ℕ) → length claims ≡ length classes → AreClasses classes 1 MAX_CLASS
         → sum claims ≤ e → share rule claims classes e ≡ claims }
-{}
-
-/// A share can be made in one list of awards, class by class.
-#[tactic(auto, using(crate::proofs::InPlace::share_in_place_is))]
-pub fn share_can_be_made_in_place()
-    ensures { (rule : RuleKind) (claims classes : List ℕ) (e : ℕ) → length claims ≡ length classes → AreClasses classes 1 MAX_CLASS
-        → share_in_place rule claims classes e ≡ share rule claims classes e }
 {}

@@ -2,7 +2,7 @@
 use Rattle.std.proofs.Common.{◌≡◌, ℕ, zero, suc, ◌+◌, ◌<◌, ◌≤◌, ◌==◌, cond, List, [], ◌∷◌, length, get_or, set, refl, sym, ap, ◌∙◌, subst, ⊎_elim, arith, eq-eqb, ne_eqb}
 use Rattle.std.proofs.lemmas.Grind.{common_steps}
 use Rattle.std.proofs.lemmas.Bool.{cases_eq}
-use Rattle.clr_net.specs.InPlace.{cleared_class}
+use Rattle.rule_class.specs.Sharing.{cleared_class}
 
 cleared_at : (c : ℕ) (had classes : List ℕ) (k : ℕ) → length had ≡ length classes → k < length classes
     → get_or (cleared_class c had classes) k 0 ≡ cond (get_or classes k 0 == c) 0 (get_or had k 0)

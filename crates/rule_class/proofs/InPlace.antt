@@ -4,17 +4,16 @@ use Rattle.std.proofs.lemmas.Bool.{cases_eq, cases_lt}
 use Rattle.std.proofs.lemmas.List.{ext_get_or, get_or_past}
 use Rattle.clr_net.specs.declared.TheConstants.{MAX_CLASS}
 use Rattle.clr_net.specs.Division.{class_claims, AreClasses}
-use Rattle.clr_net.specs.InPlace.{cleared_class}
+use Rattle.rule_class.specs.Sharing.{cleared_class}
 use Rattle.clr_net.proofs.Lists.{same_from_sum, sum-le}
 use Rattle.clr_net.proofs.Classes.{length-class_claims, class_claims_here, class_claims_other, get_or-place_sums}
-use Rattle.clr_net.proofs.InPlace.{IsDone}
-use Rattle.clr_net.proofs.Turn.{IsTurn, cleared_class_other, length-cleared_class}
+use Rattle.rule_class.proofs.ClearedClass.{IsTurn, cleared_class_other, length-cleared_class}
 use Rattle.rule_unit.specs.Awards.{IsWithin}
 use Rattle.rule_unit.specs.Choice.{IsUnitChoice}
 use Rattle.rule_unit.specs.Units.{awards_after, award}
 use Rattle.rule_unit.proofs.UnitByUnit.{awards_within, award_within, sum_award}
-use Rattle.rule_class.specs.Sharing.{share_by_from, share_by}
-use Rattle.rule_class.proofs.ShareBy.{IsShare, share_by_from_is}
+use Rattle.clr_net.specs.Division.{share_by_from, share_by}
+use Rattle.clr_net.proofs.Share.{IsShare, share_by_from_is}
 use Rattle.rule_class.proofs.Turn.{cleared_within, turn_after}
 
 -- the awards once n classes, from the class c on, have had their turns, with e units to give:
@@ -64,6 +63,12 @@ in_place_past choice claims classes c (suc n) e awards l =
     (λ k m. cleared_class_other c awards classes k (omega (arith, l k)))
 
 -- before the turn of the class c: its places and those of later classes are paid in full, and every place while a unit is left
+-- done
+record IsDone (claims classes : List ℕ) (c : ℕ) (had shares now : List ℕ) : Type 0 where
+  pub as_many : length now ≡ length claims
+  pub earlier : (k : ℕ) → get_or classes k 0 < c → get_or now k 0 ≡ get_or had k 0
+  pub later : (k : ℕ) → c ≤ get_or classes k 0 → get_or now k 0 ≡ get_or shares k 0
+
 record IsReady (claims classes : List ℕ) (c e : ℕ) (awards : List ℕ) : Type 0 where
   pub within : IsWithin claims awards
   pub later_met : (k : ℕ) → c ≤ get_or classes k 0 → get_or awards k 0 ≡ get_or claims k 0

@@ -1,8 +1,7 @@
-pub mod ShareOfKind
 pub mod ClassTotal
 pub mod Cleared
+pub mod ClearedClass
 pub mod Turn
-pub mod ShareBy
 pub mod InPlace
 pub mod OrderFill
 pub mod OrderClasses

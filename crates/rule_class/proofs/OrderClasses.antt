@@ -5,10 +5,10 @@ use Rattle.std.proofs.lemmas.Bool.{cases_eq, cases_lt}
 use Rattle.std.proofs.lemmas.List.{ext_get_or}
 use Rattle.std.proofs.lemmas.List.Sums.{sum_by_more}
 use Rattle.clr_net.specs.declared.rule.RuleKind.TheVariants as kind
-use Rattle.clr_net.specs.Division.{award, class_claims, share_from, share}
-use Rattle.clr_net.proofs.Award.{award_full}
+use Rattle.clr_net.specs.Division.{award, class_claims, next_of, share_by_from, share}
+use Rattle.clr_net.proofs.Award.{award_full, kind_is_unit_choice}
 use Rattle.clr_net.proofs.Classes.{length-class_claims, class_claims_here, class_claims_other, get_or-place_sums}
-use Rattle.clr_net.proofs.Share.{lengths_agree, length-share, share_from_is}
+use Rattle.clr_net.proofs.Share.{lengths_agree, length-share, share_by_from_is}
 use Rattle.rule_class.specs.ByOrder.{fill, IsClassFilled, AreUpTo}
 use Rattle.rule_class.proofs.OrderFill.{award_fills, get_or-fill}
 
@@ -23,18 +23,18 @@ award_of_all claims e =
 
 -- what a debt gets of the classes from c on: of the class c it is filled up, and the classes above it share what is left
 share_from_at : (claims classes : List ℕ) (c n e k : ℕ)
-    → get_or (share_from kind.Order claims classes c (suc n) e) k 0
+    → get_or (share_by_from (next_of kind.Order) claims classes c (suc n) e) k 0
     ≡ get_or (fill (class_claims c claims classes) e) k 0
-    + get_or (share_from kind.Order claims classes (c + 1) n (e - sum (class_claims c claims classes))) k 0
-unfolding share_from
+    + get_or (share_by_from (next_of kind.Order) claims classes (c + 1) n (e - sum (class_claims c claims classes))) k 0
+unfolding share_by_from
 share_from_at claims classes c n e k =
     let mine = class_claims c claims classes in
     let given = min (sum mine) e in
-    let rest = share_from kind.Order claims classes (c + 1) n (e - given) in
+    let rest = share_by_from (next_of kind.Order) claims classes (c + 1) n (e - given) in
     let left : e - given ≡ e - sum mine = omega arith in
-    get_or-place_sums (award kind.Order mine given) rest k (lengths_agree kind.Order claims classes c n given (e - given))
+    get_or-place_sums (award kind.Order mine given) rest k (lengths_agree (next_of kind.Order) (kind_is_unit_choice kind.Order) claims classes c n given (e - given))
     ∙ ap (λ xs. get_or xs k 0 + get_or rest k 0) (award_of_all mine e)
-    ∙ ap (λ r. get_or (fill mine e) k 0 + get_or (share_from kind.Order claims classes (c + 1) n r) k 0) left
+    ∙ ap (λ r. get_or (fill mine e) k 0 + get_or (share_by_from (next_of kind.Order) claims classes (c + 1) n r) k 0) left
 
 -- the classes below c have their shares of the estate, and those from c on share what is left
 pub record IsFilledBelow (claims classes : List ℕ) (estate c left : ℕ) (into : List ℕ) : Type 0 where
@@ -42,7 +42,7 @@ pub record IsFilledBelow (claims classes : List ℕ) (estate c left : ℕ) (into
   pub done : (k : ℕ) → k < length claims → get_or classes k 0 < c
       → get_or into k 0 ≡ get_or (share kind.Order claims classes estate) k 0
   pub rest : (k : ℕ) → c ≤ get_or classes k 0
-      → get_or (share kind.Order claims classes estate) k 0 ≡ get_or (share_from kind.Order claims classes c (10 - c) left) k 0
+      → get_or (share kind.Order claims classes estate) k 0 ≡ get_or (share_by_from (next_of kind.Order) claims classes c (10 - c) left) k 0
 
 module _ (claims classes : List ℕ) (estate c left : ℕ) (into now : List ℕ) (small : c < 10)
     (before : IsFilledBelow claims classes estate c left into) (turn : IsClassFilled c claims classes left into now) where
@@ -50,14 +50,14 @@ module _ (claims classes : List ℕ) (estate c left : ℕ) (into now : List ℕ)
   mine = class_claims c claims classes
 
   abbrev later : List ℕ
-  later = share_from kind.Order claims classes (c + 1) (10 - (c + 1)) (left - sum mine)
+  later = share_by_from (next_of kind.Order) claims classes (c + 1) (10 - (c + 1)) (left - sum mine)
 
   share_at : (k : ℕ) → c ≤ get_or classes k 0
       → get_or (share kind.Order claims classes estate) k 0 ≡ get_or (fill mine left) k 0 + get_or later k 0
   share_at k l =
       let more : 10 - c ≡ suc (10 - (c + 1)) = omega arith in
       before.rest k l
-      ∙ ap (λ n. get_or (share_from kind.Order claims classes c n left) k 0) more
+      ∙ ap (λ n. get_or (share_by_from (next_of kind.Order) claims classes c n left) k 0) more
       ∙ share_from_at claims classes c (10 - (c + 1)) left k
 
   -- and so it is with one class more
@@ -69,7 +69,7 @@ module _ (claims classes : List ℕ) (estate c left : ℕ) (into now : List ℕ)
           arith,
           turn.filled k l e,
           share_at k (omega arith),
-          (share_from_is kind.Order claims classes (c + 1) (10 - (c + 1)) (left - sum mine)).later k (omega arith),
+          (share_by_from_is (next_of kind.Order) (kind_is_unit_choice kind.Order) claims classes (c + 1) (10 - (c + 1)) (left - sum mine)).earlier k (omega arith),
         ))
         (λ (ne : get_or classes k 0 ≡ c → ⊥). turn.others k ne ∙ before.done k l (omega arith))
         (cases_eq (get_or classes k 0) c);

@@ -3,10 +3,11 @@ use Rattle.std.proofs.Common.{◌≡◌, ℕ, zero, suc, ◌-◌, ◌<◌, ◌�
 use Rattle.std.specs.Option.{option_map}
 use Rattle.std.proofs.lemmas.Bool.{cases_lt, true≢false}
 use Rattle.clr_net.specs.declared.rule.RuleKind.TheVariants as kind
-use Rattle.clr_net.specs.Division.{is_unmet, next_of, one_more, award}
+use Rattle.clr_net.specs.Division.{is_unmet, next_of, award}
 use Rattle.clr_net.proofs.Lists.{sum-cons}
 use Rattle.clr_net.proofs.Next.{next_of_is_best}
 use Rattle.clr_net.proofs.LeftOut.{next_of_part}
+use Rattle.rule_unit.specs.Units.{one_more, awards_after}
 use Rattle.rule_class.specs.ByOrder.{fill}
 
 fill_nothing : (claims : List ℕ) → fill claims 0 ≡ replicate (length claims) 0
@@ -70,7 +71,7 @@ fill_more (c ∷ claims) e = ⊎_elim
 
 -- units given out by order, one by one, fill up the debts
 pub award_fills : (claims : List ℕ) (e : ℕ) → award kind.Order claims e ≡ fill claims e
-unfolding award
+unfolding awards_after
 award_fills claims zero = sym (fill_nothing claims)
 award_fills claims (suc e) =
     ap (λ awards. one_more (next_of kind.Order claims awards) awards) (award_fills claims e) ∙ fill_more claims e

@@ -4,10 +4,10 @@ use Rattle.std.proofs.Common.{◌≡◌, ℕ, zero, suc, ◌<◌, ◌≤◌, Lis
 use Rattle.std.proofs.lemmas.Grind.{common_steps}
 use Rattle.std.proofs.lemmas.Bool.{cases_eq}
 use Rattle.clr_net.specs.Division.{class_claims}
-use Rattle.clr_net.specs.InPlace.{cleared_class}
+use Rattle.rule_class.specs.Sharing.{cleared_class}
 use Rattle.clr_net.proofs.Lists.{zeros_at}
 use Rattle.clr_net.proofs.Classes.{length-class_claims, class_claims_here, class_claims_other}
-use Rattle.clr_net.proofs.Turn.{IsTurn, length-cleared_class, cleared_class_here, cleared_class_other}
+use Rattle.rule_class.proofs.ClearedClass.{IsTurn, length-cleared_class, cleared_class_here, cleared_class_other}
 use Rattle.rule_unit.specs.Awards.{IsWithin}
 use Rattle.rule_unit.specs.Choice.{IsUnitChoice, AgreeWhereUnmet}
 use Rattle.rule_unit.specs.Units.{one_more, awards_after, award}

@@ -1,7 +1,7 @@
 ghost use Rattle.clr_net.specs.Division.{AreClasses, class_claims};
-ghost use Rattle.clr_net.specs.InPlace.{cleared_class};
+ghost use Rattle.rule_class.specs.Sharing.{cleared_class};
 ghost use Rattle.clr_net.specs.declared.TheConstants.{MAX_CLASS};
-ghost use Rattle.rule_class.specs.Sharing.{share_by};
+ghost use Rattle.clr_net.specs.Division.{share_by};
 ghost use Rattle.rule_class.specs.declared.TheConstants.{MAX_CLAIMS};
 ghost use Rattle.rule_unit.specs.Awards.{IsWithin};
 ghost use Rattle.rule_unit.specs.Units.{awards_after};

@@ -1,15 +1,14 @@
 //! The laws of a division over classes, whichever unit rule chooses the debt that gets the next
 //! unit. A law has nothing to run; its `ensures` is proved.
-ghost use Rattle.clr_net.specs.Division.{AreClasses, next_of, share};
+ghost use Rattle.clr_net.specs.Division.{AreClasses};
 ghost use Rattle.clr_net.specs.declared.TheConstants.{MAX_CLASS};
-ghost use Rattle.clr_net.specs.declared.rule.RuleKind.{RuleKind};
-ghost use Rattle.rule_class.specs.Sharing.{share_by};
+ghost use Rattle.clr_net.specs.Division.{share_by};
 ghost use Rattle.rule_unit.specs.Awards.{IsAtMost};
 ghost use Rattle.rule_unit.specs.Choice.{IsUnitChoice};
 ghost use Rattle.std.specs.Prelude.{◌≡◌, ◌≤◌, ℕ, List, Option, length, min, sum};
 
 /// No debt gets more than its claim.
-#[tactic(auto, using(crate::proofs::ShareBy::share_by_within))]
+#[tactic(auto, using(clr_net::proofs::Share::share_by_within))]
 pub fn share_is_within_claims()
     ensures { (choice : List ℕ → List ℕ → Option ℕ) (claims classes : List ℕ) (e : ℕ)
         → IsUnitChoice choice
@@ -17,7 +16,7 @@ pub fn share_is_within_claims()
 {}
 
 /// An estate is given out whole, up to all that is claimed.
-#[tactic(auto, using(crate::proofs::ShareBy::sum_share_by))]
+#[tactic(auto, using(clr_net::proofs::Share::sum_share_by))]
 pub fn share_gives_all()
     ensures { (choice : List ℕ → List ℕ → Option ℕ) (claims classes : List ℕ) (e : ℕ)
         → IsUnitChoice choice → length claims ≡ length classes
@@ -26,16 +25,9 @@ pub fn share_gives_all()
 {}
 
 /// No debt gets less of a larger estate.
-#[tactic(auto, using(crate::proofs::ShareBy::share_by_mono))]
+#[tactic(auto, using(clr_net::proofs::Share::share_by_mono))]
 pub fn share_never_falls()
     ensures { (choice : List ℕ → List ℕ → Option ℕ) (claims classes : List ℕ) (d e : ℕ)
         → IsUnitChoice choice → d ≤ e
         → IsAtMost (share_by choice claims classes d) (share_by choice claims classes e) }
-{}
-
-/// By the next debt of a kind of rule, the division is the share of that kind.
-#[tactic(auto, using(crate::proofs::ShareOfKind::share_by_is))]
-pub fn shares_are_those_of_the_kind()
-    ensures { (kind : RuleKind) (claims classes : List ℕ) (e : ℕ)
-        → share_by (next_of kind) claims classes e ≡ share kind claims classes e }
 {}

@@ -1,6 +1,6 @@
 ghost use Rattle.clr_net.specs.Division.{goes_before as goes_first, next_of};
 ghost use Rattle.rule_divisor.specs.Kind.{kind_of, divisor_of};
-ghost use Rattle.rule_kinds.specs.UnitChoice.{kind_is_unit_choice};
+ghost use Rattle.clr_net.proofs.Award.{kind_is_unit_choice};
 ghost use Rattle.rule_unit.specs.declared.TheConstants.{MAX_CLAIM};
 ghost use Rattle.std.specs.Prelude.{◌≡◌, ◌≤◌};
 

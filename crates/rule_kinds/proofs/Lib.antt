@@ -1,2 +1,1 @@
-pub mod AwardsOfKind
 pub mod FirstUnmet

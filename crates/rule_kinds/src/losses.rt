@@ -1,6 +1,6 @@
 ghost use Rattle.clr_net.specs.Division.{next_of};
 ghost use Rattle.clr_net.specs.declared.rule.RuleKind.TheVariants.{Losses};
-ghost use Rattle.rule_kinds.specs.UnitChoice.{kind_is_unit_choice};
+ghost use Rattle.clr_net.proofs.Award.{kind_is_unit_choice};
 
 use rule_unit::UnitRule;
 

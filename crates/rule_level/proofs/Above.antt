@@ -5,7 +5,7 @@ use Rattle.std.proofs.lemmas.List.{length-map}
 use Rattle.rule_unit.specs.declared.TheConstants.{MAX_CLAIM}
 use Rattle.clr_net.specs.declared.rule.RuleKind.{RuleKind}
 use Rattle.clr_net.specs.Division.{goes_before, award}
-use Rattle.clr_net.specs.InPlace.{IsWithin}
+use Rattle.rule_unit.specs.Awards.{IsWithin}
 use Rattle.clr_net.proofs.Lists.{sum-cons}
 use Rattle.clr_net.proofs.Classes.{length-place_sums, get_or-place_sums, sum-place_sums}
 use Rattle.clr_net.proofs.Order.{goes_before_never, goes_before_through}

@@ -4,16 +4,14 @@ use Rattle.std.proofs.lemmas.Bool.{cases_eq, cases_lt}
 use Rattle.std.proofs.lemmas.List.{ext_get_or}
 use Rattle.clr_net.specs.declared.rule.RuleKind.{RuleKind}
 use Rattle.clr_net.specs.Division.{next_of, class_claims}
-use Rattle.clr_net.specs.InPlace.{cleared_class}
+use Rattle.rule_class.specs.Sharing.{cleared_class}
 use Rattle.clr_net.proofs.Lists.{sum-cons}
-use Rattle.clr_net.proofs.Award.{award_full}
+use Rattle.clr_net.proofs.Award.{award_full, kind_is_unit_choice}
 use Rattle.clr_net.proofs.Classes.{class_claims_here}
-use Rattle.clr_net.proofs.Turn.{IsTurn}
+use Rattle.rule_class.proofs.ClearedClass.{IsTurn}
 use Rattle.rule_unit.specs.Awards.{IsWithin}
 use Rattle.rule_unit.specs.Units.{awards_after, award}
 use Rattle.rule_unit.proofs.UnitByUnit.{awards_within}
-use Rattle.rule_kinds.specs.UnitChoice.{kind_is_unit_choice}
-use Rattle.rule_kinds.proofs.AwardsOfKind.{award_is}
 use Rattle.rule_class.proofs.Turn.{cleared_within, turn_after}
 use Rattle.rule_level.specs.ClassSet.{IsClassSet}
 use Rattle.rule_level.specs.Levels.{level_awards, awards_above}
@@ -54,7 +52,7 @@ module _ (kind : RuleKind) (claims classes : List ℕ) (c : ℕ) (positive : 0 <
   pub full_turn : sum mine ≤ left → had ≡ turned (sum mine)
   full_turn l =
       set_is_turned mine had (sum mine) l
-      (sym (award_full kind mine (sum mine) (omega arith)) ∙ sym (award_is kind mine (sum mine)))
+      (sym (award_full kind mine (sum mine) (omega arith)))
       (record { as_many = refl; here = here; others = λ k ne. refl })
     where
       here : (k : ℕ) → get_or classes k 0 ≡ c → get_or had k 0 ≡ get_or mine k 0
@@ -70,4 +68,4 @@ module _ (kind : RuleKind) (claims classes : List ℕ) (c : ℕ) (positive : 0 <
       → now ≡ turned left
   level_turn t now limit low high s =
       set_is_turned (awards_above kind t (left - sum (level_awards kind t mine)) mine) now left (omega arith)
-      (award_by_level kind t left mine limit low high ∙ sym (award_is kind mine left)) s
+      (award_by_level kind t left mine limit low high) s

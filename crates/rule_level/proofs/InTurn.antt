@@ -5,8 +5,9 @@ use Rattle.std.proofs.lemmas.Bool.{cases_lt, cases_order, ltb-true, lt-ltb, true
 use Rattle.clr_net.specs.declared.rule.RuleKind.{RuleKind}
 use Rattle.clr_net.specs.declared.rule.RuleKind.TheVariants as kind
 use Rattle.clr_net.specs.Amounts.{IsAtMost}
-use Rattle.clr_net.specs.Division.{goes_before, is_unmet, precedes, next_of, one_more, award}
-use Rattle.clr_net.specs.InPlace.{IsWithin}
+use Rattle.clr_net.specs.Division.{goes_before, is_unmet, precedes, next_of, award}
+use Rattle.rule_unit.specs.Awards.{IsWithin}
+use Rattle.rule_unit.specs.Units.{one_more, awards_after}
 use Rattle.clr_net.proofs.Lists.{sum-cons, sum-le, same_from_sum, zeros_at}
 use Rattle.clr_net.proofs.Best.{IsBest}
 use Rattle.clr_net.proofs.Next.{IsNextSoFar, next_of_best}
@@ -94,7 +95,7 @@ module _ (rule : RuleKind) (claims awards : List ℕ) (w : IsWithin claims award
       λ k. grind (arith, common_steps, h k, given)
 
   award_at_most : (e : ℕ) → e ≤ sum awards → IsAtMost (award rule claims e) awards
-  unfolding award
+  unfolding awards_after
   award_at_most zero l = λ k. omega (arith, zeros_at (length claims) k)
   award_at_most (suc e) l =
       let now = award rule claims e in

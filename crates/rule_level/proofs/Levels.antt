@@ -8,7 +8,7 @@ use Rattle.rule_unit.specs.declared.TheConstants.{MAX_CLAIM}
 use Rattle.clr_net.specs.declared.rule.RuleKind.{RuleKind}
 use Rattle.clr_net.specs.declared.rule.RuleKind.TheVariants as kind
 use Rattle.clr_net.specs.Division.{goes_before}
-use Rattle.clr_net.specs.InPlace.{IsWithin}
+use Rattle.rule_unit.specs.Awards.{IsWithin}
 use Rattle.rule_level.specs.Levels.{at_level, level_awards}
 
 -- ratios on the two sides of a level t / n: c / u is at least the level and d / v below it, or c / u above it and d / v at most the level

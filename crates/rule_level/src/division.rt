@@ -1,5 +1,5 @@
 ghost use Rattle.clr_net.specs.Division.{AreClasses, class_claims, next_of, share};
-ghost use Rattle.clr_net.specs.InPlace.{cleared_class};
+ghost use Rattle.rule_class.specs.Sharing.{cleared_class};
 ghost use Rattle.clr_net.specs.declared.TheConstants.{MAX_CLASS};
 ghost use Rattle.clr_net.specs.declared.rule.RuleKind.TheVariants.{Order};
 ghost use Rattle.rule_class.specs.declared.TheConstants.{MAX_CLAIMS};

@@ -1,6 +1,7 @@
 //! The laws that a division by levels rests on. A law has nothing to run; its `ensures` is proved.
-ghost use Rattle.clr_net.specs.Division.{award};
-ghost use Rattle.clr_net.specs.InPlace.{IsWithin, awards_after};
+ghost use Rattle.clr_net.specs.Division.{award, next_of};
+ghost use Rattle.rule_unit.specs.Awards.{IsWithin};
+ghost use Rattle.rule_unit.specs.Units.{awards_after};
 ghost use Rattle.clr_net.specs.declared.rule.RuleKind.{RuleKind};
 ghost use Rattle.rule_level.specs.InTurn.{IsInTurn};
 ghost use Rattle.rule_level.specs.Levels.{awards_above, level_awards};
@@ -11,7 +12,7 @@ ghost use Rattle.std.specs.Prelude.{◌≡◌, ◌+◌, ◌-◌, ◌≤◌, ℕ,
 #[tactic(auto, using(crate::proofs::GoesOn::award_goes_on))]
 pub fn award_goes_on_from_smaller()
     ensures { (kind : RuleKind) (claims : List ℕ) (f e : ℕ) → f ≤ e
-        → award kind claims e ≡ awards_after kind claims (award kind claims f) (e - f) }
+        → award kind claims e ≡ awards_after (next_of kind) claims (award kind claims f) (e - f) }
 {}
 
 /// Awards within the claims are the award of their sum, where no unit that they leave out goes

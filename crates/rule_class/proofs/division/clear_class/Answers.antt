@@ -1,7 +1,7 @@
 use Rattle.std.proofs.Common.{◌+◌, sym, subst, refl, ◌∙◌, arith}
 use Rattle.std.proofs.lemmas.List.{ext_get_or}
-use Rattle.clr_net.specs.InPlace.{cleared_class}
-use Rattle.clr_net.proofs.Turn.{length-cleared_class}
+use Rattle.rule_class.specs.Sharing.{cleared_class}
+use Rattle.rule_class.proofs.ClearedClass.{length-cleared_class}
 use Rattle.rule_class.proofs.Cleared.{IsClearedTo, cleared_here, cleared_not_here}
 use Rattle.rule_class.proofs.division.clear_class.Goals.{then-classes-debt, else-classes-debt}
 use Rattle.rule_class.proofs.division.clear_class.Goals as goal

@@ -1,8 +1,7 @@
 use Rattle.std.proofs.Common.{◌-◌, sym, ◌∙◌, arith}
 use Rattle.clr_net.specs.Division.{next_of}
-use Rattle.rule_kinds.specs.UnitChoice.{kind_is_unit_choice}
+use Rattle.clr_net.proofs.Award.{kind_is_unit_choice}
 use Rattle.rule_class.proofs.InPlace.{in_place_turn, in_place_past, in_place_is}
-use Rattle.rule_class.proofs.ShareOfKind.{share_by_is}
 use Rattle.rule_level.proofs.division.by_levels.Goals as goal
 
 pub loop-class-preserved : goal.loop-class-preserved
@@ -24,4 +23,3 @@ returns c =
     c.loop-class.into (λ k. omega (arith, c.last_class-class-end.ensures.last k)))
     ∙ c.loop-class.invariant.rest
     ∙ in_place_is (next_of kind) (kind_is_unit_choice kind) claims classes c.args.estate c.requires.a_class_each c.requires.classed
-    ∙ share_by_is kind claims classes c.args.estate

@@ -1,6 +1,6 @@
 use Rattle.std.proofs.Common.{◌-◌, ap, sym, subst, ◌∙◌, arith}
 use Rattle.clr_net.specs.Division.{class_claims, next_of}
-use Rattle.clr_net.specs.InPlace.{cleared_class}
+use Rattle.rule_class.specs.Sharing.{cleared_class}
 use Rattle.rule_unit.specs.Awards.{IsWithin}
 use Rattle.rule_unit.specs.Units.{awards_after}
 use Rattle.rule_level.specs.ClassSet.{IsClassSet}
