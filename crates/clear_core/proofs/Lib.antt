@@ -1,6 +1,8 @@
 pub mod Rows
 pub mod Pay
 pub mod BankPays
+pub mod WrittenRows
+pub mod Raising
 pub mod Least
 pub mod Settling
 pub mod Richer

@@ -6,3 +6,4 @@ pub mod Buffers
 pub mod Quiet
 pub mod Rounds
 pub mod Richer
+pub mod Raised

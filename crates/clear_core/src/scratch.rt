@@ -1,11 +1,13 @@
-ghost use Rattle.clear_core.specs.Buffers.{HasRoom};
-ghost use Rattle.clear_core.specs.Clearing.{division, division_of};
+ghost use Rattle.clear_core.specs.Buffers.{AreInLimit, HasRoom};
+ghost use Rattle.clear_core.specs.Clearing.{division, division_of, pay};
+ghost use Rattle.clear_core.specs.Raised.{IsRaised};
 ghost use Rattle.clr_net.specs.Limits.{IsNetwork};
-ghost use Rattle.clr_net.specs.Net.{claims_of, classes_of, row as row_of};
+ghost use Rattle.clr_net.specs.Net.{claims_of, classes_of, debtor_of, row as row_of};
 ghost use Rattle.clr_net.specs.declared.TheConstants.{MAX_CLAIM, MAX_DEBTS};
-ghost use Rattle.std.specs.Prelude.{◌≡◌, ◌*◌, ◌<◌, ◌≤◌, ◌↔◌, IfOk, IsTrue, length, map, slice_index, vec_capacity, vec_len};
+ghost use Rattle.std.specs.Bool.{OnFalse, OnTrue};
+ghost use Rattle.std.specs.Prelude.{◌≡◌, ◌≢◌, ◌*◌, ◌<◌, ◌≤◌, ◌↔◌, ℕ, IfOk, IsTrue, length, map, slice_index, sum, vec_capacity, vec_len};
 
-use crate::receipts::spend;
+use crate::receipts::{receipts_of, spend};
 use clr_net::{BankId, Mem, Network};
 use rule_level::share_by_level;
 use std::alloc::Global;
@@ -57,34 +59,81 @@ impl Scratch {
     {
         prove!(bank.0 < net.banks());
         lay_out_row(net, bank, &mut self.claims, &mut self.classes);
-        divide_row(
+        divide_laid_out(
             net,
             bank,
-            receipts,
+            spend(net, bank, receipts),
             self.claims.as_slice(),
             self.classes.as_slice(),
             into,
         );
     }
 
-    /// Writes what a bank's rule gives each debt of its row, in file order, of so many units. Takes no memory.
-    pub fn divide_units(&mut self, net: &Network, bank: BankId, units: u64, into: &mut [u64])
+    /// A bank pays on the debts of its row what its rule gives from what it has received by `paid`: writes that into
+    /// `next`, and nothing else.
+    ///
+    /// Both have a place for each debt, in file order, in units. Takes no memory.
+    pub fn pay_row(&mut self, net: &Network, bank: BankId, paid: &[u64], next: &mut [u64])
+        requires network { IsNetwork net.now }
         requires bank { bank.0 < length net.now.banks }
+        requires paid { length paid.now ≡ length net.now.debts }
+        requires paid_in_limit { AreInLimit paid.now }
+        requires next { length next.old ≡ length net.now.debts }
         requires room { HasRoom net.now self.old }
-        requires places { length into.old ≡ length (row_of net.now bank.0) }
-        ensures division { into.new ≡ division_of net.now bank.0 units }
+        ensures in_row { (x : ℕ) → x < length net.now.debts → debtor_of net.now x ≡ bank.0
+            → slice_index next.new x ≡ slice_index (pay net.now paid.now) x }
+        ensures others { (x : ℕ) → debtor_of net.now x ≢ bank.0
+            → slice_index next.new x ≡ slice_index next.old x }
         ensures room { self.new ≡ self.old }
     {
-        prove!(bank.0 < net.banks());
-        lay_out_row(net, bank, &mut self.claims, &mut self.classes);
-        divide_laid_out(
+        let receipts = receipts_of(net, bank, paid);
+        award_row(
+            net,
+            bank,
+            spend(net, bank, receipts),
+            &mut self.claims,
+            &mut self.classes,
+            &mut self.awards,
+        );
+        let awards = self.awards.as_slice();
+        for (place, id) in net.row(bank).iter().enumerate() {
+            next[id.0 as usize] = awards[place];
+        }
+    }
+
+    /// A bank pays on the debts of its row what its rule gives of so many units, which is no less than it has paid.
+    /// Whoever it pays more is marked; answers whether it pays anyone more.
+    ///
+    /// `paid` has a place for each debt, in file order, in units, and `marks` one for each bank. Takes no memory.
+    pub fn raise_row(
+        &mut self,
+        net: &Network,
+        bank: BankId,
+        units: u64,
+        paid: &mut [u64],
+        marks: &mut [bool],
+    ) -> bool
+        requires network { IsNetwork net.now }
+        requires bank { bank.0 < length net.now.banks }
+        requires paid { length paid.old ≡ length net.now.debts }
+        requires marks { length marks.old ≡ length net.now.banks }
+        requires rises { (m : ℕ) → m < length (row_of net.now bank.0)
+            → slice_index paid.old (slice_index (row_of net.now bank.0) m) ≤ slice_index (division_of net.now bank.0 units) m }
+        requires room { HasRoom net.now self.old }
+        ensures raised { IsRaised net.now bank.0 (division_of net.now bank.0 units) paid.old paid.new marks.old marks.new }
+        ensures more { OnTrue result (sum paid.old < sum paid.new) }
+        ensures same { OnFalse result (paid.new ≡ paid.old) }
+        ensures room { self.new ≡ self.old }
+    {
+        award_row(
             net,
             bank,
             units,
-            self.claims.as_slice(),
-            self.classes.as_slice(),
-            into,
+            &mut self.claims,
+            &mut self.classes,
+            &mut self.awards,
         );
+        raise(net, bank, self.awards.as_slice(), paid, marks)
     }
 
     /// What a bank's rule gives the debt in one place of its row, when the bank receives so many units.
@@ -106,7 +155,7 @@ impl Scratch {
         award_row(
             net,
             bank,
-            receipts,
+            spend(net, bank, receipts),
             &mut self.claims,
             &mut self.classes,
             &mut self.awards,
@@ -127,7 +176,7 @@ impl Scratch {
         award_row(
             net,
             bank,
-            receipts,
+            spend(net, bank, receipts),
             &mut self.claims,
             &mut self.classes,
             &mut self.awards,
@@ -179,22 +228,21 @@ fn blank(awards: &mut Vec<u64>, places: usize)
     }
 }
 
-// Lays out the row of a bank, and divides what the bank has among it.
+// Lays out the row of a bank, and divides so many units among it.
 fn award_row(
     net: &Network,
     bank: BankId,
-    receipts: u64,
+    units: u64,
     claims: &mut Vec<u64>,
     classes: &mut Vec<u8>,
     awards: &mut Vec<u64>,
 )
     requires network { IsNetwork net.now }
     requires bank { bank.0 < length net.now.banks }
-    requires receipts { receipts ≤ MAX_DEBTS * MAX_CLAIM }
     requires room_for_claims { length (row_of net.now bank.0) ≤ vec_capacity claims.old }
     requires room_for_classes { length (row_of net.now bank.0) ≤ vec_capacity classes.old }
     requires room_for_awards { length (row_of net.now bank.0) ≤ vec_capacity awards.old }
-    ensures awards { awards.new.items ≡ division net.now bank.0 receipts }
+    ensures awards { awards.new.items ≡ division_of net.now bank.0 units }
     ensures places { vec_len awards.new ≡ length (row_of net.now bank.0) }
     ensures room_of_claims { vec_capacity claims.new ≡ vec_capacity claims.old }
     ensures room_of_classes { vec_capacity classes.new ≡ vec_capacity classes.old }
@@ -202,14 +250,40 @@ fn award_row(
 {
     lay_out_row(net, bank, claims, classes);
     blank(awards, net.row(bank).len());
-    divide_row(
+    divide_laid_out(
         net,
         bank,
-        receipts,
+        units,
         claims.as_slice(),
         classes.as_slice(),
         awards.as_mut_slice(),
     );
+}
+
+// Pays the awards on the debts of a bank, where they are more than is paid, and marks whoever is
+// paid more. Answers whether any is.
+fn raise(net: &Network, bank: BankId, awards: &[u64], paid: &mut [u64], marks: &mut [bool]) -> bool
+    requires network { IsNetwork net.now }
+    requires bank { bank.0 < length net.now.banks }
+    requires paid { length paid.old ≡ length net.now.debts }
+    requires marks { length marks.old ≡ length net.now.banks }
+    requires places { length awards.now ≡ length (row_of net.now bank.0) }
+    requires rises { (m : ℕ) → m < length (row_of net.now bank.0)
+        → slice_index paid.old (slice_index (row_of net.now bank.0) m) ≤ slice_index awards.now m }
+    ensures raised { IsRaised net.now bank.0 awards.now paid.old paid.new marks.old marks.new }
+    ensures more { OnTrue result (sum paid.old < sum paid.new) }
+    ensures same { OnFalse result (paid.new ≡ paid.old) }
+{
+    let mut any = false;
+    for (place, id) in net.row(bank).iter().enumerate() {
+        let award = awards[place];
+        if paid[id.0 as usize] < award {
+            paid[id.0 as usize] = award;
+            marks[net.debt(*id).creditor.0 as usize] = true;
+            any = true;
+        }
+    }
+    any
 }
 
 // Whether the payments on the row of a bank are the awards, in file order.
@@ -225,27 +299,6 @@ fn are_paid(net: &Network, bank: BankId, paid: &[u64], awards: &[u64]) -> bool
         }
     }
     true
-}
-
-// Divides what a bank has among the debts that are laid out, by its rule.
-fn divide_row(
-    net: &Network,
-    bank: BankId,
-    receipts: u64,
-    claims: &[u64],
-    classes: &[u8],
-    into: &mut [u64],
-)
-    requires network { IsNetwork net.now }
-    requires bank { bank.0 < length net.now.banks }
-    requires receipts { receipts ≤ MAX_DEBTS * MAX_CLAIM }
-    requires claims { claims.now ≡ claims_of net.now bank.0 }
-    requires classes { classes.now ≡ classes_of net.now bank.0 }
-    requires places { length into.old ≡ length (row_of net.now bank.0) }
-    ensures { into.new ≡ division net.now bank.0 receipts }
-{
-    let units = spend(net, bank, receipts);
-    divide_laid_out(net, bank, units, claims, classes, into);
 }
 
 // Divides so many units among the debts of a bank that are laid out, by its rule.

@@ -1,1 +1,3 @@
 pub mod Way
+pub mod Paying
+pub mod Sweeps

@@ -1,67 +1,30 @@
 -- With costs too there are least payments that clear: they are no more where less is kept, and the
 -- old least where all is.
-use Rattle.std.proofs.Common.{◌≡◌, ℕ, zero, suc, ◌≤◌, List, length, refl, sym, ap, ◌∙◌, subst, arith}
-use Rattle.std.proofs.lemmas.List.{length-replicate}
+use Rattle.std.proofs.Common.{◌≡◌, ℕ, zero, suc, ◌≤◌, List, refl, sym, ap, ◌∙◌, subst, arith}
 use Rattle.clr_net.specs.Amounts.{IsAtMost}
 use Rattle.clr_net.specs.Net.{Net, units_owed}
-use Rattle.clr_net.proofs.Lists.{IsAtMost_antisym}
 use Rattle.clear_core.specs.Clearing.{zeros, rounds, least}
 use Rattle.clear_core.specs.Rounds.{rounds_of}
-use Rattle.clear_core.proofs.Least.{zeros_le}
-use Rattle.clear_core.proofs.Settling.{IsPaying, rounds_below, rising_settles}
-use Rattle.costs.specs.Costs.{cost_pay, CostClears, IsCostLeast, cost_least}
-use Rattle.costs.proofs.CostPay.{length-cost_pay, cost_pay_mono, sum-cost_pay_le, cost_pay_all}
-
--- paying with costs is a way of paying whose rounds settle
-cost_is_paying : (net : Net) (k : ℕ) → k ≤ 1000
-    → IsPaying (cost_pay net k) (length net.debts) (units_owed net)
-cost_is_paying net k l = record {
-  as_many = length-cost_pay net k;
-  rises = λ P Q. cost_pay_mono net k k P Q (omega arith) l;
-  within = sum-cost_pay_le net k;
-}
+use Rattle.clear_least.proofs.LeastBy.{least_by_is, least_by_mono, least_by_only}
+use Rattle.costs.specs.Costs.{cost_spend, cost_pay, IsCostLeast, cost_least}
+use Rattle.costs.proofs.CostPay.{cost_spend_mono, cost_spend_never_falls, cost_pay_all}
 
 -- the rounds from nothing paid end at the least payments that clear with costs
 pub cost_least_is : (net : Net) (k : ℕ) → k ≤ 1000 → IsCostLeast net k (cost_least net k)
-cost_least_is net k l =
-    let debts = length net.debts in
-    let owed = units_owed net in
-    let paying = cost_is_paying net k l in
-    record {
-      clears = rising_settles (cost_pay net k) debts owed paying (zeros net)
-          (length-replicate debts 0) (zeros_le net (cost_pay net k (zeros net))) owed
-          (omega arith);
-      least = λ Q c. rounds_below (cost_pay net k) debts owed paying (zeros net) Q (zeros_le net Q)
-          (subst (λ R. IsAtMost R Q) (sym c) (λ x. omega arith)) owed;
-    }
+cost_least_is net k l = least_by_is net (cost_spend net k) (cost_spend_never_falls net k l)
 
--- what clears at or below them are they
-pub cost_clears_only_at_least : (net : Net) (k : ℕ) (P : List ℕ) → k ≤ 1000
-    → IsAtMost P (cost_least net k) → CostClears net k P → P ≡ cost_least net k
-cost_clears_only_at_least net k P l h c =
-    let is = cost_least_is net k l in
-    let least_over = sym (length-cost_pay net k (cost_least net k)) ∙ ap length is.clears in
-    IsAtMost_antisym P (cost_least net k)
-    (sym (ap length c) ∙ length-cost_pay net k P ∙ least_over) h (is.least P c)
-
--- so there is one least
+-- there is one least
 pub cost_least_only : (net : Net) (k : ℕ) (P : List ℕ) → k ≤ 1000 → IsCostLeast net k P
     → P ≡ cost_least net k
-cost_least_only net k P l p =
-    let below = p.least (cost_least net k) (cost_least_is net k l).clears in
-    cost_clears_only_at_least net k P l below p.clears
+cost_least_only net k P l = least_by_only net (cost_spend net k) P (cost_spend_never_falls net k l)
 
 -- where less is kept the least are nowhere greater
 pub cost_least_mono : (net : Net) (j k : ℕ) → j ≤ k → k ≤ 1000
     → IsAtMost (cost_least net j) (cost_least net k)
 cost_least_mono net j k m l =
-    let most = cost_least net k in
-    let paying = cost_is_paying net j (omega arith) in
-    rounds_below (cost_pay net j) (length net.debts) (units_owed net) paying (zeros net) most
-    (zeros_le net most)
-    (subst (λ R. IsAtMost (cost_pay net j most) R) (cost_least_is net k l).clears
-    (cost_pay_mono net j k most most m l (λ x. omega arith)))
-    (units_owed net)
+    least_by_mono net (cost_spend net j) (cost_spend net k)
+    (cost_spend_never_falls net j (omega arith)) (cost_spend_never_falls net k l)
+    (cost_spend_mono net j k m l)
 
 -- where all is kept the rounds are the old ones
 cost_rounds_all : (net : Net) (n : ℕ)
@@ -74,3 +37,11 @@ cost_rounds_all net (suc n) =
 -- and so is the least
 pub cost_least_all : (net : Net) → cost_least net 1000 ≡ least net
 cost_least_all net = cost_rounds_all net (units_owed net)
+
+-- so the least with costs are nowhere greater than the least without
+pub no_more_than_least : (net : Net) (k : ℕ) (P : List ℕ) → k ≤ 1000 → P ≡ cost_least net k
+    → IsAtMost P (least net)
+no_more_than_least net k P l e =
+    let below = cost_least_mono net k 1000 l (omega arith) in
+    subst (λ R. IsAtMost R (least net)) (sym e)
+    (subst (λ R. IsAtMost (cost_least net k) R) (cost_least_all net) below)

@@ -12,10 +12,11 @@ use Rattle.clear_core.specs.Clearing.{receipts, estate}
 use Rattle.clear_core.proofs.Rows.{claim_in_limit}
 use Rattle.cascade.specs.Standings.{due, owed_by, paid_by}
 use Rattle.cascade.proofs.PayingOut.{all_kept}
+use Rattle.clear_least.proofs.Paying.{pay_by_within}
 use Rattle.costs.specs.Costs.{cost_spend, cost_pay, CostClears}
 use Rattle.costs.specs.CostStandings.{lost_by, cost_outside_paid, cost_equity, PaysFromKept, CostAddsUp}
 use Rattle.costs.proofs.Keeping.{kept_le}
-use Rattle.costs.proofs.CostPay.{length-cost_pay, cost_pay_row, cost_pay_within}
+use Rattle.costs.proofs.CostPay.{length-cost_pay, cost_pay_row}
 
 -- payments that clear have a place for each debt
 pub cost_clearing_over : (net : Net) (k : ℕ) (P : List ℕ) → CostClears net k P
@@ -28,7 +29,7 @@ pub cost_clearing_in_limit : (net : Net) (k : ℕ) (P : List ℕ) → IsNetwork 
 cost_clearing_in_limit net k P network c x = omega (
   arith,
   ap (λ (R : List ℕ). get_or R x 0) c,
-  cost_pay_within net k P x,
+  pay_by_within net (cost_spend net k) P x,
   claim_in_limit net x network,
 )
 

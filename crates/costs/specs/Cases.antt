@@ -9,7 +9,8 @@ use Rattle.net_samples.specs.Networks.{ring, ruled}
 use Rattle.cascade.specs.declared.standing.Health.{Health}
 use Rattle.cascade.specs.declared.standing.Health.TheVariants.{Sound, Fundamental, Contagion}
 use Rattle.costs.specs.declared.standing.CostStanding.{CostStanding}
-use Rattle.costs.specs.Costs.{CostClears, cost_pay, cost_least}
+use Rattle.clear_least.specs.Paying.{pay_by}
+use Rattle.costs.specs.Costs.{CostClears, cost_least}
 use Rattle.costs.specs.CostStandings.{cost_standings}
 
 abbrev stand : ℕ → ℕ → ℕ → ℕ → ℕ → Health → CostStanding
@@ -24,11 +25,11 @@ stand estate lost outside_paid paid equity health = record {
 
 -- half is lost: of A's 7 it keeps 3, and of the 4 that B then has it keeps 2
 pub chain_halved : cost_least chain 500 ≡ 3 ∷ 2 ∷ []
-unfolding award share_from cost_pay rounds_of
+unfolding award share_from pay_by rounds_of
 chain_halved = refl
 
 pub chain_halved_clears : CostClears chain 500 (3 ∷ 2 ∷ [])
-unfolding award share_from cost_pay
+unfolding award share_from pay_by
 chain_halved_clears = refl
 
 pub chain_halved_standings : cost_standings chain 500 (3 ∷ 2 ∷ [])
@@ -39,26 +40,26 @@ chain_halved_standings = refl
 
 -- nothing is lost where all is kept
 pub chain_whole : cost_least chain 1000 ≡ 7 ∷ 8 ∷ []
-unfolding award share_from cost_pay rounds_of
+unfolding award share_from pay_by rounds_of
 chain_whole = refl
 
 -- and where nothing is kept, banks in default pay nothing
 pub chain_kept_none : cost_least chain 0 ≡ 0 ∷ 0 ∷ []
-unfolding award share_from cost_pay rounds_of
+unfolding award share_from pay_by rounds_of
 chain_kept_none = refl
 
 -- A has a unit that would go round until both debts are paid, and loses half of it
 pub ring_halved : cost_least ring 500 ≡ 0 ∷ 0 ∷ []
-unfolding award share_from cost_pay rounds_of
+unfolding award share_from pay_by rounds_of
 ring_halved = refl
 
 pub ring_halved_clears : CostClears ring 500 (0 ∷ 0 ∷ [])
-unfolding award share_from cost_pay
+unfolding award share_from pay_by
 ring_halved_clears = refl
 
 -- though paying in full would clear as well
 pub ring_clears_in_full : CostClears ring 500 (5 ∷ 5 ∷ [])
-unfolding award share_from cost_pay
+unfolding award share_from pay_by
 ring_clears_in_full = refl
 
 pub ring_halved_standings : cost_standings ring 500 (0 ∷ 0 ∷ [])
@@ -78,11 +79,11 @@ edge = record {
 
 -- so A loses nothing. B loses all but 3 of its 6, pays 2 outside, and 1 to C, which pays it on
 pub edge_halved : cost_least edge 500 ≡ 4 ∷ 1 ∷ []
-unfolding award share_from cost_pay rounds_of
+unfolding award share_from pay_by rounds_of
 edge_halved = refl
 
 pub edge_halved_clears : CostClears edge 500 (4 ∷ 1 ∷ [])
-unfolding award share_from cost_pay
+unfolding award share_from pay_by
 edge_halved_clears = refl
 
 pub edge_halved_standings : cost_standings edge 500 (4 ∷ 1 ∷ [])
@@ -93,5 +94,5 @@ edge_halved_standings = refl
 
 -- at one thousandth less than all, units are rounded down
 pub chain_rounded : cost_least chain 999 ≡ 6 ∷ 6 ∷ []
-unfolding award share_from cost_pay rounds_of
+unfolding award share_from pay_by rounds_of
 chain_rounded = refl

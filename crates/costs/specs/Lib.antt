@@ -1,4 +1,3 @@
 pub mod Costs
 pub mod CostStandings
-pub mod Sweeps
 pub mod Cases

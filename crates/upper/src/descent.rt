@@ -19,7 +19,7 @@ use std::mem;
 /// A bank's wave is 1 exactly where its own fundamentals are at fault, and 0 exactly where it is
 /// sound under the greatest payments. Whichever payments clear, the equities are the same.
 ///
-/// `Mem` is want of memory alone. Takes memory at the start: three lists over the debts, five over
+/// `Mem` is want of memory alone. Takes memory at the start: two lists over the debts, five over
 /// the banks and the buffers of one division. Costs a division of each bank, and then one for each
 /// bank and round in which its receipts fell in the round before.
 pub fn upper(alloc: Global, net: &Network) -> Result<Upper, Mem>
@@ -33,8 +33,6 @@ pub fn upper(alloc: Global, net: &Network) -> Result<Upper, Mem>
     let mut paid = Amounts::zeros(alloc, debts)?;
     let mut next = Amounts::zeros(alloc, debts)?;
     let mut waves = Amounts::zeros(alloc, net.banks() as usize)?;
-    // No row is longer than the list of debts.
-    let mut awards = vec![in alloc; 0; debts]?;
     let mut scratch = Scratch::of(alloc, net)?;
     // In the first round every bank divides.
     let mut last = Falls::of_all(alloc, net)?;
@@ -43,7 +41,6 @@ pub fn upper(alloc: Global, net: &Network) -> Result<Upper, Mem>
         net,
         paid.as_mut_slice(),
         next.as_mut_slice(),
-        awards.as_mut_slice(),
         &mut scratch,
         &mut last,
         &mut falls,
@@ -60,7 +57,6 @@ fn descend(
     net: &Network,
     paid: &mut [u64],
     next: &mut [u64],
-    awards: &mut [u64],
     scratch: &mut Scratch,
     last: &mut Falls,
     falls: &mut Falls,
@@ -69,7 +65,6 @@ fn descend(
     requires network { IsNetwork net.now }
     requires paid { length paid.old ≡ length net.now.debts }
     requires next { length next.old ≡ length net.now.debts }
-    requires places { HasRoom net.now (length awards.old) }
     requires room { HasRoom net.now scratch.old }
     requires last { last.old ≡ replicate (length net.now.banks) 1 }
     requires falls { falls.old ≡ replicate (length net.now.banks) 0 }
@@ -83,7 +78,7 @@ fn descend(
     loop {
         round += 1;
         mark_short(net, last, paid, round, waves);
-        pay_round(net, last, paid, next, awards, scratch);
+        pay_round(net, last, paid, next, scratch);
         take_over(net, last, next, paid, falls);
         if falls.banks().is_empty() {
             return;

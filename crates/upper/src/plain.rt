@@ -21,7 +21,6 @@ pub(crate) fn by_plain_rounds(alloc: Global, net: &Network) -> Result<Upper, Mem
     let mut paid = Amounts::zeros(alloc, debts)?;
     let mut next = Amounts::zeros(alloc, debts)?;
     let mut waves = Amounts::zeros(alloc, net.banks() as usize)?;
-    let mut awards = vec![in alloc; 0; debts]?;
     let mut scratch = Scratch::of(alloc, net)?;
     let all = Falls::of_all(alloc, net)?;
     repeat(
@@ -29,7 +28,6 @@ pub(crate) fn by_plain_rounds(alloc: Global, net: &Network) -> Result<Upper, Mem
         &all,
         paid.as_mut_slice(),
         next.as_mut_slice(),
-        awards.as_mut_slice(),
         &mut scratch,
         waves.as_mut_slice(),
     );
@@ -45,7 +43,6 @@ fn repeat(
     all: &Falls,
     paid: &mut [u64],
     next: &mut [u64],
-    awards: &mut [u64],
     scratch: &mut Scratch,
     waves: &mut [u64],
 )
@@ -53,7 +50,6 @@ fn repeat(
     requires all { all.now ≡ replicate (length net.now.banks) 1 }
     requires paid { length paid.old ≡ length net.now.debts }
     requires next { length next.old ≡ length net.now.debts }
-    requires places { HasRoom net.now (length awards.old) }
     requires room { HasRoom net.now scratch.old }
     requires waves { waves.old ≡ replicate (length net.now.banks) 0 }
     ensures paid { paid.new ≡ greatest net.now }
@@ -64,7 +60,7 @@ fn repeat(
     loop {
         round += 1;
         mark_short(net, all, paid, round, waves);
-        pay_round(net, all, paid, next, awards, scratch);
+        pay_round(net, all, paid, next, scratch);
         if *paid == *next {
             return;
         }

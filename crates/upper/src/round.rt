@@ -8,7 +8,7 @@ ghost use Rattle.std.specs.Prelude.{◌≡◌, ◌≢◌, ◌+◌, ◌<◌, ◌�
 ghost use Rattle.upper.specs.Descent.{AreCurrent, AreNoted};
 
 use crate::falls::Falls;
-use clear_core::{Scratch, receipts_of};
+use clear_core::Scratch;
 use clr_net::{BankId, Network};
 
 // All banks pay at once what their rules give from what they have received by `paid`; what each
@@ -19,7 +19,6 @@ pub(crate) fn pay_round(
     last: &Falls,
     paid: &[u64],
     next: &mut [u64],
-    awards: &mut [u64],
     scratch: &mut Scratch,
 )
     requires network { IsNetwork net.now }
@@ -28,44 +27,12 @@ pub(crate) fn pay_round(
     requires paid_in_limit { AreInLimit paid.now }
     requires next { length next.old ≡ length net.now.debts }
     requires current { AreCurrent net.now last.now paid.now next.old }
-    requires places { HasRoom net.now (length awards.old) }
     requires room { HasRoom net.now scratch.old }
     ensures next { next.new ≡ pay net.now paid.now }
     ensures room { scratch.new ≡ scratch.old }
 {
     for bank in last.banks() {
-        pay_bank(net, *bank, paid, next, awards, scratch);
-    }
-}
-
-// A bank pays on the debts of its row what its rule gives from what it has received by `paid`.
-fn pay_bank(
-    net: &Network,
-    bank: BankId,
-    paid: &[u64],
-    next: &mut [u64],
-    awards: &mut [u64],
-    scratch: &mut Scratch,
-)
-    requires network { IsNetwork net.now }
-    requires bank { bank.0 < length net.now.banks }
-    requires paid { length paid.now ≡ length net.now.debts }
-    requires paid_in_limit { AreInLimit paid.now }
-    requires next { length next.old ≡ length net.now.debts }
-    requires places { HasRoom net.now (length awards.old) }
-    requires room { HasRoom net.now scratch.old }
-    ensures in_row { (x : ℕ) → x < length net.now.debts → debtor_of net.now x ≡ bank.0
-        → slice_index next.new x ≡ slice_index (pay net.now paid.now) x }
-    ensures others { (x : ℕ) → debtor_of net.now x ≢ bank.0
-        → slice_index next.new x ≡ slice_index next.old x }
-    ensures room { scratch.new ≡ scratch.old }
-{
-    let receipts = receipts_of(net, bank, paid);
-    let row = net.row(bank);
-    let awards = &mut awards[..row.len()];
-    scratch.divide(net, bank, receipts, awards);
-    for (place, id) in row.iter().enumerate() {
-        next[id.0 as usize] = awards[place];
+        scratch.pay_row(net, *bank, paid, next);
     }
 }
 

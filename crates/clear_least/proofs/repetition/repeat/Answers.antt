@@ -1,9 +1,15 @@
-use Rattle.std.proofs.Common.{◌≡◌, ◌≢◌, sum, sym, ap, ◌∙◌, arith}
+use Rattle.std.proofs.Common.{◌≡◌, ◌≢◌, sum, refl, sym, ap, ◌∙◌, arith}
 use Rattle.std.proofs.lemmas.Bool.{true≢false}
 use Rattle.std.proofs.lemmas.Bool.Decides.{Decides-eqb}
 use Rattle.std.proofs.lemmas.Slice.Eq.{slice_eq-Decides}
-use Rattle.clear_least.proofs.Rounds.{way_on, way_in_limit, way_rises, way_ends}
+use Rattle.clear_least.proofs.Rounds.{way_begins, way_on, way_in_limit, way_rises, way_ends}
 use Rattle.clear_least.proofs.repetition.repeat.Goals as goal
+
+pub loop-paid-init : goal.loop-paid-init
+loop-paid-init c = record {
+  way = way_begins c.args.net.now c.args.paid.now c.requires.nothing_paid;
+  room = refl;
+}
 
 pub pay_round-requires-clause-paid_in_limit : goal.pay_round-requires-clause-paid_in_limit
 pay_round-requires-clause-paid_in_limit c =

@@ -1,19 +1,26 @@
-use Rattle.std.proofs.Common.{arith}
-use Rattle.std.proofs.lemmas.Grind.{common_steps}
-use Rattle.costs.proofs.Sweeping.{rows_fit, is_cost_least, no_more_than_least}
+use Rattle.std.proofs.Common.{◌≡◌, replicate, ap, ◌∙◌}
+use Rattle.std.proofs.lemmas.Result.{IfOk-weaker}
+use Rattle.clr_net.specs.Amounts.{IsAtMost}
+use Rattle.clear_core.specs.Clearing.{least}
+use Rattle.clear_least.proofs.LeastBy.{begins_by}
+use Rattle.costs.specs.Costs.{cost_least, cost_spend}
+use Rattle.costs.proofs.CostPay.{cost_spend_never_falls}
+use Rattle.costs.proofs.CostLeast.{no_more_than_least}
 use Rattle.costs.proofs.least.least_with_costs.Goals as goal
 
-pub repeat-requires-clause-places : goal.repeat-requires-clause-places
-repeat-requires-clause-places c =
-    λ i. omega (arith, rows_fit c.args.net.now i, c.in_ok-awards.ensures.len)
+pub least_by-requires-clause-never_falls : goal.least_by-requires-clause-never_falls
+least_by-requires-clause-never_falls c =
+    cost_spend_never_falls c.args.net.now c.args.keep c.requires
 
-pub returns-clause-payments : goal.returns-clause-payments
-returns-clause-payments c = grind (arith, common_steps)
-
-pub returns-clause-least : goal.returns-clause-least
-returns-clause-least c =
-    is_cost_least c.args.net.now c.args.keep _ c.requires (returns-clause-payments c)
+pub least_by-requires-clause-way : goal.least_by-requires-clause-way
+least_by-requires-clause-way c =
+    let net = c.args.net.now in begins_by net (cost_spend net c.args.keep) _
+    (c.in_ok-none.ensures ∙ ap (λ n. replicate n 0) c.debts.ensures.debts)
 
 pub returns-clause-at_most : goal.returns-clause-at_most
 returns-clause-at_most c =
-    no_more_than_least c.args.net.now c.args.keep _ c.requires (returns-clause-payments c)
+    let net = c.args.net.now in
+    let keep = c.args.keep in
+    IfOk-weaker c.least_by.result (λ paid. paid ≡ cost_least net keep)
+    (λ paid. IsAtMost paid (least net)) (λ paid. no_more_than_least net keep paid c.requires)
+    c.least_by.ensures.payments

@@ -1,12 +1,7 @@
 use Rattle.std.proofs.Common.{arith}
 use Rattle.std.proofs.lemmas.Grind.{common_steps}
-use Rattle.upper.proofs.Rows.{rows_fit}
 use Rattle.upper.proofs.Descents.{is_greatest, waves_tell, equities_are_fixed}
 use Rattle.upper.proofs.descent.upper.Goals as goal
-
-pub descend-requires-clause-places : goal.descend-requires-clause-places
-descend-requires-clause-places c = λ i.
-    omega (arith, rows_fit c.args.net.now i, c.in_ok-awards.ensures.len)
 
 pub returns-clause-greatest : goal.returns-clause-greatest
 returns-clause-greatest c = grind (arith, common_steps)

@@ -3,7 +3,7 @@ use Rattle.std.specs.Option.{option_map_or}
 use Rattle.clr_net.specs.declared.debt.Debt.{Debt}
 use Rattle.clr_net.specs.Net.{row, creditor_of}
 use Rattle.clear_core.proofs.Rows.{as_many_numbers, number_at, debt_of_row}
-use Rattle.upper.proofs.Rows.{row_written, written_more}
+use Rattle.clear_core.proofs.WrittenRows.{row_written, written_more}
 use Rattle.upper.proofs.Notes.{lower_set, noted_one, noted_then}
 use Rattle.upper.proofs.round.take_row.Goals as goal
 

@@ -1,6 +1,6 @@
 use Rattle.clr_net.specs.Amounts.{IsAtMost}
 use Rattle.upper.specs.Descent.{AreNoted}
-use Rattle.upper.proofs.Rows.{IsWritten}
+use Rattle.clear_core.proofs.WrittenRows.{IsWritten}
 use Rattle.upper.proofs.round.take_row.Given as goal
 
 abbrev pub invariant-loop-id : goal.invariant-loop-id

@@ -1,6 +1,0 @@
-use Rattle.costs.proofs.Raising.{IsRaisedTo}
-use Rattle.costs.proofs.sweep.raise_row.Given as goal
-
-abbrev pub invariant-loop-place : goal.invariant-loop-place
-invariant-loop-place l =
-    IsRaisedTo l.net l.fn.bank.0 l.awards l.fn.paid l.paid l.fn.marks l.marks l.place l.any
