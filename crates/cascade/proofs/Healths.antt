@@ -6,7 +6,7 @@ use Rattle.clr_net.specs.Net.{Net, outside_of}
 use Rattle.clear_core.specs.Clearing.{receipts, estate, spend}
 use Rattle.cascade.specs.declared.standing.Health.{Health}
 use Rattle.cascade.specs.declared.standing.Health.TheVariants.{Sound, Fundamental, Contagion}
-use Rattle.cascade.specs.Standings.{worth, due, paid_by, owed_by, outside_paid, health_of}
+use Rattle.cascade.specs.Standings.{worth, due, paid_by, owed_by, outside_paid, health_of, is_sound}
 
 -- the health that two tests tell: whether all is paid, and else whether claims and cash are too little
 abbrev told : Bool → Bool → Health
@@ -21,6 +21,12 @@ fundamental_from : (s b : Bool) → told s b ≡ Fundamental → b ≡ true
 fundamental_from true b e = absurd (cc)
 fundamental_from false true e = refl
 fundamental_from false false e = absurd (cc)
+
+-- a health that passes the test is sound
+pub sound_told : (h : Health) → is_sound h ≡ true → h ≡ Sound
+sound_told Sound e = refl
+sound_told Fundamental e = absurd (cc)
+sound_told Contagion e = absurd (cc)
 
 -- of a bank that pays all that its outside claim leaves it, up to its debts
 module _ (net : Net) (P : List ℕ) (i : ℕ)

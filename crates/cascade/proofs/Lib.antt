@@ -3,3 +3,4 @@ pub mod Limits
 pub mod PayingOut
 pub mod Healths
 pub mod Equities
+pub mod MoreCash

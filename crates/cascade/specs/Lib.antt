@@ -1,2 +1,3 @@
 pub mod Standings
+pub mod MoreCash
 pub mod Cases

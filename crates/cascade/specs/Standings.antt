@@ -1,6 +1,6 @@
 -- How banks stand under payments: what each has, owes and pays, what is left to its owners, and
 -- whose fault a default is.
-use Rattle.std.specs.Prelude.{◌≡◌, ℕ, ◌+◌, ◌-◌, ◌<◌, ◌≤◌, ◌==◌, ◌&&◌, nat_lt, List, length, map, min, sum, sum_by, slice_index, if◌then◌else◌}
+use Rattle.std.specs.Prelude.{◌≡◌, ℕ, ◌+◌, ◌-◌, ◌<◌, ◌≤◌, ◌==◌, ◌&&◌, nat_lt, Bool, true, false, List, length, map, min, sum, sum_by, slice_index, if◌then◌else◌}
 use Rattle.std.specs.List.{range_with_len}
 use Rattle.clr_net.specs.Net.{Net, cash_of, outside_of, claim_of, claims_of, row, column, all_cash}
 use Rattle.clear_core.specs.Clearing.{estate}
@@ -36,6 +36,10 @@ outside_paid net P i = min (outside_of net i) (estate net P i)
 abbrev pub equity : Net → List ℕ → ℕ → ℕ
 equity net P i = estate net P i - outside_paid net P i - paid_by net P i
 
+-- what it does not pay on its debts: its owners and those to whom it owes outside get it
+abbrev pub kept : Net → List ℕ → ℕ → ℕ
+kept net P i = equity net P i + outside_paid net P i
+
 -- a bank is sound where it pays all that it owes. Another is in default: by its own fundamentals
 -- where it could not pay even if all its debtors paid it in full, and by contagion where it could
 abbrev pub health_of : Net → List ℕ → ℕ → Health
@@ -43,6 +47,12 @@ health_of net P i =
     if (paid_by net P i == owed_by net i) && (outside_paid net P i == outside_of net i)
     then health.Sound
     else if nat_lt (worth net i) (due net i) then health.Fundamental else health.Contagion
+
+-- whether a bank is sound
+abbrev pub is_sound : Health → Bool
+is_sound health.Sound = true
+is_sound health.Fundamental = false
+is_sound health.Contagion = false
 
 -- the standing of the bank i
 abbrev pub standing : Net → List ℕ → ℕ → Standing

@@ -1,5 +1,6 @@
 //! The laws of standings, for any network within the limits. A law has nothing to run; its
 //! `ensures` is proved.
+ghost use Rattle.cascade.specs.MoreCash.{HasMoreCash, NobodyLoses};
 ghost use Rattle.cascade.specs.Standings.{AddsUp, PaysOut, due, equity, health_of, outside_paid, worth};
 ghost use Rattle.cascade.specs.declared.standing.Health.TheVariants as health;
 ghost use Rattle.clear_core.specs.Clearing.{Clears, estate};
@@ -39,4 +40,10 @@ pub fn equities_do_not_depend_on_the_payments()
     ensures { (net : Net) (P Q : List ℕ) → IsNetwork net → Clears net P → Clears net Q
         → (i : ℕ) → i < length net.banks
         → (equity net P i ≡ equity net Q i) × (outside_paid net P i ≡ outside_paid net Q i) }
+{}
+
+/// More cash hurts nobody: where no bank of the same rule and outside claim has less, under the
+/// least payments no debt is paid less, no bank has less or keeps less, and the sound stay sound.
+pub fn more_cash_hurts_nobody()
+    ensures { (net more : Net) → IsNetwork net → HasMoreCash net more → NobodyLoses net more }
 {}

@@ -1,5 +1,5 @@
 -- A sum that saves a bank: there is a least one, and every greater sum saves it too.
-use Rattle.std.proofs.Common.{◌≡◌, ℕ, ◌+◌, ◌-◌, ◌<◌, ◌≤◌, true, Option, Some, None, cond, find, min, List, length, get_or, sum, sym, ap, ◌∙◌, subst, ⊎_elim, refl, arith, ne_eqb}
+use Rattle.std.proofs.Common.{◌≡◌, ℕ, ◌+◌, ◌-◌, ◌<◌, ◌≤◌, Option, Some, None, cond, find, min, List, length, get_or, sum, sym, ap, ◌∙◌, subst, ⊎_elim, arith, ne_eqb}
 use Rattle.std.specs.List.{range_with_len}
 use Rattle.std.specs.Option.{option_map_or}
 use Rattle.std.proofs.lemmas.Bool.{cases_lt, true≢false}
@@ -15,11 +15,9 @@ use Rattle.clear_core.proofs.BankPays.{pay_row}
 use Rattle.clear_core.proofs.Least.{least_clears}
 use Rattle.clear_core.proofs.Pay.{receipts_mono}
 use Rattle.clear_core.proofs.Richer.{least_le_richer}
-use Rattle.cascade.specs.Standings.{due, paid_by, owed_by}
-use Rattle.cascade.specs.declared.standing.Health.{Health}
-use Rattle.cascade.specs.declared.standing.Health.TheVariants.{Sound, Fundamental, Contagion}
-use Rattle.cascade.proofs.Healths.{sound_enough, enough_sound}
-use Rattle.rescue.specs.Rescue.{added, health_with, is_sound, is_saved_by, Saves, IsRescue, lacks, rescue, short_of}
+use Rattle.cascade.specs.Standings.{due, is_sound, paid_by, owed_by}
+use Rattle.cascade.proofs.Healths.{sound_enough, enough_sound, sound_told}
+use Rattle.rescue.specs.Rescue.{added, health_with, is_saved_by, Saves, IsRescue, lacks, rescue, short_of}
 use Rattle.rescue.proofs.MoreCash.{cash_added, cash_mono, outside_stays, richer_by_more}
 
 -- what the bank has with a units more cash, under the least payments that clear then
@@ -47,12 +45,6 @@ goes_on net i a b l =
       subst (λ (Q : List ℕ). IsAtMost Q (pay more P)) (least_clears less) (richer.pays P),
       least_le_richer less more richer,
     )
-
--- the test of a health
-sound_told : (h : Health) → is_sound h ≡ true → h ≡ Sound
-sound_told Sound e = refl
-sound_told Fundamental e = absurd (cc)
-sound_told Contagion e = absurd (cc)
 
 module _ (net : Net) (i : ℕ) (network : IsNetwork net) where
   -- whatever the sum, the bank pays all that it divides, up to what it owes

@@ -1,12 +1,12 @@
 -- A bank that is given cash, and the least sum that saves it.
-use Rattle.std.specs.Prelude.{◌≡◌, ℕ, ◌+◌, ◌-◌, ◌<◌, ◌==◌, Bool, true, false, find, if◌then◌else◌}
+use Rattle.std.specs.Prelude.{◌≡◌, ℕ, ◌+◌, ◌-◌, ◌<◌, ◌==◌, Bool, find, if◌then◌else◌}
 use Rattle.std.specs.List.{range_with_len}
 use Rattle.std.specs.Option.{option_map_or}
 use Rattle.clr_net.specs.Net.{Net, cash_of, with_cash}
 use Rattle.clear_core.specs.Clearing.{estate, least}
-use Rattle.cascade.specs.Standings.{due, health_of}
+use Rattle.cascade.specs.Standings.{due, health_of, is_sound}
 use Rattle.cascade.specs.declared.standing.Health.{Health}
-use Rattle.cascade.specs.declared.standing.Health.TheVariants.{Sound, Fundamental, Contagion}
+use Rattle.cascade.specs.declared.standing.Health.TheVariants.{Sound}
 
 -- the network with a units more cash at the bank i
 abbrev pub added : Net → ℕ → ℕ → Net
@@ -24,12 +24,6 @@ Saves net i a = health_with net i a ≡ Sound
 pub record IsRescue (net : Net) (i a : ℕ) : Type 0 where
   pub saves : Saves net i a
   pub least : (b : ℕ) → b < a → ¬ (Saves net i b)
-
--- whether a bank is sound
-abbrev pub is_sound : Health → Bool
-is_sound Sound = true
-is_sound Fundamental = false
-is_sound Contagion = false
 
 -- whether so much saves the bank i
 abbrev pub is_saved_by : Net → ℕ → ℕ → Bool

@@ -4,3 +4,4 @@ pub mod Kept
 pub mod Cuts
 pub mod Taken
 pub mod Lawful
+pub mod Milder

@@ -1,15 +1,18 @@
 -- Worked cases: what documents give beside the chain, where A has 7 and B has 1, and what shocks
 -- leave of it.
 use Rattle.std.specs.Prelude.{◌≡◌, ⊤, ℕ, List, [], ◌∷◌, ◌++◌, codes, map, replicate, refl}
-use Rattle.std.specs.Prelude.{Result, Ok, Err, true}
+use Rattle.std.specs.Prelude.{Result, Ok, Err, true, false}
 use Rattle.std.specs.Str.{is_utf8, chars}
 use lib.Utf8.{encode}
 use Rattle.toml.proofs.OnLiterals.{toml_on_literals}
 use Rattle.toml.specs.Data.{boolean}
 use Rattle.clr_net.specs.Net.{Net}
+use Rattle.clr_net.specs.Division.{award, share_from}
 use Rattle.clr_net.specs.Samples.{bank, chain}
+use Rattle.clear_core.specs.Clearing.{pay, rounds}
 use Rattle.net_check.specs.declared.fault.Fault.{Fault}
 use Rattle.net_check.specs.declared.fault.FaultKind.TheVariants as fault
+use Rattle.stress.specs.Milder.{breaking_cut, is_broken_by}
 use Rattle.stress.specs.Reading.{scenarios_of, next_scenario, read_all, read_losses, fault_in}
 use Rattle.stress.specs.Shocks.{shocked}
 use Rattle.stress.specs.declared.scenario.Loss.{Loss}
@@ -176,3 +179,19 @@ losses_after_cut = refl
 pub nothing_left :
     shocked chain (scenario (codes "a") 0 (loss 1 1 ∷ loss 0 20 ∷ [])) ≡ left 0 0
 nothing_left = refl
+
+-- A has 20 and owes 10: a cut of 549 takes 10 of it, and one of 550 takes 11
+pub broken_from_550 :
+    (is_broken_by (left 20 1) 0 549 ≡ false) × (is_broken_by (left 20 1) 0 550 ≡ true)
+unfolding award share_from pay rounds
+broken_from_550 = (refl, refl)
+
+-- A of the chain cannot pay all as it is
+pub broken_uncut : breaking_cut chain 0 ≡ 0
+unfolding award share_from pay rounds
+broken_uncut = refl
+
+-- a bank that owes nothing is sound after every cut
+pub never_broken : breaking_cut (record { banks = bank (codes "A") 1 ∷ []; debts = [] }) 0 ≡ 1001
+unfolding rounds
+never_broken = refl

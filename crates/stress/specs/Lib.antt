@@ -1,5 +1,6 @@
 pub mod Shape
 pub mod Views
 pub mod Shocks
+pub mod Milder
 pub mod Reading
 pub mod Cases

@@ -1,8 +1,12 @@
 //! The laws of shocks, for any network and any scenario. A law has nothing to run; its `ensures`
 //! is proved.
+ghost use Rattle.cascade.specs.MoreCash.{NobodyLoses};
+ghost use Rattle.clr_net.specs.Limits.{IsNetwork};
 ghost use Rattle.clr_net.specs.Net.{Net, cash_of};
-ghost use Rattle.std.specs.Prelude.{◌≡◌, ◌-◌, ℕ};
+ghost use Rattle.std.specs.Prelude.{◌≡◌, ◌-◌, ◌<◌, ◌≤◌, ◌↔◌, ℕ};
+ghost use Rattle.stress.specs.Milder.{IsBreakingCut, IsMilder, IsSoundAfter, breaking_cut};
 ghost use Rattle.stress.specs.Shocks.{KeepsAllButCash, after_cut, loss_of, shocked};
+ghost use Rattle.stress.specs.declared.TheConstants.{MAX_CUT};
 ghost use Rattle.stress.specs.declared.scenario.Scenario.{Scenario};
 
 /// A shock changes nothing but cash.
@@ -14,4 +18,28 @@ pub fn shock_keeps_all_but_cash()
 pub fn shock_leaves_cash()
     ensures { (net : Net) (s : Scenario) (i : ℕ)
         → cash_of (shocked net s) i ≡ after_cut s.cut (cash_of net i) - loss_of s.losses i }
+{}
+
+/// A smaller shock hurts nobody: under the least payments that clear after each, no debt is paid
+/// less, no bank has less or keeps less, and the banks that are sound after the harder one are
+/// sound after the milder.
+pub fn milder_shock_hurts_nobody()
+    ensures { (net : Net) (milder harder : Scenario) → IsNetwork net → IsMilder milder harder
+        → NobodyLoses (shocked net harder) (shocked net milder) }
+{}
+
+/// For each bank there is a least cut that breaks it, or none up to the greatest.
+pub fn there_is_a_breaking_cut()
+    ensures { (net : Net) (i : ℕ) → IsBreakingCut net i (breaking_cut net i) }
+{}
+
+/// And only one.
+pub fn breaking_cut_is_the_only_one()
+    ensures { (net : Net) (i c d : ℕ) → IsBreakingCut net i c → IsBreakingCut net i d → c ≡ d }
+{}
+
+/// A bank is sound after the cuts below that one, and after no others.
+pub fn sound_exactly_below_the_breaking_cut()
+    ensures { (net : Net) (i k : ℕ) → IsNetwork net → k ≤ MAX_CUT
+        → IsSoundAfter net i k ↔ (k < breaking_cut net i) }
 {}
