@@ -4,3 +4,5 @@ pub mod PayingOut
 pub mod Healths
 pub mod Equities
 pub mod MoreCash
+pub mod CashAt
+pub mod Ruin

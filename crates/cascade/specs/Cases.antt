@@ -1,5 +1,5 @@
 -- Worked cases of standings.
-use Rattle.std.specs.Prelude.{◌≡◌, ℕ, List, [], ◌∷◌, codes, refl}
+use Rattle.std.specs.Prelude.{◌≡◌, ℕ, List, [], ◌∷◌, codes, map, refl}
 use Rattle.clr_net.specs.declared.bank.Bank.{Bank}
 use Rattle.clr_net.specs.declared.rule.RuleKind.TheVariants as kind
 use Rattle.clr_net.specs.Net.{Net}
@@ -9,7 +9,8 @@ use Rattle.clear_core.specs.Clearing.{pay, rounds, least, Clears}
 use Rattle.cascade.specs.declared.standing.Health.{Health}
 use Rattle.cascade.specs.declared.standing.Health.TheVariants.{Sound, Fundamental, Contagion}
 use Rattle.cascade.specs.declared.standing.Standing.{Standing}
-use Rattle.cascade.specs.Standings.{standings}
+use Rattle.cascade.specs.Ruin.{kept_less}
+use Rattle.cascade.specs.Standings.{bank_numbers, standings}
 
 abbrev stand : ℕ → ℕ → ℕ → ℕ → ℕ → ℕ → Health → Standing
 stand estate outside outside_paid paid owed equity health = record {
@@ -71,3 +72,14 @@ pub dry_ring_standings : standings dry_ring (least dry_ring)
     ≡ stand 0 0 0 0 10 0 Contagion ∷ stand 0 0 0 0 10 0 Contagion ∷ []
 unfolding award share_from pay rounds
 dry_ring_standings = refl
+
+-- A of the chain loses 7 and pays B nothing: C, at the end, bears it all
+pub last_bank_bears_it : map (kept_less chain 0) (bank_numbers chain) ≡ 0 ∷ 0 ∷ 7 ∷ []
+unfolding award share_from pay rounds
+last_bank_bears_it = refl
+
+-- what A owes outside is lost first to those to whom it is owed, and the rest to C
+pub outside_bears_its_part :
+    map (kept_less (outside_chain 3) 0) (bank_numbers (outside_chain 3)) ≡ 3 ∷ 0 ∷ 4 ∷ []
+unfolding award share_from pay rounds
+outside_bears_its_part = refl

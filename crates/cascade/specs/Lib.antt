@@ -1,3 +1,4 @@
 pub mod Standings
 pub mod MoreCash
+pub mod Ruin
 pub mod Cases

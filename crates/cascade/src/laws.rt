@@ -1,6 +1,7 @@
 //! The laws of standings, for any network within the limits. A law has nothing to run; its
 //! `ensures` is proved.
 ghost use Rattle.cascade.specs.MoreCash.{HasMoreCash, NobodyLoses};
+ghost use Rattle.cascade.specs.Ruin.{CostsItsCash};
 ghost use Rattle.cascade.specs.Standings.{AddsUp, PaysOut, due, equity, health_of, outside_paid, worth};
 ghost use Rattle.cascade.specs.declared.standing.Health.TheVariants as health;
 ghost use Rattle.clear_core.specs.Clearing.{Clears, estate};
@@ -46,4 +47,10 @@ pub fn equities_do_not_depend_on_the_payments()
 /// least payments no debt is paid less, no bank has less or keeps less, and the sound stay sound.
 pub fn more_cash_hurts_nobody()
     ensures { (net more : Net) → IsNetwork net → HasMoreCash net more → NobodyLoses net more }
+{}
+
+/// Where a bank loses all its cash, no debt is paid more under the least payments, no bank has more
+/// or keeps more, and what all banks keep less is exactly that cash: no unit of it is lost twice.
+pub fn ruin_of_a_bank_costs_its_cash()
+    ensures { (net : Net) (i : ℕ) → IsNetwork net → i < length net.banks → CostsItsCash net i }
 {}

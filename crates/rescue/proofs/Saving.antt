@@ -1,37 +1,25 @@
 -- A sum that saves a bank: there is a least one, and every greater sum saves it too.
-use Rattle.std.proofs.Common.{◌≡◌, ℕ, ◌+◌, ◌-◌, ◌<◌, ◌≤◌, Option, Some, None, cond, find, min, List, length, get_or, sum, sym, ap, ◌∙◌, subst, ⊎_elim, arith, ne_eqb}
+use Rattle.std.proofs.Common.{◌≡◌, ℕ, ◌+◌, ◌-◌, ◌<◌, ◌≤◌, Option, Some, None, cond, find, min, List, length, sym, ap, ◌∙◌, subst, ⊎_elim, arith, ne_eqb}
 use Rattle.std.specs.List.{range_with_len}
 use Rattle.std.specs.Option.{option_map_or}
 use Rattle.std.proofs.lemmas.Bool.{cases_lt, true≢false}
-use Rattle.std.proofs.lemmas.List.Sums.{sum-map}
 use Rattle.clr_net.specs.Amounts.{IsAtMost}
 use Rattle.clr_net.specs.Limits.{IsNetwork}
-use Rattle.clr_net.specs.Net.{Net, row, rule_of, claims_of, classes_of, cash_of}
+use Rattle.clr_net.specs.Net.{Net, cash_of}
 use Rattle.clr_net.proofs.Ranges.{Found, found}
-use Rattle.clr_net.proofs.RowsAndColumns.{length-claims_of, length-classes_of, classes_of_are}
-use Rattle.clr_net.proofs.Share.{sum_share}
 use Rattle.clear_core.specs.Clearing.{receipts, estate, spend, pay, least}
-use Rattle.clear_core.proofs.BankPays.{pay_row}
 use Rattle.clear_core.proofs.Least.{least_clears}
-use Rattle.clear_core.proofs.Pay.{receipts_mono}
 use Rattle.clear_core.proofs.Richer.{least_le_richer}
 use Rattle.cascade.specs.Standings.{due, is_sound, paid_by, owed_by}
 use Rattle.cascade.proofs.Healths.{sound_enough, enough_sound, sound_told}
 use Rattle.rescue.specs.Rescue.{added, health_with, is_saved_by, Saves, IsRescue, lacks, rescue, short_of}
-use Rattle.rescue.proofs.MoreCash.{cash_added, cash_mono, outside_stays, richer_by_more}
+use Rattle.cascade.proofs.CashAt.{cash_at, outside_stays}
+use Rattle.cascade.proofs.MoreCash.{nobody_loses, pays_where_clearing}
+use Rattle.rescue.proofs.MoreCash.{cash_added, more_by_more, richer_by_more}
 
 -- what the bank has with a units more cash, under the least payments that clear then
 abbrev estate_with : Net → ℕ → ℕ → ℕ
 estate_with net i a = estate (added net i a) (least (added net i a)) i
-
--- it grows with the sum
-estate_with_mono : (net : Net) (i a b : ℕ) → a ≤ b → estate_with net i a ≤ estate_with net i b
-estate_with_mono net i a b l = omega (
-  arith,
-  cash_mono net i (cash_of net i + a) (cash_of net i + b) i (omega arith),
-  receipts_mono net (least (added net i a)) (least (added net i b)) i
-      (least_le_richer (added net i a) (added net i b) (richer_by_more net i a b l)),
-)
 
 -- the least payments with a smaller sum are on the way to those with a greater one
 pub goes_on : (net : Net) (i a b : ℕ) → a ≤ b
@@ -50,16 +38,8 @@ module _ (net : Net) (i : ℕ) (network : IsNetwork net) where
   -- whatever the sum, the bank pays all that it divides, up to what it owes
   pays_with : (a : ℕ) → paid_by (added net i a) (least (added net i a)) i
       ≡ min (spend (added net i a) i (receipts net (least (added net i a)) i)) (owed_by net i)
-  pays_with a =
-      let more = added net i a in
-      let P = least more in
-      let units = spend more i (receipts net P i) in
-      let all : paid_by more (pay more P) i ≡ min units (owed_by net i) =
-      sym (sum-map (λ x. get_or (pay more P) x 0) (row net i))
-      ∙ ap sum (pay_row more P i)
-      ∙ sum_share (rule_of more i) (claims_of net i) (classes_of net i) units
-      (length-claims_of net i ∙ sym (length-classes_of net i)) (classes_of_are net i network) in
-      subst (λ Q. paid_by more Q i ≡ min units (owed_by net i)) (least_clears more) all
+  pays_with a = pays_where_clearing net network (cash_at net.banks i (cash_of net i + a))
+      (least (added net i a)) (least_clears (added net i a)) i
 
   -- a sum saves the bank exactly where it then has all that it owes
   pub saves_enough : (a : ℕ) → Saves net i a → due net i ≤ estate_with net i a
@@ -77,7 +57,9 @@ module _ (net : Net) (i : ℕ) (network : IsNetwork net) where
   -- so a greater sum saves it too
   pub more_saves : (a b : ℕ) → a ≤ b → Saves net i a → Saves net i b
   more_saves a b l s =
-      enough_saves b (omega (arith, saves_enough a s, estate_with_mono net i a b l))
+      let more = nobody_loses net (cash_at net.banks i (cash_of net i + a))
+      (cash_at net.banks i (cash_of net i + b)) (more_by_more net i a b l) network in
+      more.sound i s
 
   -- and where a sum does not, no smaller one does
   pub less_fails : (a b : ℕ) → b ≤ a → ¬ (Saves net i a) → ¬ (Saves net i b)

@@ -1,0 +1,106 @@
+-- What another cash at one bank changes, and what it leaves.
+use Rattle.std.proofs.Common.{◌≡◌, ℕ, zero, suc, ◌+◌, ◌<◌, ◌≤◌, List, [], ◌∷◌, length, slice_get, sum_by, refl, sym, ap, ◌∙◌, arith}
+use Rattle.std.specs.Option.{option_map_or}
+use Rattle.std.proofs.lemmas.List.Sums.{sum_by-cons}
+use Rattle.clr_net.specs.declared.bank.Bank.{Bank}
+use Rattle.clr_net.specs.declared.rule.RuleKind.TheVariants as kind
+use Rattle.clr_net.specs.Net.{Net, changed_at, of_cash, with_cash, cash_of, outside_of, rule_of, all_cash}
+use Rattle.cascade.specs.MoreCash.{HasMoreCash}
+use Rattle.cascade.proofs.MoreCash.{with_banks}
+
+-- the cash of the bank j of a list
+abbrev cash_in : List Bank → ℕ → ℕ
+cash_in banks j = option_map_or (λ b. b.cash) (slice_get banks j) 0
+
+-- the banks with another cash at the bank i
+abbrev pub cash_at : List Bank → ℕ → ℕ → List Bank
+cash_at banks i c = changed_at (of_cash c) banks i
+
+-- what g reads of a bank stays, where g does not read the cash
+unseen : {X : Type 0} (g : Bank → X) (d : X) (c : ℕ) → ((b : Bank) → g (of_cash c b) ≡ g b)
+    → (banks : List Bank) (i j : ℕ)
+    → option_map_or g (slice_get (cash_at banks i c) j) d ≡ option_map_or g (slice_get banks j) d
+unseen g d c h [] i j = refl
+unseen g d c h (b ∷ banks) zero zero = h b
+unseen g d c h (b ∷ banks) zero (suc j) = refl
+unseen g d c h (b ∷ banks) (suc i) zero = refl
+unseen g d c h (b ∷ banks) (suc i) (suc j) = unseen g d c h banks i j
+
+-- so the rules stay
+rule_stays : (net : Net) (i c j : ℕ) → rule_of (with_cash net i c) j ≡ rule_of net j
+rule_stays net i c j = unseen (λ b. b.rule) kind.Order c (λ b. refl) net.banks i j
+
+-- and what is owed outside
+pub outside_stays : (net : Net) (i c j : ℕ) → outside_of (with_cash net i c) j ≡ outside_of net j
+outside_stays net i c j = unseen (λ b. b.outside) 0 c (λ b. refl) net.banks i j
+
+-- there are as many banks as before
+length-cash_at : (banks : List Bank) (i c : ℕ) → length (cash_at banks i c) ≡ length banks
+length-cash_at [] i c = refl
+length-cash_at (b ∷ banks) zero c = refl
+length-cash_at (b ∷ banks) (suc i) c = ap suc (length-cash_at banks i c)
+
+-- and so in the network
+pub length-with_cash : (net : Net) (i c : ℕ) → length (with_cash net i c).banks ≡ length net.banks
+length-with_cash net i c = length-cash_at net.banks i c
+
+-- the bank has the new cash
+cash_in_place : (banks : List Bank) (i c : ℕ) → i < length banks → cash_in (cash_at banks i c) i ≡ c
+cash_in_place [] i c l = absurd (omega arith)
+cash_in_place (b ∷ banks) zero c l = refl
+cash_in_place (b ∷ banks) (suc i) c l = cash_in_place banks i c (omega arith)
+
+-- and so in the network
+pub cash_is_set : (net : Net) (i c : ℕ) → i < length net.banks → cash_of (with_cash net i c) i ≡ c
+cash_is_set net i c l = cash_in_place net.banks i c l
+
+-- with more, no bank has less
+cash_in_mono : (banks : List Bank) (i c d j : ℕ) → c ≤ d
+    → cash_in (cash_at banks i c) j ≤ cash_in (cash_at banks i d) j
+cash_in_mono [] i c d j l = omega arith
+cash_in_mono (b ∷ banks) zero c d zero l = l
+cash_in_mono (b ∷ banks) zero c d (suc j) l = omega arith
+cash_in_mono (b ∷ banks) (suc i) c d zero l = omega arith
+cash_in_mono (b ∷ banks) (suc i) c d (suc j) l = cash_in_mono banks i c d j l
+
+-- so one network has more cash than the other
+pub has_more_cash : (net : Net) (i c d : ℕ) → c ≤ d
+    → HasMoreCash (with_cash net i c) (with_cash net i d)
+has_more_cash net i c d l = record {
+  banks = length-with_cash net i d ∙ sym (length-with_cash net i c);
+  rules = λ j. rule_stays net i d j ∙ sym (rule_stays net i c j);
+  outside = λ j. outside_stays net i d j ∙ sym (outside_stays net i c j);
+  cash = λ j. cash_in_mono net.banks i c d j l;
+  debts = refl;
+}
+
+-- the cash that a bank has, given to it, changes nothing
+cash_kept : (banks : List Bank) (i c : ℕ) → c ≡ cash_in banks i → cash_at banks i c ≡ banks
+cash_kept [] i c e = refl
+cash_kept (b ∷ banks) zero c e = ap (λ (c : ℕ). of_cash c b ∷ banks) e
+cash_kept (b ∷ banks) (suc i) c e = ap (λ (bs : List Bank). b ∷ bs) (cash_kept banks i c e)
+
+-- and so in the network
+pub own_cash : (net : Net) (i c : ℕ) → c ≡ cash_of net i → with_cash net i c ≡ net
+own_cash net i c e = ap (with_banks net) (cash_kept net.banks i c e)
+
+-- all cash changes by as much as the bank's
+sum-cash_at : (banks : List Bank) (i c : ℕ) → i < length banks
+    → sum_by (λ b. b.cash) (cash_at banks i c) + cash_in banks i ≡ sum_by (λ b. b.cash) banks + c
+sum-cash_at [] i c l = absurd (omega arith)
+sum-cash_at (b ∷ banks) zero c l = omega (
+  arith,
+  sum_by-cons (λ (b : Bank). b.cash) b banks,
+  sum_by-cons (λ (b : Bank). b.cash) (of_cash c b) banks,
+)
+sum-cash_at (b ∷ banks) (suc i) c l = omega (
+  arith,
+  sum_by-cons (λ (b : Bank). b.cash) b banks,
+  sum_by-cons (λ (b : Bank). b.cash) b (cash_at banks i c),
+  sum-cash_at banks i c (omega arith),
+)
+
+-- and so in the network
+pub all_cash_changes : (net : Net) (i c : ℕ) → i < length net.banks
+    → all_cash (with_cash net i c) + cash_of net i ≡ all_cash net + c
+all_cash_changes net i c l = sum-cash_at net.banks i c l
