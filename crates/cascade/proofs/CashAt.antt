@@ -54,6 +54,20 @@ cash_in_place (b ∷ banks) (suc i) c l = cash_in_place banks i c (omega arith)
 pub cash_is_set : (net : Net) (i c : ℕ) → i < length net.banks → cash_of (with_cash net i c) i ≡ c
 cash_is_set net i c l = cash_in_place net.banks i c l
 
+-- and every other bank what it had
+cash_in_others : (banks : List Bank) (i c j : ℕ) → (j ≡ i → ⊥)
+    → cash_in (cash_at banks i c) j ≡ cash_in banks j
+cash_in_others [] i c j ne = refl
+cash_in_others (b ∷ banks) zero c zero ne = absurd (ne refl)
+cash_in_others (b ∷ banks) zero c (suc j) ne = refl
+cash_in_others (b ∷ banks) (suc i) c zero ne = refl
+cash_in_others (b ∷ banks) (suc i) c (suc j) ne = cash_in_others banks i c j (λ e. ne (ap suc e))
+
+-- and so in the network
+pub cash_stays : (net : Net) (i c j : ℕ) → (j ≡ i → ⊥)
+    → cash_of (with_cash net i c) j ≡ cash_of net j
+cash_stays net i c j ne = cash_in_others net.banks i c j ne
+
 -- with more, no bank has less
 cash_in_mono : (banks : List Bank) (i c d j : ℕ) → c ≤ d
     → cash_in (cash_at banks i c) j ≤ cash_in (cash_at banks i d) j

@@ -1,3 +1,4 @@
 pub mod MoreCash
 pub mod Saving
 pub mod Searching
+pub mod OneUnit

@@ -1,10 +1,11 @@
 -- Worked cases of rescue.
-use Rattle.std.specs.Prelude.{◌≡◌, [], ◌∷◌, codes, refl}
+use Rattle.std.specs.Prelude.{◌≡◌, ℕ, [], ◌∷◌, codes, refl}
 use Rattle.clr_net.specs.declared.rule.RuleKind.TheVariants as kind
 use Rattle.clr_net.specs.Net.{Net}
 use Rattle.clr_net.specs.Samples.{bank, debt, chain}
 use Rattle.clr_net.specs.Division.{award, share_from}
 use Rattle.clear_core.specs.Clearing.{pay, rounds, least}
+use Rattle.rescue.specs.OneUnit.{all_kept}
 use Rattle.rescue.specs.Rescue.{added, rescue, short_of}
 
 -- A owes 10 and has 7
@@ -55,3 +56,34 @@ owing_outside = record {
 pub outside_claim_alone : (rescue owing_outside 0 ≡ 2) × (short_of owing_outside 0 2 ≡ 1)
 unfolding award share_from pay rounds
 outside_claim_alone = (refl, refl)
+
+-- a unit at A of the chain goes on to C: both payments rise, and C keeps one unit more
+pub unit_goes_on :
+    (least chain ≡ 7 ∷ 8 ∷ [])
+    × (least (added chain 0 1) ≡ 8 ∷ 9 ∷ [])
+    × (all_kept chain ≡ 8)
+    × (all_kept (added chain 0 1) ≡ 9)
+unfolding award share_from pay rounds
+unit_goes_on = (refl, refl, refl, refl)
+
+-- one that goes round a ring is still kept once
+pub unit_that_goes_round : (all_kept dry_ring ≡ 0) × (all_kept (added dry_ring 0 1) ≡ 1)
+unfolding award share_from pay rounds
+unit_that_goes_round = (refl, refl)
+
+-- A has this cash, and owes 3 outside and 5 to B
+abbrev pub owing_both : ℕ → Net
+owing_both cash = record {
+  banks = record { name = codes "A"; cash = cash; rule = kind.Order; outside = 3 }
+      ∷ bank (codes "B") 0 ∷ [];
+  debts = debt 0 1 5 ∷ [];
+}
+
+-- a third unit goes outside, a fourth to B, and a ninth is left to A, which is sound
+pub unit_by_unit :
+    (least (added (owing_both 2) 0 1) ≡ least (owing_both 2))
+    × (least (owing_both 3) ≡ 0 ∷ [])
+    × (least (added (owing_both 3) 0 1) ≡ 1 ∷ [])
+    × (least (added (owing_both 8) 0 1) ≡ least (owing_both 8))
+unfolding award share_from pay rounds
+unit_by_unit = (refl, refl, refl, refl)

@@ -1,2 +1,3 @@
 pub mod Rescue
+pub mod OneUnit
 pub mod Cases

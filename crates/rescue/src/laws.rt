@@ -9,6 +9,7 @@ ghost use Rattle.clr_net.specs.Limits.{IsNetwork};
 ghost use Rattle.clr_net.specs.Net.{Net, cash_of};
 ghost use Rattle.pay_words.specs.Belongs.{Belongs};
 ghost use Rattle.pay_words.specs.declared.payment.Payment.{Payment};
+ghost use Rattle.rescue.specs.OneUnit.{CountsOnce};
 ghost use Rattle.rescue.specs.Rescue.{IsRescue, Saves, added, rescue};
 ghost use Rattle.std.specs.Prelude.{◌≡◌, ◌-◌, ◌<◌, ◌≤◌, ℕ, List, length};
 
@@ -45,4 +46,11 @@ pub fn there_is_a_least_sum()
 /// And only one.
 pub fn least_sum_is_the_only_one()
     ensures { (net : Net) (i a b : ℕ) → IsRescue net i a → IsRescue net i b → a ≡ b }
+{}
+
+/// One unit more at a bank is kept once, by one bank or another, however often it is paid on: no
+/// payment changes exactly where the bank is sound or still owes the unit outside, and else all
+/// payments together rise.
+pub fn unit_counts_once()
+    ensures { (net : Net) (i : ℕ) → IsNetwork net → i < length net.banks → CountsOnce net i }
 {}
