@@ -1,6 +1,6 @@
 -- What the rounds on a board come to.
 use Rattle.std.specs.Prelude.{◌≡◌, ℕ, ◌+◌, ◌*◌, ◌<◌, ◌≤◌, ◌++◌, true, false, List, length, slice_index, sum}
-use Rattle.clr_net.specs.Net.{Net, units_owed}
+use Rattle.clr_net.specs.Net.{Net}
 use Rattle.clear_core.specs.Clearing.{Clears, least}
 use Rattle.clear_core.specs.History.{ordered, replayed}
 use Rattle.clear_core.specs.declared.event.Raise.{Raise}
@@ -37,7 +37,7 @@ pub record IsSettled (net : Net) (s : Shown) : Type 0 where
 -- at least one round, and at most one for each unit that the past left unpaid, and one more
 pub record InBounds (net : Net) (past : List Raise) (rounds : ℕ) : Type 0 where
   pub some_round : 1 ≤ rounds
-  pub few_rounds : rounds + sum (replayed net past) ≤ units_owed net + 1
+  pub few_rounds : rounds + sum (replayed net past) ≤ sum (least net) + 1
 
 -- the rounds on a board, from the master that shows s to the one that shows t
 pub record IsDriven (net : Net) (past : List Raise) (plan : Plan) (s t : Shown) (d : Driven)

@@ -1,7 +1,8 @@
 -- What a whole run comes to.
-use Rattle.std.specs.Prelude.{◌≡◌, ℕ, ◌+◌, ◌*◌, ◌≤◌, ◌++◌, List, length}
+use Rattle.std.specs.Prelude.{◌≡◌, ℕ, ◌+◌, ◌*◌, ◌≤◌, ◌++◌, List, length, sum}
 use Rattle.clear_core.specs.declared.event.Raise.{Raise}
-use Rattle.clr_net.specs.Net.{Net, units_owed}
+use Rattle.clr_net.specs.Net.{Net}
+use Rattle.clear_core.specs.Clearing.{least}
 use Rattle.pay_words.specs.Belongs.{Belongs}
 use Rattle.pay_words.specs.Sealed.{Sealed}
 use Rattle.pay_words.specs.Traces.{start_of}
@@ -36,7 +37,7 @@ pub record IsRecordAfter (net : Net) (past : List Raise) (plan : Plan) (rounds :
 -- sweeps over all banks, and as banks and raises
 pub record IsWithin (net : Net) (plan : Plan) (rounds visits raises : ℕ) : Type 0 where
   pub some_round : 1 ≤ rounds
-  pub few_rounds : rounds ≤ units_owed net + 1
+  pub few_rounds : rounds ≤ sum (least net) + 1
   pub visits_by_sweeps : visits ≤ rounds * (plan.sweeps * length net.banks)
   pub visits_by_bells : visits ≤ length net.banks + raises
 
