@@ -1,7 +1,8 @@
 -- Worked cases of what a desk knows and would pay.
 use Rattle.std.specs.Prelude.{◌≡◌, ℕ, [], ◌∷◌, refl}
 use Rattle.clr_net.specs.declared.rule.RuleKind.TheVariants as kind
-use Rattle.clr_net.specs.Division.{award, share_from}
+use Rattle.rule_unit.specs.Units.{awards_after}
+use Rattle.clr_net.specs.Division.{share_by_from}
 use Rattle.clr_net.specs.Samples.{chain}
 use Rattle.bank_desk.specs.Desks.{BankView, desk_of, target}
 
@@ -19,21 +20,21 @@ three_claims_with n = record {
 }
 
 pub three_claims_of_cash : target (three_claims_with 0) 0 ≡ 2 ∷ 2 ∷ 1 ∷ []
-unfolding award share_from
+unfolding awards_after share_by_from
 three_claims_of_cash = refl
 
 pub three_claims_of_cash_and_receipts : target (three_claims_with 0) 4 ≡ 3 ∷ 3 ∷ 3 ∷ []
-unfolding award share_from
+unfolding awards_after share_by_from
 three_claims_of_cash_and_receipts = refl
 
 -- with 2 owed outside, 3 of the cash are left for them
 pub three_claims_after_outside : target (three_claims_with 2) 0 ≡ 1 ∷ 1 ∷ 1 ∷ []
-unfolding award share_from
+unfolding awards_after share_by_from
 three_claims_after_outside = refl
 
 -- and nothing where it is more than there is
 pub three_claims_and_more_outside : target (three_claims_with 9) 4 ≡ 0 ∷ 0 ∷ 0 ∷ []
-unfolding award share_from
+unfolding awards_after share_by_from
 three_claims_and_more_outside = refl
 
 -- the bank in the midst of a chain owes the debt 1, and is owed the debt 0

@@ -4,7 +4,8 @@ use Rattle.clr_net.specs.declared.bank.Bank.{Bank}
 use Rattle.clr_net.specs.declared.rule.RuleKind.TheVariants as kind
 use Rattle.clr_net.specs.Net.{Net}
 use Rattle.clr_net.specs.Samples.{bank, debt, chain}
-use Rattle.clr_net.specs.Division.{award, share_from}
+use Rattle.rule_unit.specs.Units.{awards_after}
+use Rattle.clr_net.specs.Division.{share_by_from}
 use Rattle.clear_core.specs.Clearing.{pay, rounds, least, Clears}
 use Rattle.cascade.specs.declared.standing.Health.{Health}
 use Rattle.cascade.specs.declared.standing.Health.TheVariants.{Sound, Fundamental, Contagion}
@@ -25,7 +26,7 @@ stand estate outside outside_paid paid owed equity health = record {
 
 -- A could not pay B in any case; B could pay C if A paid
 pub chain_clears : Clears chain (7 ∷ 8 ∷ [])
-unfolding award share_from pay
+unfolding awards_after share_by_from pay
 chain_clears = refl
 
 pub chain_standings : standings chain (7 ∷ 8 ∷ [])
@@ -50,7 +51,7 @@ pub outside_before_debts : standings (outside_chain 3) (least (outside_chain 3))
     ≡ stand 7 3 3 4 10 0 Fundamental
     ∷ stand 5 0 0 5 9 0 Contagion
     ∷ stand 5 2 2 0 0 3 Sound ∷ []
-unfolding award share_from pay rounds
+unfolding awards_after share_by_from pay rounds
 outside_before_debts = refl
 
 -- and takes all its cash where it is more. C, which has no debts, cannot pay what it owes outside
@@ -58,7 +59,7 @@ pub outside_above_cash : standings (outside_chain 8) (least (outside_chain 8))
     ≡ stand 7 8 7 0 10 0 Fundamental
     ∷ stand 1 0 0 1 9 0 Contagion
     ∷ stand 1 2 1 0 0 0 Contagion ∷ []
-unfolding award share_from pay rounds
+unfolding awards_after share_by_from pay rounds
 outside_above_cash = refl
 
 -- A and B owe each other 10 and have nothing: each could pay if the other did
@@ -70,16 +71,16 @@ dry_ring = record {
 
 pub dry_ring_standings : standings dry_ring (least dry_ring)
     ≡ stand 0 0 0 0 10 0 Contagion ∷ stand 0 0 0 0 10 0 Contagion ∷ []
-unfolding award share_from pay rounds
+unfolding awards_after share_by_from pay rounds
 dry_ring_standings = refl
 
 -- A of the chain loses 7 and pays B nothing: C, at the end, bears it all
 pub last_bank_bears_it : map (kept_less chain 0) (bank_numbers chain) ≡ 0 ∷ 0 ∷ 7 ∷ []
-unfolding award share_from pay rounds
+unfolding awards_after share_by_from pay rounds
 last_bank_bears_it = refl
 
 -- what A owes outside is lost first to those to whom it is owed, and the rest to C
 pub outside_bears_its_part :
     map (kept_less (outside_chain 3) 0) (bank_numbers (outside_chain 3)) ≡ 3 ∷ 0 ∷ 4 ∷ []
-unfolding award share_from pay rounds
+unfolding awards_after share_by_from pay rounds
 outside_bears_its_part = refl

@@ -3,7 +3,8 @@ use Rattle.std.specs.Prelude.{◌≡◌, ℕ, [], ◌∷◌, codes, refl}
 use Rattle.clr_net.specs.declared.rule.RuleKind.TheVariants as kind
 use Rattle.clr_net.specs.Net.{Net}
 use Rattle.clr_net.specs.Samples.{debt, chain}
-use Rattle.clr_net.specs.Division.{award, share_from}
+use Rattle.rule_unit.specs.Units.{awards_after}
+use Rattle.clr_net.specs.Division.{share_by_from}
 use Rattle.clear_core.specs.Rounds.{rounds_of}
 use Rattle.net_samples.specs.Networks.{ring, ruled}
 use Rattle.cascade.specs.declared.standing.Health.{Health}
@@ -25,11 +26,11 @@ stand estate lost outside_paid paid equity health = record {
 
 -- half is lost: of A's 7 it keeps 3, and of the 4 that B then has it keeps 2
 pub chain_halved : cost_least chain 500 ≡ 3 ∷ 2 ∷ []
-unfolding award share_from pay_by rounds_of
+unfolding awards_after share_by_from pay_by rounds_of
 chain_halved = refl
 
 pub chain_halved_clears : CostClears chain 500 (3 ∷ 2 ∷ [])
-unfolding award share_from pay_by
+unfolding awards_after share_by_from pay_by
 chain_halved_clears = refl
 
 pub chain_halved_standings : cost_standings chain 500 (3 ∷ 2 ∷ [])
@@ -40,26 +41,26 @@ chain_halved_standings = refl
 
 -- nothing is lost where all is kept
 pub chain_whole : cost_least chain 1000 ≡ 7 ∷ 8 ∷ []
-unfolding award share_from pay_by rounds_of
+unfolding awards_after share_by_from pay_by rounds_of
 chain_whole = refl
 
 -- and where nothing is kept, banks in default pay nothing
 pub chain_kept_none : cost_least chain 0 ≡ 0 ∷ 0 ∷ []
-unfolding award share_from pay_by rounds_of
+unfolding awards_after share_by_from pay_by rounds_of
 chain_kept_none = refl
 
 -- A has a unit that would go round until both debts are paid, and loses half of it
 pub ring_halved : cost_least ring 500 ≡ 0 ∷ 0 ∷ []
-unfolding award share_from pay_by rounds_of
+unfolding awards_after share_by_from pay_by rounds_of
 ring_halved = refl
 
 pub ring_halved_clears : CostClears ring 500 (0 ∷ 0 ∷ [])
-unfolding award share_from pay_by
+unfolding awards_after share_by_from pay_by
 ring_halved_clears = refl
 
 -- though paying in full would clear as well
 pub ring_clears_in_full : CostClears ring 500 (5 ∷ 5 ∷ [])
-unfolding award share_from pay_by
+unfolding awards_after share_by_from pay_by
 ring_clears_in_full = refl
 
 pub ring_halved_standings : cost_standings ring 500 (0 ∷ 0 ∷ [])
@@ -79,11 +80,11 @@ edge = record {
 
 -- so A loses nothing. B loses all but 3 of its 6, pays 2 outside, and 1 to C, which pays it on
 pub edge_halved : cost_least edge 500 ≡ 4 ∷ 1 ∷ []
-unfolding award share_from pay_by rounds_of
+unfolding awards_after share_by_from pay_by rounds_of
 edge_halved = refl
 
 pub edge_halved_clears : CostClears edge 500 (4 ∷ 1 ∷ [])
-unfolding award share_from pay_by
+unfolding awards_after share_by_from pay_by
 edge_halved_clears = refl
 
 pub edge_halved_standings : cost_standings edge 500 (4 ∷ 1 ∷ [])
@@ -94,5 +95,5 @@ edge_halved_standings = refl
 
 -- at one thousandth less than all, units are rounded down
 pub chain_rounded : cost_least chain 999 ≡ 6 ∷ 6 ∷ []
-unfolding award share_from pay_by rounds_of
+unfolding awards_after share_by_from pay_by rounds_of
 chain_rounded = refl

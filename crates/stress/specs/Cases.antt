@@ -7,7 +7,8 @@ use lib.Utf8.{encode}
 use Rattle.toml.proofs.OnLiterals.{toml_on_literals}
 use Rattle.toml.specs.Data.{boolean}
 use Rattle.clr_net.specs.Net.{Net}
-use Rattle.clr_net.specs.Division.{award, share_from}
+use Rattle.rule_unit.specs.Units.{awards_after}
+use Rattle.clr_net.specs.Division.{share_by_from}
 use Rattle.clr_net.specs.Samples.{bank, chain}
 use Rattle.clear_core.specs.Clearing.{pay, rounds}
 use Rattle.net_check.specs.declared.fault.Fault.{Fault}
@@ -183,12 +184,12 @@ nothing_left = refl
 -- A has 20 and owes 10: a cut of 549 takes 10 of it, and one of 550 takes 11
 pub broken_from_550 :
     (is_broken_by (left 20 1) 0 549 ≡ false) × (is_broken_by (left 20 1) 0 550 ≡ true)
-unfolding award share_from pay rounds
+unfolding awards_after share_by_from pay rounds
 broken_from_550 = (refl, refl)
 
 -- A of the chain cannot pay all as it is
 pub broken_uncut : breaking_cut chain 0 ≡ 0
-unfolding award share_from pay rounds
+unfolding awards_after share_by_from pay rounds
 broken_uncut = refl
 
 -- a bank that owes nothing is sound after every cut

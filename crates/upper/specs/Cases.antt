@@ -3,7 +3,8 @@ use Rattle.std.specs.Prelude.{◌≡◌, ℕ, [], ◌∷◌, codes, refl}
 use Rattle.clr_net.specs.declared.rule.RuleKind.TheVariants as kind
 use Rattle.clr_net.specs.Net.{Net}
 use Rattle.clr_net.specs.Samples.{bank, debt, chain}
-use Rattle.clr_net.specs.Division.{award, share_from}
+use Rattle.rule_unit.specs.Units.{awards_after}
+use Rattle.clr_net.specs.Division.{share_by_from}
 use Rattle.clear_core.specs.Clearing.{pay, rounds, least}
 use Rattle.clear_core.specs.Rounds.{rounds_of}
 use Rattle.net_samples.specs.Networks.{ruled}
@@ -11,11 +12,11 @@ use Rattle.upper.specs.Bounds.{greatest, waves}
 
 -- A falls at once, and B after it
 pub chain_greatest : greatest chain ≡ 7 ∷ 8 ∷ []
-unfolding award share_from pay rounds_of
+unfolding awards_after share_by_from pay rounds_of
 chain_greatest = refl
 
 pub chain_waves : waves chain ≡ 1 ∷ 2 ∷ 0 ∷ []
-unfolding award share_from pay rounds_of
+unfolding awards_after share_by_from pay rounds_of
 chain_waves = refl
 
 -- A and B owe each other 10 and have nothing: paying nothing clears, and so does paying all
@@ -26,15 +27,15 @@ gridlock = record {
 }
 
 pub gridlock_least : least gridlock ≡ 0 ∷ 0 ∷ []
-unfolding award share_from pay rounds
+unfolding awards_after share_by_from pay rounds
 gridlock_least = refl
 
 pub gridlock_greatest : greatest gridlock ≡ 10 ∷ 10 ∷ []
-unfolding award share_from pay rounds_of
+unfolding awards_after share_by_from pay rounds_of
 gridlock_greatest = refl
 
 pub gridlock_waves : waves gridlock ≡ 0 ∷ 0 ∷ []
-unfolding award share_from pay rounds_of
+unfolding awards_after share_by_from pay rounds_of
 gridlock_waves = refl
 
 -- the chain, where A owes a units outside and C owes 2
@@ -49,14 +50,14 @@ outside_chain a = record {
 
 -- what A owes outside is part of what it owes, and paid before its debt to B
 pub outside_chain_greatest : greatest (outside_chain 3) ≡ 4 ∷ 5 ∷ []
-unfolding award share_from pay rounds_of
+unfolding awards_after share_by_from pay rounds_of
 outside_chain_greatest = refl
 
 pub outside_chain_waves : waves (outside_chain 3) ≡ 1 ∷ 2 ∷ 0 ∷ []
-unfolding award share_from pay rounds_of
+unfolding awards_after share_by_from pay rounds_of
 outside_chain_waves = refl
 
 -- where A pays B nothing, C falls too, though it has no debts
 pub last_bank_falls : waves (outside_chain 8) ≡ 1 ∷ 2 ∷ 3 ∷ []
-unfolding award share_from pay rounds_of
+unfolding awards_after share_by_from pay rounds_of
 last_bank_falls = refl

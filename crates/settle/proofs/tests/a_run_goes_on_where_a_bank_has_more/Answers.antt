@@ -1,6 +1,7 @@
 use Rattle.std.proofs.Common.{◌≡◌, ◌≢◌, ◌⊎◌, ℕ, zero, suc, ◌<◌, ◌≤◌, List, [], ◌∷◌, inl, refl, ap, sym, ◌∙◌, subst, arith}
 use Rattle.std.specs.Prelude.{slice_get, slice_index, Some}
-use Rattle.clr_net.specs.Division.{award, share_from}
+use Rattle.rule_unit.specs.Units.{awards_after}
+use Rattle.clr_net.specs.Division.{share_by_from}
 use Rattle.clr_net.specs.Net.{Net, with_cash}
 use Rattle.clr_net.specs.Samples.{chain}
 use Rattle.clear_core.specs.Clearing.{pay}
@@ -27,7 +28,7 @@ abbrev raises : List Raise
 raises = first ∷ second ∷ []
 
 stands : Stands richer raises
-unfolding StandsFrom award share_from pay
+unfolding StandsFrom awards_after share_by_from pay
 stands =
     let a : slice_index (pay richer (0 ∷ 0 ∷ [])) 0 ≡ 7 = refl in
     let b : slice_index (pay richer (7 ∷ 0 ∷ [])) 1 ≡ 9 = refl in
@@ -47,7 +48,7 @@ differ (suc zero) (suc (suc j)) a b lt f g = absurd (cc)
 differ (suc (suc i)) j a b lt f g = absurd (cc)
 
 within : (i : ℕ) (r : Raise) → slice_get raises i ≡ Some r → r.to ≤ slice_index (pay richer (paid_before richer r.stamp raises)) r.debt.0
-unfolding award share_from pay
+unfolding awards_after share_by_from pay
 within zero r f =
     let x : first ≡ r = cc in
     let a : slice_index (pay richer (paid_before richer 1 raises)) 0 ≡ 7 = refl in
