@@ -1,4 +1,4 @@
-"""Makes the inputs of bench/peer.sh.
+"""Makes the inputs of bench/peer.sh and bench/tasks.sh.
 
     inputs.py FOLDER
 
@@ -11,7 +11,8 @@ import sys
 
 RULES = ["order", "equal", "losses", "jefferson", "webster", "adams"]
 FILE_SIZE = 8_388_608
-BANKS_HEADER, DEBTS_HEADER = "name,cash,rule\n", "debtor,creditor,class,claim\n"
+BANKS_HEADER, OUTSIDE_HEADER = "name,cash,rule\n", "name,cash,rule,outside\n"
+DEBTS_HEADER = "debtor,creditor,class,claim\n"
 made = random.Random(1)
 
 
@@ -21,10 +22,10 @@ def rule_of(rule, bank):
 
 
 def write(name, banks, debts):
-    """Banks are (name, cash, rule), debts (debtor, creditor, class, claim)."""
+    """Banks are (name, cash, rule) or (name, cash, rule, outside), debts (debtor, creditor, class, claim)."""
     with open(f"{name}-banks.csv", "w") as file:
-        file.write(BANKS_HEADER)
-        file.writelines(f"{bank},{cash},{rule}\n" for bank, cash, rule in banks)
+        file.write(BANKS_HEADER if len(banks[0]) == 3 else OUTSIDE_HEADER)
+        file.writelines(",".join(map(str, bank)) + "\n" for bank in banks)
     with open(f"{name}-debts.csv", "w") as file:
         file.write(DEBTS_HEADER)
         file.writelines(f"{debtor},{creditor},{rank},{claim}\n" for debtor, creditor, rank, claim in debts)
@@ -97,6 +98,30 @@ def ring(size, claim, step):
     return banks, [(f"R{i}", f"R{(i + step) % size}", 1, claim) for i in range(size)]
 
 
+def dry_ring(size, claim, step):
+    """A ring in which nobody has any cash: one unit at a bank would save it, and then goes round."""
+    banks, debts = ring(size, claim, step)
+    return [(name, 0, rule) for name, _, rule in banks], debts
+
+
+def chain(size):
+    """Each bank owes the next, and only the first has cash, so that each pays once the one before it has paid."""
+    banks = [(f"L{i}", 900 if i == 0 else 0, "order") for i in range(size)]
+    return banks, [(f"L{i}", f"L{i + 1}", 1, 1000) for i in range(size - 1)]
+
+
+def one_debtor():
+    """One bank owes all others in nine classes, the most debts that one bank can have, and can pay half of them."""
+    debts = [("D0", f"D{j}", rank, 1000) for rank in range(1, 10) for j in range(1, 1000)]
+    return [(f"D{i}", 4_495_500 if i == 0 else 0, "equal") for i in range(1000)], debts
+
+
+def leak(claim):
+    """A ring of ten that owes all it has, and one unit outside, so that the greatest payments fall by a unit a round."""
+    banks = [(f"K{i}", 0, "order", int(i == 0)) for i in range(10)]
+    return banks, [(f"K{i}", f"K{(i + 1) % 10}", 1, claim) for i in range(10)]
+
+
 def full(name, piece):
     """A debts file as long as a file may be, all of one piece, whatever the program says of it."""
     with open(f"{name}-banks.csv", "w") as file:
@@ -125,6 +150,12 @@ def main():
     write("long-journal", *ring(10, 100000, 1))
     for name, piece in (("empty-lines", "\n"), ("blank-records", " \n"), ("commas", ","), ("comma-records", ",\n")):
         full(f"full-{name}", piece)
+    for size, claim in ((10, 10000), (100, 10000), (1000, 1000)):
+        write(f"dry-ring-{size}-forward", *dry_ring(size, claim, 1))
+        write(f"dry-ring-{size}-reverse", *dry_ring(size, claim, -1))
+    write("chain", *chain(1000))
+    write("one-debtor", *one_debtor())
+    write("leak", *leak(90000))
     with open("cuts.toml", "w") as file:
         file.writelines(f'[[scenario]]\nname = "cut {cut}"\ncut = {cut}\n' for cut in range(0, 1000, 10))
 

@@ -6,41 +6,14 @@ Reads the files that inputs.py made in the current folder. With inputs named, on
 environment: RUNS, how often each is run (7), and LIMIT, the most seconds of a run (10).
 """
 import os
-import signal
 import subprocess
 import sys
-import threading
-import time
 
-RUNS, LIMIT = int(os.environ.get("RUNS", 7)), float(os.environ.get("LIMIT", 10))
+from timing import LIMIT, RUNS, files, least, ms, ratio
+
 NETWORKS = """largest-order largest-webster largest-mixed ordinary tight-order tight-mixed core-order core-mixed star-order
     star-webster ring-10-forward ring-10-reverse ring-1000-forward ring-1000-reverse""".split()
 FULL = "full-empty-lines full-blank-records full-commas full-comma-records".split()
-
-
-def seconds(words):
-    """How long a run takes, or None where it passes the limit."""
-    # Not by subprocess, whose wait with a limit sleeps between looks.
-    nothing = [(os.POSIX_SPAWN_OPEN, fd, os.devnull, os.O_RDWR, 0) for fd in range(3)]
-    start = time.perf_counter()
-    process = os.posix_spawn(words[0], words, os.environ, file_actions=nothing)
-    limit = threading.Timer(LIMIT, os.kill, (process, signal.SIGKILL))
-    limit.start()
-    status = os.waitpid(process, 0)[1]
-    took = time.perf_counter() - start
-    limit.cancel()
-    return None if os.WIFSIGNALED(status) else took
-
-
-def least(jobs):
-    """The least seconds of each job, run by turns; a job that passes the limit is not run again."""
-    best = {}
-    for _ in range(RUNS):
-        for name, words in jobs.items():
-            if name not in best or best[name] is not None:
-                took = seconds(words)
-                best[name] = took if took is None or name not in best else min(best[name], took)
-    return best
 
 
 def output(words):
@@ -60,18 +33,6 @@ def memory(took, words):
         ["/usr/bin/time", "-f", "%M", *words], stdin=subprocess.DEVNULL, stdout=subprocess.DEVNULL, stderr=subprocess.PIPE
     )
     return f"{int(timed.stderr.split()[-1]) / 1024:.1f}"
-
-
-def ms(took):
-    return "over" if took is None else f"{1000 * took:.1f}"
-
-
-def ratio(took, other):
-    return "-" if took is None or other is None else f"{took / other:.2f}"
-
-
-def files(name):
-    return f"{name}-banks.csv", f"{name}-debts.csv"
 
 
 def same(words, others):
