@@ -35,7 +35,7 @@ pub const MAX_NAME_BYTES: usize = 64;
 pub const MAX_CLASS: u8 = 9;
 
 /// The most units of one claim.
-pub const MAX_CLAIM: u64 = 1_000_000;
+pub const MAX_CLAIM: u64 = rule_unit::MAX_CLAIM;
 
 /// The most units of all claims together.
 pub const MAX_OWED: u64 = 10_000_000;

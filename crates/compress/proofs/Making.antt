@@ -9,7 +9,7 @@ use Rattle.clr_net.specs.declared.TheConstants.{MAX_CLASS}
 use Rattle.clr_net.specs.Limits.{IsNetwork}
 use Rattle.clr_net.specs.Net.{Net, debtor_of, units_owed}
 use Rattle.clr_net.proofs.Lists.{sum-le}
-use Rattle.compress.specs.Compression.{all_claims}
+use Rattle.clr_net.specs.Claims.{all_claims}
 use Rattle.compress.specs.Compression.{rank_of, rank_above, Compression}
 use Rattle.compress.specs.declared.mark.Mark.{Mark}
 use Rattle.compress.specs.declared.mark.Mark.TheVariants.{Done}

@@ -4,6 +4,7 @@ use Rattle.std.specs.Prelude.{◌≡◌, ◌↔◌, ℕ, ◌+◌, ◌<◌, ◌�
 use Rattle.std.specs.List.{range_with_len}
 use Rattle.std.specs.Option.{option_map_or}
 use Rattle.clr_net.specs.Amounts.{IsAtMost}
+use Rattle.clr_net.specs.Claims.{all_claims}
 use Rattle.clr_net.specs.Net.{Net, units_owed}
 use Rattle.clear_core.specs.Clearing.{pay, estate, Clears, least}
 use Rattle.clear_core.specs.Rounds.{rounds_of}
@@ -15,11 +16,7 @@ pub record IsGreatest (net : Net) (P : List ℕ) : Type 0 where
   pub clears : Clears net P
   pub greatest : (Q : List ℕ) → Clears net Q → IsAtMost Q P
 
--- all debts paid in full
-abbrev pub all_claims : Net → List ℕ
-all_claims net = map (λ d. d.claim) net.debts
-
--- the payments after n rounds from there, in each of which all banks pay at once
+-- the payments after n rounds from all debts paid in full, in each of which all banks pay at once
 abbrev pub falling : Net → ℕ → List ℕ
 falling net n = rounds_of (pay net) (all_claims net) n
 
