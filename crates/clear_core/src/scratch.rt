@@ -47,28 +47,6 @@ impl Scratch {
         })
     }
 
-    /// Writes what a bank's rule gives each debt of its row, in file order, when the bank receives so many units.
-    /// Takes no memory.
-    pub fn divide(&mut self, net: &Network, bank: BankId, receipts: u64, into: &mut [u64])
-        requires bank { bank.0 < length net.now.banks }
-        requires receipts { receipts ≤ MAX_DEBTS * MAX_CLAIM }
-        requires room { HasRoom net.now self.old }
-        requires places { length into.old ≡ length (row_of net.now bank.0) }
-        ensures division { into.new ≡ division net.now bank.0 receipts }
-        ensures room { self.new ≡ self.old }
-    {
-        prove!(bank.0 < net.banks());
-        lay_out_row(net, bank, &mut self.claims, &mut self.classes);
-        divide_laid_out(
-            net,
-            bank,
-            spend(net, bank, receipts),
-            self.claims.as_slice(),
-            self.classes.as_slice(),
-            into,
-        );
-    }
-
     /// A bank pays on the debts of its row what its rule gives from what it has received by `paid`: writes that into
     /// `next`, and nothing else.
     ///

@@ -90,24 +90,6 @@ impl State {
         }
     }
 
-    /// Writes what the rule of a bank gives each debt of its row, in file order, from cash and from what the bank has
-    /// seen paid to itself, less what it owes outside, in units: the most to which a raise may lift each of them. Takes
-    /// no memory.
-    pub fn targets(&self, net: &Network, bank: BankId, scratch: &mut Scratch, into: &mut [u64])
-        requires over { IsOver net.now self.now }
-        requires bank { bank.0 < length net.now.banks }
-        requires places { length into.old ≡ length (row_of net.now bank.0) }
-        requires room { HasRoom net.now scratch.old }
-
-        ensures division { into.new ≡ division net.now bank.0 (receipts_in net.now self.now.seen bank.0) }
-        ensures allowed { into.new ≡ map (allowed_on net.now self.now) (row_of net.now bank.0) }
-        ensures room { scratch.new ≡ scratch.old }
-    {
-        prove!(bank.0 < net.banks());
-        let receipts = receipts_of(net, bank, self.seen.as_slice());
-        scratch.divide(net, bank, receipts, into);
-    }
-
     /// What is paid on each debt.
     pub fn paid(&self) -> &[u64]
         ensures { result.now ≡ self.now.paid }

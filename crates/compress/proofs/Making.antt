@@ -17,16 +17,6 @@ use Rattle.compress.specs.Walk.{mark_of, AreDone, IsKept}
 use Rattle.compress.specs.Progress.{IsCompressedTo, IsWrittenAt}
 use Rattle.compress.proofs.Dones.{rank_same}
 
-pub compressed_to_first : (net : Net) (R : List ℕ) → length R ≡ MAX_CLASS * length net.banks
-    → IsCompressedTo net 1 (all_claims net) R
-compressed_to_first net R l = record {
-  as_many = length-map net.debts (λ d. d.claim);
-  within = λ k. omega arith;
-  balances = λ k b. refl;
-  places = l;
-  ranks = λ k i g h m. absurd (omega arith);
-}
-
 -- the numbers of a class stand before those of the next
 place_before : (k c i n : ℕ) → 1 ≤ k → k < c → i < n → (k - 1) * n + i < (c - 1) * n
 place_before k c i n g l m =
