@@ -22,6 +22,6 @@ pub use division::share_of;
 pub use event::{Event, Illegal, Raise};
 pub use journal::Journal;
 pub use quiet::{first_unquiet, is_quiet};
-pub use receipts::{receipts_of, spend, spendable};
+pub use receipts::{estate_of, receipts_of, spend, spendable};
 pub use scratch::{Scratch, lay_out_row};
 pub use state::{State, allowed_of};

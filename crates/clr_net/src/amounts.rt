@@ -21,13 +21,22 @@ impl Model for Amounts {
 }
 
 impl Amounts {
-    /// As many amounts of 0 as `len`.
+    /// As many amounts of 0 as `len`. `Mem` for want of memory alone.
     pub fn zeros(alloc: Global, len: usize) -> Result<Amounts, Mem>
         ensures { IfOk result (λ a. a ≡ replicate len 0) }
     {
         Ok(Amounts {
             units: vec![in alloc; 0; len]?,
         })
+    }
+
+    /// The same amounts, in a list of their own. `Mem` for want of memory alone.
+    pub fn copy_of(alloc: Global, amounts: &[u64]) -> Result<Amounts, Mem>
+        ensures { IfOk result (λ copy. copy ≡ amounts.now) }
+    {
+        let mut copy = Amounts::zeros(alloc, amounts.len())?;
+        copy.as_mut_slice().copy_from_slice(amounts);
+        Ok(copy)
     }
 
     /// The amounts.
