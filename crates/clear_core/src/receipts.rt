@@ -37,8 +37,9 @@ pub fn estate_of(net: &Network, bank: BankId, paid: &[u64]) -> u64
     net.bank(bank).cash + receipts_of(net, bank, paid)
 }
 
-/// What a bank divides among its debts, in units: its cash and its receipts, less what it owes outside the network,
-/// which ranks before all its debts (Eisenberg and Noe 2001), and nothing where that is more. Takes no memory.
+/// What a bank divides among its debts, in units: its cash and its receipts, less what it owes
+/// outside the network, which ranks before all its debts (Eisenberg and Noe 2001), and nothing
+/// where that is more. Takes no memory.
 pub fn spendable(cash: u64, outside: u64, receipts: u64) -> u64
     requires { cash + receipts < 2 ^ 64 }
     ensures { result ≡ spendable_of cash outside receipts }

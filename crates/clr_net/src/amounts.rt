@@ -21,7 +21,7 @@ impl Model for Amounts {
 }
 
 impl Amounts {
-    /// As many amounts of 0 as `len`. `Mem` for want of memory alone.
+    /// As many amounts of 0 units as `len`. `Mem` for want of memory alone.
     pub fn zeros(alloc: Global, len: usize) -> Result<Amounts, Mem>
         ensures { IfOk result (λ a. a ≡ replicate len 0) }
     {
@@ -39,14 +39,14 @@ impl Amounts {
         Ok(copy)
     }
 
-    /// The amounts.
+    /// The amounts, in units.
     pub fn as_slice(&self) -> &[u64]
         ensures { result.now ≡ self.now }
     {
         self.units.as_slice()
     }
 
-    /// The amounts, to write.
+    /// The amounts, in units, to write.
     pub fn as_mut_slice(&mut self) -> &mut [u64]
         ensures* lends { sem 𝓛 (LendsAmounts self.entry result) }
         ensures now { result.now ≡ self.old }

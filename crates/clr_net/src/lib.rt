@@ -1,7 +1,9 @@
-//! The network of banks and debts that every other crate works on, and how a bank's estate is divided among its debts.
+//! The network of banks and debts that every other crate works on, and how a bank's estate is
+//! divided among its debts.
 //!
-//! A [`Network`] keeps its limits and its rules by itself: distinct names, no debt of a bank to itself, no two debts
-//! of one debtor, creditor and class. Contracts see it as two plain lists, `Net`, in file order.
+//! A [`Network`] keeps its limits and its rules by itself: distinct names, no debt of a bank to
+//! itself, no two debts of one debtor, creditor and class. Contracts see it as two plain lists,
+//! `Net`, in file order.
 #![tactic(auto)]
 
 mod account;

@@ -109,6 +109,9 @@ fn larger_networks_are_gone_over_whole(rt: HostRuntime) -> Result<(), Fail> {
     assert_eq!(rt; digest(made.claims.as_slice()), 4_502_372);
     assert_eq!(rt; digest(made.ranks.as_slice()), 634_330);
     let left = with_claims(alloc, &net, made.claims.as_slice())?;
-    assert_eq!(rt; (left.banks(), left.debts(), left.owed()), (200, 600, 15_035));
+    assert_eq!(rt;
+        (left.banks(), left.debts(), left.owed()),
+        (200, 600, 15_035)
+    );
     Ok(())
 }

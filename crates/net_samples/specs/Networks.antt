@@ -12,8 +12,12 @@ ruled name cash rule outside = record { name = name; cash = cash; rule = rule; o
 
 -- a debt of a class
 abbrev pub classed : ℕ → ℕ → ℕ → ℕ → Debt
-classed debtor creditor class claim =
-    record { debtor = record { 0 = debtor }; creditor = record { 0 = creditor }; class = class; claim = claim }
+classed debtor creditor class claim = record {
+  debtor = record { 0 = debtor };
+  creditor = record { 0 = creditor };
+  class = class;
+  claim = claim;
+}
 
 -- A and B owe each other 5; A has 1
 abbrev pub ring : Net

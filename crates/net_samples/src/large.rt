@@ -13,7 +13,8 @@ const RULES: [RuleKind; 6] = [
 ];
 
 /// The network of the files in `examples/twelve-banks`: all six rules and three classes. Under the
-/// least payments two banks default by their own fundamentals, and two by contagion.
+/// least payments two banks default by their own fundamentals, and two by contagion. `Mem` for want
+/// of memory alone.
 pub fn twelve_banks(alloc: Global) -> Result<Network, Mem> {
     let mut net = Network::empty(alloc);
     let banks = [

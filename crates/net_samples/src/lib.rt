@@ -96,7 +96,7 @@ pub fn add_classed(
     Ok(())
 }
 
-/// A owes B 10, and B owes C 9; A has 7 and B has 1.
+/// A owes B 10, and B owes C 9; A has 7 and B has 1. `Mem` for want of memory alone.
 pub fn chain(alloc: Global) -> Result<Network, Mem>
     ensures { IfOk result (λ net. net ≡ chain_net) }
 {
@@ -109,7 +109,7 @@ pub fn chain(alloc: Global) -> Result<Network, Mem>
     Ok(net)
 }
 
-/// A and B owe each other 5; A has 1.
+/// A and B owe each other 5; A has 1. `Mem` for want of memory alone.
 pub fn ring(alloc: Global) -> Result<Network, Mem>
     ensures { IfOk result (λ net. net ≡ ring_net) }
 {

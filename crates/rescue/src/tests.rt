@@ -87,8 +87,14 @@ fn an_outside_claim_alone_is_covered(rt: HostRuntime) -> Result<(), Fail> {
 fn standing(alloc: Global, net: &Network) -> Result<(usize, usize, u64), Mem> {
     let least = central(alloc, net)?;
     let all = defaults(alloc, net, least.as_slice())?;
-    let fundamental = all.iter().filter(|bank| bank.health == Health::Fundamental).count();
-    let contagion = all.iter().filter(|bank| bank.health == Health::Contagion).count();
+    let fundamental = all
+        .iter()
+        .filter(|bank| bank.health == Health::Fundamental)
+        .count();
+    let contagion = all
+        .iter()
+        .filter(|bank| bank.health == Health::Contagion)
+        .count();
     Ok((fundamental, contagion, digest(least.as_slice())))
 }
 

@@ -57,7 +57,7 @@ fn one_class<R: UnitRule>(
     given
 }
 
-/// What the debts of one class claim together.
+/// What the debts of one class claim together, in units.
 pub fn class_total(claims: &[u64], classes: &[u8], class: u8) -> u64
     requires a_class_each { length claims.now ≡ length classes.now }
     requires total { sum claims.now ≤ MAX_OWED }
