@@ -41,7 +41,8 @@ claims_text_is net C l =
     ap (λ rows. line debts_header ++ rows)
     (ap (λ n. flat_map (claim_line net C) (range_with_len 0 n)) (sym (length-of_claims C net.debts))
     ∙ by_number (claim_line net C) (debt_line (with_claims net C)) (of_claims C net.debts) 0
-    (λ k e at. line_of net C k (slice_get net.debts k) e refl (sym (claim_set C net.debts k l) ∙ at)))
+    (λ k e at. ap (claim_line net C) (omega arith)
+    ∙ line_of net C k (slice_get net.debts k) e refl (sym (claim_set C net.debts k l) ∙ at)))
 
 -- and it is read as that network
 pub claims_read_back : (net : Net) (C : List ℕ) → IsNetwork net → KeepsNames net

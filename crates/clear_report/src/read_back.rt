@@ -10,7 +10,6 @@ ghost use Rattle.net_csv.specs.Reading.{network_of};
 ghost use Rattle.std.specs.Prelude.{◌≡◌, ℕ, List, Ok, length};
 
 /// The claims are written as the debts file of the network with these claims.
-#[tactic(auto, using(crate::proofs::ClaimsText::claims_text_is))]
 pub fn claims_are_a_debts_file()
     ensures { (net : Net) (C : List ℕ) → length C ≡ length net.debts
         → claims_text net C ≡ debts_text (with_claims net C) }
@@ -18,7 +17,6 @@ pub fn claims_are_a_debts_file()
 
 /// So, beside the network's own banks file, they are read as that network, where no claim was raised
 /// and no name begins or ends with a space.
-#[tactic(auto, using(crate::proofs::ClaimsText::claims_read_back))]
 pub fn claims_are_read_back()
     ensures { (net : Net) (C : List ℕ) → IsNetwork net → KeepsNames net
         → length C ≡ length net.debts → IsAtMost C (all_claims net)
