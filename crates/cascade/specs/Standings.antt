@@ -1,6 +1,6 @@
 -- How banks stand under payments: what each has, owes and pays, what is left to its owners, and
 -- whose fault a default is.
-use Rattle.std.specs.Prelude.{◌≡◌, ℕ, ◌+◌, ◌-◌, ◌<◌, ◌≤◌, ◌==◌, ◌&&◌, nat_lt, Bool, true, false, List, length, map, min, sum, sum_by, slice_index, if◌then◌else◌}
+use Rattle.std.specs.Prelude.{◌≡◌, ℕ, ◌+◌, ◌-◌, ◌<◌, ◌≤◌, ◌==◌, ◌&&◌, not, nat_lt, Bool, true, false, List, length, map, min, sum, sum_by, slice_index, if◌then◌else◌}
 use Rattle.std.specs.List.{range_with_len}
 use Rattle.clr_net.specs.Net.{Net, cash_of, outside_of, claim_of, claims_of, row, column, all_cash}
 use Rattle.clear_core.specs.Clearing.{estate}
@@ -53,6 +53,10 @@ abbrev pub is_sound : Health → Bool
 is_sound health.Sound = true
 is_sound health.Fundamental = false
 is_sound health.Contagion = false
+
+-- whether a bank is in default
+abbrev pub is_default : Health → Bool
+is_default h = not (is_sound h)
 
 -- the standing of the bank i
 abbrev pub standing : Net → List ℕ → ℕ → Standing

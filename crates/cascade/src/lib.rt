@@ -6,10 +6,12 @@
 #![tactic(auto)]
 
 pub mod laws;
+mod owing;
 mod standing;
 mod standings;
 #[cfg(test)]
 mod tests;
 
+pub use owing::{due, worth};
 pub use standing::{Health, Standing};
 pub use standings::defaults;

@@ -1,11 +1,12 @@
-ghost use Rattle.cascade.specs.Standings.{AddsUp, PaysOut, paid_by as paid_by_bank, standing, standings, worth as worth_of};
+ghost use Rattle.cascade.specs.Standings.{AddsUp, PaysOut, paid_by as paid_by_bank, standing, standings};
 ghost use Rattle.clear_core.specs.Buffers.{AreInLimit};
 ghost use Rattle.clear_core.specs.Clearing.{Clears};
 ghost use Rattle.clr_net.specs.Limits.{IsNetwork};
 ghost use Rattle.std.specs.Prelude.{◌≡◌, ◌<◌, ℕ, IfOk, OnOk, length};
 
+use crate::owing::{due, worth};
 use crate::standing::{Health, Standing};
-use clear_core::receipts_of;
+use clear_core::estate_of;
 use clr_net::{BankId, Mem, Network};
 use std::alloc::Global;
 
@@ -36,14 +37,14 @@ fn standing_of(net: &Network, bank: BankId, paid: &[u64]) -> Standing
 {
     let owner = net.bank(bank);
     let outside = owner.outside;
-    let estate = owner.cash + receipts_of(net, bank, paid);
+    let estate = estate_of(net, bank, paid);
     let outside_paid = outside.min(estate);
     let on_debts = paid_by(net, bank, paid);
     let equity = estate - outside_paid - on_debts;
     let owed = net.owed_by(bank);
     let health = if on_debts == owed && outside_paid == outside {
         Health::Sound
-    } else if worth(net, bank) < owed + outside {
+    } else if worth(net, bank) < due(net, bank) {
         Health::Fundamental
     } else {
         Health::Contagion
@@ -70,19 +71,6 @@ fn paid_by(net: &Network, bank: BankId, paid: &[u64]) -> u64
     let mut total = 0;
     for id in net.row(bank) {
         total += paid[id.0 as usize];
-    }
-    total
-}
-
-// What a bank would have if all its debtors paid it in full.
-fn worth(net: &Network, bank: BankId) -> u64
-    requires network { IsNetwork net.now }
-    requires bank { bank.0 < length net.now.banks }
-    ensures { result ≡ worth_of net.now bank.0 }
-{
-    let mut total = net.bank(bank).cash;
-    for id in net.column(bank) {
-        total += net.debt(*id).claim;
     }
     total
 }

@@ -13,29 +13,6 @@ use Rattle.clear_core.proofs.Pay.{pay_at}
 pub length-division : (net : Net) (i r : ℕ) → length (division net i r) ≡ length (row net i)
 length-division net i r = length-share (rule_of net i) (claims_of net i) (classes_of net i) (spend net i r) ∙ length-claims_of net i
 
--- the place k of a division is the part of the debt that stands there
-pub division_at : (net : Net) (i r k : ℕ) → k < length (row net i)
-    → get_or (division net i r) k 0 ≡ part net (get_or (row net i) k 0) r
-division_at net i r k l =
-    let stands = row_place net i k l in
-    let x = get_or (row net i) k 0 in
-    sym (ap (λ j. get_or (division net j r) (place_in_row net x) 0) stands.owed
-    ∙ ap (λ m. get_or (division net i r) m 0) stands.in_place)
-
--- what is allowed on the debts of a row, in its order, is the bank's division of its cash and of what it has seen
-pub allowed_row : (net : Net) (s : Progress) (i : ℕ) → map (allowed net s) (row net i) ≡ division net i (receipts net s.seen i)
-allowed_row net s i =
-    ext_get_or 0 (map (allowed net s) (row net i)) (division net i (receipts net s.seen i))
-    (length-map (row net i) (allowed net s) ∙ sym (length-division net i (receipts net s.seen i))) (λ k l.
-    let in_row : k < length (row net i) = omega (arith, length-map (row net i) (allowed net s)) in
-    get_or-map (allowed net s) (row net i) k 0 0 in_row ∙ allowed_at_place net s i k (get_or (row net i) k 0) (row_place net i k in_row))
-  where
-    allowed_at_place : (net : Net) (s : Progress) (i k x : ℕ) → StandsInRow net i k x
-        → allowed net s x ≡ get_or (division net i (receipts net s.seen i)) k 0
-    allowed_at_place net s i k x stands =
-        ap (λ j. get_or (division net j (receipts net s.seen j)) (place_in_row net x) 0) stands.owed
-        ∙ ap (λ m. get_or (division net i (receipts net s.seen i)) m 0) stands.in_place
-
 -- the debt in the place k of a row is paid what the division has there
 pay_at_place : (net : Net) (P : List ℕ) (i k x : ℕ) → StandsInRow net i k x
     → get_or (pay net P) x 0 ≡ get_or (division net i (receipts net P i)) k 0

@@ -23,17 +23,6 @@ length-replayed_from P (r ∷ rs) = length-replayed_from (set P r.debt.0 r.to) r
 pub length-replayed : (net : Net) (rs : List Raise) → length (replayed net rs) ≡ length net.debts
 length-replayed net rs = length-replayed_from (zeros net) rs ∙ length-replicate (length net.debts) 0
 
--- one raise more
-pub replayed_from-append : (P : List ℕ) (rs ss : List Raise) → replayed_from P (rs ++ ss) ≡ replayed_from (replayed_from P rs) ss
-unfolding replayed_from
-replayed_from-append P [] ss = refl
-replayed_from-append P (r ∷ rs) ss = replayed_from-append (set P r.debt.0 r.to) rs ss
-
--- so it is from nothing paid
-pub replayed_more : (net : Net) (rs : List Raise) (s : Raise) → replayed net (rs ++ s ∷ []) ≡ set (replayed net rs) s.debt.0 s.to
-unfolding replayed_from
-replayed_more net rs s = replayed_from-append (zeros net) rs (s ∷ [])
-
 -- a journal that stands does so with one raise more that is lawful then, with no smaller stamp
 stands_from_more : (net : Net) (stamp : ℕ) (P : List ℕ) (rs : List Raise) (s : Raise) → StandsFrom net stamp P rs → stamp ≤ s.stamp
     → All (λ r. r.stamp ≤ s.stamp) rs → IsLawful net (replayed_from P rs) s → StandsFrom net stamp P (rs ++ s ∷ [])

@@ -38,11 +38,6 @@ unfolding Each
 each_map P Q [] f h = tt
 each_map P Q (r ∷ rs) f h = (f r h.0, each_map P Q rs f h.1)
 
-each_two_map : (D E : Raise → Raise → Type 0) (rs : List Raise) → ((a b : Raise) → D a b → E a b) → EachTwo D rs → EachTwo E rs
-unfolding EachTwo
-each_two_map D E [] f h = tt
-each_two_map D E (r ∷ rs) f h = (each_map (D r) (E r) rs (f r) h.0, each_two_map D E rs f h.1)
-
 each_two_from : (D : Raise → Raise → Type 0) (rs : List Raise)
     → ((i j : ℕ) (a b : Raise) → i < j → slice_get rs i ≡ Some a → slice_get rs j ≡ Some b → D a b) → EachTwo D rs
 unfolding EachTwo
@@ -411,16 +406,6 @@ pub each_all : (P : Raise → Type 0) (rs : List Raise) → All P rs → Each P 
 unfolding Each
 each_all P [] h = tt
 each_all P (r ∷ rs) h = (h 0 r (omega arith), each_all P rs (λ k d l. h (suc k) d (omega arith)))
-
-pub all_each : (P : Raise → Type 0) (rs : List Raise) → Each P rs → All P rs
-unfolding Each
-all_each P [] h k d l = absurd (omega arith)
-all_each P (r ∷ rs) h zero d l = h.0
-all_each P (r ∷ rs) h (suc k) d l = all_each P rs h.1 k d (omega arith)
-
--- what holds of all raises holds of them in order
-pub all_ordered : (P : Raise → Type 0) (rs : List Raise) → All P rs → All P (ordered rs)
-all_ordered P rs h = all_each P (ordered rs) (each_ordered P rs (each_all P rs h))
 
 length_put : (r : Raise) (rs : List Raise) → length (with_raise r rs) ≡ suc (length rs)
 length_put r [] = refl

@@ -27,15 +27,6 @@ least_in_limit net x network = omega (arith, least_within net x, claim_in_limit 
 pub sum_low : (net : Net) (P : List ℕ) → IsAtMost P (least net) → sum P ≤ units_owed net
 sum_low net P low = omega (arith, sum-le P (least net) low, ap sum (least_clears net), sum-pay_le net (least net))
 
--- no bank receives more than is owed, where no debt is paid more than its claim
-pub receipts_le_owed : (net : Net) (P : List ℕ) (i : ℕ) → IsWithinClaims net P → receipts net P i ≤ units_owed net
-receipts_le_owed net P i within = omega (
-  arith,
-  sum_by-le-sum_by (λ x. get_or P x 0) (claim_of net) (column net i) within,
-  sum_by-filter_le (λ x. creditor_of net x == i) (claim_of net) (debt_numbers net),
-  units_owed_is net,
-)
-
 -- what a bank's rule gives from what is at most the least clearing payments is at most the least clearing payment
 pub part_le_least : (net : Net) (P : List ℕ) (x : ℕ) → x < length net.debts → IsAtMost P (least net)
     → part net x (receipts net P (debtor_of net x)) ≤ get_or (least net) x 0

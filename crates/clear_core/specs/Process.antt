@@ -32,7 +32,8 @@ allowed net s x = part net x (receipts net s.seen (debtor_of net x))
 -- a load is legal of every debt; a raise is if it lifts what is paid, to no more than is allowed
 abbrev pub IsLegal : Net → Progress → Event → Type 0
 IsLegal net s (Load x) = x.0 < length net.debts
-IsLegal net s (Raise x to) = (x.0 < length net.debts) × (slice_index s.paid x.0 < to) × (to ≤ allowed net s x.0)
+IsLegal net s (Raise x to) =
+    (x.0 < length net.debts) × (slice_index s.paid x.0 < to) × (to ≤ allowed net s x.0)
 
 -- a load shows a debt's creditor what is paid on it; a raise pays more on it
 abbrev pub step : Progress → Event → Progress

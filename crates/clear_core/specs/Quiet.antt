@@ -1,4 +1,5 @@
--- Payments on which no bank would change anything: each pays on its debts what its rule gives from what it then has.
+-- Payments on which no bank would change anything: each pays on its debts what its rule gives from
+-- what it then has.
 use Rattle.std.specs.Prelude.{◌≡◌, ℕ, ◌<◌, ◌≤◌, List, length, map, slice_index}
 use Rattle.clr_net.specs.Net.{Net, row, claim_of}
 use Rattle.clear_core.specs.Clearing.{division, receipts}

@@ -19,7 +19,10 @@ impl Model for Journal {
 
     ghost Value = { Kept };
 
-    ghost view = { λ j. record { raises = j.raises.items; spare = vec_capacity j.raises - length j.raises.items } };
+    ghost view = { λ j. record {
+      raises = j.raises.items;
+      spare = vec_capacity j.raises - length j.raises.items;
+    } };
 }
 
 impl Journal {
@@ -48,8 +51,8 @@ impl Journal {
         Ok(())
     }
 
-    /// Adds a raise at the end. `Mem` is want of memory, and comes only where there is no room; the list is then as it
-    /// was.
+    /// Adds a raise at the end. `Mem` is want of memory, and comes only where there is no room; the
+    /// list is then as it was.
     pub fn push(&mut self, raise: Raise) -> Result<(), Mem>
         ensures added { OnOk result (self.new.raises ≡ self.old.raises ++ raise ∷ []) }
         ensures kept { OnErr result (self.new.raises ≡ self.old.raises) }

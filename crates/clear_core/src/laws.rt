@@ -33,7 +33,8 @@ pub fn least_is_the_only_one()
 #[tactic(auto, using(crate::proofs::BankPays::clearing_row))]
 pub fn clearing_bank_pays_out()
     ensures { (net : Net) (P : List ℕ) → IsNetwork net → Clears net P
-        → (i : ℕ) → sum_by (slice_index P) (row net i) ≡ min (spend net i (receipts net P i)) (sum (claims_of net i)) }
+        → (i : ℕ) → sum_by (slice_index P) (row net i)
+        ≡ min (spend net i (receipts net P i)) (sum (claims_of net i)) }
 {}
 
 /// No legal order of loads and raises passes the least clearing payments.
@@ -42,10 +43,12 @@ pub fn stays_below_least()
     ensures { (net : Net) → NeverPassesLeast net }
 {}
 
-/// Payments on all debts that are at or below the least clearing payments, and on which no bank would pay more, are
-/// the least clearing payments: where a process that only raises legally has nothing left to raise, it is done.
+/// Payments on all debts that are at or below the least clearing payments, and on which no bank
+/// would pay more, are the least clearing payments: where a process that only raises legally has
+/// nothing left to raise, it is done.
 pub fn nothing_left_to_raise_is_least()
-    ensures { (net : Net) (P : List ℕ) → length P ≡ length net.debts → IsAtMost P (least net) → IsAtMost (pay net P) P
+    ensures { (net : Net) (P : List ℕ) → length P ≡ length net.debts
+        → IsAtMost P (least net) → IsAtMost (pay net P) P
         → P ≡ least net }
 {}
 
@@ -65,9 +68,11 @@ pub fn journal_stays_lawful_where_banks_are_richer()
         → (Stands net rs → Stands more rs) × (IsTraced net rs → IsTraced more rs) }
 {}
 
-/// From payments at or below the least that clear, from which all banks would pay no less, rounds reach the least.
+/// From payments at or below the least that clear, from which all banks would pay no less, rounds
+/// reach the least.
 pub fn rounds_go_on_to_the_least()
-    ensures { (net : Net) (P : List ℕ) → length P ≡ length net.debts → IsAtMost P (pay net P) → IsAtMost P (least net)
+    ensures { (net : Net) (P : List ℕ) → length P ≡ length net.debts
+        → IsAtMost P (pay net P) → IsAtMost P (least net)
         → (n : ℕ) → units_owed net ≤ sum P + n → rounds_of (pay net) P n ≡ least net }
 {}
 
@@ -80,7 +85,8 @@ pub fn standing_journal_stays_below_least()
 /// All banks would pay on it no less than it pays.
 #[tactic(auto, using(crate::proofs::Lawful::pay_covers))]
 pub fn standing_journal_is_covered()
-    ensures { (net : Net) (rs : List Raise) → Stands net rs → IsAtMost (replayed net rs) (pay net (replayed net rs)) }
+    ensures { (net : Net) (rs : List Raise) → Stands net rs
+        → IsAtMost (replayed net rs) (pay net (replayed net rs)) }
 {}
 
 /// With one raise more, lawful then and of no smaller stamp, it still stands.
@@ -100,13 +106,15 @@ pub fn traced_raises_stay_below_least()
 /// The raises of a legal run, each stamped with its place, are a traced journal.
 #[tactic(auto, using(crate::proofs::Runs::run_is_traced))]
 pub fn legal_run_is_traced()
-    ensures { (net : Net) (es : List Event) → AreLegal net (opening net) es → IsTraced net (journal_from 0 es) }
+    ensures { (net : Net) (es : List Event) → AreLegal net (opening net) es
+        → IsTraced net (journal_from 0 es) }
 {}
 
-/// A history stands once its raises are in order: by stamp, then by debt, then by amount, whatever the order in which
-/// they were made (Lamport 1978). It is traced then as well.
+/// A history stands once its raises are in order: by stamp, then by debt, then by amount, whatever
+/// the order in which they were made (Lamport 1978). It is traced then as well.
 pub fn ordered_history_stands()
-    ensures { (net : Net) (rs : List Raise) → IsHistory net rs → Stands net (ordered rs) × IsTraced net (ordered rs) }
+    ensures { (net : Net) (rs : List Raise) → IsHistory net rs
+        → Stands net (ordered rs) × IsTraced net (ordered rs) }
 {}
 
 /// And it replays to the greatest amount to which each debt was raised.
@@ -127,10 +135,11 @@ pub fn later_raises_stand_after()
         → ordered (past ++ raises) ≡ ordered past ++ ordered raises }
 {}
 
-/// There is only one order: raises of which each may stand before the next are the ordered ones of any that they are,
-/// in whatever order these stand.
+/// There is only one order: raises of which each may stand before the next are the ordered ones of
+/// any that they are, in whatever order these stand.
 pub fn order_is_the_only_one()
     ensures { (rs qs : List Raise) → IsPermutation rs qs
-        → ((k : ℕ) (d : Raise) → k + 1 < length qs → may_precede (slice_index_or qs k d) (slice_index_or qs (k + 1) d) ≡ true)
+        → ((k : ℕ) (d : Raise) → k + 1 < length qs
+        → may_precede (slice_index_or qs k d) (slice_index_or qs (k + 1) d) ≡ true)
         → qs ≡ ordered rs }
 {}

@@ -7,8 +7,9 @@ use crate::receipts::receipts_of;
 use crate::scratch::Scratch;
 use clr_net::{BankId, Network};
 
-/// The first bank that does not pay on each of its debts what its rule gives from its cash and from what it receives,
-/// less what it owes outside the network, all by `paid`; `None` exactly where there is no such bank, and so the payments clear the network.
+/// The first bank that does not pay on each of its debts what its rule gives from its cash and from
+/// what it receives, less what it owes outside the network, all by `paid`; `None` exactly where
+/// there is no such bank, and so the payments clear the network.
 ///
 /// `paid` has a place for each debt, in file order, in units. Takes no memory.
 pub fn first_unquiet(net: &Network, paid: &[u64], scratch: &mut Scratch) -> Option<BankId>
@@ -31,8 +32,9 @@ pub fn first_unquiet(net: &Network, paid: &[u64], scratch: &mut Scratch) -> Opti
     None
 }
 
-/// Whether each bank pays on each of its debts what its rule gives from its cash and from what it receives, less what
-/// it owes outside the network, all by `paid`: whether the payments clear the network.
+/// Whether each bank pays on each of its debts what its rule gives from its cash and from what it
+/// receives, less what it owes outside the network, all by `paid`: whether the payments clear the
+/// network.
 ///
 /// `paid` has a place for each debt, in file order, in units. Takes no memory.
 pub fn is_quiet(net: &Network, paid: &[u64], scratch: &mut Scratch) -> bool

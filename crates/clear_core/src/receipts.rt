@@ -1,6 +1,6 @@
 ghost use Rattle.clear_core.specs.Buffers.{AreInLimit};
-ghost use Rattle.clear_core.specs.Clearing.{receipts as receipts_in, spend as spend_of, spendable as spendable_of};
-ghost use Rattle.clr_net.specs.declared.TheConstants.{MAX_CLAIM, MAX_DEBTS};
+ghost use Rattle.clear_core.specs.Clearing.{estate, receipts as receipts_in, spend as spend_of, spendable as spendable_of};
+ghost use Rattle.clr_net.specs.declared.TheConstants.{MAX_CASH, MAX_CLAIM, MAX_DEBTS};
 ghost use Rattle.std.specs.Prelude.{◌≡◌, ◌+◌, ◌*◌, ◌^◌, ◌<◌, ◌≤◌, length};
 
 use clr_net::{BankId, Network};
@@ -23,8 +23,23 @@ pub fn receipts_of(net: &Network, bank: BankId, paid: &[u64]) -> u64
     received
 }
 
-/// What a bank divides among its debts, in units: its cash and its receipts, less what it owes outside the network,
-/// which ranks before all its debts (Eisenberg and Noe 2001), and nothing where that is more. Takes no memory.
+/// What a bank has, in units, where so much is paid on each debt: its cash and what it receives.
+///
+/// `paid` has a place for each debt, in file order, in units. Takes no memory.
+pub fn estate_of(net: &Network, bank: BankId, paid: &[u64]) -> u64
+    requires bank { bank.0 < length net.now.banks }
+    requires over { length paid.now ≡ length net.now.debts }
+    requires paid_in_limit { AreInLimit paid.now }
+    ensures estate { result ≡ estate net.now paid.now bank.0 }
+    ensures in_limit { result ≤ MAX_CASH + MAX_DEBTS * MAX_CLAIM }
+{
+    prove!(bank.0 < net.banks());
+    net.bank(bank).cash + receipts_of(net, bank, paid)
+}
+
+/// What a bank divides among its debts, in units: its cash and its receipts, less what it owes
+/// outside the network, which ranks before all its debts (Eisenberg and Noe 2001), and nothing
+/// where that is more. Takes no memory.
 pub fn spendable(cash: u64, outside: u64, receipts: u64) -> u64
     requires { cash + receipts < 2 ^ 64 }
     ensures { result ≡ spendable_of cash outside receipts }

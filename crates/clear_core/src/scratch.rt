@@ -35,7 +35,7 @@ impl Model for Scratch {
 }
 
 impl Scratch {
-    /// Room for the longest row of the network.
+    /// Room for the longest row of the network. `Mem` for want of memory alone.
     pub fn of(alloc: Global, net: &Network) -> Result<Scratch, Mem>
         ensures { IfOk result (HasRoom net.now) }
     {
@@ -47,30 +47,8 @@ impl Scratch {
         })
     }
 
-    /// Writes what a bank's rule gives each debt of its row, in file order, when the bank receives so many units.
-    /// Takes no memory.
-    pub fn divide(&mut self, net: &Network, bank: BankId, receipts: u64, into: &mut [u64])
-        requires bank { bank.0 < length net.now.banks }
-        requires receipts { receipts ≤ MAX_DEBTS * MAX_CLAIM }
-        requires room { HasRoom net.now self.old }
-        requires places { length into.old ≡ length (row_of net.now bank.0) }
-        ensures division { into.new ≡ division net.now bank.0 receipts }
-        ensures room { self.new ≡ self.old }
-    {
-        prove!(bank.0 < net.banks());
-        lay_out_row(net, bank, &mut self.claims, &mut self.classes);
-        divide_laid_out(
-            net,
-            bank,
-            spend(net, bank, receipts),
-            self.claims.as_slice(),
-            self.classes.as_slice(),
-            into,
-        );
-    }
-
-    /// A bank pays on the debts of its row what its rule gives from what it has received by `paid`: writes that into
-    /// `next`, and nothing else.
+    /// A bank pays on the debts of its row what its rule gives from what it has received by `paid`:
+    /// writes that into `next`, and nothing else.
     ///
     /// Both have a place for each debt, in file order, in units. Takes no memory.
     pub fn pay_row(&mut self, net: &Network, bank: BankId, paid: &[u64], next: &mut [u64])
@@ -101,10 +79,11 @@ impl Scratch {
         }
     }
 
-    /// A bank pays on the debts of its row what its rule gives of so many units, which is no less than it has paid.
-    /// Whoever it pays more is marked; answers whether it pays anyone more.
+    /// A bank pays on the debts of its row what its rule gives of so many units, which is no less
+    /// than it has paid. Whoever it pays more is marked; answers whether it pays anyone more.
     ///
-    /// `paid` has a place for each debt, in file order, in units, and `marks` one for each bank. Takes no memory.
+    /// `paid` has a place for each debt, in file order, in units, and `marks` one for each bank.
+    /// Takes no memory.
     pub fn raise_row(
         &mut self,
         net: &Network,
@@ -118,9 +97,11 @@ impl Scratch {
         requires paid { length paid.old ≡ length net.now.debts }
         requires marks { length marks.old ≡ length net.now.banks }
         requires rises { (m : ℕ) → m < length (row_of net.now bank.0)
-            → slice_index paid.old (slice_index (row_of net.now bank.0) m) ≤ slice_index (division_of net.now bank.0 units) m }
+            → slice_index paid.old (slice_index (row_of net.now bank.0) m)
+            ≤ slice_index (division_of net.now bank.0 units) m }
         requires room { HasRoom net.now self.old }
-        ensures raised { IsRaised net.now bank.0 (division_of net.now bank.0 units) paid.old paid.new marks.old marks.new }
+        ensures raised { IsRaised net.now bank.0 (division_of net.now bank.0 units)
+            paid.old paid.new marks.old marks.new }
         ensures more { OnTrue result (sum paid.old < sum paid.new) }
         ensures same { OnFalse result (paid.new ≡ paid.old) }
         ensures room { self.new ≡ self.old }
@@ -163,14 +144,16 @@ impl Scratch {
         self.awards[place]
     }
 
-    /// Whether what is paid on the row of a bank is what its rule gives, when the bank receives so many units.
+    /// Whether what is paid on the row of a bank is what its rule gives, when the bank receives so
+    /// many units.
     pub(crate) fn gives(&mut self, net: &Network, bank: BankId, receipts: u64, paid: &[u64]) -> bool
         requires network { IsNetwork net.now }
         requires bank { bank.0 < length net.now.banks }
         requires receipts { receipts ≤ MAX_DEBTS * MAX_CLAIM }
         requires room { HasRoom net.now self.old }
         requires over { length paid.now ≡ length net.now.debts }
-        ensures same { IsTrue result ↔ (map (slice_index paid.now) (row_of net.now bank.0) ≡ division net.now bank.0 receipts) }
+        ensures same { IsTrue result
+            ↔ (map (slice_index paid.now) (row_of net.now bank.0) ≡ division net.now bank.0 receipts) }
         ensures room { self.new ≡ self.old }
     {
         award_row(
@@ -196,8 +179,8 @@ fn longest_row(net: &Network) -> usize
     longest
 }
 
-/// Lays out the claims, in units, and the classes of the debts that a bank owes, in file order: writes over two lists
-/// that have the room for them. Takes no memory.
+/// Lays out the claims, in units, and the classes of the debts that a bank owes, in file order:
+/// writes over two lists that have the room for them. Takes no memory.
 pub fn lay_out_row(net: &Network, bank: BankId, claims: &mut Vec<u64>, classes: &mut Vec<u8>)
     requires bank { bank.0 < length net.now.banks }
     requires room_for_claims { length (row_of net.now bank.0) ≤ vec_capacity claims.old }

@@ -12,8 +12,8 @@ use clr_net::{BankId, DebtId, Mem, Network};
 use std::alloc::Global;
 use std::marker::Model;
 
-/// How far the process has come: two lists over the debts, in file order, what is paid on each debt and what its
-/// creditor last saw paid on it, in units.
+/// How far the process has come: two lists over the debts, in file order, what is paid on each debt
+/// and what its creditor last saw paid on it, in units.
 #[derive(Drop)]
 pub struct State {
     paid: Vec<u64>,
@@ -32,7 +32,7 @@ impl Model for State {
 }
 
 impl State {
-    /// Nothing paid and nothing seen.
+    /// Nothing paid and nothing seen. `Mem` for want of memory alone.
     pub fn zeros(alloc: Global, net: &Network) -> Result<State, Mem>
         ensures { IfOk result (λ s. s ≡ opening net.now) }
     {
@@ -43,12 +43,11 @@ impl State {
         })
     }
 
-    /// Makes one event happen, if it is legal, and else leaves the state as it was.
+    /// Makes one event happen, if it is legal; else `Illegal`, and the state stays as it was.
     ///
-    /// A load is always legal, and shows a debt's creditor what is paid on it. A raise is legal if it pays more on a
-    /// debt, and no more than its debtor's rule gives it from cash and from what the debtor has seen paid to itself,
-    /// less what it owes outside the network.
-    /// Takes no memory.
+    /// A load is always legal, and shows a debt's creditor what is paid on it. A raise is legal if
+    /// it pays more on a debt, and no more than its debtor's rule gives it from cash and from what
+    /// the debtor has seen paid to itself, less what it owes outside the network. Takes no memory.
     pub fn apply(
         &mut self,
         net: &Network,
@@ -90,32 +89,14 @@ impl State {
         }
     }
 
-    /// Writes what the rule of a bank gives each debt of its row, in file order, from cash and from what the bank has
-    /// seen paid to itself, less what it owes outside, in units: the most to which a raise may lift each of them. Takes
-    /// no memory.
-    pub fn targets(&self, net: &Network, bank: BankId, scratch: &mut Scratch, into: &mut [u64])
-        requires over { IsOver net.now self.now }
-        requires bank { bank.0 < length net.now.banks }
-        requires places { length into.old ≡ length (row_of net.now bank.0) }
-        requires room { HasRoom net.now scratch.old }
-
-        ensures division { into.new ≡ division net.now bank.0 (receipts_in net.now self.now.seen bank.0) }
-        ensures allowed { into.new ≡ map (allowed_on net.now self.now) (row_of net.now bank.0) }
-        ensures room { scratch.new ≡ scratch.old }
-    {
-        prove!(bank.0 < net.banks());
-        let receipts = receipts_of(net, bank, self.seen.as_slice());
-        scratch.divide(net, bank, receipts, into);
-    }
-
-    /// What is paid on each debt.
+    /// What is paid on each debt, in file order, in units.
     pub fn paid(&self) -> &[u64]
         ensures { result.now ≡ self.now.paid }
     {
         self.paid.as_slice()
     }
 
-    /// What the creditor of each debt last saw paid on it.
+    /// What the creditor of each debt last saw paid on it, in file order, in units.
     pub fn seen(&self) -> &[u64]
         ensures { result.now ≡ self.now.seen }
     {
@@ -123,7 +104,8 @@ impl State {
     }
 }
 
-/// The most that may be paid on a debt, in units, by its debtor's rule and by what the debtor has seen paid to itself.
+/// The most that may be paid on a debt, in units, by its debtor's rule and by what the debtor has
+/// seen paid to itself.
 ///
 /// `seen` has a place for each debt, in file order, in units. Takes no memory.
 pub fn allowed_of(net: &Network, debt: DebtId, seen: &[u64], scratch: &mut Scratch) -> u64

@@ -1,10 +1,12 @@
 ghost use Rattle.clear_core.specs.Buffers.{HasRoom};
 ghost use Rattle.clear_core.specs.Process.{IsOver, debt_of};
-ghost use Rattle.clr_net.specs.Net.{claim_of, row};
-ghost use Rattle.std.specs.Prelude.{◌≡◌, ◌<◌, ◌≤◌, IfOk, IsTrue, length, slice_index};
+ghost use Rattle.clr_net.specs.Division.{AreClasses};
+ghost use Rattle.clr_net.specs.Net.{claim_of};
+ghost use Rattle.clr_net.specs.declared.TheConstants.{MAX_CLAIM, MAX_CLASS, MAX_OWED};
+ghost use Rattle.std.specs.Prelude.{◌≡◌, ◌<◌, ◌≤◌, All, IfOk, IsTrue, length, slice_index, sum};
 
-use crate::{Event, Illegal, Scratch, State, first_unquiet, is_quiet};
-use clr_net::{BankId, DebtId, Mem, Network};
+use crate::{Event, Illegal, Scratch, State, first_unquiet, is_quiet, share_of};
+use clr_net::{BankId, DebtId, Mem, Network, RuleKind};
 use std::alloc::Global;
 use std::test::Fail;
 
@@ -12,7 +14,6 @@ use std::test::Fail;
 fn chain_of_three(alloc: Global) -> Result<Network, Mem>
     ensures banks { IfOk result (λ net. length net.banks ≡ 3) }
     ensures debts { IfOk result (λ net. length net.debts ≡ 2) }
-    ensures second_row { IfOk result (λ net. length (row net 1) ≡ 1) }
     ensures first_claim { IfOk result (λ net. claim_of net 0 ≡ 10) }
     ensures second_claim { IfOk result (λ net. claim_of net 1 ≡ 9) }
 {
@@ -64,9 +65,6 @@ fn a_bank_pays_on_what_it_has_seen(rt: HostRuntime) -> Result<(), Fail> {
     );
     assert_eq!(rt; state.paid(), [7, 8].as_slice());
     assert_eq!(rt; state.seen(), [7, 0].as_slice());
-    let mut targets = [0];
-    state.targets(&net, BankId(1), &mut scratch, &mut targets);
-    assert_eq!(rt; targets, [8]);
     Ok(())
 }
 
@@ -96,4 +94,29 @@ fn payments_that_clear_are_quiet(rt: HostRuntime) -> Result<(), Fail> {
         (Some(BankId(0)), false)
     );
     Ok(())
+}
+
+// What three debts get of an estate.
+fn shares(kind: RuleKind, claims: [u64; 3], classes: [u8; 3], estate: u64) -> [u64; 3]
+    requires limit { All (λ claim. claim ≤ MAX_CLAIM) claims }
+    requires total { sum claims ≤ MAX_OWED }
+    requires classed { AreClasses classes 1 MAX_CLASS }
+{
+    let mut into = [9; 3];
+    share_of(kind, &claims, &classes, estate, &mut into);
+    into
+}
+
+#[test]
+fn an_estate_is_divided_by_each_rule(rt: HostRuntime) {
+    let one = [1, 1, 1];
+    assert_eq!(rt; shares(RuleKind::Order, [6, 3, 1], one, 8), [6, 2, 0]);
+    assert_eq!(rt; shares(RuleKind::Equal, [3, 3, 3], one, 5), [2, 2, 1]);
+    assert_eq!(rt; shares(RuleKind::Equal, [1, 5, 5], one, 8), [1, 4, 3]);
+    assert_eq!(rt; shares(RuleKind::Losses, [6, 3, 1], one, 5), [4, 1, 0]);
+    assert_eq!(rt; shares(RuleKind::Jefferson, [6, 3, 1], one, 5), [4, 1, 0]);
+    assert_eq!(rt; shares(RuleKind::Webster, [6, 3, 1], one, 5), [3, 2, 0]);
+    assert_eq!(rt; shares(RuleKind::Adams, [6, 3, 1], one, 5), [3, 1, 1]);
+    // A lower class is paid in full first.
+    assert_eq!(rt; shares(RuleKind::Equal, [4, 5, 5], [1, 2, 2], 9), [4, 3, 2]);
 }

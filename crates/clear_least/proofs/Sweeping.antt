@@ -44,16 +44,6 @@ same_pay : (net : Net) (f : ℕ → ℕ → ℕ) (P Q : List ℕ) (x : ℕ) → 
 same_pay net f P Q x l e =
     pay_by_at net f Q x l ∙ ap (part_by net f x) e ∙ sym (pay_by_at net f P x l)
 
--- at first all banks are marked
-pub all_marked : (net : Net) (f : ℕ → ℕ → ℕ) (P : List ℕ) (marks : List Bool) → IsOnWayBy net f P
-    → marks ≡ replicate (length net.banks) true → IsSwept net f P marks
-all_marked net f P marks way e = subst (IsSwept net f P) (sym e) record {
-  way = way;
-  for_each_bank = length-replicate (length net.banks) true;
-  unmarked = λ i l e.
-      absurd (true≢false (sym (get_or-replicate (length net.banks) i true false l) ∙ e));
-}
-
 module _ (net : Net) (f : ℕ → ℕ → ℕ) (P : List ℕ) (marks : List Bool)
     (swept : IsSwept net f P marks) where
   -- no payment on the way is above the limit of a claim

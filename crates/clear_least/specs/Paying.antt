@@ -16,7 +16,8 @@ NeverFalls f = RisesTo f f
 
 -- what the debtor of the debt x pays on it when it receives r units
 abbrev pub part_by : Net → (ℕ → ℕ → ℕ) → ℕ → ℕ → ℕ
-part_by net f x r = slice_index (division_of net (debtor_of net x) (f (debtor_of net x) r)) (place_in_row net x)
+part_by net f x r =
+    slice_index (division_of net (debtor_of net x) (f (debtor_of net x) r)) (place_in_row net x)
 
 -- what all banks pay at once when they have received the payments P
 unfoldable pub pay_by : Net → (ℕ → ℕ → ℕ) → List ℕ → List ℕ

@@ -19,6 +19,5 @@ mod spending;
 mod sweep;
 
 pub use repetition::central;
-pub use round::pay_round;
 pub use spending::{Spending, WithoutCosts};
 pub use sweep::{least_by, least_from};

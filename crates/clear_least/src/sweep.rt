@@ -25,17 +25,8 @@ pub fn least_from(alloc: Global, net: &Network, from: &[u64]) -> Result<Amounts,
     ensures payments { IfOk result (λ paid. paid ≡ least net.now) }
     ensures least { IfOk result (λ paid. IsLeast net.now paid) }
 {
-    let paid = copied(alloc, from)?;
+    let paid = Amounts::copy_of(alloc, from)?;
     least_by(alloc, net, &WithoutCosts, paid)
-}
-
-// The same amounts, in a list of their own.
-fn copied(alloc: Global, amounts: &[u64]) -> Result<Amounts, Mem>
-    ensures { IfOk result (λ copy. copy ≡ amounts.now) }
-{
-    let mut copy = Amounts::zeros(alloc, amounts.len())?;
-    copy.as_mut_slice().copy_from_slice(amounts);
-    Ok(copy)
 }
 
 /// The least payments that clear where each bank divides what `spending` says, from payments that

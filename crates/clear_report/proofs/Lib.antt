@@ -1,3 +1,4 @@
+pub mod ClaimsText
 pub mod Lines
 pub mod Begun
 pub mod Adding

@@ -14,6 +14,7 @@ mod journals;
 pub mod laws;
 mod line;
 mod payments;
+pub mod read_back;
 mod rescues;
 mod scenarios;
 mod summary;

@@ -83,9 +83,6 @@ bank_copied net n b at = rw (take_next net.banks n b at)
 pub debt_copied : (net : Net) (n : ℕ) (d : Debt) → slice_get net.debts n ≡ Some d → with_debt (first_debts net n) d ≡ first_debts net (n + 1)
 debt_copied net n d at = rw (take_next net.debts n d at)
 
-pub banks_copied : (net : Net) (n : ℕ) → length net.banks ≤ n → first_banks net n ≡ first_debts net 0
-banks_copied net n l = rw (take_all n net.banks l)
-
 pub debts_copied : (net : Net) (n : ℕ) → length net.debts ≤ n → first_debts net n ≡ net
 debts_copied net n l = rw (take_all n net.debts l)
 

@@ -19,3 +19,4 @@ pub mod AccountReads
 pub mod BankNames
 pub mod OfKind
 pub mod NameTests
+pub mod LowerClaims

@@ -1,10 +1,12 @@
--- The accounts in which a network keeps its banks, without what they have of spare memory, and how a debt is entered.
+-- The accounts in which a network keeps its banks, without what they have of spare memory, and how
+-- a debt is entered.
 use Rattle.std.specs.Prelude.{◌≡◌, ℕ, ◌+◌, ◌<◌, List, [], ◌∷◌, ◌++◌, slice_get, Some, vec_len, vec_capacity}
 use Rattle.clr_net.specs.Net.{numbers, changed_at}
 use Rattle.clr_net.specs.declared.bank.Bank.{Bank}
 use Rattle.clr_net.specs.declared.account.Account.{Account}
 
--- an account without its spare memory: the bank, the numbers of the debts that it owes and that are owed to it, and the units it owes
+-- an account without its spare memory: the bank, the numbers of the debts that it owes and that are
+-- owed to it, and the units it owes
 pub record Shown : Type 0 where
   pub bank : Bank
   pub row : List ℕ

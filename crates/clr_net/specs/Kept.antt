@@ -1,4 +1,5 @@
--- How the type `Network` keeps its banks and debts: the accounts of the banks, the index of names, and the totals.
+-- How the type `Network` keeps its banks and debts: the accounts of the banks, the index of names,
+-- and the totals.
 use Rattle.std.specs.Prelude.{◌≡◌, ◌≢◌, ℕ, ◌<◌, List, length, map, sum, slice_get, Some}
 use Rattle.clr_net.specs.Limits.{IsNetwork}
 use Rattle.clr_net.specs.Net.{Net, name_of, numbers, row, column}
@@ -26,7 +27,8 @@ pub record IsAccountOf (net : Net) (i : ℕ) (c : Account) : Type 0 where
   pub owed : c.owed ≡ sum (claims_of net i)
 
 -- accounts, debts, names and totals that make one network
-pub record AreKept (all : List Account) (owing : List Debt) (index : List (List ℕ)) (total money senior : ℕ) : Type 0 where
+pub record AreKept (all : List Account) (owing : List Debt) (index : List (List ℕ))
+    (total money senior : ℕ) : Type 0 where
   pub network : IsNetwork (net_of all owing)
   pub names : index ≡ map (λ b. b.name) (net_of all owing).banks
   pub accounts : (i : ℕ) (c : Account) → slice_get all i ≡ Some c → IsAccountOf (net_of all owing) i c

@@ -2,6 +2,7 @@ pub mod Amounts
 pub mod Name
 pub mod Net
 pub mod Limits
+pub mod Claims
 pub mod Division
 pub mod Cases
 pub mod Samples

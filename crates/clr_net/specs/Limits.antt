@@ -17,7 +17,8 @@ IsNewName net name = (j : ℕ) → j < length net.banks → name_of net j ≢ na
 
 -- no debt has this debtor, creditor and class yet
 abbrev pub IsNewKind : Net → ℕ → ℕ → ℕ → Type 0
-IsNewKind net debtor creditor class = (y : ℕ) → y < length net.debts → ¬ (IsOfKind net y debtor creditor class)
+IsNewKind net debtor creditor class =
+    (y : ℕ) → y < length net.debts → ¬ (IsOfKind net y debtor creditor class)
 
 -- what the bank i of a network is
 pub record IsBankOf (net : Net) (i : ℕ) : Type 0 where
@@ -34,7 +35,8 @@ pub record IsDebtOf (net : Net) (x : ℕ) : Type 0 where
   pub class_at_least_1 : 1 ≤ class_of net x
   pub class_in_limit : class_of net x ≤ MAX_CLASS
   pub claim_in_limit : claim_of net x ≤ MAX_CLAIM
-  pub only_of_its_kind : (y : ℕ) → y < x → ¬ (IsOfKind net y (debtor_of net x) (creditor_of net x) (class_of net x))
+  pub only_of_its_kind : (y : ℕ) → y < x
+      → ¬ (IsOfKind net y (debtor_of net x) (creditor_of net x) (class_of net x))
 
 -- a network: what the readers make, and the type `Network` keeps
 pub record IsNetwork (net : Net) : Type 0 where

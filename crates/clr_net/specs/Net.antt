@@ -89,11 +89,13 @@ has_name name b = bytes_eq b.name name
 
 -- the debt has this debtor, creditor and class
 abbrev pub is_debt_of : ℕ → ℕ → ℕ → Debt → Bool
-is_debt_of debtor creditor class d = (d.debtor.0 == debtor) && (d.creditor.0 == creditor) && (d.class == class)
+is_debt_of debtor creditor class d =
+    (d.debtor.0 == debtor) && (d.creditor.0 == creditor) && (d.class == class)
 
 -- the debt of this number has this debtor, creditor and class: none has, past the end
 abbrev pub is_of_kind : Net → ℕ → ℕ → ℕ → ℕ → Bool
-is_of_kind net debtor creditor class x = option_map_or (is_debt_of debtor creditor class) (slice_get net.debts x) false
+is_of_kind net debtor creditor class x =
+    option_map_or (is_debt_of debtor creditor class) (slice_get net.debts x) false
 
 -- the numbers of some debts
 abbrev pub numbers : List DebtId → List ℕ

@@ -21,7 +21,7 @@ impl Model for Amounts {
 }
 
 impl Amounts {
-    /// As many amounts of 0 as `len`.
+    /// As many amounts of 0 units as `len`. `Mem` for want of memory alone.
     pub fn zeros(alloc: Global, len: usize) -> Result<Amounts, Mem>
         ensures { IfOk result (λ a. a ≡ replicate len 0) }
     {
@@ -30,14 +30,23 @@ impl Amounts {
         })
     }
 
-    /// The amounts.
+    /// The same amounts, in a list of their own. `Mem` for want of memory alone.
+    pub fn copy_of(alloc: Global, amounts: &[u64]) -> Result<Amounts, Mem>
+        ensures { IfOk result (λ copy. copy ≡ amounts.now) }
+    {
+        let mut copy = Amounts::zeros(alloc, amounts.len())?;
+        copy.as_mut_slice().copy_from_slice(amounts);
+        Ok(copy)
+    }
+
+    /// The amounts, in units.
     pub fn as_slice(&self) -> &[u64]
         ensures { result.now ≡ self.now }
     {
         self.units.as_slice()
     }
 
-    /// The amounts, to write.
+    /// The amounts, in units, to write.
     pub fn as_mut_slice(&mut self) -> &mut [u64]
         ensures* lends { sem 𝓛 (LendsAmounts self.entry result) }
         ensures now { result.now ≡ self.old }

@@ -5,8 +5,8 @@ use crate::name::Name;
 use crate::rule::RuleKind;
 use std::alloc::Global;
 
-/// A bank: its name, its cash in units, the rule by which it divides what it has, and what it owes outside the
-/// network, in units, which ranks before all its debts.
+/// A bank: its name, its cash in units, the rule by which it divides what it has, and what it owes
+/// outside the network, in units, which ranks before all its debts.
 #[derive(Drop)]
 pub struct Bank {
     pub name: Name,
@@ -16,7 +16,7 @@ pub struct Bank {
 }
 
 impl Bank {
-    /// The same bank, with a name of its own.
+    /// The same bank, with a name of its own. `Mem` for want of memory alone.
     pub fn copy(&self, alloc: Global) -> Result<Bank, Mem>
         ensures { IfOk result (λ bank. bank ≡ self.now) }
     {

@@ -8,7 +8,7 @@ use crate::account::Account;
 use indexmap::IndexSet;
 use std::alloc::Global;
 
-/// The same accounts, in memory of their own.
+/// The same accounts, in memory of their own. `Mem` for want of memory alone.
 pub fn copies(alloc: Global, accounts: &[Account]) -> Result<Vec<Account>, Mem>
     ensures { IfOk result (λ all. map shown all.items ≡ map shown accounts.now) }
 {
@@ -19,7 +19,7 @@ pub fn copies(alloc: Global, accounts: &[Account]) -> Result<Vec<Account>, Mem>
     Ok(all)
 }
 
-/// The index of the names of the banks of some accounts, which differ.
+/// The index of the names of the banks of some accounts, which differ. `Mem` for want of memory alone.
 pub fn index_of(alloc: Global, accounts: &[Account]) -> Result<IndexSet<Vec<u8>>, Mem>
     requires { HaveOwnNames (net_of accounts.now []) }
     ensures { let banks = map (λ c. c.bank) accounts.now in

@@ -1,7 +1,9 @@
-//! The network of banks and debts that every other crate works on, and how a bank's estate is divided among its debts.
+//! The network of banks and debts that every other crate works on, and how a bank's estate is
+//! divided among its debts.
 //!
-//! A [`Network`] keeps its limits and its rules by itself: distinct names, no debt of a bank to itself, no two debts
-//! of one debtor, creditor and class. Contracts see it as two plain lists, `Net`, in file order.
+//! A [`Network`] keeps its limits and its rules by itself: distinct names, no debt of a bank to
+//! itself, no two debts of one debtor, creditor and class. Contracts see it as two plain lists,
+//! `Net`, in file order.
 #![tactic(auto)]
 
 mod account;
@@ -35,7 +37,7 @@ pub const MAX_NAME_BYTES: usize = 64;
 pub const MAX_CLASS: u8 = 9;
 
 /// The most units of one claim.
-pub const MAX_CLAIM: u64 = 1_000_000;
+pub const MAX_CLAIM: u64 = rule_unit::MAX_CLAIM;
 
 /// The most units of all claims together.
 pub const MAX_OWED: u64 = 10_000_000;

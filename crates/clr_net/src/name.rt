@@ -5,7 +5,8 @@ use crate::{MAX_NAME_BYTES, Mem};
 use std::alloc::Global;
 use std::marker::Model;
 
-/// The name of a bank: 1 to [`MAX_NAME_BYTES`] bytes of UTF-8 without comma, double quote and control characters.
+/// The name of a bank: 1 to [`MAX_NAME_BYTES`] bytes of UTF-8 without comma, double quote and
+/// control characters.
 #[derive(Drop)]
 pub struct Name {
     text: Vec<u8>,
@@ -32,7 +33,8 @@ pub enum NameFault {
 }
 
 impl Name {
-    /// The name that these bytes are.
+    /// The name that these bytes are. [`NameFault::Bad`] exactly where they are no name, and
+    /// [`NameFault::Mem`] for want of memory alone.
     pub fn of(alloc: Global, text: &[u8]) -> Result<Name, NameFault>
         ensures ok { IfOk result (λ name. name ≡ text.now) }
         ensures bad { IsErrOf result NameFault.Bad ↔ (is_name text.now ≡ false) }
@@ -59,7 +61,7 @@ impl Name {
         }
     }
 
-    /// The same name, in memory of its own.
+    /// The same name, in memory of its own. `Mem` for want of memory alone.
     pub fn copy(&self, alloc: Global) -> Result<Name, Mem>
         ensures { IfOk result (λ name. name ≡ self.now) }
     {

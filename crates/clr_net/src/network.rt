@@ -57,7 +57,8 @@ impl Network {
         }
     }
 
-    /// Adds a bank at the end. Without memory it hands the bank back, and the network stays as it was.
+    /// Adds a bank at the end. `Err` is want of memory alone: it hands the bank back, and the network
+    /// stays as it was.
     pub fn add_bank(&mut self, bank: Bank) -> Result<BankId, Bank>
         requires room { length self.old.banks < MAX_BANKS }
         requires cash { bank.cash ≤ MAX_CASH }
@@ -90,7 +91,7 @@ impl Network {
         Ok(id)
     }
 
-    /// Adds a debt at the end. Without memory the network stays as it was.
+    /// Adds a debt at the end. `Mem` for want of memory alone; the network then stays as it was.
     pub fn add_debt(&mut self, debt: Debt) -> Result<DebtId, Mem>
         requires { IsNewDebt self.old debt }
         ensures number { IfOk result (λ id. id.0 ≡ length self.old.debts) }
@@ -111,7 +112,7 @@ impl Network {
         Ok(id)
     }
 
-    /// Changes the cash of a bank, and nothing else.
+    /// Changes the cash of a bank, in units, and nothing else.
     pub fn set_cash(&mut self, bank: BankId, cash: u64)
         requires bank { bank.0 < length self.old.banks }
         requires cash { cash ≤ MAX_CASH }
@@ -122,7 +123,8 @@ impl Network {
         self.accounts[bank.0 as usize].bank.cash = cash;
     }
 
-    /// The same banks and debts in a network of its own, with rows, columns and index.
+    /// The same banks and debts in a network of its own, with rows, columns and index. `Mem` for want
+    /// of memory alone.
     pub fn copy(&self, alloc: Global) -> Result<Network, Mem>
         ensures { IfOk result (λ net. net ≡ self.now) }
     {
@@ -213,11 +215,13 @@ impl Network {
         self.outside
     }
 
-    /// The bank that has this name, byte for byte, found by the index of names.
+    /// The bank that has this name, byte for byte, found by the index of names; `None` exactly where no
+    /// bank has it.
     pub fn bank_named(&self, name: &[u8]) -> Option<BankId>
         ensures place { option_map (λ id. id.0) result ≡ position (has_name name.now) self.now.banks }
         ensures none { IsNone result ↔ IsNewName self.now name.now }
-        ensures found { IfSome result (λ id. (id.0 < length self.now.banks) × (name_of self.now id.0 ≡ name.now)) }
+        ensures found { IfSome result (λ id.
+            (id.0 < length self.now.banks) × (name_of self.now id.0 ≡ name.now)) }
     {
         match self.names.get_index_of(name) {
             Some(i) => Some(BankId(i as u32)),

@@ -8,11 +8,6 @@ use Rattle.compress.specs.declared.mark.Mark.{Mark}
 use Rattle.compress.specs.Walk.{IsPassed, ArePassed, IsKept, IsReady}
 use Rattle.compress.proofs.Searching.{ready_from_column}
 
--- at first no place is passed
-pub none_passed_at_first : (net : Net) (c : ℕ) (C : List ℕ) (marks : List Mark) (n : ℕ)
-    → ArePassed net c C marks (replicate n 0)
-none_passed_at_first net c C marks n b k l = absurd (omega (arith, zeros_at n b))
-
 -- claims only fall and what is done stays done, so what is passed stays passed
 pub passed_kept : (net : Net) (c : ℕ) (C D : List ℕ) (before after : List Mark) (K : List ℕ)
     → IsKept net c C D before after → ArePassed net c C before K → ArePassed net c D after K

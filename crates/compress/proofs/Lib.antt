@@ -1,5 +1,4 @@
 pub mod Cycles
-pub mod LowerClaims
 pub mod Walks
 pub mod Dones
 pub mod Searching

@@ -9,23 +9,13 @@ use Rattle.clr_net.specs.declared.TheConstants.{MAX_CLASS}
 use Rattle.clr_net.specs.Limits.{IsNetwork}
 use Rattle.clr_net.specs.Net.{Net, debtor_of, units_owed}
 use Rattle.clr_net.proofs.Lists.{sum-le}
-use Rattle.compress.specs.Compression.{all_claims}
+use Rattle.clr_net.specs.Claims.{all_claims}
 use Rattle.compress.specs.Compression.{rank_of, rank_above, Compression}
 use Rattle.compress.specs.declared.mark.Mark.{Mark}
 use Rattle.compress.specs.declared.mark.Mark.TheVariants.{Done}
 use Rattle.compress.specs.Walk.{mark_of, AreDone, IsKept}
 use Rattle.compress.specs.Progress.{IsCompressedTo, IsWrittenAt}
 use Rattle.compress.proofs.Dones.{rank_same}
-
-pub compressed_to_first : (net : Net) (R : List ℕ) → length R ≡ MAX_CLASS * length net.banks
-    → IsCompressedTo net 1 (all_claims net) R
-compressed_to_first net R l = record {
-  as_many = length-map net.debts (λ d. d.claim);
-  within = λ k. omega arith;
-  balances = λ k b. refl;
-  places = l;
-  ranks = λ k i g h m. absurd (omega arith);
-}
 
 -- the numbers of a class stand before those of the next
 place_before : (k c i n : ℕ) → 1 ≤ k → k < c → i < n → (k - 1) * n + i < (c - 1) * n

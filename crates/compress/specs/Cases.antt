@@ -3,7 +3,7 @@ use Rattle.std.specs.Prelude.{◌≡◌, ℕ, ◌+◌, List, [], ◌∷◌, code
 use Rattle.std.specs.List.{range_with_len}
 use Rattle.clr_net.specs.Net.{Net, units_owed}
 use Rattle.clr_net.specs.Samples.{bank, debt}
-use Rattle.compress.specs.Claims.{with_claims}
+use Rattle.clr_net.specs.Claims.{with_claims}
 use Rattle.compress.specs.Compression.{IsBalanceKept, class_due, class_owed, rank_of, rank_above}
 
 -- A owes B 5, B owes C 3 and C owes A 4, or other claims

@@ -4,11 +4,8 @@ use Rattle.std.specs.Prelude.{◌≡◌, ℕ, ◌+◌, ◌-◌, ◌*◌, ◌<◌
 use Rattle.std.specs.Prelude.{Bool, List, [], ◌∷◌, length, map, filter, sum, sum_by, slice_index, All}
 use Rattle.clr_net.specs.declared.TheConstants.{MAX_CLASS}
 use Rattle.clr_net.specs.Amounts.{IsAtMost}
+use Rattle.clr_net.specs.Claims.{all_claims}
 use Rattle.clr_net.specs.Net.{Net, debtor_of, creditor_of, class_of, debt_numbers, column, units_owed}
-
--- the claim of each debt, in file order
-abbrev pub all_claims : Net → List ℕ
-all_claims net = map (λ d. d.claim) net.debts
 
 -- what the bank i owes on debts of the class c, where the claims are C
 abbrev pub class_owed : Net → List ℕ → ℕ → ℕ → ℕ

@@ -1,6 +1,5 @@
 pub mod Compression
 pub mod Lowering
-pub mod Claims
 pub mod Walk
 pub mod Progress
 pub mod Cases

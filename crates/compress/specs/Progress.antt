@@ -3,7 +3,7 @@ use Rattle.std.specs.Prelude.{◌≡◌, ℕ, ◌+◌, ◌*◌, ◌<◌, ◌≤�
 use Rattle.clr_net.specs.declared.TheConstants.{MAX_CLASS}
 use Rattle.clr_net.specs.Amounts.{IsAtMost}
 use Rattle.clr_net.specs.Net.{Net}
-use Rattle.compress.specs.Compression.{all_claims}
+use Rattle.clr_net.specs.Claims.{all_claims}
 use Rattle.compress.specs.Compression.{IsBalanceKept, rank_of, rank_above}
 
 -- the classes before the class c are done: no cycle is left in them, and their banks have their

@@ -1,6 +1,6 @@
 ghost use Rattle.clr_net.specs.Amounts.{IsAtMost};
-ghost use Rattle.compress.specs.Claims.{with_claims as net_with_claims};
-ghost use Rattle.compress.specs.Compression.{all_claims};
+ghost use Rattle.clr_net.specs.Claims.{with_claims as net_with_claims};
+ghost use Rattle.clr_net.specs.Claims.{all_claims};
 ghost use Rattle.std.specs.Prelude.{◌≡◌, IfOk, length};
 
 use clr_net::{BankId, Debt, DebtId, Mem, Network};

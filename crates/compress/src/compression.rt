@@ -1,6 +1,7 @@
 ghost use Rattle.clr_net.specs.Limits.{IsNetwork};
 ghost use Rattle.clr_net.specs.declared.TheConstants.{MAX_CLASS as LAST_CLASS, MAX_OWED};
-ghost use Rattle.compress.specs.Compression.{Compression, HasNoCycle, all_claims};
+ghost use Rattle.clr_net.specs.Claims.{all_claims};
+ghost use Rattle.compress.specs.Compression.{Compression, HasNoCycle};
 ghost use Rattle.compress.specs.Progress.{IsCompressedTo, IsWrittenAt};
 ghost use Rattle.compress.specs.Walk.{IsSizedFor};
 ghost use Rattle.std.specs.Prelude.{◌≡◌, ◌+◌, ◌*◌, ◌≤◌, ℕ, [], IfOk, OnOk, length, sum};

@@ -1,6 +1,6 @@
 use crate::{compress, with_claims};
-use clr_net::{BankId, Debt, MAX_CLAIM, MAX_CLASS, MAX_DEBTS, MAX_OWED, Mem, Network};
-use net_samples::add_bank;
+use clr_net::{Mem, Network};
+use net_samples::{add_bank, add_classed, digest, twelve_banks, woven};
 use std::alloc::Global;
 use std::test::Fail;
 
@@ -14,32 +14,10 @@ fn network(alloc: Global, names: &[u8], lines: &[Line]) -> Result<Network, Mem> 
         add_bank(alloc, &mut net, &[*name], 0)?;
     }
     for line in lines {
-        owe(&mut net, *line)?;
+        let (debtor, creditor, class, claim) = *line;
+        add_classed(&mut net, debtor, creditor, class, claim)?;
     }
     Ok(net)
-}
-
-fn owe(net: &mut Network, line: Line) -> Result<(), Mem> {
-    let debt = Debt {
-        debtor: BankId(line.0),
-        creditor: BankId(line.1),
-        class: line.2,
-        claim: line.3,
-    };
-    if line.0 == line.1 || line.0 >= net.banks() || line.1 >= net.banks() {
-        return Err(Mem);
-    }
-    if debt.class < 1 || debt.class > MAX_CLASS || debt.claim > MAX_CLAIM {
-        return Err(Mem);
-    }
-    if net.debts() >= MAX_DEBTS || net.owed() > MAX_OWED - debt.claim {
-        return Err(Mem);
-    }
-    if net.has_debt(debt.debtor, debt.creditor, debt.class) {
-        return Err(Mem);
-    }
-    net.add_debt(debt)?;
-    Ok(())
 }
 
 #[test]
@@ -86,8 +64,8 @@ fn cycles_are_lowered_by_their_least_debt(rt: HostRuntime) -> Result<(), Fail> {
 fn each_of_nine_classes_is_gone_over(rt: HostRuntime) -> Result<(), Fail> {
     let mut net = network(rt.alloc(), b"AB", &[])?;
     for class in 1..10u8 {
-        owe(&mut net, (0, 1, class, class as u64))?;
-        owe(&mut net, (1, 0, class, 4))?;
+        add_classed(&mut net, 0, 1, class, class as u64)?;
+        add_classed(&mut net, 1, 0, class, 4)?;
     }
     let made = compress(rt.alloc(), &net)?;
     assert_eq!(rt;
@@ -114,5 +92,26 @@ fn a_compressed_network_has_the_claims_that_are_left(rt: HostRuntime) -> Result<
     assert_eq!(rt; left.banks(), 3);
     assert_eq!(rt; left.debts(), 3);
     assert_eq!(rt; left.owed(), 3);
+    Ok(())
+}
+
+#[test]
+fn larger_networks_are_gone_over_whole(rt: HostRuntime) -> Result<(), Fail> {
+    let alloc = rt.alloc();
+    let net = twelve_banks(alloc)?;
+    let made = compress(alloc, &net)?;
+    assert_eq!(rt; made.cancelled, 260_000);
+    assert_eq!(rt; digest(made.claims.as_slice()), 143_575_000);
+    assert_eq!(rt; digest(made.ranks.as_slice()), 899);
+    let net = woven(alloc, 200)?;
+    let made = compress(alloc, &net)?;
+    assert_eq!(rt; made.cancelled, 4_980);
+    assert_eq!(rt; digest(made.claims.as_slice()), 4_502_372);
+    assert_eq!(rt; digest(made.ranks.as_slice()), 634_330);
+    let left = with_claims(alloc, &net, made.claims.as_slice())?;
+    assert_eq!(rt;
+        (left.banks(), left.debts(), left.owed()),
+        (200, 600, 15_035)
+    );
     Ok(())
 }

@@ -1,9 +1,9 @@
-ghost use Rattle.cascade.specs.Standings.{due as due_of};
 ghost use Rattle.clr_net.specs.Limits.{IsNetwork};
 ghost use Rattle.clr_net.specs.declared.TheConstants.{MAX_CASH, MAX_CLAIM, MAX_DEBTS};
 ghost use Rattle.costs.specs.Costs.{kept as kept_of};
 ghost use Rattle.std.specs.Prelude.{◌≡◌, ◌+◌, ◌*◌, ◌<◌, ◌≤◌, length};
 
+use cascade::due;
 use clr_net::{BankId, Network};
 
 // What a bank keeps of an estate, where so many thousandths are kept on default.
@@ -19,13 +19,4 @@ pub(crate) fn kept(net: &Network, keep: u32, bank: BankId, estate: u64) -> u64
     } else {
         estate * keep as u64 / 1000
     }
-}
-
-// All that a bank owes, on its debts and outside.
-pub(crate) fn due(net: &Network, bank: BankId) -> u64
-    requires network { IsNetwork net.now }
-    requires bank { bank.0 < length net.now.banks }
-    ensures { result ≡ due_of net.now bank.0 }
-{
-    net.owed_by(bank) + net.bank(bank).outside
 }

@@ -1,14 +1,13 @@
-ghost use Rattle.cascade.specs.Standings.{worth as worth_of};
 ghost use Rattle.clr_net.specs.Limits.{IsNetwork};
 ghost use Rattle.costs.specs.CostStandings.{CostAddsUp, PaysFromKept, cost_standing};
 ghost use Rattle.costs.specs.CostStandings.{cost_standings as standings_of, health_at};
 ghost use Rattle.costs.specs.Costs.{CostClears};
 ghost use Rattle.std.specs.Prelude.{◌≡◌, ◌<◌, ◌≤◌, ℕ, IfOk, OnOk, length};
 
-use crate::kept::{due, kept};
+use crate::kept::kept;
 use crate::standing::CostStanding;
-use cascade::Health;
-use clear_core::receipts_of;
+use cascade::{Health, due, worth};
+use clear_core::estate_of;
 use clr_net::{BankId, Mem, Network};
 use std::alloc::Global;
 
@@ -46,7 +45,7 @@ fn standing_of(net: &Network, keep: u32, bank: BankId, paid: &[u64]) -> CostStan
     ensures { result ≡ cost_standing net.now keep paid.now bank.0 }
 {
     let owner = net.bank(bank);
-    let estate = owner.cash + receipts_of(net, bank, paid);
+    let estate = estate_of(net, bank, paid);
     let kept = kept(net, keep, bank, estate);
     let outside_paid = owner.outside.min(kept);
     let on_debts = net.owed_by(bank).min(kept - outside_paid);
@@ -74,17 +73,4 @@ fn health_of(net: &Network, bank: BankId, estate: u64) -> Health
     } else {
         Health::Contagion
     }
-}
-
-// What a bank would have if all its debtors paid it in full.
-fn worth(net: &Network, bank: BankId) -> u64
-    requires network { IsNetwork net.now }
-    requires bank { bank.0 < length net.now.banks }
-    ensures { result ≡ worth_of net.now bank.0 }
-{
-    let mut total = net.bank(bank).cash;
-    for id in net.column(bank) {
-        total += net.debt(*id).claim;
-    }
-    total
 }

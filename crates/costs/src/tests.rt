@@ -3,7 +3,7 @@ ghost use Rattle.std.specs.Prelude.{◌≤◌};
 use crate::{CostStanding, cost_standings, least_with_costs};
 use cascade::Health;
 use clr_net::{Mem, Network, RuleKind};
-use net_samples::{add_debt, add_ruled, chain, ring};
+use net_samples::{add_debt, add_ruled, chain, digest, ring, twelve_banks, woven};
 use std::alloc::Global;
 use std::test::Fail;
 
@@ -84,5 +84,19 @@ fn banks_in_default_lose_their_part(rt: HostRuntime) -> Result<(), Fail> {
         (1, 0, 1, 0, 0, Health::Sound),
     ];
     assert!(rt; are(all.as_slice(), lines.as_slice()));
+    Ok(())
+}
+
+#[test]
+fn larger_networks_are_gone_over_whole(rt: HostRuntime) -> Result<(), Fail> {
+    let alloc = rt.alloc();
+    let net = twelve_banks(alloc)?;
+    let paid = least_with_costs(alloc, &net, 500)?;
+    assert_eq!(rt; digest(paid.as_slice()), 69_478_887);
+    assert_eq!(rt; stand(alloc, &net, 500)?.len(), 12);
+    let net = woven(alloc, 200)?;
+    let paid = least_with_costs(alloc, &net, 900)?;
+    assert_eq!(rt; digest(paid.as_slice()), 5_372_810);
+    assert_eq!(rt; stand(alloc, &net, 900)?.len(), 200);
     Ok(())
 }

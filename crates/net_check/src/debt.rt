@@ -77,7 +77,8 @@ fn debt_of(
 /// The bank that a field names. Spaces and tabs at its ends would be part of the name. Takes no
 /// memory.
 ///
-/// The name is looked up first: only one that no bank has is judged.
+/// The name is looked up first: only one that no bank has is judged, `Name` where it is no name and
+/// `UnknownBank` where it is one.
 pub fn bank_of(net: &Network, field: &[u8]) -> Result<BankId, FaultKind>
     ensures bank { result_map_both (λ id. id.0) (λ k. k) result ≡ bank_in net.now field.now }
     ensures known { IfOk result (λ id. id.0 < length net.now.banks) }

@@ -63,7 +63,8 @@ pub fn number(field: &[u8]) -> Option<u128>
     Some(number)
 }
 
-/// The number in a field, if it is at most the limit.
+/// The number in a field, if it is at most the limit: `Number` where the field is no number, and
+/// `Limit` where it is more.
 pub fn number_up_to(limit: u64, field: &[u8]) -> Result<u64, FaultKind>
     ensures { result ≡ number_up_to_in limit field.now }
 {
@@ -74,7 +75,7 @@ pub fn number_up_to(limit: u64, field: &[u8]) -> Result<u64, FaultKind>
     Ok(number as u64)
 }
 
-/// The class in a field: one digit from 1 to [`MAX_CLASS`].
+/// The class in a field: one digit from 1 to [`MAX_CLASS`], and `None` for any other field.
 pub fn class(field: &[u8]) -> Option<u8>
     ensures { result ≡ class_in field.now }
 {

@@ -1,17 +1,21 @@
-//! Small networks for the tests of other crates, which are the same plain data that worked cases are about.
+//! Networks for the tests of other crates: small ones, which are the same plain data that worked
+//! cases are about, and two that are large enough for a call that gives up early to be found out.
 //!
 //! No program calls this crate.
 #![tactic(auto)]
 
+mod large;
+
 ghost use Rattle.clr_net.specs.Net.{with_bank, with_debt};
 ghost use Rattle.clr_net.specs.Samples.{bank, chain as chain_net, debt};
-ghost use Rattle.net_samples.specs.Networks.{ring as ring_net, ruled};
+ghost use Rattle.net_samples.specs.Networks.{classed, ring as ring_net, ruled};
 ghost use Rattle.std.specs.Prelude.{◌≡◌, IfOk, OnOk};
 
 use clr_net::{
-    Bank, BankId, Debt, MAX_BANKS, MAX_CASH, MAX_CLAIM, MAX_DEBTS, MAX_OUTSIDE, MAX_OWED, Mem,
-    Name, Network, RuleKind,
+    Bank, BankId, Debt, MAX_BANKS, MAX_CASH, MAX_CLAIM, MAX_CLASS, MAX_DEBTS, MAX_OUTSIDE,
+    MAX_OWED, Mem, Name, Network, RuleKind,
 };
+pub use large::{digest, twelve_banks, woven};
 use std::alloc::Global;
 
 /// Adds a bank that divides by the order rule and owes nothing outside. `Mem` also where it may not be added.
@@ -57,26 +61,42 @@ pub fn add_ruled(
 pub fn add_debt(net: &mut Network, debtor: u32, creditor: u32, claim: u64) -> Result<(), Mem>
     ensures { OnOk result (net.new ≡ with_debt net.old (debt debtor creditor claim)) }
 {
+    add_classed(net, debtor, creditor, 1, claim)
+}
+
+/// Adds a debt of a class. `Mem` also where it may not be added.
+pub fn add_classed(
+    net: &mut Network,
+    debtor: u32,
+    creditor: u32,
+    class: u8,
+    claim: u64,
+) -> Result<(), Mem>
+    ensures { OnOk result (net.new ≡ with_debt net.old (classed debtor creditor class claim)) }
+{
     let debt = Debt {
         debtor: BankId(debtor),
         creditor: BankId(creditor),
-        class: 1,
+        class,
         claim,
     };
     if debtor == creditor || debtor >= net.banks() || creditor >= net.banks() {
         return Err(Mem);
     }
-    if net.debts() >= MAX_DEBTS || claim > MAX_CLAIM || net.owed() > MAX_OWED - claim {
+    if class < 1 || class > MAX_CLASS || claim > MAX_CLAIM {
         return Err(Mem);
     }
-    if net.has_debt(debt.debtor, debt.creditor, 1) {
+    if net.debts() >= MAX_DEBTS || net.owed() > MAX_OWED - claim {
+        return Err(Mem);
+    }
+    if net.has_debt(debt.debtor, debt.creditor, class) {
         return Err(Mem);
     }
     net.add_debt(debt)?;
     Ok(())
 }
 
-/// A owes B 10, and B owes C 9; A has 7 and B has 1.
+/// A owes B 10, and B owes C 9; A has 7 and B has 1. `Mem` for want of memory alone.
 pub fn chain(alloc: Global) -> Result<Network, Mem>
     ensures { IfOk result (λ net. net ≡ chain_net) }
 {
@@ -89,7 +109,7 @@ pub fn chain(alloc: Global) -> Result<Network, Mem>
     Ok(net)
 }
 
-/// A and B owe each other 5; A has 1.
+/// A and B owe each other 5; A has 1. `Mem` for want of memory alone.
 pub fn ring(alloc: Global) -> Result<Network, Mem>
     ensures { IfOk result (λ net. net ≡ ring_net) }
 {

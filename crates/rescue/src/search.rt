@@ -2,11 +2,12 @@ ghost use Rattle.clear_core.specs.Clearing.{Clears, estate, least as least_of};
 ghost use Rattle.clr_net.specs.Limits.{IsNetwork};
 ghost use Rattle.clr_net.specs.Net.{cash_of};
 ghost use Rattle.clr_net.specs.declared.TheConstants.{MAX_CASH};
-ghost use Rattle.cascade.specs.Standings.{due};
+ghost use Rattle.cascade.specs.Standings.{due as due_of};
 ghost use Rattle.rescue.specs.Rescue.{IsRescue, rescue as rescue_of, short_of};
 ghost use Rattle.std.specs.Prelude.{◌≡◌, ◌+◌, ◌-◌, ◌<◌, ◌≤◌, IfOk, length};
 
-use clear_core::receipts_of;
+use cascade::due;
+use clear_core::estate_of;
 use clear_least::least_from;
 use clr_net::{Amounts, BankId, Mem, Network};
 use std::alloc::Global;
@@ -41,9 +42,9 @@ pub fn rescue(alloc: Global, net: &Network, bank: BankId, least: &[u64]) -> Resu
     prove!(bank.0 < net.banks());
     let cash = net.bank(bank).cash;
     let mut low = 0;
-    let mut high = owes(net, bank).saturating_sub(cash);
+    let mut high = due(net, bank).saturating_sub(cash);
     // With one unit less than `low`: the least payments, and what the bank lacks.
-    let mut known = copied(alloc, least)?;
+    let mut known = Amounts::copy_of(alloc, least)?;
     let mut short = 0;
     let mut more = net.copy(alloc)?;
     while low < high {
@@ -62,31 +63,13 @@ pub fn rescue(alloc: Global, net: &Network, bank: BankId, least: &[u64]) -> Resu
     Ok(Rescued { added: low, short })
 }
 
-// The same amounts, in a list to be kept.
-fn copied(alloc: Global, amounts: &[u64]) -> Result<Amounts, Mem>
-    ensures { IfOk result (λ copy. copy ≡ amounts.now) }
-{
-    let mut copy = Amounts::zeros(alloc, amounts.len())?;
-    copy.as_mut_slice().copy_from_slice(amounts);
-    Ok(copy)
-}
-
-// All that a bank owes, on its debts and outside the network.
-fn owes(net: &Network, bank: BankId) -> u64
-    requires network { IsNetwork net.now }
-    requires bank { bank.0 < length net.now.banks }
-    ensures { result ≡ due net.now bank.0 }
-{
-    net.owed_by(bank) + net.bank(bank).outside
-}
-
 // What a bank lacks of all that it owes under payments that clear: 0 where it has enough.
 fn lacks(net: &Network, bank: BankId, paid: &[u64]) -> u64
     requires bank { bank.0 < length net.now.banks }
     requires clears { Clears net.now paid.now }
-    ensures { result ≡ due net.now bank.0 - estate net.now paid.now bank.0 }
+    ensures { result ≡ due_of net.now bank.0 - estate net.now paid.now bank.0 }
 {
     prove!(bank.0 < net.banks());
-    let estate = net.bank(bank).cash + receipts_of(net, bank, paid);
-    owes(net, bank).saturating_sub(estate)
+    let estate = estate_of(net, bank, paid);
+    due(net, bank).saturating_sub(estate)
 }

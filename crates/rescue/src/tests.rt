@@ -1,7 +1,8 @@
 use crate::{added, least_from, rescue};
+use cascade::{Health, defaults};
 use clear_least::central;
 use clr_net::{BankId, MAX_CASH, MAX_OUTSIDE, Mem, Network, RuleKind};
-use net_samples::{add_bank, add_debt, add_ruled, chain};
+use net_samples::{add_bank, add_debt, add_ruled, chain, digest, twelve_banks, woven};
 use std::alloc::Global;
 use std::test::Fail;
 
@@ -78,5 +79,45 @@ fn an_outside_claim_alone_is_covered(rt: HostRuntime) -> Result<(), Fail> {
     assert!(rt; is_saved_outside(alloc, 3, 9, 2, 1)?);
     assert!(rt; is_saved_outside(alloc, 0, MAX_OUTSIDE, 99_999_999_996, 1)?);
     assert!(rt; is_saved_outside(alloc, MAX_CASH, MAX_OUTSIDE, 0, 0)?);
+    Ok(())
+}
+
+// How many banks default by their own fundamentals and how many by contagion, under the least
+// payments, and the digest of these.
+fn standing(alloc: Global, net: &Network) -> Result<(usize, usize, u64), Mem> {
+    let least = central(alloc, net)?;
+    let all = defaults(alloc, net, least.as_slice())?;
+    let fundamental = all
+        .iter()
+        .filter(|bank| bank.health == Health::Fundamental)
+        .count();
+    let contagion = all
+        .iter()
+        .filter(|bank| bank.health == Health::Contagion)
+        .count();
+    Ok((fundamental, contagion, digest(least.as_slice())))
+}
+
+// What saves a bank of a network, and what it lacks with a unit less.
+fn saving(alloc: Global, net: &Network, bank: u32) -> Result<(u64, u64), Mem> {
+    if bank >= net.banks() {
+        return Err(Mem);
+    }
+    let least = central(alloc, net)?;
+    let found = rescue(alloc, net, BankId(bank), least.as_slice())?;
+    Ok((found.added, found.short))
+}
+
+#[test]
+fn larger_networks_are_gone_over_whole(rt: HostRuntime) -> Result<(), Fail> {
+    let alloc = rt.alloc();
+    let net = twelve_banks(alloc)?;
+    assert_eq!(rt; standing(alloc, &net)?, (2, 2, 121_451_706));
+    assert_eq!(rt; saving(alloc, &net, 3)?, (699_999, 1));
+    assert_eq!(rt; saving(alloc, &net, 4)?, (279_999, 1));
+    let net = woven(alloc, 200)?;
+    assert_eq!(rt; standing(alloc, &net)?, (38, 15, 5_606_023));
+    assert_eq!(rt; saving(alloc, &net, 15)?, (21, 1));
+    assert_eq!(rt; saving(alloc, &net, 21)?, (19, 1));
     Ok(())
 }

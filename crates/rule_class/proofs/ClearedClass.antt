@@ -1,6 +1,6 @@
 -- The turn of one class, in one list of awards: its places are set to 0 and given its units one by one,
 -- each to the place that is next in the whole list, while the places of other classes are met.
-use Rattle.std.proofs.Common.{◌≡◌, ◌≢◌, ℕ, zero, suc, ◌<◌, ◌≤◌, cond, List, [], ◌∷◌, length, get_or, Option, Some, None, sym, refl, ap, ◌∙◌, subst, ⊎_elim, arith, eq-eqb, ne_eqb}
+use Rattle.std.proofs.Common.{◌≡◌, ◌≢◌, ℕ, zero, suc, ◌<◌, cond, List, [], ◌∷◌, length, get_or, refl, ap, arith, eq-eqb, ne_eqb}
 use Rattle.rule_class.specs.Sharing.{cleared_class}
 
 pub length-cleared_class : (c : ℕ) (awards classes : List ℕ) → length (cleared_class c awards classes) ≡ length awards
@@ -22,9 +22,3 @@ cleared_class_other c (x ∷ awards) [] zero ne = refl
 cleared_class_other c (x ∷ awards) [] (suc k) ne = cleared_class_other c awards [] k ne
 cleared_class_other c (x ∷ awards) (m ∷ classes) zero ne = ap (λ b. cond b 0 x) (ne_eqb m c ne)
 cleared_class_other c (x ∷ awards) (m ∷ classes) (suc k) ne = cleared_class_other c awards classes k ne
-
--- within the turn of the class c: its places have what its own award gives, and the others what they had
-pub record IsTurn (claims classes : List ℕ) (c : ℕ) (had own now : List ℕ) : Type 0 where
-  pub as_many : length now ≡ length claims
-  pub here : (k : ℕ) → get_or classes k 0 ≡ c → get_or now k 0 ≡ get_or own k 0
-  pub others : (k : ℕ) → get_or classes k 0 ≢ c → get_or now k 0 ≡ get_or had k 0

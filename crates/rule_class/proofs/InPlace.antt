@@ -7,7 +7,8 @@ use Rattle.clr_net.specs.Division.{class_claims, AreClasses}
 use Rattle.rule_class.specs.Sharing.{cleared_class}
 use Rattle.clr_net.proofs.Lists.{same_from_sum, sum-le}
 use Rattle.clr_net.proofs.Classes.{length-class_claims, class_claims_here, class_claims_other, get_or-place_sums}
-use Rattle.rule_class.proofs.ClearedClass.{IsTurn, cleared_class_other, length-cleared_class}
+use Rattle.rule_class.specs.ClassSet.{IsClassSet}
+use Rattle.rule_class.proofs.ClearedClass.{cleared_class_other, length-cleared_class}
 use Rattle.rule_unit.specs.Awards.{IsWithin}
 use Rattle.rule_unit.specs.Choice.{IsUnitChoice}
 use Rattle.rule_unit.specs.Units.{awards_after, award}
@@ -81,7 +82,7 @@ module _ (choice : List ℕ → List ℕ → Option ℕ) (lawful : IsUnitChoice 
       same_from_sum (award choice mine e) mine w.as_many w.within (omega (arith, sum_award choice lawful mine e))
 
   ready_next : (c e : ℕ) (had now : List ℕ) → 0 < c → IsReady claims classes c e had → IsWithin claims now
-      → IsTurn claims classes c had (award choice (class_claims c claims classes) (min (sum (class_claims c claims classes)) e)) now
+      → IsClassSet c classes (award choice (class_claims c claims classes) (min (sum (class_claims c claims classes)) e)) had now
       → IsReady claims classes (c + 1) (e - min (sum (class_claims c claims classes)) e) now
   ready_next c e had now p r w t = record {
     within = w;
@@ -114,7 +115,7 @@ module _ (choice : List ℕ → List ℕ → Option ℕ) (lawful : IsUnitChoice 
       (cleared_within c claims had classes p r.within) in
       let rest = share_by_from choice claims classes (c + 1) n (e - given) in
       let s : IsShare claims classes (c + 1) rest = share_by_from_is choice lawful claims classes (c + 1) n (e - given) in
-      let t : IsTurn claims classes c had own now = turn_after choice lawful claims classes c p had e given r.within r.all_met (omega arith) in
+      let t : IsClassSet c classes own had now = turn_after choice lawful claims classes c p had e given r.within r.all_met (omega arith) in
       let done : IsDone claims classes (c + 1) now rest (in_place_from choice claims classes (c + 1) n (e - given) now) =
       in_place_done (c + 1) n (e - given) now (omega arith) (λ k. omega (arith, h k)) (ready_next c e had now p r now_within t) in
       let at = λ (k : ℕ). get_or-place_sums own rest k (w.as_many ∙ length-class_claims c claims classes ∙ sym s.as_many) in

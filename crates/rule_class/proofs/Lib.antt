@@ -1,5 +1,6 @@
 pub mod ClassTotal
 pub mod Cleared
+pub mod ClassSets
 pub mod ClearedClass
 pub mod Turn
 pub mod InPlace

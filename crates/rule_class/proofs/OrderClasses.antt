@@ -1,6 +1,5 @@
 -- Division by order over classes: the debts of each class are filled up in turn.
-use Rattle.std.proofs.Common.{◌≡◌, ◌≢◌, ℕ, suc, ◌+◌, ◌-◌, ◌<◌, ◌≤◌, min, List, length, get_or, set, take, sum, sym, ap, ◌∙◌, subst, ⊎_elim, arith}
-use Rattle.std.proofs.lemmas.Grind.{common_steps}
+use Rattle.std.proofs.Common.{◌≡◌, ◌≢◌, ℕ, suc, ◌+◌, ◌-◌, ◌<◌, ◌≤◌, min, List, length, get_or, set, take, sum, sym, ap, ◌∙◌, ⊎_elim, arith}
 use Rattle.std.proofs.lemmas.Bool.{cases_eq, cases_lt}
 use Rattle.std.proofs.lemmas.List.{ext_get_or}
 use Rattle.std.proofs.lemmas.List.Sums.{sum_by_more}
@@ -9,7 +8,9 @@ use Rattle.clr_net.specs.Division.{award, class_claims, next_of, share_by_from, 
 use Rattle.clr_net.proofs.Award.{award_full, kind_is_unit_choice}
 use Rattle.clr_net.proofs.Classes.{length-class_claims, class_claims_here, class_claims_other, get_or-place_sums}
 use Rattle.clr_net.proofs.Share.{lengths_agree, length-share, share_by_from_is}
-use Rattle.rule_class.specs.ByOrder.{fill, IsClassFilled, AreUpTo}
+use Rattle.rule_class.specs.ByOrder.{fill, AreUpTo}
+use Rattle.rule_class.specs.ClassSet.{IsClassSet}
+use Rattle.rule_class.proofs.ClassSets.{IsClassSetTo, set_here, set_not_here}
 use Rattle.rule_class.proofs.OrderFill.{award_fills, get_or-fill}
 
 -- units given out by order, as many as are claimed and there are, fill up the debts
@@ -45,7 +46,7 @@ pub record IsFilledBelow (claims classes : List ℕ) (estate c left : ℕ) (into
       → get_or (share kind.Order claims classes estate) k 0 ≡ get_or (share_by_from (next_of kind.Order) claims classes c (10 - c) left) k 0
 
 module _ (claims classes : List ℕ) (estate c left : ℕ) (into now : List ℕ) (small : c < 10)
-    (before : IsFilledBelow claims classes estate c left into) (turn : IsClassFilled c claims classes left into now) where
+    (before : IsFilledBelow claims classes estate c left into) (turn : IsClassSet c classes (fill (class_claims c claims classes) left) into now) where
   abbrev mine : List ℕ
   mine = class_claims c claims classes
 
@@ -67,7 +68,7 @@ module _ (claims classes : List ℕ) (estate c left : ℕ) (into now : List ℕ)
     done = λ k l m. ⊎_elim
         (λ (e : get_or classes k 0 ≡ c). omega (
           arith,
-          turn.filled k l e,
+          turn.here k e,
           share_at k (omega arith),
           (share_by_from_is (next_of kind.Order) (kind_is_unit_choice kind.Order) claims classes (c + 1) (10 - (c + 1)) (left - sum mine)).earlier k (omega arith),
         ))
@@ -85,10 +86,8 @@ filled_all claims classes estate c left into upto filled =
 
 -- of the class c, the debts before the place i are filled up
 pub record IsFilling (c : ℕ) (claims classes : List ℕ) (e : ℕ) (had : List ℕ) (i left : ℕ) (now : List ℕ) : Type 0 where
-  pub as_many : length now ≡ length had
   pub left_is : left ≡ e - sum (take i (class_claims c claims classes))
-  pub filled : (k : ℕ) → k < i → get_or classes k 0 ≡ c → get_or now k 0 ≡ get_or (fill (class_claims c claims classes) e) k 0
-  pub others : (k : ℕ) → get_or classes k 0 ≢ c → get_or now k 0 ≡ get_or had k 0
+  pub filled : IsClassSetTo c classes (fill (class_claims c claims classes) e) had i now
 
 module _ (c : ℕ) (claims classes : List ℕ) (e : ℕ) (had : List ℕ) (i left : ℕ) (now : List ℕ) (in_range : i < length claims)
     (as_many : length had ≡ length claims) (h : IsFilling c claims classes e had i left now) where
@@ -102,25 +101,14 @@ module _ (c : ℕ) (claims classes : List ℕ) (e : ℕ) (had : List ℕ) (i lef
       → IsFilling c claims classes e had (i + 1) (left - award) (set now i award)
   filling_takes award positive same a =
       let claim : get_or own i 0 ≡ get_or claims i 0 = class_claims_here c claims classes i positive same in
-      let here : award ≡ get_or (fill own e) i 0 = omega (arith, a, claim, h.left_is, get_or-fill own e i) in
       record {
-        as_many = grind (arith, common_steps, h.as_many);
         left_is = omega (arith, a, claim, h.left_is, taken_more);
-        filled = λ k l s. ⊎_elim
-            (λ (at : k ≡ i). subst (λ j. get_or (set now i award) j 0 ≡ get_or (fill own e) j 0) (sym at)
-            (grind (arith, common_steps, here, in_range, as_many, h.as_many)))
-            (λ (ne : k ≡ i → ⊥). grind (arith, common_steps, h.filled k (omega arith) s))
-            (cases_eq k i);
-        others = λ k ne. grind (arith, common_steps, h.others k ne, same);
+        filled = set_here c classes (fill own e) had i now (omega (arith, as_many)) h.filled same award
+            (omega (arith, a, claim, h.left_is, get_or-fill own e i));
       }
 
   pub filling_skips : get_or classes i 0 ≢ c → IsFilling c claims classes e had (i + 1) left now
   filling_skips other = record {
-    as_many = h.as_many;
     left_is = omega (arith, h.left_is, taken_more, class_claims_other c claims classes i other);
-    filled = λ k l s. ⊎_elim
-        (λ (at : k ≡ i). absurd (other (ap (λ j. get_or classes j 0) (sym at) ∙ s)))
-        (λ (ne : k ≡ i → ⊥). h.filled k (omega arith) s)
-        (cases_eq k i);
-    others = h.others;
+    filled = set_not_here c classes (fill own e) had i now h.filled other;
   }

@@ -7,7 +7,8 @@ use Rattle.clr_net.specs.Division.{class_claims}
 use Rattle.rule_class.specs.Sharing.{cleared_class}
 use Rattle.clr_net.proofs.Lists.{zeros_at}
 use Rattle.clr_net.proofs.Classes.{length-class_claims, class_claims_here, class_claims_other}
-use Rattle.rule_class.proofs.ClearedClass.{IsTurn, length-cleared_class, cleared_class_here, cleared_class_other}
+use Rattle.rule_class.specs.ClassSet.{IsClassSet}
+use Rattle.rule_class.proofs.ClearedClass.{length-cleared_class, cleared_class_here, cleared_class_other}
 use Rattle.rule_unit.specs.Awards.{IsWithin}
 use Rattle.rule_unit.specs.Choice.{IsUnitChoice, AgreeWhereUnmet}
 use Rattle.rule_unit.specs.Units.{one_more, awards_after, award}
@@ -29,17 +30,16 @@ module _ (choice : List ℕ → List ℕ → Option ℕ) (lawful : IsUnitChoice 
   abbrev mine : List ℕ
   mine = class_claims c claims classes
 
-  turn_starts : (had : List ℕ) → length had ≡ length claims
-      → IsTurn claims classes c had (award choice mine 0) (cleared_class c had classes)
+  turn_starts : (had : List ℕ) → IsClassSet c classes (award choice mine 0) had (cleared_class c had classes)
   unfolding awards_after
-  turn_starts had l = record {
-    as_many = length-cleared_class c had classes ∙ l;
+  turn_starts had = record {
+    as_many = length-cleared_class c had classes;
     here = λ k e. cleared_class_here c had classes k positive e ∙ sym (zeros_at (length mine) k);
     others = cleared_class_other c had classes;
   }
 
   -- in the places of other classes no unit is missing, so the debt that is chosen is the class's own
-  turn_agrees : (had own now : List ℕ) → ((k : ℕ) → get_or had k 0 ≡ get_or claims k 0) → IsTurn claims classes c had own now
+  turn_agrees : (had own now : List ℕ) → ((k : ℕ) → get_or had k 0 ≡ get_or claims k 0) → IsClassSet c classes own had now
       → AgreeWhereUnmet claims now mine own
   turn_agrees had own now full t = record {
     as_many = sym (length-class_claims c claims classes);
@@ -53,12 +53,12 @@ module _ (choice : List ℕ → List ℕ → Option ℕ) (lawful : IsUnitChoice 
         (cases_eq (get_or classes k 0) c);
   }
 
-  turn_goes_on : (had own now : List ℕ) (r : Option ℕ) → choice mine own ≡ r → IsWithin mine own
-      → IsTurn claims classes c had own now → IsTurn claims classes c had (one_more r own) (one_more r now)
-  turn_goes_on had own now None e w t = t
-  turn_goes_on had own now (Some j) s w t = record {
+  turn_goes_on : (had own now : List ℕ) (r : Option ℕ) → length had ≡ length claims → choice mine own ≡ r → IsWithin mine own
+      → IsClassSet c classes own had now → IsClassSet c classes (one_more r own) had (one_more r now)
+  turn_goes_on had own now None l e w t = t
+  turn_goes_on had own now (Some j) l s w t = record {
     as_many = grind (arith, common_steps, t.as_many);
-    here = λ k e. grind (arith, common_steps, t.here k e, t.here j own_place, length-class_claims c claims classes, n.0, t.as_many, w.as_many);
+    here = λ k e. grind (arith, common_steps, t.here k e, t.here j own_place, length-class_claims c claims classes, n.0, l, t.as_many, w.as_many);
     others = λ k ne. grind (arith, common_steps, t.others k ne, own_place);
   }
     where
@@ -74,17 +74,17 @@ module _ (choice : List ℕ → List ℕ → Option ℕ) (lawful : IsUnitChoice 
   -- after d units, while every place is paid in full at first
   pub turn_after : (had : List ℕ) (e d : ℕ) → IsWithin claims had
       → (0 < e → (k : ℕ) → get_or had k 0 ≡ get_or claims k 0) → d ≤ e
-      → IsTurn claims classes c had (award choice mine d) (awards_after choice claims (cleared_class c had classes) d)
+      → IsClassSet c classes (award choice mine d) had (awards_after choice claims (cleared_class c had classes) d)
   unfolding awards_after
-  turn_after had e zero w full h = turn_starts had w.as_many
+  turn_after had e zero w full h = turn_starts had
   turn_after had e (suc d) w full h =
       let own = award choice mine d in
       let now = awards_after choice claims (cleared_class c had classes) d in
-      let t : IsTurn claims classes c had own now = turn_after had e d w full (omega arith) in
+      let t : IsClassSet c classes own had now = turn_after had e d w full (omega arith) in
       let agree : AgreeWhereUnmet claims now mine own = turn_agrees had own now (full (omega arith)) t in
       let within : IsWithin claims now = awards_within choice lawful claims (cleared_class c had classes) d
       (cleared_within c claims had classes positive w) in
       let own_within : IsWithin mine own = award_within choice lawful mine d in
       let same : choice claims now ≡ choice mine own = choice_agree choice lawful claims now mine own within own_within agree in
-      subst (λ r. IsTurn claims classes c had (one_more (choice mine own) own) (one_more r now)) (sym same)
-      (turn_goes_on had own now (choice mine own) refl own_within t)
+      subst (λ r. IsClassSet c classes (one_more (choice mine own) own) had (one_more r now)) (sym same)
+      (turn_goes_on had own now (choice mine own) w.as_many refl own_within t)

@@ -1,2 +1,3 @@
+pub mod ClassSet
 pub mod Sharing
 pub mod ByOrder

@@ -1,8 +1,7 @@
 ghost use Rattle.clr_net.specs.Division.{AreClasses, class_claims};
 ghost use Rattle.rule_class.specs.Sharing.{cleared_class};
-ghost use Rattle.clr_net.specs.declared.TheConstants.{MAX_CLASS};
+ghost use Rattle.clr_net.specs.declared.TheConstants.{MAX_CLASS, MAX_OWED};
 ghost use Rattle.clr_net.specs.Division.{share_by};
-ghost use Rattle.rule_class.specs.declared.TheConstants.{MAX_CLAIMS};
 ghost use Rattle.rule_unit.specs.Awards.{IsWithin};
 ghost use Rattle.rule_unit.specs.Units.{awards_after};
 ghost use Rattle.rule_unit.specs.declared.TheConstants.{MAX_CLAIM};
@@ -21,7 +20,7 @@ pub fn share<R: UnitRule>(rule: &R, claims: &[u64], classes: &[u8], estate: u64,
     requires a_class_each { length claims.now ≡ length classes.now }
     requires a_place_each { length into.old ≡ length claims.now }
     requires limit { All (λ c. c ≤ MAX_CLAIM) claims.now }
-    requires total { sum claims.now ≤ MAX_CLAIMS }
+    requires total { sum claims.now ≤ MAX_OWED }
     requires classed { AreClasses classes.now 1 MAX_CLASS }
     ensures { into.new ≡ share_by (R.choice rule.now) claims.now classes.now estate }
 {
@@ -45,7 +44,7 @@ fn one_class<R: UnitRule>(
     requires a_class_each { length claims.now ≡ length classes.now }
     requires within { IsWithin claims.now into.old }
     requires limit { All (λ c. c ≤ MAX_CLAIM) claims.now }
-    requires total { sum claims.now ≤ MAX_CLAIMS }
+    requires total { sum claims.now ≤ MAX_OWED }
     requires first { 1 ≤ class }
     ensures given_out { into.new ≡ awards_after (R.choice rule.now) claims.now
         (cleared_class class into.old classes.now) result }
@@ -58,10 +57,10 @@ fn one_class<R: UnitRule>(
     given
 }
 
-/// What the debts of one class claim together.
+/// What the debts of one class claim together, in units.
 pub fn class_total(claims: &[u64], classes: &[u8], class: u8) -> u64
     requires a_class_each { length claims.now ≡ length classes.now }
-    requires total { sum claims.now ≤ MAX_CLAIMS }
+    requires total { sum claims.now ≤ MAX_OWED }
     ensures { result ≡ sum (class_claims class claims.now classes.now) }
 {
     let mut total = 0;

@@ -11,6 +11,3 @@ mod order;
 
 pub use division::{class_total, share};
 pub use order::{last_class, share_in_order};
-
-/// The most units that all the claims on one bank come to.
-pub const MAX_CLAIMS: u64 = 10_000_000;

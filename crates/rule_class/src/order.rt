@@ -1,7 +1,8 @@
 ghost use Rattle.clr_net.specs.Division.{AreClasses, class_claims, share};
 ghost use Rattle.clr_net.specs.declared.TheConstants.{MAX_CLASS};
 ghost use Rattle.clr_net.specs.declared.rule.RuleKind.TheVariants as kind;
-ghost use Rattle.rule_class.specs.ByOrder.{AreUpTo, IsClassFilled};
+ghost use Rattle.rule_class.specs.ByOrder.{AreUpTo, fill};
+ghost use Rattle.rule_class.specs.ClassSet.{IsClassSet};
 ghost use Rattle.std.specs.Prelude.{◌≡◌, ◌-◌, ◌≤◌, length, sum};
 
 /// Divides an estate by the rule `order`: pays the debts class by class and one after another, each
@@ -25,7 +26,8 @@ fn fill_class(claims: &[u64], classes: &[u8], class: u8, estate: u64, into: &mut
     requires a_class_each { length claims.now ≡ length classes.now }
     requires a_place_each { length into.old ≡ length claims.now }
     requires positive { 1 ≤ class }
-    ensures filled { IsClassFilled class claims.now classes.now estate into.old into.new }
+    ensures filled { IsClassSet class classes.now
+        (fill (class_claims class claims.now classes.now) estate) into.old into.new }
     ensures left { result ≡ estate - sum (class_claims class claims.now classes.now) }
 {
     let mut left = estate;

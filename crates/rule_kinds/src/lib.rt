@@ -12,3 +12,6 @@ mod order;
 pub use equal::EqualRule;
 pub use losses::LossRule;
 pub use order::OrderRule;
+
+#[cfg(test)]
+mod tests;

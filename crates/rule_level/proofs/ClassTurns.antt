@@ -8,12 +8,11 @@ use Rattle.rule_class.specs.Sharing.{cleared_class}
 use Rattle.clr_net.proofs.Lists.{sum-cons}
 use Rattle.clr_net.proofs.Award.{award_full, kind_is_unit_choice}
 use Rattle.clr_net.proofs.Classes.{class_claims_here}
-use Rattle.rule_class.proofs.ClearedClass.{IsTurn}
 use Rattle.rule_unit.specs.Awards.{IsWithin}
 use Rattle.rule_unit.specs.Units.{awards_after, award}
 use Rattle.rule_unit.proofs.UnitByUnit.{awards_within}
 use Rattle.rule_class.proofs.Turn.{cleared_within, turn_after}
-use Rattle.rule_level.specs.ClassSet.{IsClassSet}
+use Rattle.rule_class.specs.ClassSet.{IsClassSet}
 use Rattle.rule_level.specs.Levels.{level_awards, awards_above}
 use Rattle.rule_level.proofs.Above.{award_by_level}
 use Rattle.rule_unit.specs.declared.TheConstants.{MAX_CLAIM}
@@ -40,10 +39,10 @@ module _ (kind : RuleKind) (claims classes : List ℕ) (c : ℕ) (positive : 0 <
   set_is_turned : (own now : List ℕ) (d : ℕ) → d ≤ left → own ≡ award (next_of kind) mine d → IsClassSet c classes own had now
       → now ≡ turned d
   set_is_turned own now d l e s =
-      let t : IsTurn claims classes c had (award (next_of kind) mine d) (turned d) =
+      let t : IsClassSet c classes (award (next_of kind) mine d) had (turned d) =
       turn_after (next_of kind) (kind_is_unit_choice kind) claims classes c positive had left d w
       (λ p k. ap (λ xs. get_or xs k 0) (met p)) l in
-      ext_get_or 0 now (turned d) (s.as_many ∙ w.as_many ∙ sym t.as_many) (λ k m. ⊎_elim
+      ext_get_or 0 now (turned d) (s.as_many ∙ sym t.as_many) (λ k m. ⊎_elim
       (λ (i : get_or classes k 0 ≡ c). s.here k i ∙ ap (λ xs. get_or xs k 0) e ∙ sym (t.here k i))
       (λ (ne : get_or classes k 0 ≡ c → ⊥). s.others k ne ∙ sym (t.others k ne))
       (cases_eq (get_or classes k 0) c))

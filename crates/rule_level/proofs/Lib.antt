@@ -5,6 +5,5 @@ pub mod Ties
 pub mod Steps
 pub mod Above
 pub mod LevelUnits
-pub mod ClassSets
 pub mod Limits
 pub mod ClassTurns

@@ -1,8 +1,7 @@
 ghost use Rattle.clr_net.specs.Division.{AreClasses, class_claims, next_of, share};
 ghost use Rattle.rule_class.specs.Sharing.{cleared_class};
-ghost use Rattle.clr_net.specs.declared.TheConstants.{MAX_CLASS};
+ghost use Rattle.clr_net.specs.declared.TheConstants.{MAX_CLASS, MAX_OWED};
 ghost use Rattle.clr_net.specs.declared.rule.RuleKind.TheVariants.{Order};
-ghost use Rattle.rule_class.specs.declared.TheConstants.{MAX_CLAIMS};
 ghost use Rattle.rule_unit.specs.Awards.{IsWithin};
 ghost use Rattle.rule_unit.specs.Units.{awards_after};
 ghost use Rattle.rule_unit.specs.declared.TheConstants.{MAX_CLAIM};
@@ -22,7 +21,7 @@ pub fn share_by_level(kind: RuleKind, claims: &[u64], classes: &[u8], estate: u6
     requires a_class_each { length claims.now ≡ length classes.now }
     requires a_place_each { length into.old ≡ length claims.now }
     requires limit { All (λ c. c ≤ MAX_CLAIM) claims.now }
-    requires total { sum claims.now ≤ MAX_CLAIMS }
+    requires total { sum claims.now ≤ MAX_OWED }
     requires classed { AreClasses classes.now 1 MAX_CLASS }
     ensures { into.new ≡ share kind claims.now classes.now estate }
 {
@@ -38,7 +37,7 @@ fn by_levels(kind: RuleKind, claims: &[u64], classes: &[u8], estate: u64, into: 
     requires a_class_each { length claims.now ≡ length classes.now }
     requires a_place_each { length into.old ≡ length claims.now }
     requires limit { All (λ c. c ≤ MAX_CLAIM) claims.now }
-    requires total { sum claims.now ≤ MAX_CLAIMS }
+    requires total { sum claims.now ≤ MAX_OWED }
     requires classed { AreClasses classes.now 1 MAX_CLASS }
     ensures { into.new ≡ share kind claims.now classes.now estate }
 {
@@ -63,7 +62,7 @@ fn one_class(
     requires a_class_each { length claims.now ≡ length classes.now }
     requires within { IsWithin claims.now into.old }
     requires limit { All (λ c. c ≤ MAX_CLAIM) claims.now }
-    requires total { sum claims.now ≤ MAX_CLAIMS }
+    requires total { sum claims.now ≤ MAX_OWED }
     requires first { 1 ≤ class }
     requires met { 0 < left → into.old ≡ claims.now }
     ensures given_out { into.new ≡ awards_after (next_of kind) claims.now

@@ -1,6 +1,6 @@
 ghost use Rattle.clr_net.specs.Division.{class_claims};
-ghost use Rattle.rule_class.specs.declared.TheConstants.{MAX_CLAIMS};
-ghost use Rattle.rule_level.specs.ClassSet.{IsClassSet};
+ghost use Rattle.clr_net.specs.declared.TheConstants.{MAX_OWED};
+ghost use Rattle.rule_class.specs.ClassSet.{IsClassSet};
 ghost use Rattle.rule_level.specs.Levels.{at_level, awards_above, class_units, step_at};
 ghost use Rattle.rule_level.specs.declared.TheConstants.{MAX_LEVEL};
 ghost use Rattle.rule_unit.specs.declared.TheConstants.{MAX_CLAIM};
@@ -54,7 +54,7 @@ fn more_at(kind: RuleKind, level: u64, claim: u64, left: u64) -> u64
 pub fn units_at(kind: RuleKind, claims: &[u64], classes: &[u8], class: u8, level: u64) -> u64
     requires a_class_each { length claims.now ≡ length classes.now }
     requires limit { All (λ c. c ≤ MAX_CLAIM) claims.now }
-    requires total { sum claims.now ≤ MAX_CLAIMS }
+    requires total { sum claims.now ≤ MAX_OWED }
     requires level { level ≤ MAX_LEVEL }
     ensures { result ≡ class_units kind level class claims.now classes.now }
 {

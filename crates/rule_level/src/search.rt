@@ -1,7 +1,7 @@
 // The search for the level at which the units for the debts of one class end.
 ghost use Rattle.clr_net.specs.Division.{class_claims};
 ghost use Rattle.clr_net.specs.declared.rule.RuleKind.TheVariants.{Order};
-ghost use Rattle.rule_class.specs.declared.TheConstants.{MAX_CLAIMS};
+ghost use Rattle.clr_net.specs.declared.TheConstants.{MAX_OWED};
 ghost use Rattle.rule_level.specs.Levels.{at_level, class_units};
 ghost use Rattle.rule_level.specs.declared.TheConstants.{MAX_LEVEL};
 ghost use Rattle.rule_unit.specs.declared.TheConstants.{MAX_CLAIM};
@@ -73,7 +73,7 @@ pub fn level_for(
     requires has_levels { kind ≢ Order }
     requires a_class_each { length claims.now ≡ length classes.now }
     requires limit { All (λ c. c ≤ MAX_CLAIM) claims.now }
-    requires total { sum claims.now ≤ MAX_CLAIMS }
+    requires total { sum claims.now ≤ MAX_OWED }
     requires first { 1 ≤ class }
     requires claimed { total ≡ sum (class_claims class claims.now classes.now) }
     requires short { units ≤ total }

@@ -1,6 +1,5 @@
 ghost use Rattle.clr_net.specs.Division.{AreClasses};
-ghost use Rattle.clr_net.specs.declared.TheConstants.{MAX_CLASS};
-ghost use Rattle.rule_class.specs.declared.TheConstants.{MAX_CLAIMS};
+ghost use Rattle.clr_net.specs.declared.TheConstants.{MAX_CLASS, MAX_OWED};
 ghost use Rattle.rule_unit.specs.declared.TheConstants.{MAX_CLAIM};
 ghost use Rattle.std.specs.Prelude.{◌≤◌, All, sum};
 
@@ -15,7 +14,7 @@ const FIRST: [u8; 3] = [1, 1, 1];
 // What three debts get of an estate, by levels.
 fn by_level(kind: RuleKind, claims: [u64; 3], classes: [u8; 3], estate: u64) -> [u64; 3]
     requires limit { All (λ c. c ≤ MAX_CLAIM) claims }
-    requires total { sum claims ≤ MAX_CLAIMS }
+    requires total { sum claims ≤ MAX_OWED }
     requires classed { AreClasses classes 1 MAX_CLASS }
 {
     let mut into = [9; 3];
@@ -26,7 +25,7 @@ fn by_level(kind: RuleKind, claims: [u64; 3], classes: [u8; 3], estate: u64) -> 
 // What they get unit by unit.
 fn by_units(kind: RuleKind, claims: [u64; 3], classes: [u8; 3], estate: u64) -> [u64; 3]
     requires limit { All (λ c. c ≤ MAX_CLAIM) claims }
-    requires total { sum claims ≤ MAX_CLAIMS }
+    requires total { sum claims ≤ MAX_OWED }
     requires classed { AreClasses classes 1 MAX_CLASS }
 {
     let mut into = [9; 3];
@@ -44,7 +43,7 @@ fn by_units(kind: RuleKind, claims: [u64; 3], classes: [u8; 3], estate: u64) -> 
 // Whether the two divisions of these estates are the same by each rule.
 fn agree(claims: [u64; 3], classes: [u8; 3], estates: [u64; 4]) -> bool
     requires limit { All (λ c. c ≤ MAX_CLAIM) claims }
-    requires total { sum claims ≤ MAX_CLAIMS }
+    requires total { sum claims ≤ MAX_OWED }
     requires classed { AreClasses classes 1 MAX_CLASS }
 {
     let kinds = [

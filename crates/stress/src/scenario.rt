@@ -46,7 +46,7 @@ impl Losses {
         }
     }
 
-    /// Adds a loss at the end. Without memory the list is as it was.
+    /// Adds a loss at the end. `Mem` for want of memory alone; the list is then as it was.
     pub fn push(&mut self, loss: Loss) -> Result<(), Mem>
         ensures ok { OnOk result (self.new ≡ self.old ++ loss ∷ []) }
         ensures err { OnErr result (self.new ≡ self.old) }

@@ -17,7 +17,8 @@ use Rattle.clear_core.proofs.Pay.{length-pay}
 use Rattle.clear_core.proofs.Rows.{claim_in_limit}
 use Rattle.cascade.specs.Standings.{due}
 use Rattle.cascade.proofs.Equities.{equities_are_one}
-use Rattle.upper.specs.Bounds.{all_claims, falling, greatest, wave, waves, FallsShort, HoldsBefore, IsGreatest, IsWave, EquitiesAreFixed, WavesTellHealth}
+use Rattle.clr_net.specs.Claims.{all_claims}
+use Rattle.upper.specs.Bounds.{falling, greatest, wave, waves, FallsShort, HoldsBefore, IsGreatest, IsWave, EquitiesAreFixed, WavesTellHealth}
 use Rattle.upper.specs.Descent.{IsWaveTo, AreWavesTo, AreMarked}
 use Rattle.upper.proofs.Tops.{falling_falls, falling_back, falling_settled, greatest_rounds}
 use Rattle.upper.proofs.Waves.{wave_is, wave_known, wave_tells}

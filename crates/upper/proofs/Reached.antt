@@ -10,7 +10,8 @@ use Rattle.clr_net.proofs.Lists.{zeros_at}
 use Rattle.clear_core.specs.Clearing.{pay, part, receipts, estate, Clears}
 use Rattle.cascade.specs.Standings.{due}
 use Rattle.clear_core.proofs.Pay.{pay_at}
-use Rattle.upper.specs.Bounds.{all_claims, greatest, waves}
+use Rattle.clr_net.specs.Claims.{all_claims}
+use Rattle.upper.specs.Bounds.{greatest, waves}
 use Rattle.upper.specs.Descent.{AreCurrent, HaveEnough, AreMarked, AreNoted, AreWavesTo}
 use Rattle.upper.specs.Falls.{bank_at, AreHit}
 use Rattle.upper.proofs.Descents.{IsDown, down_first, down_more, down_ends, waves_none, waves_more, waves_end}

@@ -12,7 +12,8 @@ use Rattle.clear_core.specs.Rounds.{rounds_of}
 use Rattle.clear_core.proofs.Pay.{length-pay, pay_within}
 use Rattle.clear_core.proofs.Settling.{rounds_fall, rounds_above, falling_settles, settled_stays, pay_is_paying}
 use Rattle.cascade.proofs.Equities.{estate_mono}
-use Rattle.upper.specs.Bounds.{IsGreatest, all_claims, falling, greatest}
+use Rattle.clr_net.specs.Claims.{all_claims}
+use Rattle.upper.specs.Bounds.{IsGreatest, falling, greatest}
 
 -- no debt is paid more than its claim
 pub pay_le_claims : (net : Net) (P : List ℕ) → IsAtMost (pay net P) (all_claims net)

@@ -18,7 +18,8 @@ use Rattle.cascade.proofs.Sums.{sum_by_same}
 use Rattle.cascade.proofs.Limits.{estate_le_worth}
 use Rattle.cascade.proofs.PayingOut.{paid_is}
 use Rattle.cascade.proofs.Healths.{sound_enough, enough_sound, fundamental_below, below_fundamental}
-use Rattle.upper.specs.Bounds.{all_claims, falling, greatest, FallsShort, HoldsBefore, wave, IsWave, TellsHealth}
+use Rattle.clr_net.specs.Claims.{all_claims}
+use Rattle.upper.specs.Bounds.{falling, greatest, FallsShort, HoldsBefore, wave, IsWave, TellsHealth}
 use Rattle.upper.proofs.Tops.{falling_settled, greatest_clears, estate_le_falling}
 
 -- what is found among the rounds, counted from 1, is the wave

@@ -1,25 +1,23 @@
 -- The greatest payments that clear a network, and the round in which each bank falls on the way
 -- down to them.
-use Rattle.std.specs.Prelude.{◌≡◌, ◌↔◌, ℕ, ◌+◌, ◌<◌, ◌≤◌, nat_lt, List, length, map, find, slice_index}
+use Rattle.std.specs.Prelude.{◌≡◌, ◌≢◌, ◌↔◌, ℕ, ◌+◌, ◌<◌, ◌≤◌, ◌==◌, ◌&&◌, nat_lt, Bool, true, List, length, map, map, find, slice_index}
 use Rattle.std.specs.List.{range_with_len}
 use Rattle.std.specs.Option.{option_map_or}
 use Rattle.clr_net.specs.Amounts.{IsAtMost}
+use Rattle.clr_net.specs.Claims.{all_claims}
 use Rattle.clr_net.specs.Net.{Net, units_owed}
 use Rattle.clear_core.specs.Clearing.{pay, estate, Clears, least}
 use Rattle.clear_core.specs.Rounds.{rounds_of}
+use Rattle.cascade.specs.declared.standing.Health.{Health}
 use Rattle.cascade.specs.declared.standing.Health.TheVariants as health
-use Rattle.cascade.specs.Standings.{bank_numbers, due, equity, health_of, outside_paid}
+use Rattle.cascade.specs.Standings.{bank_numbers, due, equity, health_of, is_default, outside_paid}
 
 -- the greatest payments that clear the network: no payments that clear are anywhere above them
 pub record IsGreatest (net : Net) (P : List ℕ) : Type 0 where
   pub clears : Clears net P
   pub greatest : (Q : List ℕ) → Clears net Q → IsAtMost Q P
 
--- all debts paid in full
-abbrev pub all_claims : Net → List ℕ
-all_claims net = map (λ d. d.claim) net.debts
-
--- the payments after n rounds from there, in each of which all banks pay at once
+-- the payments after n rounds from all debts paid in full, in each of which all banks pay at once
 abbrev pub falling : Net → ℕ → List ℕ
 falling net n = rounds_of (pay net) (all_claims net) n
 
@@ -52,6 +50,21 @@ wave net i = option_map_or (λ n. n + 1)
 -- the waves of all banks, in file order
 abbrev pub waves : Net → List ℕ
 waves net = map (wave net) (bank_numbers net)
+
+-- a bank that stands so under the least payments, and whose wave is w, is in gridlock: it is in
+-- default there, and never falls short on the way to the greatest
+abbrev pub is_gridlocked : Health → ℕ → Bool
+is_gridlocked h w = is_default h && (w == 0)
+
+-- whether each bank is in gridlock, in file order
+abbrev pub gridlocked : Net → List Bool
+gridlocked net = map (λ i. is_gridlocked (health_of net (least net) i) (wave net i)) (bank_numbers net)
+
+-- a bank is in gridlock exactly where it is in default under the least payments and sound under the
+-- greatest
+abbrev pub IsGridlock : Net → ℕ → Type 0
+IsGridlock net i = (is_gridlocked (health_of net (least net) i) (wave net i) ≡ true)
+    ↔ ((health_of net (least net) i ≢ health.Sound) × (health_of net (greatest net) i ≡ health.Sound))
 
 -- waves tell how banks stand: a bank's is 1 exactly where its own fundamentals are at fault under
 -- the least payments, and 0 exactly where it is sound under the greatest

@@ -1,5 +1,5 @@
 -- Worked cases of the greatest payments and of waves.
-use Rattle.std.specs.Prelude.{◌≡◌, ℕ, [], ◌∷◌, codes, refl}
+use Rattle.std.specs.Prelude.{◌≡◌, ℕ, true, false, [], ◌∷◌, codes, refl}
 use Rattle.clr_net.specs.declared.rule.RuleKind.TheVariants as kind
 use Rattle.clr_net.specs.Net.{Net}
 use Rattle.clr_net.specs.Samples.{bank, debt, chain}
@@ -8,7 +8,7 @@ use Rattle.clr_net.specs.Division.{share_by_from}
 use Rattle.clear_core.specs.Clearing.{pay, rounds, least}
 use Rattle.clear_core.specs.Rounds.{rounds_of}
 use Rattle.net_samples.specs.Networks.{ruled}
-use Rattle.upper.specs.Bounds.{greatest, waves}
+use Rattle.upper.specs.Bounds.{greatest, gridlocked, waves}
 
 -- A falls at once, and B after it
 pub chain_greatest : greatest chain ≡ 7 ∷ 8 ∷ []
@@ -37,6 +37,15 @@ gridlock_greatest = refl
 pub gridlock_waves : waves gridlock ≡ 0 ∷ 0 ∷ []
 unfolding awards_after share_by_from pay rounds_of
 gridlock_waves = refl
+
+-- so both are in gridlock, and no bank of the chain is
+pub gridlock_gridlocked : gridlocked gridlock ≡ true ∷ true ∷ []
+unfolding awards_after share_by_from pay rounds rounds_of
+gridlock_gridlocked = refl
+
+pub chain_gridlocked : gridlocked chain ≡ false ∷ false ∷ false ∷ []
+unfolding awards_after share_by_from pay rounds rounds_of
+chain_gridlocked = refl
 
 -- the chain, where A owes a units outside and C owes 2
 abbrev outside_chain : ℕ → Net

@@ -1,7 +1,8 @@
 ghost use Rattle.clear_core.specs.Buffers.{HasRoom};
 ghost use Rattle.clr_net.specs.Limits.{IsNetwork};
 ghost use Rattle.std.specs.Prelude.{◌≡◌, IfOk, OnOk, length, replicate};
-ghost use Rattle.upper.specs.Bounds.{EquitiesAreFixed, IsGreatest, WavesTellHealth, all_claims};
+ghost use Rattle.clr_net.specs.Claims.{all_claims};
+ghost use Rattle.upper.specs.Bounds.{EquitiesAreFixed, IsGreatest, WavesTellHealth};
 ghost use Rattle.upper.specs.Bounds.{greatest, waves as waves_of};
 
 use crate::bounds::Upper;

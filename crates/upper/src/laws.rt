@@ -3,7 +3,7 @@
 ghost use Rattle.clr_net.specs.Limits.{IsNetwork};
 ghost use Rattle.clr_net.specs.Net.{Net};
 ghost use Rattle.std.specs.Prelude.{◌≡◌, ℕ, List};
-ghost use Rattle.upper.specs.Bounds.{IsGreatest, IsWave, TellsHealth, greatest, wave};
+ghost use Rattle.upper.specs.Bounds.{IsGreatest, IsGridlock, IsWave, TellsHealth, greatest, wave};
 
 /// The payments after as many rounds as units are owed, from all debts paid in full, clear, and are
 /// at least all that clear (Eisenberg and Noe 2001).
@@ -33,4 +33,10 @@ pub fn wave_is_the_only_one()
 /// 0 exactly where it is sound under the greatest.
 pub fn wave_tells_health()
     ensures { (net : Net) (i : ℕ) → IsNetwork net → TellsHealth net i (wave net i) }
+{}
+
+/// A bank is in gridlock exactly where it is in default under the least payments and sound under the
+/// greatest: all that it lacks is that the banks round it pay.
+pub fn gridlock_is_default_that_the_greatest_mend()
+    ensures { (net : Net) (i : ℕ) → IsNetwork net → IsGridlock net i }
 {}

@@ -1,11 +1,12 @@
-ghost use Rattle.cascade.specs.Standings.{due};
+ghost use Rattle.cascade.specs.Standings.{due as due_of};
 ghost use Rattle.clear_core.specs.Buffers.{AreInLimit};
 ghost use Rattle.clear_core.specs.Clearing.{estate};
 ghost use Rattle.std.specs.Prelude.{◌≡◌, ◌<◌, ◌↔◌, IsTrue, length};
 ghost use Rattle.upper.specs.Descent.{AreMarked, HaveEnough};
 
 use crate::falls::Falls;
-use clear_core::receipts_of;
+use cascade::due;
+use clear_core::estate_of;
 use clr_net::{BankId, Network};
 
 // Gives each bank that has no wave yet, and less than all that it owes, this round as its wave.
@@ -31,11 +32,8 @@ fn is_short(net: &Network, bank: BankId, paid: &[u64]) -> bool
     requires bank { bank.0 < length net.now.banks }
     requires paid { length paid.now ≡ length net.now.debts }
     requires paid_in_limit { AreInLimit paid.now }
-    ensures { IsTrue result ↔ (estate net.now paid.now bank.0 < due net.now bank.0) }
+    ensures { IsTrue result ↔ (estate net.now paid.now bank.0 < due_of net.now bank.0) }
 {
     prove!(bank.0 < net.banks());
-    let received = receipts_of(net, bank, paid);
-    let owed = net.owed_by(bank);
-    let owner = net.bank(bank);
-    owner.cash + received < owed + owner.outside
+    estate_of(net, bank, paid) < due(net, bank)
 }

@@ -1,7 +1,7 @@
 use crate::plain::by_plain_rounds;
 use crate::upper;
 use clr_net::{Mem, Network, RuleKind};
-use net_samples::{add_bank, add_debt, add_ruled, chain};
+use net_samples::{add_bank, add_debt, add_ruled, chain, digest, twelve_banks, woven};
 use std::alloc::Global;
 use std::test::Fail;
 
@@ -77,5 +77,20 @@ fn leaving_banks_out_of_rounds_changes_nothing(rt: HostRuntime) -> Result<(), Fa
         assert_eq!(rt; found.greatest.as_slice(), plain.greatest.as_slice());
         assert_eq!(rt; found.waves.as_slice(), plain.waves.as_slice());
     }
+    Ok(())
+}
+
+#[test]
+fn larger_networks_are_gone_over_whole(rt: HostRuntime) -> Result<(), Fail> {
+    let alloc = rt.alloc();
+    let found = upper(alloc, &twelve_banks(alloc)?)?;
+    assert_eq!(rt; digest(found.greatest.as_slice()), 121_451_706);
+    assert_eq!(rt;
+        found.waves.as_slice(),
+        [0, 2, 0, 1, 2, 0, 0, 0, 1, 0, 0, 0].as_slice()
+    );
+    let found = upper(alloc, &woven(alloc, 200)?)?;
+    assert_eq!(rt; digest(found.greatest.as_slice()), 5_606_023);
+    assert_eq!(rt; digest(found.waves.as_slice()), 7_460);
     Ok(())
 }

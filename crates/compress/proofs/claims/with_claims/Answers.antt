@@ -1,8 +1,8 @@
 use Rattle.std.proofs.Common.{get_or, sym, ap, ◌∙◌, arith}
 use Rattle.clr_net.specs.Net.{with_bank, with_debt}
 use Rattle.clr_net.proofs.Copies.{ok_told, next_bank_is_new, next_debt_is_new, bank_copied, debt_copied, debts_copied, first_banks}
-use Rattle.compress.specs.Claims.{of_claim, with_claims}
-use Rattle.compress.proofs.LowerClaims.{length-of_claims, lower_is_network, lower_read}
+use Rattle.clr_net.specs.Claims.{of_claim, with_claims}
+use Rattle.clr_net.proofs.LowerClaims.{length-of_claims, lower_is_network, lower_read}
 use Rattle.compress.proofs.claims.with_claims.Goals as goal
 
 pub add_bank-requires-clause-new_name : goal.add_bank-requires-clause-new_name

@@ -1,6 +1,6 @@
 use Rattle.std.proofs.Common.{◌≡◌}
 use Rattle.clr_net.proofs.Copies.{first_banks, first_debts}
-use Rattle.compress.specs.Claims.{with_claims}
+use Rattle.clr_net.specs.Claims.{with_claims}
 use Rattle.compress.proofs.claims.with_claims.Given as goal
 
 abbrev pub invariant-loop-bank : goal.invariant-loop-bank

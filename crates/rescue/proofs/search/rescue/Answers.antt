@@ -51,7 +51,7 @@ loop-low-init c =
     record {
       searched = search_begins net i c.banks.ensures.network c.bank.result.now c.bank.ensures
           c.requires.bank _ c.in_ok-known.known
-          (omega (arith, c.saturating_sub-high.ensures, c.owes.ensures))
+          (omega (arith, c.saturating_sub-high.ensures, c.due.ensures))
           (c.in_ok-known.ensures ∙ c.requires.least);
       differ = λ d. ap (λ n. with_cash n i d) c.in_ok-more.ensures;
     }

@@ -2,6 +2,8 @@ use Rattle.std.proofs.Common.{◌+◌, ◌-◌, ap, ◌∙◌, sum, sym, subst, 
 use Rattle.std.proofs.lemmas.List.{take_all}
 use Rattle.clr_net.specs.Division.{class_claims}
 use Rattle.clr_net.proofs.Classes.{length-class_claims}
+use Rattle.rule_class.specs.ByOrder.{fill}
+use Rattle.rule_class.proofs.ClassSets.{all_set}
 use Rattle.rule_class.proofs.OrderClasses.{IsFilling, filling_takes, filling_skips}
 use Rattle.rule_class.proofs.order.fill_class.Goals.{then-classes-place, else-classes-place}
 use Rattle.rule_class.proofs.order.fill_class.Goals as goal
@@ -28,3 +30,8 @@ returns-clause-left c =
     let own = class_claims c.args.class c.args.claims.now c.args.classes.now in
     c.loop-place.invariant.left_is
     ∙ ap (λ xs. c.args.estate - sum xs) (take_all c.loop-place.place own (omega (arith, length-class_claims c.args.class c.args.claims.now c.args.classes.now)))
+
+pub returns-clause-filled : goal.returns-clause-filled
+returns-clause-filled c =
+    all_set c.args.class c.args.classes.now (fill (class_claims c.args.class c.args.claims.now c.args.classes.now) c.args.estate)
+    c.args.into.now c.loop-place.place c.loop-place.into c.requires.positive (omega arith) c.loop-place.invariant.filled

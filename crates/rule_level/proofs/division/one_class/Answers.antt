@@ -3,7 +3,7 @@ use Rattle.clr_net.specs.Division.{class_claims, next_of}
 use Rattle.rule_class.specs.Sharing.{cleared_class}
 use Rattle.rule_unit.specs.Awards.{IsWithin}
 use Rattle.rule_unit.specs.Units.{awards_after}
-use Rattle.rule_level.specs.ClassSet.{IsClassSet}
+use Rattle.rule_class.specs.ClassSet.{IsClassSet}
 use Rattle.rule_level.specs.Levels.{awards_above}
 use Rattle.rule_level.proofs.ClassTurns.{full_turn, turned_within, level_turn}
 use Rattle.rule_level.proofs.Limits.{class_claim_in_limit}

@@ -5,7 +5,7 @@ use Rattle.clr_net.specs.Division.{class_claims}
 use Rattle.clr_net.proofs.Classes.{class_claims_here, class_claims_other, length-class_claims}
 use Rattle.rule_level.specs.Levels.{at_level, awards_above, step_at}
 use Rattle.rule_level.proofs.Above.{above_at}
-use Rattle.rule_level.proofs.ClassSets.{IsClassSetTo, all_set, none_set, set_here, set_not_here}
+use Rattle.rule_class.proofs.ClassSets.{IsClassSetTo, all_set, none_set, set_here, set_not_here}
 use Rattle.rule_level.proofs.Limits.{class_claim_in_limit}
 use Rattle.rule_level.proofs.Steps.{step_of_none, steps_at}
 use Rattle.rule_level.proofs.level.set_awards.Goals.{then-classes-debt, else-classes-debt}

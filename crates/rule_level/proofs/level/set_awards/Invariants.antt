@@ -1,7 +1,7 @@
 use Rattle.std.proofs.Common.{◌≡◌, ◌-◌, map, sum, take}
 use Rattle.clr_net.specs.Division.{class_claims}
 use Rattle.rule_level.specs.Levels.{awards_above, step_at}
-use Rattle.rule_level.proofs.ClassSets.{IsClassSetTo}
+use Rattle.rule_class.proofs.ClassSets.{IsClassSetTo}
 use Rattle.rule_level.proofs.level.set_awards.Given as goal
 
 abbrev pub invariant-loop-debt : goal.invariant-loop-debt

@@ -7,8 +7,7 @@ use Rattle.clr_net.specs.declared.debt.Debt.{Debt}
 use Rattle.clr_net.specs.Limits.{IsNetwork}
 use Rattle.clr_net.specs.Net.{Net, debtor_of, creditor_of, class_of, claim_of, units_owed}
 use Rattle.clr_net.proofs.Lists.{sum-le}
-use Rattle.compress.specs.Claims.{of_claim, of_claims, with_claims}
-use Rattle.compress.specs.Compression.{all_claims}
+use Rattle.clr_net.specs.Claims.{all_claims, of_claim, of_claims, with_claims}
 
 -- the debt in a place has the claim in this place
 pub claim_set : (C : List ℕ) (ds : List Debt) (x : ℕ) → length C ≡ length ds

@@ -2,7 +2,7 @@ use Rattle.std.proofs.Common.{ap, arith}
 use Rattle.std.specs.Option.{option_map_or}
 use Rattle.clr_net.specs.declared.bank.Bank.{Bank}
 use Rattle.clr_net.proofs.RowsAndColumns.{sum-claims_of_le}
-use Rattle.costs.proofs.kept.due.Goals as goal
+use Rattle.cascade.proofs.owing.due.Goals as goal
 
 pub overflow_add-result : goal.overflow_add-result
 overflow_add-result c =

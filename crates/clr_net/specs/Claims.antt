@@ -1,7 +1,11 @@
--- A network with other claims.
-use Rattle.std.specs.Prelude.{ℕ, List, [], ◌∷◌}
+-- The claims of a network, and a network with other claims.
+use Rattle.std.specs.Prelude.{ℕ, List, [], ◌∷◌, map}
 use Rattle.clr_net.specs.declared.debt.Debt.{Debt}
 use Rattle.clr_net.specs.Net.{Net}
+
+-- the claim of each debt, in file order
+abbrev pub all_claims : Net → List ℕ
+all_claims net = map (λ d. d.claim) net.debts
 
 -- the debt with this claim
 abbrev pub of_claim : ℕ → Debt → Debt

@@ -2,12 +2,11 @@ use Rattle.std.proofs.Common.{get_or, ap, arith}
 use Rattle.std.proofs.lemmas.List.Sums.{sum_by_more}
 use Rattle.clr_net.specs.Net.{column, claim_of}
 use Rattle.clear_core.proofs.Rows.{as_many_numbers, number_at, debt_of_column, length-column_le, claim_in_limit, claim_read}
-use Rattle.costs.proofs.standings.worth.Goals as goal
+use Rattle.cascade.proofs.owing.worth.Goals as goal
 
 pub debt-total-requires : goal.debt-total-requires
 debt-total-requires c =
-    debt_of_column c.args.net.now c.args.bank.0 c.column-id-items.result.now c.loop-id.id-index
-    (record { 0 = 0 }) c.column-id-items.ensures (omega arith)
+    debt_of_column c.args.net.now c.args.bank.0 c.column-id-items.result.now c.loop-id.id-index (record { 0 = 0 }) c.column-id-items.ensures (omega arith)
 
 pub overflow_add-total : goal.overflow_add-total
 overflow_add-total c =
@@ -31,8 +30,7 @@ loop-id-preserved c =
     let k = c.loop-id.id-index in
     let x = (get_or ids k (record { 0 = 0 })).0 in
     let at = number_at ids ns k (record { 0 = 0 }) c.column-id-items.ensures (omega arith) in
-    let as_many = as_many_numbers ids ns c.column-id-items.ensures in
-    let more = sum_by_more (claim_of net) ns k 0 (omega (arith, as_many)) in
+    let more = sum_by_more (claim_of net) ns k 0 (omega (arith, as_many_numbers ids ns c.column-id-items.ensures)) in
     let read = claim_read net x c.debt-total.result c.debt-total.ensures in
     record {
       total_is = omega (arith, more, ap (claim_of net) at, read, c.loop-id.invariant.total_is);

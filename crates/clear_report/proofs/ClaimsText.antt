@@ -1,0 +1,53 @@
+-- The text of some claims is the debts file of the network with these claims.
+use Rattle.std.proofs.Common.{◌≡◌, ℕ, zero, suc, ◌+◌, List, [], ◌∷◌, ◌++◌, length, get_or, slice_get, Option, Some, None, refl, sym, ap, ◌∙◌, subst, arith, Ok}
+use Rattle.std.specs.List.{flat_map, range_with_len}
+use Rattle.std.specs.Option.{option_map}
+use Rattle.clr_net.specs.Amounts.{IsAtMost}
+use Rattle.clr_net.specs.Claims.{all_claims, of_claim, of_claims, with_claims}
+use Rattle.clr_net.specs.Limits.{IsNetwork}
+use Rattle.clr_net.specs.Lines.{line}
+use Rattle.clr_net.specs.Net.{Net}
+use Rattle.clr_net.specs.declared.debt.Debt.{Debt}
+use Rattle.clr_net.proofs.LowerClaims.{claim_set, length-of_claims, lower_is_network}
+use Rattle.net_csv.specs.Printing.{KeepsNames, banks_text, debt_line, debts_text}
+use Rattle.net_csv.specs.Reading.{debts_header, network_of}
+use Rattle.net_csv.proofs.ReadBack.{printed_is_read_back}
+use Rattle.clear_report.specs.Compression.{claim_line, claims_text}
+
+-- what is written number by number, from a on, is what is written debt by debt
+by_number : (f : ℕ → List ℕ) (g : Debt → List ℕ) (ds : List Debt) (a : ℕ)
+    → ((k : ℕ) (d : Debt) → slice_get ds k ≡ Some d → f (a + k) ≡ g d)
+    → flat_map f (range_with_len a (length ds)) ≡ flat_map g ds
+by_number f g [] a h = refl
+by_number f g (d ∷ ds) a h =
+    let here : f a ≡ g d = ap f (omega arith) ∙ h 0 d refl in
+    let rest = by_number f g ds (a + 1) (λ k e at. ap f (omega arith) ∙ h (suc k) e at) in
+    cc
+
+-- the line of a debt with its new claim
+line_of : (net : Net) (C : List ℕ) (k : ℕ) (o : Option Debt) (e : Debt) → slice_get net.debts k ≡ o
+    → option_map (of_claim (get_or C k 0)) o ≡ Some e
+    → claim_line net C k ≡ debt_line (with_claims net C) e
+line_of net C k None e at is = absurd (cc)
+line_of net C k (Some d) e at is =
+    subst (λ x. claim_line net C k ≡ debt_line (with_claims net C) x) (some_is is) (rw (at) refl)
+  where
+    some_is : {a b : Debt} → Some a ≡ Some b → a ≡ b
+    some_is e = cc
+
+pub claims_text_is : (net : Net) (C : List ℕ) → length C ≡ length net.debts
+    → claims_text net C ≡ debts_text (with_claims net C)
+claims_text_is net C l =
+    ap (λ rows. line debts_header ++ rows)
+    (ap (λ n. flat_map (claim_line net C) (range_with_len 0 n)) (sym (length-of_claims C net.debts))
+    ∙ by_number (claim_line net C) (debt_line (with_claims net C)) (of_claims C net.debts) 0
+    (λ k e at. ap (claim_line net C) (omega arith)
+    ∙ line_of net C k (slice_get net.debts k) e refl (sym (claim_set C net.debts k l) ∙ at)))
+
+-- and it is read as that network
+pub claims_read_back : (net : Net) (C : List ℕ) → IsNetwork net → KeepsNames net
+    → length C ≡ length net.debts → IsAtMost C (all_claims net)
+    → network_of (banks_text net) (claims_text net C) ≡ Ok (with_claims net C)
+claims_read_back net C network names l within =
+    ap (network_of (banks_text net)) (claims_text_is net C l)
+    ∙ printed_is_read_back (with_claims net C) (lower_is_network net C network l within) names
