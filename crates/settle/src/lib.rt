@@ -11,7 +11,7 @@ mod work;
 pub use bells::nobody_can_pay_more;
 pub use drives::drive;
 pub use plan::{Driven, Plan};
-pub use runs::{Settled, settle, settle_from};
+pub use runs::{Settled, settle, settle_from, settle_owned, settle_owned_from};
 
 #[cfg(test)]
 mod tests;

@@ -31,7 +31,7 @@ fn one_unit_goes_round_a_ring(rt: HostRuntime) -> Result<(), Fail> {
         sealed,
         rounds,
         visits,
-    } = settle(&rt, alloc, net, plan, &OpenGate)?;
+    } = settle(&rt, alloc, &net, plan, &OpenGate)?;
     assert_eq!(rt; paid.as_slice(), [5, 5].as_slice());
     assert_eq!(rt; (rounds, visits), (6, 11));
     assert_eq!(rt; (sealed.made(), sealed.seats()), (10, 6));
@@ -56,7 +56,7 @@ fn every_plan_pays_the_same(rt: HostRuntime) -> Result<(), Fail> {
                 sealed,
                 rounds,
                 ..
-            } = settle(&rt, alloc, net.copy(alloc)?, plan, &OpenGate)?;
+            } = settle(&rt, alloc, &net, plan, &OpenGate)?;
             assert_eq!(rt; paid.as_slice(), [5, 5].as_slice());
             assert_eq!(rt; sealed.journal().len(), 10);
             assert_eq!(rt; sealed.seats(), rounds * workers as u64);
@@ -82,7 +82,7 @@ fn a_chain_takes_two_rounds(rt: HostRuntime) -> Result<(), Fail> {
         sealed,
         rounds,
         visits,
-    } = settle(&rt, alloc, net, plan, &OpenGate)?;
+    } = settle(&rt, alloc, &net, plan, &OpenGate)?;
     assert_eq!(rt; paid.as_slice(), [7, 8].as_slice());
     assert_eq!(rt; (rounds, visits), (2, 3));
     assert_eq!(rt; (sealed.made(), sealed.seats()), (2, 2));
@@ -102,7 +102,7 @@ fn no_bank_takes_one_round(rt: HostRuntime) -> Result<(), Fail> {
         rounds,
         visits,
         ..
-    } = settle(&rt, alloc, net, plan, &OpenGate)?;
+    } = settle(&rt, alloc, &net, plan, &OpenGate)?;
     assert_eq!(rt; paid.as_slice().len(), 0);
     assert_eq!(rt; (rounds, visits), (1, 0));
     Ok(())
@@ -193,7 +193,7 @@ fn two_workers_work_at_once(rt: HostRuntime) -> Result<(), Fail> {
         workers: 2,
         sweeps: 1,
     };
-    let Settled { paid, .. } = settle(&rt, alloc, net, plan, &gate)?;
+    let Settled { paid, .. } = settle(&rt, alloc, &net, plan, &gate)?;
     assert_eq!(rt; paid.as_slice(), [7, 8].as_slice());
     assert_eq!(rt; gate.met[0].load(Ordering::SeqCst), 1);
     assert_eq!(rt; gate.met[1].load(Ordering::SeqCst), 1);
@@ -226,7 +226,7 @@ fn a_run_goes_on_where_a_bank_has_more(rt: HostRuntime) -> Result<(), Fail> {
         sealed,
         rounds,
         ..
-    } = settle_from(&rt, alloc, net, plan, &past, &OpenGate)?;
+    } = settle_from(&rt, alloc, &net, plan, &past, &OpenGate)?;
     assert_eq!(rt; paid.as_slice(), [7, 9].as_slice());
     assert_eq!(rt; (rounds, sealed.made(), sealed.seats()), (2, 1, 2));
     let journal = sealed.journal();
@@ -326,7 +326,7 @@ fn is_cleared_by<R: Threads + Sync>(
     requires { (1 ≤ workers) × (workers ≤ 64) }
 {
     let plan = Plan { workers, sweeps: 2 };
-    let settled = settle(rt, alloc, net.copy(alloc)?, plan, &OpenGate)?;
+    let settled = settle(rt, alloc, net, plan, &OpenGate)?;
     let mut replayed = Amounts::zeros(alloc, net.debts() as usize)?;
     let mut scratch = Scratch::of(alloc, net)?;
     let journal = settled.sealed.journal();
