@@ -213,23 +213,22 @@ fn a_bell_is_up_where_a_payment_is_new(rt: HostRuntime) -> Result<(), Fail> {
 }
 
 #[test]
-fn a_worker_calls_the_desks_of_its_own_banks(rt: HostRuntime) -> Result<(), Fail> {
-    let mut calls = Calls::none(1, 3);
-    // Banks 4 and 301 are of the worker, at its desks 1 and 100; bank 5 is not.
-    for bank in [301, 5, 4] {
+fn the_only_worker_calls_the_desks_that_it_rang(rt: HostRuntime) -> Result<(), Fail> {
+    let mut calls = Calls::none(1);
+    for bank in [301, 4] {
         calls.call(bank);
     }
-    assert_eq!(rt; (calls.next(false, 0), calls.next(false, 2)), (1, 100));
+    assert_eq!(rt; (calls.next(false, 0), calls.next(false, 5)), (4, 301));
     assert_eq!(rt; calls.next(true, 0), 0);
-    calls.end(1);
-    assert_eq!(rt; calls.next(false, 0), 100);
+    calls.end(4);
+    assert_eq!(rt; calls.next(false, 0), 301);
     // There is no desk after it.
-    assert!(rt; calls.next(false, 101) >= 1_000);
-    calls.end(100);
+    assert!(rt; calls.next(false, 302) >= 1_000);
+    calls.end(301);
     assert!(rt; calls.is_empty());
-    // Of the only worker each bank is at the desk of its number.
-    let mut all = Calls::none(0, 1);
-    all.call(301);
-    assert_eq!(rt; all.next(false, 0), 301);
+    // A worker among several calls none.
+    let mut among = Calls::none(3);
+    among.call(4);
+    assert!(rt; among.is_empty());
     Ok(())
 }

@@ -6,8 +6,9 @@ ghost use Rattle.pay_words.specs.Words.{unpaid as unpaid_word};
 ghost use Rattle.raise_journal.specs.ReadBack.{IsInLimits};
 ghost use Rattle.raise_journal.specs.Verdicts.{judged};
 ghost use Rattle.settle.specs.Drives.{IsPlan};
-ghost use Rattle.settle.specs.Runs.{CanGoOn, IsRecordAfter, IsRecordOf, IsWithin, IsWithinAfter};
-ghost use Rattle.std.specs.Prelude.{◌≡◌, ◌<◌, ◌≤◌, All, IfOk, length, replicate, sum};
+ghost use Rattle.settle.specs.Runs.{CanGoOn, HasComeToRest, IsRecordAfter, IsRecordOf, IsWithin};
+ghost use Rattle.settle.specs.Runs.{IsWithinAfter};
+ghost use Rattle.std.specs.Prelude.{◌≡◌, ◌<◌, ◌≤◌, [], All, IfOk, length, replicate, sum};
 
 use crate::drives::drive;
 use crate::plan::{Driven, Plan};
@@ -53,6 +54,7 @@ pub fn settle<R: Threads + Sync, G: Gate + Sync>(
         IsRecordOf net.now plan s.rounds s.sealed) }
     ensures bounds { IfOk result (λ s.
         IsWithin net.now plan s.rounds s.visits (length s.sealed.journal)) }
+    ensures at_rest { IfOk result (λ s. HasComeToRest net.now [] plan s.paid s.rounds) }
 {
     settle_owned(rt, alloc, net.copy(alloc)?, plan, gate)
 }
@@ -81,6 +83,7 @@ pub fn settle_owned<R: Threads + Sync, G: Gate + Sync>(
         IsRecordOf net plan s.rounds s.sealed) }
     ensures bounds { IfOk result (λ s.
         IsWithin net plan s.rounds s.visits (length s.sealed.journal)) }
+    ensures at_rest { IfOk result (λ s. HasComeToRest net [] plan s.paid s.rounds) }
 {
     settle_owned_from(rt, alloc, net, plan, &[], gate)
 }
@@ -112,6 +115,7 @@ pub fn settle_from<R: Threads + Sync, G: Gate + Sync>(
         IsRecordAfter net.now past.now plan s.rounds s.sealed) }
     ensures bounds { IfOk result (λ s.
         IsWithinAfter net.now past.now plan s.rounds s.visits s.sealed.made) }
+    ensures at_rest { IfOk result (λ s. HasComeToRest net.now past.now plan s.paid s.rounds) }
 {
     settle_owned_from(rt, alloc, net.copy(alloc)?, plan, past, gate)
 }
@@ -142,6 +146,7 @@ pub fn settle_owned_from<R: Threads + Sync, G: Gate + Sync>(
         IsRecordAfter net past.now plan s.rounds s.sealed) }
     ensures bounds { IfOk result (λ s.
         IsWithinAfter net past.now plan s.rounds s.visits s.sealed.made) }
+    ensures at_rest { IfOk result (λ s. HasComeToRest net past.now plan s.paid s.rounds) }
 {
     prove!(net.banks() <= MAX_BANKS);
     let mut payments = payments_after(alloc, &net, past)?;

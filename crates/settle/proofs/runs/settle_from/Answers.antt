@@ -7,7 +7,7 @@ use Rattle.clr_net.specs.Net.{Net}
 use Rattle.raise_journal.specs.ReadBack.{IsInLimits}
 use Rattle.raise_journal.specs.Verdicts.{judged}
 use Rattle.raise_journal.specs.declared.verdict.Verdict.TheVariants as verdict
-use Rattle.settle.specs.Runs.{CanGoOn, IsRecordAfter, IsWithinAfter}
+use Rattle.settle.specs.Runs.{CanGoOn, HasComeToRest, IsRecordAfter, IsWithinAfter}
 use Rattle.settle.proofs.runs.settle_from.Goals as goal
 
 -- each clause is of a copy, which is the network
@@ -33,4 +33,5 @@ returns g c =
       can_go_on = subst (λ (m : Net). IfOk r (λ s. CanGoOn m s.sealed.journal)) e h.can_go_on;
       record_is = subst (λ (m : Net). IfOk r (λ s. IsRecordAfter m past plan s.rounds s.sealed)) e h.record_is;
       bounds = subst (λ (m : Net). IfOk r (λ s. IsWithinAfter m past plan s.rounds s.visits s.sealed.made)) e h.bounds;
+      at_rest = subst (λ (m : Net). IfOk r (λ s. HasComeToRest m past plan s.paid s.rounds)) e h.at_rest;
     }

@@ -30,6 +30,7 @@ returns-clause-bounds g c = of_both c.settle_owned_from.result
       few_rounds = omega (arith, h.rounds_in_bounds.few_rounds);
       visits_by_sweeps = h.visits_by_sweeps;
       visits_by_bells = omega (arith, h.visits_by_bells, r.made, ap length r.journal_is);
+      rounds_by_raises = omega (arith, h.rounds_by_raises, r.made, ap length r.journal_is);
     })
     c.settle_owned_from.ensures.record_is
     c.settle_owned_from.ensures.bounds

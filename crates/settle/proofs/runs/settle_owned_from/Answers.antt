@@ -10,6 +10,10 @@ use Rattle.pay_words.specs.Ends.{AreAfter, values}
 use Rattle.pay_words.specs.Sealed.{Sealed}
 use Rattle.pay_words.specs.Views.{opening}
 use Rattle.pay_words.proofs.Histories.{replayed_is}
+use Rattle.pay_words.specs.declared.view.Shown.{Shown}
+use Rattle.pay_words.specs.Traces.{start_of}
+use Rattle.settle.specs.Drives.{EndsAtRest}
+use Rattle.settle.proofs.Limits.{within_limits}
 use Rattle.settle.proofs.Finished.{after_a_past, goes_on, lawful_at_least, paid_over, sealed_belongs, values_shown, values_written}
 use Rattle.settle.proofs.runs.settle_owned_from.Goals as goal
 
@@ -45,6 +49,9 @@ returns g c =
     let least_paid : paid ≡ least net =
     written ∙ ap values seal.payments ∙ values_shown t (paid_over net t d.settled.net_is d.settled.paid) ∙ d.settled.paid in
     let replays : replayed net journal ≡ paid = replayed_is net journal ∙ ap values (sym belongs.start_is) ∙ sym written in
+    let low_stamps : All (λ r. r.stamp ≤ sum paid) journal = subst (λ js. All (λ (r : Raise). r.stamp ≤ sum paid) js) (sym noted)
+    (subst (λ P. All (λ (r : Raise). r.stamp ≤ sum P) (ordered rs)) (sym written) seal.low_in_order) in
+    let opened : c.in_ok-board.master.shows ≡ opening net (start_of net past) = c.in_ok-board.ensures.master.1 ∙ ap (opening net) (c.as_slice.ensures.value ∙ c.in_ok-payments.ensures) in
     let made : c.seal-sealed.result.made ≡ length t.raises = ap (λ (r : Sealed). r.made) seal.record_of in
     record {
       paid = least_paid;
@@ -52,8 +59,8 @@ returns g c =
       lawful = (belongs.stands, belongs.traced);
       replays = replays;
       in_order = belongs.in_order;
-      low_stamps = subst (λ js. All (λ (r : Raise). r.stamp ≤ sum paid) js) (sym noted)
-          (subst (λ P. All (λ (r : Raise). r.stamp ≤ sum P) (ordered rs)) (sym written) seal.low_in_order);
+      low_stamps = low_stamps;
+      within_limits = within_limits net journal paid c.banks.ensures.network belongs.stands replays least_paid low_stamps;
       can_go_on = goes_on net into journal belongs;
       record_is = record {
         net_is = ap (λ (r : Sealed). r.net) seal.record_of ∙ panel.0;
@@ -68,5 +75,11 @@ returns g c =
         rounds_in_bounds = d.bounds;
         visits_by_sweeps = c.in_ok-journal.ensures.few_visits;
         visits_by_bells = omega (arith, d.visits, seal.few_bells, ap (λ (m : Net). length m.banks) panel.0, made);
+        rounds_by_raises = omega (arith, d.rounds_by_raises, made);
+      };
+      at_rest = record {
+        master = t;
+        rounds_are = subst (λ (s : Shown). EndsAtRest net c.args.plan s t c.in_ok-journal.rounds) opened d.at_rest;
+        paid_is = d.settled.paid ∙ sym least_paid;
       };
     }
