@@ -13,7 +13,7 @@ use Rattle.settle.proofs.runs.settle_from.Goals as goal
 -- each clause is of a copy, which is the network
 pub settle_owned_from-requires-clause-past : goal.settle_owned_from-requires-clause-past
 settle_owned_from-requires-clause-past g c κs within =
-    subst (λ (m : Net). CanGoOn m c.args.past.now) (sym c.in_ok-net.ensures) c.requires.past
+    subst (λ (m : Net). CanGoOn m c.args.past.now) (sym c.in_ok-copy.ensures) c.requires.past
 
 pub returns : goal.returns
 returns g c =
@@ -21,7 +21,7 @@ returns g c =
     let plan = c.args.plan in
     let past = c.args.past.now in
     let h = c.settle_owned_from.ensures in
-    let e = c.in_ok-net.ensures in
+    let e = c.in_ok-copy.ensures in
     record {
       paid = subst (λ (m : Net). IfOk r (λ s. s.paid ≡ least m)) e h.paid;
       verdict = subst (λ (m : Net). IfOk r (λ s. (judged m s.sealed.journal).verdict ≡ verdict.Lawful)) e h.verdict;
