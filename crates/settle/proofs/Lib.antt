@@ -10,3 +10,4 @@ pub mod Finished
 pub mod AllDown
 pub mod Limits
 pub mod Resting
+pub mod ByHand

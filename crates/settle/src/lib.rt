@@ -3,6 +3,7 @@
 
 mod bells;
 mod drives;
+pub mod laws;
 mod plan;
 mod runs;
 mod teams;
