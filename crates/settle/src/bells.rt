@@ -67,6 +67,8 @@ pub fn round_and_ask<R: Threads + Sync, G: Gate + Sync>(
     ensures clears { IfOk result (λ down. down ≡ true → Clears net.now master.new.shows.paid) }
     ensures least { IfOk result (λ down. down ≡ true → master.new.shows.paid ≡ least net.now) }
 {
-    let _raised = round(rt, alloc, net, plan, board, master, gate, journal, offices, true)?;
+    let _raised = round(
+        rt, alloc, net, plan, board, master, gate, journal, offices, true,
+    )?;
     Ok(nobody_can_pay_more(net, board, master))
 }

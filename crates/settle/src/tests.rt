@@ -286,7 +286,11 @@ fn bells_of_two_workers_call_both(rt: HostRuntime) -> Result<(), Fail> {
         (1, [true, true, true], false),
     ];
     for (workers, up, wanted) in cases {
-        assert_eq!(rt; two_called(alloc, &net, workers, up)?, wanted, "{workers} of {up:?}");
+        assert_eq!(rt;
+            two_called(alloc, &net, workers, up)?,
+            wanted,
+            "{workers} of {up:?}"
+        );
     }
     Ok(())
 }
@@ -444,7 +448,11 @@ fn the_gate_is_told_the_worker_and_the_visit(rt: HostRuntime) -> Result<(), Fail
     assert_eq!(rt; (visits, gate.calls.load(Ordering::SeqCst)), (11, 11));
     // Two visits in each of five rounds and one in the last, numbered anew in each.
     for (place, told) in gate.told.iter().enumerate() {
-        let wanted = if place == 11 { 0 } else { 100 + place as u64 % 2 * 100 };
+        let wanted = if place == 11 {
+            0
+        } else {
+            100 + place as u64 % 2 * 100
+        };
         assert_eq!(rt; told.load(Ordering::SeqCst), wanted);
     }
     Ok(())
