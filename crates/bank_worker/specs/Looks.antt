@@ -1,8 +1,8 @@
 -- What looks at some debts change of what a seat shows.
-use Rattle.std.specs.Prelude.{◌≡◌, ◌≢◌, ℕ, ◌+◌, ◌<◌, ◌≤◌, true, false, List, length, slice_index}
+use Rattle.std.specs.Prelude.{◌≡◌, ◌≢◌, ℕ, ◌+◌, ◌<◌, ◌≤◌, ◌++◌, true, false, List, length, map, slice_index, take}
 use Rattle.clr_net.specs.Net.{creditor_of}
 use Rattle.pay_words.specs.declared.view.Shown.{Shown}
-use Rattle.pay_words.specs.Views.{IsOver, holds, is_marked}
+use Rattle.pay_words.specs.Views.{IsOver, holds, is_marked, look_at}
 use Rattle.bank_worker.specs.Rising.{Rises}
 
 -- the debts xs are owed to banks of the seat, and stand in file order
@@ -24,7 +24,7 @@ pub record HasSameSight (s t : Shown) (x : ℕ) : Type 0 where
   pub looks : slice_index t.looks x ≡ slice_index s.looks x
   pub pending : is_marked t.pending x ≡ is_marked s.pending x
 
--- the first n of the debts xs were looked at once each, and no other
+-- the first n of the debts xs were looked at once each, in order, and no other
 pub record IsLooked (s t : Shown) (xs : List ℕ) (n : ℕ) : Type 0 where
   pub over : IsOver t
   pub only : t ≡ record s {
@@ -33,6 +33,8 @@ pub record IsLooked (s t : Shown) (xs : List ℕ) (n : ℕ) : Type 0 where
     looks = t.looks;
     clock = t.clock;
     pending = t.pending;
+    acts = t.acts;
   }
+  pub in_order : t.acts ≡ s.acts ++ map look_at (take n xs)
   pub each : (k : ℕ) → k < n → IsSeenAt s t (slice_index xs k)
   pub others : (x : ℕ) → ((k : ℕ) → k < n → slice_index xs k ≢ x) → HasSameSight s t x

@@ -4,7 +4,7 @@ use Rattle.clr_net.specs.Net.{debtor_of}
 use Rattle.clear_core.specs.Clearing.{part, receipts}
 use Rattle.clear_core.specs.declared.event.Raise.{Raise}
 use Rattle.pay_words.specs.declared.view.Shown.{Shown}
-use Rattle.pay_words.specs.Views.{IsOver, holds, is_marked}
+use Rattle.pay_words.specs.Views.{IsOver, holds, is_marked, raise_of}
 use Rattle.bank_worker.specs.Rising.{Rises}
 
 -- the debts xs are owed by banks of the seat, and stand in file order
@@ -49,7 +49,9 @@ pub record IsRaised (s t : Shown) (xs ts : List ℕ) (n : ℕ) : Type 0 where
     clock = t.clock;
     raises = s.raises ++ made;
     owes_ring = t.owes_ring;
+    acts = t.acts;
   }
+  pub one_by_one : t.acts ≡ s.acts ++ map raise_of (debts_of made)
   pub each : (k : ℕ) → k < n → slice_index t.paid (slice_index xs k) ≡ slice_index ts k
   pub others : (x : ℕ) → ((k : ℕ) → k < n → slice_index xs k ≢ x) → HasSamePay s t x
   pub theirs : (j : ℕ) → j < length made

@@ -1,15 +1,17 @@
 -- What a visit and a round do.
-use Rattle.std.specs.Prelude.{◌≡◌, ◌≢◌, ◌⊎◌, ℕ, ◌+◌, ◌*◌, ◌<◌, ◌≤◌, ◌++◌, true, false, List, length, slice_index}
-use Rattle.clr_net.specs.Net.{creditor_of, debtor_of}
+use Rattle.std.specs.Prelude.{◌≡◌, ◌≢◌, ◌⊎◌, ℕ, ◌+◌, ◌*◌, ◌<◌, ◌≤◌, ◌++◌, true, false, List, length, map, slice_index}
+use Rattle.clr_net.specs.Net.{Net, creditor_of, debtor_of}
 use Rattle.clear_core.specs.declared.event.Raise.{Raise}
 use Rattle.bank_desk.specs.Desks.{BankView}
+use Rattle.pay_words.specs.declared.view.Act.{Act}
 use Rattle.pay_words.specs.declared.view.Shown.{Shown}
-use Rattle.pay_words.specs.Views.{HasSeenFloor, IsCalm, OwesNoRing, holds, is_marked}
+use Rattle.pay_words.specs.Views.{HasSeenFloor, IsCalm, OwesNoRing, holds, is_marked, look_at, raise_of, ring_of, took}
 use Rattle.bank_worker.specs.declared.visit.Visit.{Visit}
 use Rattle.bank_worker.specs.declared.visit.Visit.TheVariants.{Raised, Mem}
 use Rattle.bank_worker.specs.Rising.{Rises}
 use Rattle.bank_worker.specs.Looks.{IsSeenAt, HasSameSight}
 use Rattle.bank_worker.specs.Raises.{HasSamePay, debts_of}
+use Rattle.bank_worker.specs.Rings.{called_by}
 use Rattle.bank_worker.specs.Views.{Crew, Divides, desk_at, paid_by, paid_by_all}
 
 -- the answer is this number of units
@@ -44,6 +46,11 @@ pub record LooksOnce (desk : BankView) (s t : Shown) : Type 0 where
   pub others : (x : ℕ) → x < length s.net.debts → creditor_of s.net x ≢ desk.bank
       → HasSameSight s t x
 
+-- the raises of the seat are kept, and where n units were raised there are more of them
+abbrev pub AddsRaises : ℕ → Shown → Shown → Type 0
+AddsRaises n s t = (length s.raises ≤ length t.raises)
+    × (n ≢ 0 → length s.raises + 1 ≤ length t.raises)
+
 -- the bank's payments rose by n units in all to what its rule gives from its cash and these sights,
 -- less what it owes outside, and no other changed
 pub record PaysOut (desk : BankView) (n : ℕ) (s t : Shown) : Type 0 where
@@ -51,17 +58,28 @@ pub record PaysOut (desk : BankView) (n : ℕ) (s t : Shown) : Type 0 where
   pub rose : paid_by t desk ≡ paid_by s desk + n
   pub none_fell : (x : ℕ) → x < length s.net.debts → slice_index s.paid x ≤ slice_index t.paid x
   pub others : (x : ℕ) → x < length s.net.debts → debtor_of s.net x ≢ desk.bank → HasSamePay s t x
+  pub raises : AddsRaises n s t
 
--- the seat's raises and the worker's journal grew by the same raises, all of the bank's debts, in
--- file order
-pub record Notes (desk : BankView) (old new : Crew) : Type 0 where
+-- what a visit at the desk does that makes these raises: it looks at the debts to the bank, then
+-- raises, and then rings the creditors that are paid more, each once
+abbrev pub acts_of : Net → BankView → List Raise → List Act
+acts_of net desk made =
+    map look_at desk.debts_in ++ map raise_of (debts_of made) ++ map ring_of (called_by net made)
+
+-- the raises that a seat made in a visit at the desk are all of the bank's debts, in file order;
+-- and so are all that was done with it
+pub record AreNoted (desk : BankView) (s t : Shown) : Type 0 where
   pub made : List Raise
-  pub seat : new.seat.shows.raises ≡ old.seat.shows.raises ++ made
-  pub journal : new.journal ≡ old.journal ++ made
-  pub theirs : (j : ℕ) → j < length made
-      → (slice_index (debts_of made) j < length old.seat.shows.net.debts)
-      × (debtor_of old.seat.shows.net (slice_index (debts_of made) j) ≡ desk.bank)
+  pub grew : t.raises ≡ s.raises ++ made
+  pub theirs : (j : ℕ) → j < length made → (slice_index (debts_of made) j < length s.net.debts)
+      × (debtor_of s.net (slice_index (debts_of made) j) ≡ desk.bank)
   pub in_file_order : Rises (debts_of made)
+  pub acts : t.acts ≡ s.acts ++ acts_of s.net desk made
+
+-- and the worker's journal grew by the same raises
+pub record Notes (desk : BankView) (old new : Crew) : Type 0 where
+  pub seat : AreNoted desk old.seat.shows new.seat.shows
+  pub journal : new.journal ≡ old.journal ++ seat.made
 
 -- no debt of the bank owes a ring, and for another bank of the seat nothing changed; nor did the
 -- fresh marks and the bells taken
@@ -103,16 +121,28 @@ pub record IsRounded (n : ℕ) (old new : Crew) : Type 0 where
       → slice_index old.seat.shows.paid x ≤ slice_index new.seat.shows.paid x
   pub calm : IsAllCalm new.seat.shows
   pub no_rings : OwesNoRing new.seat.shows
+  pub raises : AddsRaises n old.seat.shows new.seat.shows
 
 -- as many visits as bells were taken, at most so many sweeps over the desks
 pub record VisitsByBells (sweeps : ℕ) (old new : Crew) : Type 0 where
   pub by_bells : new.visits + old.seat.shows.taken ≡ old.visits + new.seat.shows.taken
   pub at_most : new.visits ≤ old.visits + sweeps * length old.desks
 
--- the raises that a seat made in a visit at the desk are all of the bank's debts, in file order
-pub record AreNoted (desk : BankView) (s t : Shown) : Type 0 where
-  pub made : List Raise
-  pub grew : t.raises ≡ s.raises ++ made
-  pub theirs : (j : ℕ) → j < length made → (slice_index (debts_of made) j < length s.net.debts)
-      × (debtor_of s.net (slice_index (debts_of made) j) ≡ desk.bank)
-  pub in_file_order : Rises (debts_of made)
+-- a worker that has just taken the bell of one of its desks, for a visit that found no memory
+abbrev pub with_a_visit_refused : Crew → ℕ → Crew
+with_a_visit_refused w bank = record w {
+  visits = w.visits + 1;
+  seat = record w.seat { shows = took w.seat.shows bank };
+}
+
+-- a round that a visit without memory ended: before that visit all bells that were taken led to
+-- whole visits, and nothing was done after it
+pub record IsStopped (sweeps : ℕ) (old new : Crew) : Type 0 where
+  pub before : Crew
+  pub same : IsSameCrew old before
+  pub visits : VisitsByBells sweeps old before
+  pub calm : IsAllCalm before.seat.shows
+  pub rest : MayRest before.seat.shows before.desks
+  pub place : ℕ
+  pub known : place < length before.desks
+  pub last : new ≡ with_a_visit_refused before (desk_at before.desks place).bank

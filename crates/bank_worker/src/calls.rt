@@ -8,24 +8,23 @@ const WORDS: usize = MAX_BANKS as usize / 64 + 1;
 // A place past all desks.
 const NONE: usize = WORDS * 64;
 
-// The desks whose bells a worker rang itself and has not taken since: a bit for each desk.
+// The desks whose bells the only worker of a board rang and has not taken since: a bit for each
+// desk. Of a worker among several no desk is called, since another may ring any of its bells.
 //
 // They only tell where to look for a bell that is up. No proof stands on them: a worker with wrong
 // calls would be slow, and never pay wrong.
 #[derive(Drop)]
 pub(crate) struct Calls {
     words: [u64; WORDS],
-    worker: u32,
-    workers: u32,
+    alone: bool,
 }
 
 impl Calls {
-    // No call yet, of this worker among so many.
-    pub(crate) fn none(worker: u32, workers: u32) -> Calls {
+    // No call yet, of a worker among so many.
+    pub(crate) fn none(workers: u32) -> Calls {
         Calls {
             words: [0; WORDS],
-            worker,
-            workers,
+            alone: workers <= 1,
         }
     }
 
@@ -34,13 +33,10 @@ impl Calls {
         self.words = [0; WORDS];
     }
 
-    // Calls the desk of a bank that was rung, where it is a bank of the worker. Of one worker the
-    // desks are in the places of their banks, which saves it a division.
+    // Calls the desk of a bank that the only worker rang, which is in the place of the bank.
     pub(crate) fn call(&mut self, bank: u32) {
-        if self.workers <= 1 {
+        if self.alone {
             self.note(bank as usize);
-        } else if bank % self.workers == self.worker {
-            self.note((bank / self.workers) as usize);
         }
     }
 

@@ -21,7 +21,7 @@ pub struct Office {
     pub(crate) marks: Vec<u64>,
     // What the bank that is visited should pay on each of its debts.
     pub(crate) targets: Vec<u64>,
-    // The desks whose bells the worker rang itself and has not taken since.
+    // The desks that are called.
     pub(crate) calls: Calls,
 }
 
@@ -69,7 +69,7 @@ impl Office {
             creditors,
             marks,
             targets,
-            calls: Calls::none(worker, workers),
+            calls: Calls::none(workers),
         })
     }
 }

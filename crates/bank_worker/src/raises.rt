@@ -1,4 +1,5 @@
 ghost use Rattle.bank_worker.specs.Raises.{AreOwedBy, IsNotBelow, IsRaised, IsWithin};
+ghost use Rattle.bank_worker.specs.Visits.{AddsRaises};
 ghost use Rattle.clr_net.specs.Net.{numbers};
 ghost use Rattle.pay_words.specs.Views.{IsAt, IsOver};
 ghost use Rattle.std.specs.Prelude.{◌≡◌, ◌+◌, ◌<◌, ◌≤◌, ◌^◌, ◌++◌, [], ◌∷◌, false, length};
@@ -33,6 +34,7 @@ pub(crate) fn raise_all(
     ensures noted { journal.new.raises ≡ seat.new.shows.raises }
     ensures units { sum_by (slice_index seat.old.shows.paid) (numbers debts.now) + result
         ≡ sum targets.now }
+    ensures more { AddsRaises result seat.old.shows seat.new.shows }
 {
     let mut units = 0;
     for (place, id) in debts.iter().enumerate() {

@@ -7,11 +7,12 @@ ghost use Rattle.std.specs.Prelude.{◌≡◌, ◌+◌, ◌<◌, ◌≤◌, IfOk
 use crate::calls::Calls;
 use crate::{Office, SeatBack, Visit, Worker};
 use clear_core::Journal;
-use clr_edge::OpenGate;
+use clr_edge::{Gate, OpenGate};
 use clr_net::{BankId, DebtId, Mem, Network};
 use net_samples::{chain, ring};
 use pay_words::{Board, PaySeat, Payment};
 use std::alloc::Global;
+use std::sync::atomic::{AtomicU64, Ordering};
 use std::test::Fail;
 
 const UNPAID: Payment = Payment { value: 0, stamp: 0 };
@@ -156,14 +157,28 @@ fn a_worker_without_banks_makes_no_visit(rt: HostRuntime) -> Result<(), Fail> {
     Ok(())
 }
 
+// Counts the calls of the first visit of each worker.
+#[derive(Drop)]
+struct FirstVisits {
+    calls: AtomicU64,
+}
+
+impl Gate for FirstVisits {
+    fn at(&self, worker: u32, visit: u64) {
+        if worker < 2 && visit == 1 {
+            self.calls.fetch_add(1, Ordering::SeqCst);
+        }
+    }
+}
+
 // One visit of a worker's first desk: its answer, how many raises were noted, and the clock then.
-fn visit_once(board: &Board, worker: Worker) -> (Visit, usize, u64)
+fn visit_once(board: &Board, worker: Worker, gate: &FirstVisits) -> (Visit, usize, u64)
     requires seat { IsAt board.now worker.seat }
     requires desk { 0 < length worker.desks }
     requires visits { worker.visits ≡ 0 }
 {
     let mut worker = worker;
-    let answer = worker.visit(board, 0, &OpenGate);
+    let answer = worker.visit(board, 0, gate);
     let (seat, journal) = worker.finish();
     (answer, journal.as_slice().len(), seat.clock())
 }
@@ -184,8 +199,13 @@ fn a_visit_without_memory_leaves_all_as_it_was(rt: HostRuntime) -> Result<(), Fa
     };
     assert_eq!(rt; (first.desks(), second.desks()), (1, 1));
     // What A pays has a stamp, so that a look of B would move the clock.
-    let (before, _, _) = visit_once(&board, first);
-    let (answer, raises, clock) = visit_once(&board, second);
+    let gate = FirstVisits {
+        calls: AtomicU64::new(0),
+    };
+    let (before, _, _) = visit_once(&board, first, &gate);
+    let (answer, raises, clock) = visit_once(&board, second, &gate);
+    // Each visit passed the gate, with or without memory.
+    assert_eq!(rt; gate.calls.load(Ordering::SeqCst), 2);
     let word = board.look(&mut other, DebtId(1));
     let told = (word.value, word.stamp, raises, clock);
     match (before, answer) {
@@ -213,23 +233,22 @@ fn a_bell_is_up_where_a_payment_is_new(rt: HostRuntime) -> Result<(), Fail> {
 }
 
 #[test]
-fn a_worker_calls_the_desks_of_its_own_banks(rt: HostRuntime) -> Result<(), Fail> {
-    let mut calls = Calls::none(1, 3);
-    // Banks 4 and 301 are of the worker, at its desks 1 and 100; bank 5 is not.
-    for bank in [301, 5, 4] {
+fn the_only_worker_calls_the_desks_that_it_rang(rt: HostRuntime) -> Result<(), Fail> {
+    let mut calls = Calls::none(1);
+    for bank in [301, 4] {
         calls.call(bank);
     }
-    assert_eq!(rt; (calls.next(false, 0), calls.next(false, 2)), (1, 100));
+    assert_eq!(rt; (calls.next(false, 0), calls.next(false, 5)), (4, 301));
     assert_eq!(rt; calls.next(true, 0), 0);
-    calls.end(1);
-    assert_eq!(rt; calls.next(false, 0), 100);
+    calls.end(4);
+    assert_eq!(rt; calls.next(false, 0), 301);
     // There is no desk after it.
-    assert!(rt; calls.next(false, 101) >= 1_000);
-    calls.end(100);
+    assert!(rt; calls.next(false, 302) >= 1_000);
+    calls.end(301);
     assert!(rt; calls.is_empty());
-    // Of the only worker each bank is at the desk of its number.
-    let mut all = Calls::none(0, 1);
-    all.call(301);
-    assert_eq!(rt; all.next(false, 0), 301);
+    // A worker among several calls none.
+    let mut among = Calls::none(3);
+    among.call(4);
+    assert!(rt; among.is_empty());
     Ok(())
 }

@@ -2,7 +2,8 @@ ghost use Rattle.bank_worker.specs.Rings.{AreMarksBelow, AreMarksUpTo, creditors
 ghost use Rattle.bank_worker.specs.Offices.{IsOfficeFor};
 ghost use Rattle.bank_worker.specs.Views.{desk_at, desks_held, banks_held};
 ghost use Rattle.bank_worker.specs.Visits.{AreNoted, AreSettled, IsAllCalm, IsRounded, IsSameCrew};
-ghost use Rattle.bank_worker.specs.Visits.{IsSameSeat, IsVisited, LooksOnce, MayRest, PaysOut, RingsAll};
+ghost use Rattle.bank_worker.specs.Visits.{IsSameSeat, IsStopped, IsVisited, LooksOnce, MayRest};
+ghost use Rattle.bank_worker.specs.Visits.{PaysOut, RingsAll};
 ghost use Rattle.bank_worker.specs.Visits.{VisitsByBells, WhenMem, WhenRaised};
 ghost use Rattle.clear_core.specs.Buffers.{HasRoom};
 ghost use Rattle.bank_desk.specs.Desks.{desk_of, target};
@@ -52,7 +53,7 @@ pub struct Worker {
     marks: Vec<u64>,
     // What the bank that is visited should pay on each of its debts.
     targets: Vec<u64>,
-    // The desks whose bells the worker rang itself and has not taken since.
+    // The desks that are called.
     calls: Calls,
 }
 
@@ -210,10 +211,11 @@ impl Worker {
     }
 
     /// Goes over the desks in order, so many times: takes each desk's bell, and visits the desk
-    /// where it was up. After the first time goes over those desks alone whose bells the worker
-    /// rang itself, if there are any. Ends early after a sweep over all desks that found no bell
-    /// up. Answers the units of all visits, or `Mem` at the first visit that answers so, and then
-    /// does no more.
+    /// where it was up. The only worker of a board goes, after the first time, over those desks
+    /// alone whose bells it rang itself, if there are any; among several each sweep goes over all
+    /// desks, since another may have rung a bell. Ends early after a sweep over all desks that
+    /// found no bell up. Answers the units of all visits, or `Mem` at the first visit that answers
+    /// so, and then takes no bell and makes no visit.
     pub fn round<G: Gate>(&mut self, board: &Board, sweeps: u32, gate: &G) -> Visit
         requires seat { IsAt board.now self.old.seat }
         requires sweeps { (1 ≤ sweeps) × (sweeps ≤ 1000) }
@@ -224,6 +226,7 @@ impl Worker {
         ensures visits { VisitsByBells sweeps self.old self.new }
         ensures raised { WhenRaised result (λ n. IsRounded n self.old self.new) }
         ensures few { WhenRaised result (λ n. n ≤ 1000000 * MAX_OWED) }
+        ensures mem { WhenMem result (IsStopped sweeps self.old self.new) }
     {
         let desks = self.desks();
         prove!(desks <= MAX_BANKS as usize);
@@ -295,6 +298,7 @@ impl Worker {
         ensures visits { VisitsByBells 1 self.old self.new }
         ensures raised { WhenRaised result (λ n. IsRounded n self.old self.new) }
         ensures few { WhenRaised result (λ n. n ≤ length self.old.desks * MAX_OWED) }
+        ensures mem { WhenMem result (IsStopped 1 self.old self.new) }
     {
         let desks = self.desks();
         let mut units = 0;

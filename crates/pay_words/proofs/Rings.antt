@@ -14,6 +14,7 @@ use Rattle.clr_net.specs.Net.{Net, debtor_of, creditor_of}
 use Rattle.pay_words.specs.declared.deed.Deed.{Deed}
 use Rattle.pay_words.specs.declared.payment.Payment.{Payment}
 use Rattle.pay_words.specs.declared.view.Shown.{Shown}
+use Rattle.pay_words.specs.declared.view.Act.{Act}
 use Rattle.pay_words.specs.declared.view.View.{View}
 use Rattle.pay_words.specs.Traces.{Traces, ending}
 use Rattle.pay_words.specs.Views.{IsSound, IsCalm, OwesRing, holds, is_marked, tabled, rung, took}
@@ -25,9 +26,9 @@ use Rattle.pay_words.proofs.Rung.{NoOther, called_still}
 use Rattle.pay_words.proofs.Views.{rule, fits_again, sits_set, not_both}
 
 -- a view whose bells alone change
-module _ (s : Shown) (pending owing fresh : List Bool) (taken : ℕ) where
+module _ (s : Shown) (pending owing fresh : List Bool) (taken : ℕ) (acts : List Act) where
   abbrev pub belled : Shown
-  belled = record s { pending = pending; owes_ring = owing; fresh = fresh; taken = taken }
+  belled = record s { pending = pending; owes_ring = owing; fresh = fresh; taken = taken; acts = acts }
 
   pub sound_belled : IsSound s → length pending ≡ length s.net.debts → length owing ≡ length s.net.debts → length fresh ≡ length s.net.banks → IsSound belled
   sound_belled h a b c = record {
@@ -50,9 +51,9 @@ module _ (s : Shown) (pending owing fresh : List Bool) (taken : ℕ) where
     clock_below = h.clock_below;
   }
 
-pub belled_suits : (d : Deed) (k : Ledger) (roll count id : ℕ) (v : View) (pending owing fresh : List Bool) (taken : ℕ) → IsSound (belled v.shown pending owing fresh taken) → Suits d k roll count id v
-    → Suits d k roll count id (showing v (belled v.shown pending owing fresh taken))
-belled_suits d k roll count id v pending owing fresh taken sound f = record {
+pub belled_suits : (d : Deed) (k : Ledger) (roll count id : ℕ) (v : View) (pending owing fresh : List Bool) (taken : ℕ) (acts : List Act) → IsSound (belled v.shown pending owing fresh taken acts) → Suits d k roll count id v
+    → Suits d k roll count id (showing v (belled v.shown pending owing fresh taken acts))
+belled_suits d k roll count id v pending owing fresh taken acts sound f = record {
   net_is = f.net_is;
   sound = sound;
   mine = f.mine;
@@ -70,10 +71,10 @@ belled_suits d k roll count id v pending owing fresh taken sound f = record {
 }
 
 pub sound_rung : (s : Shown) (b : ℕ) → IsSound s → IsSound (rung s b)
-sound_rung s b h = sound_belled s s.pending _ s.fresh s.taken h h.over.pending (length-tabled (length s.net.debts) (λ x. is_marked s.owes_ring x && not (creditor_of s.net x == b))) h.over.fresh
+sound_rung s b h = sound_belled s s.pending _ s.fresh s.taken _ h h.over.pending (length-tabled (length s.net.debts) (λ x. is_marked s.owes_ring x && not (creditor_of s.net x == b))) h.over.fresh
 
 pub sound_took : (s : Shown) (b : ℕ) → IsSound s → IsSound (took s b)
-sound_took s b h = sound_belled s _ s.owes_ring _ (s.taken + 1) h (length-tabled (length s.net.debts) (λ x. is_marked s.pending x || (creditor_of s.net x == b))) h.over.owes_ring (length-set s.fresh b false ∙ h.over.fresh)
+sound_took s b h = sound_belled s _ s.owes_ring _ (s.taken + 1) _ h (length-tabled (length s.net.debts) (λ x. is_marked s.pending x || (creditor_of s.net x == b))) h.over.owes_ring (length-set s.fresh b false ∙ h.over.fresh)
 
 -- the place of a bell, and how the words change there
 module _ (d : Deed) (words : List ℕ) (size : length words ≡ 1 + length d.net.debts + length d.net.banks) (b : ℕ) (lt : b < length d.net.banks) (m : ℕ) where
@@ -270,13 +271,13 @@ module _ (d : Deed) (t : Traces) (words : List ℕ) (views : List View) (id : �
     }
 
 -- one step at a bell: the words, and a view that shows other bells
-struck_kept : (d : Deed) (s : State (Unit {0}) View) (id : ℕ) (v : View) (at : get_elem? s.views id ≡ some v) (h : IsKept d s.words s.views) (b m : ℕ) → b < length d.net.banks → (pending owing fresh : List Bool) (taken : ℕ)
-    → (v.live ≡ true) → IsSound (belled v.shown pending owing fresh taken)
-    → IsRung d h.ledger.trace (set s.words (length d.net.debts + 1 + b) m) (set s.views id (showing v (belled v.shown pending owing fresh taken)))
-    → IsKept d (set s.words (length d.net.debts + 1 + b) m) (set s.views id (showing v (belled v.shown pending owing fresh taken)))
-struck_kept d s id v at h b m lt pending owing fresh taken on sound rings =
+struck_kept : (d : Deed) (s : State (Unit {0}) View) (id : ℕ) (v : View) (at : get_elem? s.views id ≡ some v) (h : IsKept d s.words s.views) (b m : ℕ) → b < length d.net.banks → (pending owing fresh : List Bool) (taken : ℕ) (acts : List Act)
+    → (v.live ≡ true) → IsSound (belled v.shown pending owing fresh taken acts)
+    → IsRung d h.ledger.trace (set s.words (length d.net.debts + 1 + b) m) (set s.views id (showing v (belled v.shown pending owing fresh taken acts)))
+    → IsKept d (set s.words (length d.net.debts + 1 + b) m) (set s.views id (showing v (belled v.shown pending owing fresh taken acts)))
+struck_kept d s id v at h b m lt pending owing fresh taken acts on sound rings =
     let k = h.ledger in
-    let u = showing v (belled v.shown pending owing fresh taken) in
+    let u = showing v (belled v.shown pending owing fresh taken acts) in
     record {
       ledger = k;
       network = h.network;
@@ -287,7 +288,7 @@ struck_kept d s id v at h b m lt pending owing fresh taken on sound rings =
       held = λ c l. sits_set s.views id v u (k.owner c) (λ y. holds y.shown c ≡ true) at refl (λ e. e) (h.held c l);
       led = sits_set s.views id v u k.chief (λ y. y.shown.master ≡ true) at refl (λ e. e) h.led;
       fits = fits_again d k (slice_index s.words 0) (set s.words (length d.net.debts + 1 + b) m) s.views id u (roll_still d s.words h.size b lt m) (λ j y _ e t. h.fits j y e t)
-          (λ _. belled_suits d k (slice_index s.words 0) (length s.views) id v pending owing fresh taken sound (h.fits id v at on));
+          (λ _. belled_suits d k (slice_index s.words 0) (length s.views) id v pending owing fresh taken acts sound (h.fits id v at on));
       rung = rings;
     }
 
@@ -311,7 +312,7 @@ rings d slots id me i b place on over owes s h sized at small =
       keeps,
       tt,
       subst (λ (j : ℕ). IsKept d (set s.words j 1) (set s.views id w)) (sym place)
-          (struck_kept d s id v at h b 1 bank v.shown.pending _ v.shown.fresh v.shown.taken on (sound_rung v.shown b f.sound) new),
+          (struck_kept d s id v at h b 1 bank v.shown.pending _ v.shown.fresh v.shown.taken _ on (sound_rung v.shown b f.sound) new),
       λ c e. let same : b ≡ c = omega (arith, e, place, ap (λ (n : Net). length n.debts) over) in
           subst (λ (z : ℕ). ◌≡◌ {A = Me (Unit {0}) View} (w, me.1) (showing v (rung v.shown z), me.1)) same refl,
     )
@@ -402,7 +403,7 @@ takes d slots id me i b place lt on over mine s h sized at small =
           let one : n ≡ 1 = omega (arith, ne, tells.up_or_down) in
           subst (λ (j : ℕ). IsKept d (set s.words j 0) (set s.views id w)) (sym place)
           (subst (λ (m : ℕ). IsKept d (set s.words (length d.net.debts + 1 + b) 0) (set s.views id (showing v (after_take v.shown b m)))) (sym one)
-          (struck_kept d s id v at h b 0 lt _ v.shown.owes_ring _ (v.shown.taken + 1) on (sound_took v.shown b f.sound)
+          (struck_kept d s id v at h b 0 lt _ v.shown.owes_ring _ (v.shown.taken + 1) _ on (sound_took v.shown b f.sound)
           (rung_take d k.trace s.words s.views id v at on h.size h.rung b lt over mine alone long (sym is ∙ one)))))),
       λ c e. let same : b ≡ c = omega (arith, e, place, ap (λ (m : Net). length m.debts) over) in
           subst (λ (z : ℕ). (◌≡◌ {A = Me (Unit {0}) View} (w, me.1) (showing v (after_take v.shown z n), me.1)) × TakeTells v.shown z n) same (refl, tells),

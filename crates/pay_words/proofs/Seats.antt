@@ -12,6 +12,7 @@ use Rattle.clear_core.proofs.Pay.{part_within}
 use Rattle.clear_core.proofs.Rows.{claim_in_limit}
 use Rattle.pay_words.specs.declared.deed.Deed.{Deed}
 use Rattle.pay_words.specs.declared.payment.Payment.{Payment}
+use Rattle.pay_words.specs.declared.view.Act.{Act}
 use Rattle.pay_words.specs.declared.view.View.{View}
 use Rattle.pay_words.specs.Kept.{Raises, after_take, showing, part_of, rest_of, both_of}
 use Rattle.pay_words.specs.Seats.{HasAll, HasOwn, IsKeptIn, Purse, Tells, purse}
@@ -150,9 +151,9 @@ pub holds_within : (s t : Chair) (ws vs i j : ℕ) → s ≡ t → ws ≡ vs →
 holds_within s t ws vs i j e f g all = subst (λ (y : ℕ × ℕ × Chair). HoldsAllOf y.0 y.1 y.2.shows) (λ k. (sym f k, sym g k, sym e k)) all
 
 -- what a seat has in memory does not depend on bells
-pub kept_belled : (v : View) (p : Purse) (clock seats : ℕ) (pending owing fresh : List Bool) (taken : ℕ) → IsSound (belled v.shown pending owing fresh taken) → IsKeptIn v p clock seats
-    → IsKeptIn (showing v (belled v.shown pending owing fresh taken)) p clock seats
-kept_belled v p clock seats pending owing fresh taken sound h = record {
+pub kept_belled : (v : View) (p : Purse) (clock seats : ℕ) (pending owing fresh : List Bool) (taken : ℕ) (acts : List Act) → IsSound (belled v.shown pending owing fresh taken acts) → IsKeptIn v p clock seats
+    → IsKeptIn (showing v (belled v.shown pending owing fresh taken acts)) p clock seats
+kept_belled v p clock seats pending owing fresh taken acts sound h = record {
   live = h.live;
   sound = sound;
   clock_is = h.clock_is;
@@ -163,14 +164,14 @@ kept_belled v p clock seats pending owing fresh taken sound h = record {
 }
 
 pub kept_rung : (v : View) (p : Purse) (clock seats b : ℕ) → IsKeptIn v p clock seats → IsKeptIn (showing v (rung v.shown b)) p clock seats
-kept_rung v p clock seats b h = kept_belled v p clock seats v.shown.pending _ v.shown.fresh v.shown.taken (sound_rung v.shown b h.sound) h
+kept_rung v p clock seats b h = kept_belled v p clock seats v.shown.pending _ v.shown.fresh v.shown.taken _ (sound_rung v.shown b h.sound) h
 
 pub kept_take : (v : View) (p : Purse) (clock seats b n : ℕ) → IsKeptIn v p clock seats → IsKeptIn (showing v (after_take v.shown b n)) p clock seats
 kept_take v p clock seats b n h = go (n == 0)
   where
     go : (t : Bool) → IsKeptIn (showing v (if t then v.shown else took v.shown b)) p clock seats
     go true = h
-    go false = kept_belled v p clock seats _ v.shown.owes_ring _ (v.shown.taken + 1) (sound_took v.shown b h.sound) h
+    go false = kept_belled v p clock seats _ v.shown.owes_ring _ (v.shown.taken + 1) _ (sound_took v.shown b h.sound) h
 
 -- the place of a bell, by what the board has in memory
 pub bell_place : (net m : Net) (debts b : ℕ) → debts ≡ length net.debts → m ≡ net → debts + 1 + b ≡ length m.debts + 1 + b

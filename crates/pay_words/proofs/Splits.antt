@@ -21,7 +21,7 @@ use Rattle.std.proofs.lemmas.List.Sums.{sum_by-append, sum_by-cons}
 
 -- the lists of a sound seat for other banks, of which it holds each
 sound_part : (s : Shown) (banks : List Bool) (t : Shown) → IsSound s → length banks ≡ length s.net.banks → ((b : ℕ) → Rattle.pay_words.specs.Views.is_marked banks b ≡ true → holds s b ≡ true)
-    → t ≡ record s { master = t.master; banks = banks; raises = t.raises; seats = t.seats; taken = t.taken } → IsSound t
+    → t ≡ record s { master = t.master; banks = banks; raises = t.raises; seats = t.seats; taken = t.taken; acts = t.acts } → IsSound t
 sound_part s banks t h size all e = subst IsSound (sym e) (record {
   network = h.network;
   over = record {

@@ -245,5 +245,6 @@ nobody = record {
     owes_ring = [];
     fresh = [];
     taken = 0;
+    acts = [];
   };
 }

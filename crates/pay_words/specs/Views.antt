@@ -8,6 +8,8 @@ use Rattle.clr_net.specs.Net.{Net, debtor_of, creditor_of, units_owed}
 use Rattle.clear_core.specs.Clearing.{receipts, part, least}
 use Rattle.clear_core.specs.declared.event.Raise.{Raise}
 use Rattle.pay_words.specs.declared.payment.Payment.{Payment}
+use Rattle.pay_words.specs.declared.view.Act.{Act}
+use Rattle.pay_words.specs.declared.view.Act.TheVariants as act
 use Rattle.pay_words.specs.declared.view.Shown.{Shown}
 
 -- the table of words that boards and seats are at, and for how many workers it was laid out
@@ -108,7 +110,22 @@ opening net start = record {
   owes_ring = replicate (length net.debts) false;
   fresh = replicate (length net.banks) true;
   taken = 0;
+  acts = [];
 }
+
+-- what is done with a seat: a look at the debt x, a raise of it, a ring of the bell of the bank b, and
+-- a take that found it up
+abbrev pub look_at : ℕ → Act
+look_at x = act.Look (record { 0 = x })
+
+abbrev pub raise_of : ℕ → Act
+raise_of x = act.Raise (record { 0 = x })
+
+abbrev pub ring_of : ℕ → Act
+ring_of b = act.Ring (record { 0 = b })
+
+abbrev pub take_of : ℕ → Act
+take_of b = act.Take (record { 0 = b })
 
 abbrev pub a_raise : ℕ → ℕ → ℕ → Raise
 a_raise stamp x to = record { stamp = stamp; debt = record { 0 = x }; to = to }
@@ -121,6 +138,7 @@ looked s x p = record s {
   looks = slice_set s.looks x (slice_index s.looks x + 1);
   clock = max s.clock p.stamp;
   pending = slice_set s.pending x false;
+  acts = s.acts ++ look_at x ∷ [];
 }
 
 -- a raise of the debt x, stamped with the clock plus one
@@ -131,6 +149,7 @@ raised s x to = record s {
   clock = s.clock + 1;
   raises = s.raises ++ a_raise (s.clock + 1) x to ∷ [];
   owes_ring = slice_set s.owes_ring x true;
+  acts = s.acts ++ raise_of x ∷ [];
 }
 
 -- a debt to the bank b owes a ring
@@ -167,6 +186,7 @@ abbrev pub rung : Shown → ℕ → Shown
 rung s b = record s {
   owes_ring = tabled (length s.net.debts)
       (λ x. is_marked s.owes_ring x && not (creditor_of s.net x == b));
+  acts = s.acts ++ ring_of b ∷ [];
 }
 
 -- the bell of the bank b was taken: each debt to it calls for a look
@@ -175,9 +195,10 @@ took s b = record s {
   pending = tabled (length s.net.debts) (λ x. is_marked s.pending x || (creditor_of s.net x == b));
   fresh = slice_set s.fresh b false;
   taken = s.taken + 1;
+  acts = s.acts ++ take_of b ∷ [];
 }
 
--- the new seat of the worker i: it has the worker's banks, and no raise yet
+-- the new seat of the worker i: it has the worker's banks, and nothing was done with it yet
 abbrev pub handed : ℕ → ℕ → Shown → Shown
 handed workers i s = record s {
   master = false;
@@ -185,6 +206,7 @@ handed workers i s = record s {
   raises = [];
   seats = 0;
   taken = 0;
+  acts = [];
 }
 
 -- the master without the banks of the worker i

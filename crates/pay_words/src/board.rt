@@ -196,14 +196,31 @@ impl Board {
             → HoldsAll seat.old.shows → OwesNoRing seat.old.shows
             → HasSeenAll seat.old.shows bank.0 }
     {
-        if self.glance(seat, bank) == 0 {
+        if !self.glance(seat, bank) {
             return false;
         }
         self.lower(seat, bank) != 0
     }
 
+    /// Whether the bell of a bank of the seat is up, by one atomic load. It takes nothing: whatever
+    /// the answer, the seat shows what it showed. Takes no memory.
+    pub fn glance(&self, seat: &mut PaySeat, bank: BankId) -> bool
+        requires seat { IsAt self.now seat.old }
+        requires held { holds seat.old.shows bank.0 ≡ true }
+        ensures table { seat.new.table ≡ seat.old.table }
+        ensures same { seat.new.shows ≡ seat.old.shows }
+        ensures up_if_fresh { is_marked seat.old.shows.fresh bank.0 ≡ true → result ≡ true }
+        ensures seen_floor { result ≡ false → IsCalm seat.old.shows bank.0
+            → HasSeenFloor seat.old.shows bank.0 }
+        ensures seen_all { result ≡ false → IsCalm seat.old.shows bank.0
+            → HoldsAll seat.old.shows → OwesNoRing seat.old.shows
+            → HasSeenAll seat.old.shows bank.0 }
+    {
+        self.read_bell(seat, bank) != 0
+    }
+
     // What stands at the bell of a bank of the seat, by one atomic load.
-    fn glance(&self, seat: &mut PaySeat, bank: BankId) -> u64
+    fn read_bell(&self, seat: &mut PaySeat, bank: BankId) -> u64
         requires seat { IsAt self.now seat.old }
         requires held { holds seat.old.shows bank.0 ≡ true }
         ensures table { seat.new.table ≡ seat.old.table }

@@ -31,4 +31,4 @@ pub use board::Board;
 pub use payment::Payment;
 pub use record::Record;
 pub use seat::PaySeat;
-pub use view::Shown;
+pub use view::{Act, Shown};

@@ -1,8 +1,17 @@
 //! What a seat knows. No value of these types is made: they stand in contracts and in the rule of a
 //! board alone.
 use clear_core::Raise;
-use clr_net::Network;
+use clr_net::{BankId, DebtId, Network};
 use std::collections::LinkedList;
+
+/// One thing that was done with the seat of a worker: a look at a debt, a raise of a debt, a ring of
+/// a bank's bell, or a take that found the bell of a bank up.
+pub enum Act {
+    Look(DebtId),
+    Raise(DebtId),
+    Ring(BankId),
+    Take(BankId),
+}
 
 /// What contracts see of a seat. A list over banks or debts has a place for each, in file order.
 pub struct Shown {
@@ -38,6 +47,8 @@ pub struct Shown {
     pub fresh: LinkedList<bool>,
     /// How many bells it took.
     pub taken: u64,
+    /// What was done with it, in order.
+    pub acts: LinkedList<Act>,
 }
 
 /// What the rule of a board sees of a seat.

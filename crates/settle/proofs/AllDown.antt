@@ -8,12 +8,9 @@ use Rattle.clear_core.specs.Clearing.{least}
 use Rattle.bank_desk.specs.Desks.{desk_of}
 use Rattle.bank_worker.specs.Views.{Divides}
 use Rattle.pay_words.specs.declared.view.Shown.{Shown}
-use Rattle.pay_words.specs.Views.{HasSeenAll, IsOver, is_marked, opening}
+use Rattle.pay_words.specs.Views.{HasSeenAll, is_marked}
 use Rattle.settle.specs.Bells.{IsIdle}
 use Rattle.settle.specs.Between.{IsBetween}
-use Rattle.pay_words.specs.Traces.{start_of}
-use Rattle.clear_core.specs.declared.event.Raise.{Raise}
-use Rattle.settle.proofs.Driving.{driven_none}
 use Rattle.settle.proofs.Quiet.{part_of_desk, quiet_end}
 
 -- so it is between two rounds
@@ -25,11 +22,6 @@ idle_between net s h = record {
   calm = h.calm;
   rest = h.rest;
 }
-
--- an opened board stands between two rounds
-pub opened_between : (net : Net) (past : List Raise) (s : Shown) → IsNetwork net → s ≡ opening net (start_of net past) → IsOver s → IsAtMost s.paid (least s.net) → IsBetween net s
-opened_between net past s network opened over low =
-    (driven_none net past 1 s network opened over (subst (λ m. IsAtMost s.paid (least m)) (ap (λ (u : Shown). u.net) opened) low)).between
 
 -- the bells of the first n banks were found down: none of them is fresh, and what is paid to them was seen
 pub record AreDown (s : Shown) (n : ℕ) : Type 0 where

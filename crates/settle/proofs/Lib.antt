@@ -8,3 +8,6 @@ pub mod Driving
 pub mod Shares
 pub mod Finished
 pub mod AllDown
+pub mod Limits
+pub mod Resting
+pub mod ByHand

@@ -3,7 +3,7 @@ use Rattle.std.proofs.Common.{◌≡◌, ◌≢◌, ℕ, suc, ◌+◌, ◌*◌, 
 use Rattle.std.specs.Prelude.{◌%◌, sum_by, slice_index}
 use Rattle.std.proofs.lemmas.Bool.{cases_lt}
 use Rattle.std.proofs.lemmas.List.{get_or-map, get_or_past, length-map}
-use Rattle.std.proofs.lemmas.List.Sums.{sum-map, sum_by-cons, sum_by-le-sum_by}
+use Rattle.std.proofs.lemmas.List.Sums.{get_or-le-sum_by, sum-map, sum_by-cons, sum_by-le-sum_by}
 use Rattle.clr_net.specs.Amounts.{IsAtMost}
 use Rattle.clr_net.specs.Net.{Net, row, debtor_of, creditor_of}
 use Rattle.clr_net.proofs.Lists.{same_from_sum}
@@ -14,7 +14,9 @@ use Rattle.bank_worker.specs.Views.{Crew, Divides, banks_held, desk_at, desks_he
 use Rattle.bank_worker.proofs.Filtered.{filter_finds, row_finds}
 use Rattle.bank_worker.proofs.Manned.{desk_is, few_desks}
 use Rattle.bank_worker.proofs.Sweeping.{divides_kept, few_in_all, paid_by_kept}
-use Rattle.settle.specs.Between.{AreOfBoard, IsBack, IsBetween, crew_of, crews, shown_by}
+use mathlib.Core.Logic.{dite}
+use native.Mathlib.Decide.{ℕ_discrete}
+use Rattle.settle.specs.Between.{AreOfBoard, IsBack, IsBetween, crew_of, crews, raises_by, shown_by}
 use Rattle.settle.specs.Rounds.{AreRounded, MadeRound, crew_at, no_crew, paid_by_crew}
 use Rattle.std.specs.Prelude.{take}
 use Rattle.std.proofs.Math.Seq.{take-length}
@@ -110,6 +112,21 @@ module _ (board : Panel) (net : Net) (s : Shown) (w sweeps n : ℕ) (news : List
         sum_below_times sweeps (banks_of w nb) w,
         mul-le-mul_left sweeps (all_banks w nb),
       )
+
+  -- where units were raised, some worker made a raise
+  pub some_raise : n ≢ 0 → 1 ≤ sum_by raises_by news
+  some_raise some_units = dite (ℕ_discrete (sum_by raises_by news) 0)
+      (λ none.
+      let olds = crews w board.table s w in
+      let each : (i : ℕ) → i < length olds → paid_by_crew (crew_at olds i) ≡ paid_by_crew (crew_at news i) = λ i lo.
+      let li : i < w = omega (arith, lo, length-crews w board.table s w) in
+      let m = made_round i li in
+      let zero : raises_by (crew_at news i) ≡ 0 = omega (arith, none, get_or-le-sum_by raises_by news i no_crew (omega (arith, li, as_many))) in
+      dite (ℕ_discrete m.units 0)
+      (λ u. omega (arith, ap paid_by_crew (crew_there w board.table s w i li), m.rounded.rose, u))
+      (λ more. absurd (omega (arith, m.rounded.raises.1 more, zero))) in
+      absurd (some_units (omega (arith, rounded.rose, lists_equal_sums no_crew paid_by_crew olds news rounded.as_many each))))
+      (λ some. omega (arith, some))
 
   -- the worker of the bank b has settled it
   module _ (b : ℕ) (lb : b < length net.banks) where

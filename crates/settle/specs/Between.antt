@@ -12,6 +12,7 @@ use Rattle.clear_core.specs.declared.event.Raise.{Raise}
 use Rattle.settle.specs.declared.plan.Plan.{Plan}
 use Rattle.settle.specs.Rounds.{crew_at}
 use Rattle.bank_worker.specs.Views.{Crew, Divides, desks_held}
+use Rattle.bank_worker.specs.Visits.{AddsRaises}
 
 -- between two rounds the master holds all banks, and nothing is pending or owes a ring; each bank
 -- is fresh or pays its division at what was last seen; and the floor is what is paid
@@ -31,6 +32,10 @@ pub record IsBetween (net : Net) (s : Shown) : Type 0 where
 abbrev pub without_first : ℕ → ℕ → Shown → Shown
 without_first workers zero s = s
 without_first workers (suc n) s = without workers n (without_first workers n s)
+
+-- how many raises a worker made
+abbrev pub raises_by : Crew → ℕ
+raises_by w = length w.seat.shows.raises
 
 -- the worker i as a round begins
 abbrev pub crew_of : ℕ → Place → Shown → ℕ → Crew
@@ -103,6 +108,7 @@ pub record IsRoundOf (net : Net) (plan : Plan) (units visits : ℕ) (s t : Shown
   pub few_visits : visits ≤ 64000000
   pub visits_by_banks : visits ≤ plan.sweeps * length net.banks
   pub seats : t.seats ≡ s.seats + plan.workers
+  pub raises : AddsRaises units s t
   pub paid_low : IsAtMost t.paid (least net)
   pub sights_low : IsAtMost t.sights (least net)
 

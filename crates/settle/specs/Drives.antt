@@ -1,11 +1,13 @@
 -- What the rounds on a board come to.
-use Rattle.std.specs.Prelude.{◌≡◌, ℕ, ◌+◌, ◌*◌, ◌<◌, ◌≤◌, ◌++◌, true, false, List, length, slice_index, sum}
+use Rattle.std.specs.Prelude.{◌≡◌, ℕ, ◌+◌, ◌*◌, ◌<◌, ◌≤◌, ◌++◌, true, false, All, List, [], ◌∷◌, length, slice_index, sum}
+use Rattle.clr_net.specs.Amounts.{IsAtMost}
 use Rattle.clr_net.specs.Net.{Net}
 use Rattle.clear_core.specs.Clearing.{Clears, least}
 use Rattle.clear_core.specs.History.{ordered, replayed}
 use Rattle.clear_core.specs.declared.event.Raise.{Raise}
 use Rattle.pay_words.specs.declared.view.Shown.{Shown}
 use Rattle.pay_words.specs.Views.{Panel, HoldsAll, OwesNoRing, is_marked}
+use Rattle.settle.specs.Between.{IsRoundOf}
 use Rattle.settle.specs.declared.plan.Driven.{Driven}
 use Rattle.settle.specs.declared.plan.Plan.{Plan}
 
@@ -21,6 +23,10 @@ pub record IsOf (board : Panel) (net : Net) (past : List Raise) (plan : Plan) : 
   pub net_is : net ≡ board.net
   pub past_is : past ≡ board.past
   pub workers_are : plan.workers ≡ board.workers
+
+-- what the master shows as paid and as seen is nowhere above the least clearing payments
+abbrev pub IsBelowLeast : Net → Shown → Type 0
+IsBelowLeast net s = IsAtMost s.paid (least net) × IsAtMost s.sights (least net)
 
 -- the master shows the least clearing payments: each bank pays them, and has seen them, and nothing
 -- is left to be seen
@@ -39,6 +45,20 @@ pub record InBounds (net : Net) (past : List Raise) (rounds : ℕ) : Type 0 wher
   pub some_round : 1 ≤ rounds
   pub few_rounds : rounds + sum (replayed net past) ≤ sum (least net) + 1
 
+-- rounds one after another, from the master that shows s to the one that shows t, and the units that
+-- each raised, the last round first
+abbrev pub AreRoundsFrom : Net → Plan → Shown → List ℕ → Shown → Type 0
+AreRoundsFrom net plan s [] t = t ≡ s
+AreRoundsFrom net plan s (n ∷ ns) t = (m : Shown) × (visits : ℕ) × AreRoundsFrom net plan s ns m
+    × IsRoundOf net plan n visits m t
+
+-- so many rounds: the last raised nothing, and each before it raised a unit
+pub record EndsAtRest (net : Net) (plan : Plan) (s t : Shown) (rounds : ℕ) : Type 0 where
+  pub raised : List ℕ
+  pub each_some : All (λ n. 1 ≤ n) raised
+  pub as_many : rounds ≡ length raised + 1
+  pub ran : AreRoundsFrom net plan s (0 ∷ raised) t
+
 -- the rounds on a board, from the master that shows s to the one that shows t
 pub record IsDriven (net : Net) (past : List Raise) (plan : Plan) (s t : Shown) (d : Driven)
     : Type 0 where
@@ -47,3 +67,5 @@ pub record IsDriven (net : Net) (past : List Raise) (plan : Plan) (s t : Shown) 
   pub bounds : InBounds net past d.rounds
   pub seats : t.seats ≡ d.rounds * plan.workers
   pub visits : t.taken ≡ s.taken + d.visits
+  pub rounds_by_raises : d.rounds ≤ length t.raises + 1
+  pub at_rest : EndsAtRest net plan s t d.rounds

@@ -4,3 +4,4 @@ pub mod Between
 pub mod Runs
 pub mod Offices
 pub mod Bells
+pub mod ByHand

@@ -6,7 +6,9 @@ use Rattle.clear_core.specs.Clearing.{least}
 use Rattle.pay_words.specs.Belongs.{Belongs}
 use Rattle.pay_words.specs.Sealed.{Sealed}
 use Rattle.pay_words.specs.Traces.{start_of}
-use Rattle.settle.specs.Drives.{InBounds}
+use Rattle.pay_words.specs.Views.{opening}
+use Rattle.pay_words.specs.declared.view.Shown.{Shown}
+use Rattle.settle.specs.Drives.{EndsAtRest, InBounds}
 use Rattle.settle.specs.declared.plan.Plan.{Plan}
 
 -- a run on the network can go on from these raises: they belong to it, with what they leave on each
@@ -33,18 +35,28 @@ pub record IsRecordAfter (net : Net) (past : List Raise) (plan : Plan) (rounds :
   pub workers : r.workers ≡ plan.workers
   pub seats : r.seats ≡ rounds * plan.workers
 
--- at least one round, and at most one for each unit owed, and one more; at most as many visits as
--- sweeps over all banks, and as banks and raises
+-- at least one round, and at most one for each unit paid, and one more, and one for each raise, and
+-- one more; at most as many visits as sweeps over all banks, and as banks and raises
 pub record IsWithin (net : Net) (plan : Plan) (rounds visits raises : ℕ) : Type 0 where
   pub some_round : 1 ≤ rounds
   pub few_rounds : rounds ≤ sum (least net) + 1
   pub visits_by_sweeps : visits ≤ rounds * (plan.sweeps * length net.banks)
   pub visits_by_bells : visits ≤ length net.banks + raises
+  pub rounds_by_raises : rounds ≤ raises + 1
 
 -- the same, of a run that went on from a past: at most one round for each unit that the past left
--- unpaid, and one more, and at most as many visits as banks and raises after the past
+-- unpaid, and one more, and by the raises after the past in the place of all
 pub record IsWithinAfter (net : Net) (past : List Raise) (plan : Plan) (rounds visits made : ℕ)
     : Type 0 where
   pub rounds_in_bounds : InBounds net past rounds
   pub visits_by_sweeps : visits ≤ rounds * (plan.sweeps * length net.banks)
   pub visits_by_bells : visits ≤ length net.banks + made
+  pub rounds_by_raises : rounds ≤ made + 1
+
+-- so many rounds on a board that the past opened, to what is paid in the end: the last of them
+-- raised nothing, and each before it raised a unit
+pub record HasComeToRest (net : Net) (past : List Raise) (plan : Plan) (paid : List ℕ) (rounds : ℕ)
+    : Type 0 where
+  pub master : Shown
+  pub rounds_are : EndsAtRest net plan (opening net (start_of net past)) master rounds
+  pub paid_is : master.paid ≡ paid

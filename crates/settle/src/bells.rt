@@ -1,31 +1,74 @@
 ghost use Rattle.clear_core.specs.Clearing.{Clears, least};
-ghost use Rattle.settle.specs.Bells.{IsIdle, OneWasUp};
-ghost use Rattle.std.specs.Prelude.{◌≡◌, false, true};
+ghost use Rattle.settle.specs.Bells.{IsIdle};
+ghost use Rattle.settle.specs.Between.{IsBetween};
+ghost use Rattle.settle.specs.Drives.{IsPlan};
+ghost use Rattle.settle.specs.Offices.{AreOffices};
+ghost use Rattle.std.specs.Prelude.{◌≡◌, ◌+◌, ◌<◌, IfOk, OnOk, true};
 
-use clr_net::{BankId, Network};
+use crate::plan::Plan;
+use crate::teams::round;
+use bank_worker::Office;
+use clear_core::Journal;
+use clr_edge::Gate;
+use clr_net::{BankId, Mem, Network};
 use pay_words::{Board, PaySeat};
+use std::alloc::Global;
+use std::thread::Threads;
 
 /// Whether all bells of a board are down, so that nobody can pay more. The master holds all banks,
 /// and each bank is fresh or pays its division at what it last saw, as a round leaves them.
 ///
-/// Takes each bank's bell. After true the payments are the least that clear the network. After
-/// false one bell was up, it is down now, and the debts to its bank call for a look. Takes no
-/// memory, and costs one atomic swap for each bank.
+/// It takes no bell: whatever the answer, the master shows what it showed. After true the payments
+/// are the least that clear the network. Takes no memory, and costs one atomic load for each bank.
 pub fn nobody_can_pay_more(net: &Network, board: &Board, master: &mut PaySeat) -> bool
     requires net { net.now ≡ board.now.net }
     requires table { master.old.table ≡ board.now.table }
     requires idle { IsIdle net.now master.old.shows }
     ensures table { master.new.table ≡ master.old.table }
+    ensures same { master.new.shows ≡ master.old.shows }
     ensures clears { result ≡ true → Clears net.now master.new.shows.paid }
     ensures least { result ≡ true → master.new.shows.paid ≡ least net.now }
-    ensures all_down { result ≡ true → master.new.shows ≡ master.old.shows }
-    ensures one_up { result ≡ false → OneWasUp net.now master.old.shows master.new.shows }
 {
     let _clock = master.clock();
     for bank in 0..net.banks() {
-        if board.take(master, BankId(bank)) {
+        if board.glance(master, BankId(bank)) {
             return false;
         }
     }
     true
+}
+
+/// Makes a round as [`round`] does, and answers whether it was joined with all bells down.
+///
+/// When a round in which no visit found want of memory is joined with all bells down, nobody can
+/// pay more: the payments are the least that clear the network. `Mem` is want of memory.
+pub fn round_and_ask<R: Threads + Sync, G: Gate + Sync>(
+    rt: &R,
+    alloc: Global,
+    net: &Network,
+    plan: Plan,
+    board: &Board,
+    master: &mut PaySeat,
+    gate: &G,
+    journal: &mut Journal,
+    offices: &mut Vec<Office>,
+) -> Result<bool, Mem>
+    requires offices { AreOffices net.now plan.workers plan.workers offices.old.items }
+    requires plan { IsPlan plan }
+    requires workers { plan.workers ≡ board.now.workers }
+    requires net { net.now ≡ board.now.net }
+    requires table { master.old.table ≡ board.now.table }
+    requires between { IsBetween net.now master.old.shows }
+    requires seats { master.old.shows.seats + plan.workers < 4294967295 }
+    ensures table { master.new.table ≡ master.old.table }
+    ensures between { OnOk result (IsBetween net.now master.new.shows) }
+    ensures offices { OnOk result (AreOffices net.now plan.workers plan.workers offices.new.items) }
+    ensures seats { OnOk result (master.new.shows.seats ≡ master.old.shows.seats + plan.workers) }
+    ensures clears { IfOk result (λ down. down ≡ true → Clears net.now master.new.shows.paid) }
+    ensures least { IfOk result (λ down. down ≡ true → master.new.shows.paid ≡ least net.now) }
+{
+    let _raised = round(
+        rt, alloc, net, plan, board, master, gate, journal, offices, true,
+    )?;
+    Ok(nobody_can_pay_more(net, board, master))
 }

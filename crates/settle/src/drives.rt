@@ -1,7 +1,7 @@
 ghost use Rattle.pay_words.specs.Traces.{start_of};
 ghost use Rattle.pay_words.specs.Views.{opening};
 ghost use Rattle.settle.specs.Bells.{IsIdle};
-ghost use Rattle.settle.specs.Drives.{IsDriven, IsOf, IsPlan};
+ghost use Rattle.settle.specs.Drives.{IsBelowLeast, IsDriven, IsOf, IsPlan};
 ghost use Rattle.std.specs.Prelude.{◌≡◌, ◌*◌, ◌≤◌, IfOk, length};
 
 use crate::plan::{Driven, Plan};
@@ -22,8 +22,10 @@ const MANY_VISITS: u64 = 512;
 /// go side by side in the first round, and after a round of many visits where one look found bells
 /// of two of them up; else they go one after another, since threads cost more than so little work.
 ///
-/// After Ok [`nobody_can_pay_more`](crate::nobody_can_pay_more) may be called. After `Mem` the
-/// master may hold fewer banks, and the caller drops the board.
+/// The run ends after the first round that raised nothing; each round before it raised a unit.
+/// After Ok [`nobody_can_pay_more`](crate::nobody_can_pay_more) may be asked. After `Mem` the master
+/// may hold fewer banks, and the caller drops the board; what the master shows is never above the
+/// least clearing payments.
 pub fn drive<R: Threads + Sync, G: Gate + Sync>(
     rt: &R,
     alloc: Global,
@@ -39,6 +41,35 @@ pub fn drive<R: Threads + Sync, G: Gate + Sync>(
     requires table { master.old.table ≡ board.now.table }
     requires opened { master.old.shows ≡ opening net.now (start_of net.now past.now) }
     ensures table { master.new.table ≡ master.old.table }
+    ensures below_least { IsBelowLeast net.now master.new.shows }
+    ensures driven { IfOk result (λ d.
+        IsDriven net.now past.now plan master.old.shows master.new.shows d) }
+    ensures idle { IfOk result (λ _. IsIdle net.now master.new.shows) }
+    ensures few_visits { IfOk result (λ d.
+        d.visits ≤ d.rounds * (plan.sweeps * length net.now.banks)) }
+{
+    let driven = drive_on(rt, alloc, net, plan, past, board, master, gate);
+    let _clock = master.clock();
+    driven
+}
+
+// The rounds themselves.
+fn drive_on<R: Threads + Sync, G: Gate + Sync>(
+    rt: &R,
+    alloc: Global,
+    net: &Network,
+    plan: Plan,
+    past: &[Raise],
+    board: &Board,
+    master: &mut PaySeat,
+    gate: &G,
+) -> Result<Driven, Mem>
+    requires plan { IsPlan plan }
+    requires board { IsOf board.now net.now past.now plan }
+    requires table { master.old.table ≡ board.now.table }
+    requires opened { master.old.shows ≡ opening net.now (start_of net.now past.now) }
+    ensures table { master.new.table ≡ master.old.table }
+    ensures net { master.new.shows.net ≡ net.now }
     ensures driven { IfOk result (λ d.
         IsDriven net.now past.now plan master.old.shows master.new.shows d) }
     ensures idle { IfOk result (λ _. IsIdle net.now master.new.shows) }

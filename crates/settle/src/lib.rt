@@ -3,15 +3,17 @@
 
 mod bells;
 mod drives;
+pub mod laws;
 mod plan;
 mod runs;
 mod teams;
 mod work;
 
-pub use bells::nobody_can_pay_more;
+pub use bells::{nobody_can_pay_more, round_and_ask};
 pub use drives::drive;
 pub use plan::{Driven, Plan};
-pub use runs::{Settled, settle, settle_from};
+pub use runs::{Settled, settle, settle_from, settle_owned, settle_owned_from};
+pub use teams::{offices_of, round};
 
 #[cfg(test)]
 mod tests;

@@ -3,10 +3,12 @@ ghost use Rattle.clear_core.specs.History.{IsTraced, Stands, ordered, replayed};
 ghost use Rattle.pay_words.specs.Ends.{values};
 ghost use Rattle.pay_words.specs.Traces.{start_of};
 ghost use Rattle.pay_words.specs.Words.{unpaid as unpaid_word};
+ghost use Rattle.raise_journal.specs.ReadBack.{IsInLimits};
 ghost use Rattle.raise_journal.specs.Verdicts.{judged};
 ghost use Rattle.settle.specs.Drives.{IsPlan};
-ghost use Rattle.settle.specs.Runs.{CanGoOn, IsRecordAfter, IsRecordOf, IsWithin, IsWithinAfter};
-ghost use Rattle.std.specs.Prelude.{◌≡◌, ◌<◌, ◌≤◌, All, IfOk, length, replicate, sum};
+ghost use Rattle.settle.specs.Runs.{CanGoOn, HasComeToRest, IsRecordAfter, IsRecordOf, IsWithin};
+ghost use Rattle.settle.specs.Runs.{IsWithinAfter};
+ghost use Rattle.std.specs.Prelude.{◌≡◌, ◌<◌, ◌≤◌, [], All, IfOk, length, replicate, sum};
 
 use crate::drives::drive;
 use crate::plan::{Driven, Plan};
@@ -28,9 +30,38 @@ pub struct Settled {
     pub visits: u64,
 }
 
-/// Clears a network by rounds of workers on one board, until a round raises nothing. The network
-/// goes into the record. `Mem` is want of memory.
+/// Clears a network by rounds of workers on one board, until a round raises nothing. The record has
+/// a copy of the network. `Mem` is want of memory.
 pub fn settle<R: Threads + Sync, G: Gate + Sync>(
+    rt: &R,
+    alloc: Global,
+    net: &Network,
+    plan: Plan,
+    gate: &G,
+) -> Result<Settled, Mem>
+    requires plan { IsPlan plan }
+    ensures paid { IfOk result (λ s. s.paid ≡ least net.now) }
+    ensures verdict { IfOk result (λ s.
+        (judged net.now s.sealed.journal).verdict ≡ Verdict.Lawful) }
+    ensures lawful { IfOk result (λ s. Stands net.now s.sealed.journal
+        × IsTraced net.now s.sealed.journal) }
+    ensures replays { IfOk result (λ s. replayed net.now s.sealed.journal ≡ s.paid) }
+    ensures in_order { IfOk result (λ s. ordered s.sealed.journal ≡ s.sealed.journal) }
+    ensures low_stamps { IfOk result (λ s. All (λ r. r.stamp ≤ sum s.paid) s.sealed.journal) }
+    ensures within_limits { IfOk result (λ s. IsInLimits net.now s.sealed.journal) }
+    ensures can_go_on { IfOk result (λ s. CanGoOn net.now s.sealed.journal) }
+    ensures record_is { IfOk result (λ s.
+        IsRecordOf net.now plan s.rounds s.sealed) }
+    ensures bounds { IfOk result (λ s.
+        IsWithin net.now plan s.rounds s.visits (length s.sealed.journal)) }
+    ensures at_rest { IfOk result (λ s. HasComeToRest net.now [] plan s.paid s.rounds) }
+{
+    settle_owned(rt, alloc, net.copy(alloc)?, plan, gate)
+}
+
+/// Clears a network as [`settle`] does, and puts the network itself into the record, which saves
+/// the copy. `Mem` is want of memory.
+pub fn settle_owned<R: Threads + Sync, G: Gate + Sync>(
     rt: &R,
     alloc: Global,
     net: Network,
@@ -46,18 +77,52 @@ pub fn settle<R: Threads + Sync, G: Gate + Sync>(
     ensures replays { IfOk result (λ s. replayed net s.sealed.journal ≡ s.paid) }
     ensures in_order { IfOk result (λ s. ordered s.sealed.journal ≡ s.sealed.journal) }
     ensures low_stamps { IfOk result (λ s. All (λ r. r.stamp ≤ sum s.paid) s.sealed.journal) }
+    ensures within_limits { IfOk result (λ s. IsInLimits net s.sealed.journal) }
     ensures can_go_on { IfOk result (λ s. CanGoOn net s.sealed.journal) }
-    ensures record_is { IfOk result (λ s. IsRecordOf net plan s.rounds s.sealed) }
+    ensures record_is { IfOk result (λ s.
+        IsRecordOf net plan s.rounds s.sealed) }
     ensures bounds { IfOk result (λ s.
         IsWithin net plan s.rounds s.visits (length s.sealed.journal)) }
+    ensures at_rest { IfOk result (λ s. HasComeToRest net [] plan s.paid s.rounds) }
 {
-    settle_from(rt, alloc, net, plan, &[], gate)
+    settle_owned_from(rt, alloc, net, plan, &[], gate)
 }
 
 /// Clears a network as [`settle`] does, from what the raises of a past left on its debts: those of
 /// an earlier run on this network, or on one whose banks had less. Its journal begins with the
 /// past. `Mem` is want of memory.
 pub fn settle_from<R: Threads + Sync, G: Gate + Sync>(
+    rt: &R,
+    alloc: Global,
+    net: &Network,
+    plan: Plan,
+    past: &[Raise],
+    gate: &G,
+) -> Result<Settled, Mem>
+    requires plan { IsPlan plan }
+    requires past { CanGoOn net.now past.now }
+    ensures paid { IfOk result (λ s. s.paid ≡ least net.now) }
+    ensures verdict { IfOk result (λ s.
+        (judged net.now s.sealed.journal).verdict ≡ Verdict.Lawful) }
+    ensures lawful { IfOk result (λ s. Stands net.now s.sealed.journal
+        × IsTraced net.now s.sealed.journal) }
+    ensures replays { IfOk result (λ s. replayed net.now s.sealed.journal ≡ s.paid) }
+    ensures in_order { IfOk result (λ s. ordered s.sealed.journal ≡ s.sealed.journal) }
+    ensures low_stamps { IfOk result (λ s. All (λ r. r.stamp ≤ sum s.paid) s.sealed.journal) }
+    ensures within_limits { IfOk result (λ s. IsInLimits net.now s.sealed.journal) }
+    ensures can_go_on { IfOk result (λ s. CanGoOn net.now s.sealed.journal) }
+    ensures record_is { IfOk result (λ s.
+        IsRecordAfter net.now past.now plan s.rounds s.sealed) }
+    ensures bounds { IfOk result (λ s.
+        IsWithinAfter net.now past.now plan s.rounds s.visits s.sealed.made) }
+    ensures at_rest { IfOk result (λ s. HasComeToRest net.now past.now plan s.paid s.rounds) }
+{
+    settle_owned_from(rt, alloc, net.copy(alloc)?, plan, past, gate)
+}
+
+/// Goes on as [`settle_from`] does, and puts the network itself into the record, which saves the
+/// copy. `Mem` is want of memory.
+pub fn settle_owned_from<R: Threads + Sync, G: Gate + Sync>(
     rt: &R,
     alloc: Global,
     net: Network,
@@ -75,11 +140,13 @@ pub fn settle_from<R: Threads + Sync, G: Gate + Sync>(
     ensures replays { IfOk result (λ s. replayed net s.sealed.journal ≡ s.paid) }
     ensures in_order { IfOk result (λ s. ordered s.sealed.journal ≡ s.sealed.journal) }
     ensures low_stamps { IfOk result (λ s. All (λ r. r.stamp ≤ sum s.paid) s.sealed.journal) }
+    ensures within_limits { IfOk result (λ s. IsInLimits net s.sealed.journal) }
     ensures can_go_on { IfOk result (λ s. CanGoOn net s.sealed.journal) }
     ensures record_is { IfOk result (λ s.
         IsRecordAfter net past.now plan s.rounds s.sealed) }
     ensures bounds { IfOk result (λ s.
         IsWithinAfter net past.now plan s.rounds s.visits s.sealed.made) }
+    ensures at_rest { IfOk result (λ s. HasComeToRest net past.now plan s.paid s.rounds) }
 {
     prove!(net.banks() <= MAX_BANKS);
     let mut payments = payments_after(alloc, &net, past)?;

@@ -2,7 +2,9 @@ ghost use Rattle.bank_worker.specs.Visits.{WhenRaised};
 ghost use Rattle.clr_net.specs.Limits.{IsNetwork};
 ghost use Rattle.clr_net.specs.declared.TheConstants.{MAX_OWED};
 ghost use Rattle.pay_words.specs.Views.{IsAt};
-ghost use Rattle.settle.specs.Between.{AreOfBoard, HaveGrownAlike, IsBack, IsBetween, IsRoundOf, crews, without_first};
+ghost use Rattle.settle.specs.Bells.{IsIdle};
+ghost use Rattle.settle.specs.Between.{AreOfBoard, HaveGrownAlike, IsBack, IsBetween, IsRoundOf};
+ghost use Rattle.settle.specs.Between.{crews, raises_by, without_first};
 ghost use Rattle.settle.specs.Drives.{IsPlan};
 ghost use Rattle.settle.specs.Offices.{AreOffices};
 ghost use Rattle.settle.specs.Rounds.{AreReady, AreRounded};
@@ -18,8 +20,8 @@ use pay_words::{Board, PaySeat};
 use std::alloc::Global;
 use std::thread::Threads;
 
-// The offices of all workers, the last worker's first.
-pub(crate) fn offices_of(alloc: Global, net: &Network, workers: u32) -> Result<Vec<Office>, Mem>
+/// The offices of all workers, the last worker's first. `Mem` is want of memory.
+pub fn offices_of(alloc: Global, net: &Network, workers: u32) -> Result<Vec<Office>, Mem>
     requires workers { 1 ≤ workers }
     ensures { IfOk result (λ os. AreOffices net.now workers workers os.items) }
 {
@@ -46,6 +48,7 @@ fn open_workers(
     requires between { IsBetween net.now master.old.shows }
     requires seats { master.old.shows.seats + workers < 4294967295 }
     ensures table { master.new.table ≡ master.old.table }
+    ensures net { master.new.shows.net ≡ master.old.shows.net }
     ensures rest { OnOk result (master.new.shows ≡ without_first workers workers master.old.shows) }
     ensures crews { IfOk result (λ ws.
         ws.items ≡ crews workers board.now.table master.old.shows workers) }
@@ -78,6 +81,7 @@ fn close_workers(
     requires master { IsAt board.now master.old × (master.old.shows.master ≡ true) }
     requires crew { AreOfBoard board.now workers.items }
     ensures table { master.new.table ≡ master.old.table }
+    ensures net { master.new.shows.net ≡ master.old.shows.net }
     ensures back { OnOk result (IsBack board.now.workers board.now.net master.old.shows
         workers.items master.new.shows 0) }
     ensures noted { OnOk result (HaveGrownAlike journal.old.raises journal.new.raises
@@ -87,6 +91,8 @@ fn close_workers(
     ensures sum { IfOk result (λ n. n ≡ sum_by (λ w. w.visits) workers.items) }
     ensures offices { OnOk result (AreOffices board.now.net board.now.workers board.now.workers
         offices.new.items) }
+    ensures raises { OnOk result (length master.new.shows.raises
+        ≡ length master.old.shows.raises + sum_by raises_by workers.items) }
 {
     let mut visits = 0;
     while let Some(worker) = workers.pop() {
@@ -148,9 +154,14 @@ pub(crate) fn calls_two_workers(net: &Network, board: &Board, workers: u32) -> b
     false
 }
 
-// A round of all workers, side by side or one after another. Answers by how many units payments
-// rose, and how many visits there were.
-pub(crate) fn round<R: Threads + Sync, G: Gate + Sync>(
+/// A round of all workers, beside one another or one after another: hands a seat to each worker,
+/// lets each make its round at its office, takes the seats back, and adds all raises to the
+/// journal. Answers by how many units payments rose, and how many visits there were.
+///
+/// After Ok the master may begin another round, and
+/// [`nobody_can_pay_more`](crate::nobody_can_pay_more) may be asked. After `Mem`, which is want of
+/// memory, the master may hold fewer banks, and the caller drops the board.
+pub fn round<R: Threads + Sync, G: Gate + Sync>(
     rt: &R,
     alloc: Global,
     net: &Network,
@@ -170,6 +181,8 @@ pub(crate) fn round<R: Threads + Sync, G: Gate + Sync>(
     requires between { IsBetween net.now master.old.shows }
     requires seats { master.old.shows.seats + plan.workers < 4294967295 }
     ensures table { master.new.table ≡ master.old.table }
+    ensures net { master.new.shows.net ≡ master.old.shows.net }
+    ensures idle { OnOk result (IsIdle net.now master.new.shows) }
     ensures between { OnOk result (IsBetween net.now master.new.shows) }
     ensures offices { OnOk result (AreOffices net.now plan.workers plan.workers offices.new.items) }
     ensures round { IfOk result (λ r.

@@ -1,8 +1,8 @@
 ghost use Rattle.std.specs.Prelude.{◌<◌, ◌≤◌};
 
 use crate::runs::unpaid;
-use crate::teams::{offices_of, round};
-use crate::{Plan, Settled, nobody_can_pay_more, settle, settle_from};
+use crate::teams::calls_two_workers;
+use crate::{Plan, Settled, nobody_can_pay_more, offices_of, round_and_ask, settle, settle_from};
 use clear_core::{Journal, Raise, Scratch};
 use clear_least::central;
 use clr_edge::{Gate, OpenGate};
@@ -10,7 +10,7 @@ use clr_net::{
     Amounts, BankId, Debt, DebtId, MAX_CLAIM, MAX_CLASS, MAX_DEBTS, MAX_OWED, Mem, Network,
     RuleKind,
 };
-use net_samples::{add_ruled, chain, ring};
+use net_samples::{add_bank, add_ruled, chain, ring};
 use pay_words::Board;
 use raise_journal::{Verdict, replay};
 use std::alloc::Global;
@@ -31,7 +31,7 @@ fn one_unit_goes_round_a_ring(rt: HostRuntime) -> Result<(), Fail> {
         sealed,
         rounds,
         visits,
-    } = settle(&rt, alloc, net, plan, &OpenGate)?;
+    } = settle(&rt, alloc, &net, plan, &OpenGate)?;
     assert_eq!(rt; paid.as_slice(), [5, 5].as_slice());
     assert_eq!(rt; (rounds, visits), (6, 11));
     assert_eq!(rt; (sealed.made(), sealed.seats()), (10, 6));
@@ -56,7 +56,7 @@ fn every_plan_pays_the_same(rt: HostRuntime) -> Result<(), Fail> {
                 sealed,
                 rounds,
                 ..
-            } = settle(&rt, alloc, net.copy(alloc)?, plan, &OpenGate)?;
+            } = settle(&rt, alloc, &net, plan, &OpenGate)?;
             assert_eq!(rt; paid.as_slice(), [5, 5].as_slice());
             assert_eq!(rt; sealed.journal().len(), 10);
             assert_eq!(rt; sealed.seats(), rounds * workers as u64);
@@ -82,7 +82,7 @@ fn a_chain_takes_two_rounds(rt: HostRuntime) -> Result<(), Fail> {
         sealed,
         rounds,
         visits,
-    } = settle(&rt, alloc, net, plan, &OpenGate)?;
+    } = settle(&rt, alloc, &net, plan, &OpenGate)?;
     assert_eq!(rt; paid.as_slice(), [7, 8].as_slice());
     assert_eq!(rt; (rounds, visits), (2, 3));
     assert_eq!(rt; (sealed.made(), sealed.seats()), (2, 2));
@@ -102,13 +102,13 @@ fn no_bank_takes_one_round(rt: HostRuntime) -> Result<(), Fail> {
         rounds,
         visits,
         ..
-    } = settle(&rt, alloc, net, plan, &OpenGate)?;
+    } = settle(&rt, alloc, &net, plan, &OpenGate)?;
     assert_eq!(rt; paid.as_slice().len(), 0);
     assert_eq!(rt; (rounds, visits), (1, 0));
     Ok(())
 }
 
-// Whether nobody can pay more after so many rounds of one worker on a new board.
+// Whether nobody can pay more after so many rounds of one worker on a new board, made by hand.
 fn asked_after<R: Threads + Sync>(
     rt: &R,
     alloc: Global,
@@ -128,7 +128,7 @@ fn asked_after<R: Threads + Sync>(
     let mut offices = offices_of(alloc, net, 1)?;
     let _clock = master.clock();
     for _ in 0..rounds {
-        round(
+        let _down = round_and_ask(
             rt,
             alloc,
             net,
@@ -138,7 +138,6 @@ fn asked_after<R: Threads + Sync>(
             &OpenGate,
             &mut journal,
             &mut offices,
-            true,
         )?;
     }
     Ok(nobody_can_pay_more(net, board, &mut master))
@@ -157,46 +156,305 @@ fn the_bells_are_down_once_nobody_can_pay_more(rt: HostRuntime) -> Result<(), Fa
     Ok(())
 }
 
-// At the first visit of each of two workers, waits a while for the other's.
+// Waits a while until a number is reached, and answers whether it was.
+fn waits_for(number: &AtomicU64, wanted: u64) -> bool {
+    for _ in 0..50_000_000_u32 {
+        if number.load(Ordering::SeqCst) >= wanted {
+            return true;
+        }
+    }
+    false
+}
+
+// In one round, the first visit of each worker waits for those of the others. Each worker comes
+// once.
 #[derive(Drop)]
 struct Meeting {
-    here: [AtomicU64; 2],
-    met: [AtomicU64; 2],
+    workers: u64,
+    // Which round it is, from 0.
+    round: u64,
+    // How many first visits each worker made.
+    rounds: [AtomicU64; 3],
+    come: AtomicU64,
+    met: AtomicU64,
 }
 
 impl Gate for Meeting {
     fn at(&self, worker: u32, visit: u64) {
-        if worker > 1 || visit != 1 {
+        let Some(rounds) = self.rounds.get(worker as usize) else {
+            return;
+        };
+        if visit != 1 || rounds.fetch_add(1, Ordering::SeqCst) != self.round {
             return;
         }
-        let own = worker as usize;
-        let other = 1 - own;
-        self.here[own].store(1, Ordering::SeqCst);
-        for _ in 0..50_000_000_u32 {
-            if self.here[other].load(Ordering::SeqCst) == 1 {
-                self.met[own].store(1, Ordering::SeqCst);
-                return;
+        self.come.fetch_add(1, Ordering::SeqCst);
+        if waits_for(&self.come, self.workers) {
+            self.met.fetch_add(1, Ordering::SeqCst);
+        }
+    }
+}
+
+// How many of so many workers met in a round of a run.
+fn met_in<R: Threads + Sync>(
+    rt: &R,
+    alloc: Global,
+    net: &Network,
+    workers: u32,
+    round: u64,
+) -> Result<u64, Mem>
+    requires { (1 ≤ workers) × (workers ≤ 64) }
+{
+    let gate = Meeting {
+        workers: workers as u64,
+        round,
+        rounds: [AtomicU64::new(0), AtomicU64::new(0), AtomicU64::new(0)],
+        come: AtomicU64::new(0),
+        met: AtomicU64::new(0),
+    };
+    let _settled = settle(rt, alloc, net, Plan { workers, sweeps: 1 }, &gate)?;
+    Ok(gate.met.load(Ordering::SeqCst))
+}
+
+#[test]
+fn all_workers_work_at_once(rt: HostRuntime) -> Result<(), Fail> {
+    let alloc = rt.alloc();
+    let net = chain(alloc)?;
+    assert_eq!(rt; met_in(&rt, alloc, &net, 2, 0)?, 2);
+    assert_eq!(rt; met_in(&rt, alloc, &net, 3, 0)?, 3);
+    Ok(())
+}
+
+// So many banks of nothing, but that C owes A a unit and D owes B one.
+fn two_pairs(alloc: Global, banks: u32) -> Result<Network, Mem>
+    requires { banks ≤ 600 }
+{
+    let mut net = Network::empty(alloc);
+    for number in 0..banks {
+        let name = [b'A' + (number / 26) as u8, b'A' + (number % 26) as u8];
+        let cash = if number == 2 || number == 3 { 1 } else { 0 };
+        add_bank(alloc, &mut net, &name, cash)?;
+    }
+    for (debtor, creditor) in [(2, 0), (3, 1)] {
+        let debt = Debt {
+            debtor: BankId(debtor),
+            creditor: BankId(creditor),
+            class: 1,
+            claim: 1,
+        };
+        add_debt(&mut net, debt)?;
+    }
+    Ok(net)
+}
+
+#[test]
+fn workers_work_at_once_in_a_later_round_too(rt: HostRuntime) -> Result<(), Fail> {
+    let alloc = rt.alloc();
+    // After a round of 512 visits a bell of each of two workers is up: each bank that is paid was
+    // visited before.
+    let net = two_pairs(alloc, 512)?;
+    assert_eq!(rt; met_in(&rt, alloc, &net, 2, 1)?, 2);
+    Ok(())
+}
+
+// Whether bells of two workers are up, where of the chain's three bells these are.
+fn two_called(alloc: Global, net: &Network, workers: u32, up: [bool; 3]) -> Result<bool, Mem>
+    requires { (1 ≤ workers) × (workers ≤ 64) }
+{
+    let payments = unpaid(alloc, net.debts() as usize)?;
+    let (board, mut master) = Board::make(alloc, net, workers, payments.as_slice(), &[])?;
+    for bank in 0..net.banks().min(3) {
+        if !up[bank as usize] {
+            let _taken = board.take(&mut master, BankId(bank));
+        }
+    }
+    Ok(calls_two_workers(net, &board, workers))
+}
+
+#[test]
+fn bells_of_two_workers_call_both(rt: HostRuntime) -> Result<(), Fail> {
+    let alloc = rt.alloc();
+    let net = chain(alloc)?;
+    let cases = [
+        (2, [true, true, true], true),
+        (2, [true, true, false], true),
+        (2, [false, true, true], true),
+        (2, [true, false, true], false),
+        (2, [false, true, false], false),
+        (2, [false, false, false], false),
+        (3, [true, false, true], true),
+        (3, [false, false, true], false),
+        (1, [true, true, true], false),
+    ];
+    for (workers, up, wanted) in cases {
+        assert_eq!(rt;
+            two_called(alloc, &net, workers, up)?,
+            wanted,
+            "{workers} of {up:?}"
+        );
+    }
+    Ok(())
+}
+
+// Lets the worker 1 go on to its second visit once the worker 0 is at its third, and that on from
+// there once the worker 1 is at its own third.
+#[derive(Drop)]
+struct InTurn {
+    reached: AtomicU64,
+    rung: AtomicU64,
+    last: [AtomicU64; 2],
+}
+
+impl Gate for InTurn {
+    fn at(&self, worker: u32, visit: u64) {
+        if let Some(last) = self.last.get(worker as usize) {
+            last.store(visit, Ordering::SeqCst);
+        }
+        match (worker, visit) {
+            (0, 3) => {
+                self.reached.store(1, Ordering::SeqCst);
+                waits_for(&self.rung, 1);
             }
+            (1, 2) => {
+                waits_for(&self.reached, 1);
+            }
+            (1, 3) => self.rung.store(1, Ordering::SeqCst),
+            _ => {}
         }
     }
 }
 
 #[test]
-fn two_workers_work_at_once(rt: HostRuntime) -> Result<(), Fail> {
+fn a_sweep_hears_a_bell_that_another_worker_rang(rt: HostRuntime) -> Result<(), Fail> {
+    let alloc = rt.alloc();
+    let mut net = Network::empty(alloc);
+    for (name, cash) in [(b"A", 0), (b"B", 0), (b"C", 1), (b"D", 2), (b"E", 0)] {
+        add_bank(alloc, &mut net, name, cash)?;
+    }
+    for (debtor, creditor) in [(2, 0), (3, 1), (3, 4)] {
+        let debt = Debt {
+            debtor: BankId(debtor),
+            creditor: BankId(creditor),
+            class: 1,
+            claim: 1,
+        };
+        add_debt(&mut net, debt)?;
+    }
+    let gate = InTurn {
+        reached: AtomicU64::new(0),
+        rung: AtomicU64::new(0),
+        last: [AtomicU64::new(0), AtomicU64::new(0)],
+    };
+    let plan = Plan {
+        workers: 2,
+        sweeps: 2,
+    };
+    let Settled { rounds, visits, .. } = settle(&rt, alloc, &net, plan, &gate)?;
+    // Worker 0 visits A, C and E. C pays A, and D, of worker 1, pays B and E once the bell of E was
+    // taken. So the second sweep of worker 0 hears A and E, and nothing is left for a second round.
+    assert_eq!(rt; gate.last[0].load(Ordering::SeqCst), 5);
+    assert_eq!(rt; gate.last[1].load(Ordering::SeqCst), 3);
+    assert_eq!(rt; (rounds, visits), (2, 8));
+    Ok(())
+}
+
+// Lets A pay only once B is at its gate, and lets B on only once A has paid.
+#[derive(Drop)]
+struct PaidBefore {
+    waiting: AtomicU64,
+    paid: AtomicU64,
+}
+
+impl Gate for PaidBefore {
+    fn at(&self, worker: u32, visit: u64) {
+        match (worker, visit) {
+            (0, 1) => {
+                waits_for(&self.waiting, 1);
+            }
+            (0, 2) => self.paid.store(1, Ordering::SeqCst),
+            (1, 1) => {
+                self.waiting.store(1, Ordering::SeqCst);
+                waits_for(&self.paid, 1);
+            }
+            _ => {}
+        }
+    }
+}
+
+#[test]
+fn a_bank_passes_the_gate_before_it_looks(rt: HostRuntime) -> Result<(), Fail> {
     let alloc = rt.alloc();
     let net = chain(alloc)?;
-    let gate = Meeting {
-        here: [AtomicU64::new(0), AtomicU64::new(0)],
-        met: [AtomicU64::new(0), AtomicU64::new(0)],
+    let gate = PaidBefore {
+        waiting: AtomicU64::new(0),
+        paid: AtomicU64::new(0),
     };
     let plan = Plan {
         workers: 2,
         sweeps: 1,
     };
-    let Settled { paid, .. } = settle(&rt, alloc, net, plan, &gate)?;
-    assert_eq!(rt; paid.as_slice(), [7, 8].as_slice());
-    assert_eq!(rt; gate.met[0].load(Ordering::SeqCst), 1);
-    assert_eq!(rt; gate.met[1].load(Ordering::SeqCst), 1);
+    let Settled { sealed, .. } = settle(&rt, alloc, &net, plan, &gate)?;
+    // B has seen what A paid while it was at the gate, and so pays all at once.
+    let journal = sealed.journal();
+    assert_eq!(rt; journal.len(), 2);
+    for (place, raise) in journal.iter().enumerate() {
+        let wanted = [(1, 0, 7), (2, 1, 8)];
+        assert_eq!(rt; (raise.stamp, raise.debt.0, raise.to), wanted[place.min(1)]);
+    }
+    Ok(())
+}
+
+// Notes the worker and the visit of each call of the gate.
+#[derive(Drop)]
+struct Calls {
+    calls: AtomicU64,
+    told: [AtomicU64; 12],
+}
+
+impl Gate for Calls {
+    fn at(&self, worker: u32, visit: u64) {
+        let place = self.calls.fetch_add(1, Ordering::SeqCst);
+        if let Some(told) = self.told.get((place % 12) as usize) {
+            told.store(worker as u64 + (visit % 1000) * 100, Ordering::SeqCst);
+        }
+    }
+}
+
+#[test]
+fn the_gate_is_told_the_worker_and_the_visit(rt: HostRuntime) -> Result<(), Fail> {
+    let alloc = rt.alloc();
+    let net = ring(alloc)?;
+    let gate = Calls {
+        calls: AtomicU64::new(0),
+        told: [
+            AtomicU64::new(0),
+            AtomicU64::new(0),
+            AtomicU64::new(0),
+            AtomicU64::new(0),
+            AtomicU64::new(0),
+            AtomicU64::new(0),
+            AtomicU64::new(0),
+            AtomicU64::new(0),
+            AtomicU64::new(0),
+            AtomicU64::new(0),
+            AtomicU64::new(0),
+            AtomicU64::new(0),
+        ],
+    };
+    let plan = Plan {
+        workers: 1,
+        sweeps: 1,
+    };
+    let Settled { visits, .. } = settle(&rt, alloc, &net, plan, &gate)?;
+    assert_eq!(rt; (visits, gate.calls.load(Ordering::SeqCst)), (11, 11));
+    // Two visits in each of five rounds and one in the last, numbered anew in each.
+    for (place, told) in gate.told.iter().enumerate() {
+        let wanted = if place == 11 {
+            0
+        } else {
+            100 + place as u64 % 2 * 100
+        };
+        assert_eq!(rt; told.load(Ordering::SeqCst), wanted);
+    }
     Ok(())
 }
 
@@ -226,7 +484,7 @@ fn a_run_goes_on_where_a_bank_has_more(rt: HostRuntime) -> Result<(), Fail> {
         sealed,
         rounds,
         ..
-    } = settle_from(&rt, alloc, net, plan, &past, &OpenGate)?;
+    } = settle_from(&rt, alloc, &net, plan, &past, &OpenGate)?;
     assert_eq!(rt; paid.as_slice(), [7, 9].as_slice());
     assert_eq!(rt; (rounds, sealed.made(), sealed.seats()), (2, 1, 2));
     let journal = sealed.journal();
@@ -326,7 +584,7 @@ fn is_cleared_by<R: Threads + Sync>(
     requires { (1 ≤ workers) × (workers ≤ 64) }
 {
     let plan = Plan { workers, sweeps: 2 };
-    let settled = settle(rt, alloc, net.copy(alloc)?, plan, &OpenGate)?;
+    let settled = settle(rt, alloc, net, plan, &OpenGate)?;
     let mut replayed = Amounts::zeros(alloc, net.debts() as usize)?;
     let mut scratch = Scratch::of(alloc, net)?;
     let journal = settled.sealed.journal();

@@ -1,72 +1,37 @@
-use Rattle.std.proofs.Common.{◌≡◌, ◌≤◌, ◌++◌, All, length, sum, sym, ap, ◌∙◌, subst, arith}
-use Rattle.clr_net.specs.Net.{Net}
+use Rattle.std.proofs.Common.{◌≡◌, ◌≤◌, All, length, sum, subst, sym}
+use Rattle.std.specs.Prelude.{IfOk}
 use Rattle.clear_core.specs.Clearing.{least}
-use Rattle.clear_core.specs.History.{ordered, replayed}
+use Rattle.clear_core.specs.History.{IsTraced, Stands, replayed}
 use Rattle.clear_core.specs.declared.event.Raise.{Raise}
-use Rattle.clear_core.proofs.Lawful.{stands_in_range}
-use Rattle.clear_core.proofs.Ordered.{length-ordered}
-use Rattle.pay_words.specs.Belongs.{Belongs}
-use Rattle.pay_words.specs.Ends.{AreAfter, values}
-use Rattle.pay_words.specs.Sealed.{Sealed}
-use Rattle.pay_words.specs.Views.{opening}
-use Rattle.pay_words.proofs.Histories.{replayed_is}
-use Rattle.settle.proofs.Finished.{after_a_past, goes_on, lawful_at_least, paid_over, sealed_belongs, values_shown, values_written}
+use Rattle.clr_net.specs.Net.{Net}
+use Rattle.raise_journal.specs.ReadBack.{IsInLimits}
+use Rattle.raise_journal.specs.Verdicts.{judged}
+use Rattle.raise_journal.specs.declared.verdict.Verdict.TheVariants as verdict
+use Rattle.settle.specs.Runs.{CanGoOn, HasComeToRest, IsRecordAfter, IsWithinAfter}
 use Rattle.settle.proofs.runs.settle_from.Goals as goal
 
-pub payments_after-requires : goal.payments_after-requires
-payments_after-requires g c = stands_in_range c.args.net c.args.past.now c.requires.past.stands
-
-pub make-requires-clause-belongs : goal.make-requires-clause-belongs
-make-requires-clause-belongs g c =
-    subst (λ ps. Belongs c.args.net ps c.args.past.now) (sym (c.as_slice.ensures.value ∙ c.in_ok-payments.ensures)) c.requires.past
-
-pub drive-requires-clause-opened : goal.drive-requires-clause-opened
-drive-requires-clause-opened g c κs within =
-    c.in_ok-board.ensures.master.1 ∙ ap (opening c.args.net) (c.as_slice.ensures.value ∙ c.in_ok-payments.ensures)
+-- each clause is of a copy, which is the network
+pub settle_owned_from-requires-clause-past : goal.settle_owned_from-requires-clause-past
+settle_owned_from-requires-clause-past g c κs within =
+    subst (λ (m : Net). CanGoOn m c.args.past.now) (sym c.in_ok-copy.ensures) c.requires.past
 
 pub returns : goal.returns
 returns g c =
-    let net = c.args.net in
+    let r = c.settle_owned_from.result in
+    let plan = c.args.plan in
     let past = c.args.past.now in
-    let t = c.drive.new.master.shows in
-    let d = c.in_ok-journal.ensures.driven in
-    let into = c.seal-sealed.new.into in
-    let p = c.in_ok-payments.payments in
-    let paid = c.in_ok-paid.paid in
-    let panel = c.in_ok-board.ensures.board in
-    let rs = c.in_ok-board.board.past ++ t.raises in
-    let seal = c.seal-sealed.ensures in
-    let journal = c.seal-sealed.result.journal in
-    let noted : journal ≡ ordered rs = ap (λ (r : Sealed). r.journal) seal.record_of in
-    let belongs : Belongs net into journal = sealed_belongs net c.in_ok-board.board.net into journal rs panel.0 noted seal.lawful in
-    let written : paid ≡ values into =
-    c.in_ok-paid.ensures ∙ ap values c.as_slice-2.ensures.value
-    ∙ values_written net past t p.len p.items into p.ok.0 c.in_ok-payments.ensures seal.payments d.settled.net_is in
-    let least_paid : paid ≡ least net =
-    written ∙ ap values seal.payments ∙ values_shown t (paid_over net t d.settled.net_is d.settled.paid) ∙ d.settled.paid in
-    let replays : replayed net journal ≡ paid = replayed_is net journal ∙ ap values (sym belongs.start_is) ∙ sym written in
-    let made : c.seal-sealed.result.made ≡ length t.raises = ap (λ (r : Sealed). r.made) seal.record_of in
+    let h = c.settle_owned_from.ensures in
+    let e = c.in_ok-copy.ensures in
     record {
-      paid = least_paid;
-      verdict = lawful_at_least net journal c.banks.ensures.network belongs.stands (replays ∙ least_paid);
-      lawful = (belongs.stands, belongs.traced);
-      replays = replays;
-      in_order = belongs.in_order;
-      low_stamps = subst (λ js. All (λ (r : Raise). r.stamp ≤ sum paid) js) (sym noted)
-          (subst (λ P. All (λ (r : Raise). r.stamp ≤ sum P) (ordered rs)) (sym written) seal.low_in_order);
-      can_go_on = goes_on net into journal belongs;
-      record_is = record {
-        net_is = ap (λ (r : Sealed). r.net) seal.record_of ∙ panel.0;
-        raises = ordered t.raises;
-        journal_is = noted ∙ ap (λ ps. ordered (ps ++ t.raises)) panel.1
-            ∙ after_a_past past t.raises c.requires.past.in_order (subst (λ ps. AreAfter ps t.raises) panel.1 seal.after_past);
-        made = made ∙ sym (length-ordered t.raises);
-        workers = ap (λ (r : Sealed). r.workers) seal.record_of ∙ panel.2;
-        seats = ap (λ (r : Sealed). r.seats) seal.record_of ∙ d.seats;
-      };
-      bounds = record {
-        rounds_in_bounds = d.bounds;
-        visits_by_sweeps = c.in_ok-journal.ensures.few_visits;
-        visits_by_bells = omega (arith, d.visits, seal.few_bells, ap (λ (m : Net). length m.banks) panel.0, made);
-      };
+      paid = subst (λ (m : Net). IfOk r (λ s. s.paid ≡ least m)) e h.paid;
+      verdict = subst (λ (m : Net). IfOk r (λ s. (judged m s.sealed.journal).verdict ≡ verdict.Lawful)) e h.verdict;
+      lawful = subst (λ (m : Net). IfOk r (λ s. Stands m s.sealed.journal × IsTraced m s.sealed.journal)) e h.lawful;
+      replays = subst (λ (m : Net). IfOk r (λ s. replayed m s.sealed.journal ≡ s.paid)) e h.replays;
+      in_order = h.in_order;
+      low_stamps = h.low_stamps;
+      within_limits = subst (λ (m : Net). IfOk r (λ s. IsInLimits m s.sealed.journal)) e h.within_limits;
+      can_go_on = subst (λ (m : Net). IfOk r (λ s. CanGoOn m s.sealed.journal)) e h.can_go_on;
+      record_is = subst (λ (m : Net). IfOk r (λ s. IsRecordAfter m past plan s.rounds s.sealed)) e h.record_is;
+      bounds = subst (λ (m : Net). IfOk r (λ s. IsWithinAfter m past plan s.rounds s.visits s.sealed.made)) e h.bounds;
+      at_rest = subst (λ (m : Net). IfOk r (λ s. HasComeToRest m past plan s.paid s.rounds)) e h.at_rest;
     }

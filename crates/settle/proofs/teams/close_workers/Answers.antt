@@ -1,9 +1,9 @@
-use Rattle.std.proofs.Common.{◌≡◌, ◌+◌, ◌-◌, ◌≤◌, ◌++◌, ◌∷◌, [], length, sym, ap, ◌∙◌, subst, arith, sum_by}
+use Rattle.std.proofs.Common.{◌≡◌, ◌+◌, ◌-◌, ◌≤◌, ◌++◌, ◌∷◌, [], length, length-append, sym, ap, ◌∙◌, subst, arith, sum_by}
 use Rattle.std.proofs.lemmas.List.Sums.{sum_by_push}
 use Rattle.pay_words.specs.declared.view.Shown.{Shown}
 use Rattle.pay_words.specs.Views.{OwesNoRing, rejoined}
 use Rattle.bank_worker.specs.Views.{Crew}
-use Rattle.settle.specs.Between.{IsBack, IsOfBoard}
+use Rattle.settle.specs.Between.{IsBack, IsOfBoard, raises_by}
 use Rattle.settle.specs.Offices.{AreOffices}
 use Rattle.settle.specs.Rounds.{crew_at}
 use Rattle.settle.proofs.Offices.{held_by, office_more, seat_serves}
@@ -79,5 +79,14 @@ loop-worker-preserved c =
           inv.noted (c.in_ok-add_all.ensures ∙ ap (λ rs. c.loop-worker.journal.raises ++ rs) made) (ap (λ (u : Shown). u.raises) shown);
       visits = omega (arith, ap (λ (u : Shown). u.taken) shown, inv.visits, c.visits-visits.ensures, own_there.by_bells, ap (λ (k : Crew). k.visits) last);
       sum = omega (arith, inv.sum, ap (λ ks. sum_by (λ (k : Crew). k.visits) ks) is, sum_by_push (λ (k : Crew). k.visits) rest w, c.visits-visits.ensures);
+      raises = omega (
+        arith,
+        ap (λ (u : Shown). length u.raises) shown,
+        length-append m.raises (crew_at ws n).seat.shows.raises,
+        inv.raises,
+        ap (λ ks. sum_by raises_by ks) is,
+        sum_by_push raises_by rest w,
+        ap raises_by last,
+      );
       low = omega (arith, more, inv.low, c.visits-visits.ensures, own.few_visits);
     }

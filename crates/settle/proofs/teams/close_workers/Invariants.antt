@@ -1,5 +1,5 @@
 use Rattle.std.proofs.Common.{◌≡◌, ℕ, ◌+◌, ◌-◌, ◌*◌, ◌<◌, ◌≤◌, length, sum_by}
-use Rattle.settle.specs.Between.{HaveGrownAlike, IsBack}
+use Rattle.settle.specs.Between.{HaveGrownAlike, IsBack, raises_by}
 use Rattle.settle.specs.Offices.{AreOffices}
 use Rattle.settle.specs.Rounds.{crew_at}
 use Rattle.settle.proofs.teams.close_workers.Given as goal
@@ -14,6 +14,7 @@ invariant-loop-worker l = record {
   noted : HaveGrownAlike l.fn.journal.raises l.journal.raises l.fn.master.shows.raises l.master.shows.raises;
   visits : l.master.shows.taken ≡ l.fn.master.shows.taken + l.visits;
   sum : l.visits + sum_by (λ w. w.visits) l.workers.items ≡ sum_by (λ w. w.visits) l.fn.workers.items;
+  raises : length l.master.shows.raises + sum_by raises_by l.workers.items ≡ length l.fn.master.shows.raises + sum_by raises_by l.fn.workers.items;
   low : l.visits + 1000000 * length l.workers.items ≤ 1000000 * length l.fn.workers.items;
 }
 

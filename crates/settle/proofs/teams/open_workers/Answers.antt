@@ -87,3 +87,20 @@ loop-number-preserved c =
 
 pub returns-clause-offices : goal.returns-clause-offices
 returns-clause-offices c = none_left c.args.net.now c.args.workers c.loop-number.number c.loop-number.offices.items (omega arith) c.loop-number.invariant.offices
+
+pub returns-in_err-seat-clause-net : goal.returns-in_err-seat-clause-net
+returns-in_err-seat-clause-net c =
+    let net_of = λ (u : Shown). u.net in
+    let inv = c.loop-number.invariant in
+    ap net_of c.in_err-seat.ensures.unchanged ∙ ap net_of inv.rest ∙ first_net c.args.workers c.loop-number.number c.args.master.now.shows
+
+pub returns-in_err-push-clause-net : goal.returns-in_err-push-clause-net
+returns-in_err-push-clause-net c =
+    let net_of = λ (u : Shown). u.net in
+    let inv = c.loop-number.invariant in
+    ap net_of c.in_ok-seat.ensures.rest ∙ ap net_of inv.rest ∙ first_net c.args.workers c.loop-number.number c.args.master.now.shows
+
+pub returns-clause-net : goal.returns-clause-net
+returns-clause-net c =
+    let net_of = λ (u : Shown). u.net in
+    ap net_of c.loop-number.invariant.rest ∙ first_net c.args.workers c.loop-number.number c.args.master.now.shows

@@ -7,8 +7,9 @@ use Rattle.pay_words.specs.declared.view.Shown.{Shown}
 use Rattle.settle.specs.Between.{HaveGrownAlike, crews}
 use Rattle.settle.specs.Offices.{AreOffices}
 use Rattle.settle.specs.Rounds.{AreReady, AreRounded}
+use Rattle.settle.proofs.AllDown.{idle_between}
 use Rattle.settle.proofs.Handed.{crews_ready, first_net, first_master, first_seats, first_raises, first_taken, length-crews}
-use Rattle.settle.proofs.Rounded.{few_in_round, of_board, between_again, all_divide, all_seen, none_fell, none_rose, some_rose}
+use Rattle.settle.proofs.Rounded.{few_in_round, of_board, between_again, all_divide, all_seen, none_fell, none_rose, some_raise, some_rose}
 use Rattle.settle.proofs.teams.round.Goals as goal
 
 pub work_all-requires-clause-some : goal.work_all-requires-clause-some
@@ -73,6 +74,8 @@ returns g c =
     let same_net : t.net ≡ net = back.net_is ∙ sym here in
     record {
       table = c.close_workers.ensures.table ∙ c.open_workers.ensures.table;
+      net = c.close_workers.ensures.net ∙ c.open_workers.ensures.net;
+      idle = idle_between net t (between_again board net s w sweeps units news here c.requires.workers some few between rounded m t over back (back.master ∙ ap (λ (u : Shown). u.master) rest ∙ first_master w w s ∙ between.master));
       between = between_again board net s w sweeps units news here c.requires.workers some few between rounded m t over back (back.master ∙ ap (λ (u : Shown). u.master) rest ∙ first_master w w s ∙ between.master);
       offices = subst (λ k. AreOffices net k k c.close_workers.new.offices.items) (sym c.requires.workers)
           (subst (λ (m : Net). AreOffices m board.workers board.workers c.close_workers.new.offices.items) (sym here) c.in_ok-visits.ensures.offices);
@@ -85,6 +88,11 @@ returns g c =
         visits_are = omega (arith, c.in_ok-visits.ensures.visits, ap (λ (u : Shown). u.taken) rest, first_taken w w s);
         few_visits = c.in_ok-visits.ensures.few;
         visits_by_banks = omega (arith, c.in_ok-visits.ensures.sum, few_in_round board net s w sweeps units news here c.requires.workers some few between rounded);
+        raises =
+            let before : length m.raises ≡ length s.raises = ap (λ (u : Shown). length u.raises) rest ∙ ap length (first_raises w w s) in (
+              omega (arith, c.in_ok-visits.ensures.raises, before),
+              λ some_units. omega (arith, c.in_ok-visits.ensures.raises, before, some_raise board net s w sweeps units news here c.requires.workers some few between rounded some_units),
+            );
         seats = omega (arith, back.seats, ap (λ (u : Shown). u.seats) rest, first_seats w w s);
         paid_low = subst (λ (n : Net). IsAtMost t.paid (least n)) same_net c.clock-clock.ensures.paid_below_least;
         sights_low = subst (λ (n : Net). IsAtMost t.sights (least n)) same_net c.clock-clock.ensures.sights_below_least;

@@ -1,6 +1,6 @@
 use Rattle.std.proofs.Common.{length, ap, arith}
 use Rattle.bank_worker.proofs.worker.Worker.round.Goals as goal
-use Rattle.bank_worker.proofs.Sweeping.{few_in_all}
+use Rattle.bank_worker.proofs.Sweeping.{few_in_all, round_out}
 
 pub sweep-requires-clause-visits : goal.sweep-requires-clause-visits
 sweep-requires-clause-visits g c =
@@ -9,3 +9,7 @@ sweep-requires-clause-visits g c =
 pub overflow_add-units : goal.overflow_add-units
 overflow_add-units g c =
     record { fits = omega (arith, few_in_all c.loop-number.number (length c.args.self.now.desks) (omega arith) (omega (arith, c.desks-desks.ensures.desks, c.desks-desks.ensures.few)), c.loop-number.invariant.low, c.in-Raised.ensures.few, ap (λ ds. length ds) c.loop-number.invariant.same.desks) }
+
+pub returns-in-Mem-clause-mem : goal.returns-in-Mem-clause-mem
+returns-in-Mem-clause-mem g c =
+    round_out c.args.self.now c.loop-number.self c.sweep.new.self c.args.sweeps c.loop-number.number c.loop-number.units (omega arith) c.loop-number.invariant c.in-Mem.ensures.mem

@@ -5,8 +5,9 @@ use Rattle.clear_core.specs.Clearing.{least}
 use Rattle.clear_core.specs.History.{ordered}
 use Rattle.pay_words.specs.declared.view.Shown.{Shown}
 use Rattle.settle.proofs.AllDown.{idle_between}
+use Rattle.settle.proofs.Resting.{ran_more, ran_none, ran_out}
 use Rattle.settle.proofs.Driving.{DrivenTo, driven_none, driven_more, driven_out, fewer_left, rounds_low, seats_low}
-use Rattle.settle.proofs.drives.drive.Goals as goal
+use Rattle.settle.proofs.drives.drive_on.Goals as goal
 
 pub loop-rounds-init : goal.loop-rounds-init
 loop-rounds-init g c =
@@ -20,6 +21,7 @@ loop-rounds-init g c =
       offices = c.in_ok-offices.ensures;
       driven = subst (λ rs. DrivenTo net past c.args.plan.workers s rs 0 0) (sym noted)
           (driven_none net past c.args.plan.workers s c.banks.ensures.network c.requires.opened c.clock-clock.ensures.over (subst (λ (n : Net). IsAtMost s.paid (least n)) here c.clock-clock.ensures.paid_below_least));
+      ran = ran_none net c.args.plan s;
       few_visits = omega arith;
     }
 
@@ -46,6 +48,7 @@ loop-rounds-preserved g c = record {
   offices = c.in_ok-units.ensures.offices;
   driven = driven_more c.args.net.now c.args.past.now c.args.plan c.loop-rounds.master.shows c.round.new.master.shows c.loop-rounds.journal.raises c.round.new.journal.raises
       c.loop-rounds.rounds c.loop-rounds.visits c.in_ok-units.units c.in_ok-units.more c.in_ok-units.ensures.between c.in_ok-units.ensures.round c.in_ok-units.ensures.noted c.if-units-eq0.false c.loop-rounds.invariant.driven;
+  ran = ran_more c.args.net.now c.args.plan c.args.master.now.shows c.loop-rounds.master.shows c.round.new.master.shows c.loop-rounds.rounds c.in_ok-units.units c.in_ok-units.more c.in_ok-units.ensures.round c.if-units-eq0.false c.loop-rounds.invariant.ran;
   few_visits = omega (arith, c.loop-rounds.invariant.few_visits, c.in_ok-units.ensures.round.visits_by_banks);
 }
 
@@ -59,6 +62,8 @@ returns-clause-driven g c =
       bounds = record { some_round = h.some_round; few_rounds = h.few_rounds };
       seats = h.seats;
       visits = omega (arith, h.taken, ap (λ (u : Shown). u.taken) c.requires.opened);
+      rounds_by_raises = h.by_raises;
+      at_rest = ran_out c.args.net.now c.args.plan c.args.master.now.shows c.loop-rounds.master.shows c.round.new.master.shows c.loop-rounds.rounds c.in_ok-units.units c.in_ok-units.more c.in_ok-units.ensures.round c.if-units-eq0.true c.loop-rounds.invariant.ran;
     }
 
 pub returns-clause-idle : goal.returns-clause-idle

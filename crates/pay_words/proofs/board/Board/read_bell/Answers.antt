@@ -3,7 +3,7 @@ use Rattle.pay_words.specs.Kept.{TakeTells}
 use Rattle.pay_words.specs.Views.{Panel, Chair, holds}
 use Rattle.pay_words.proofs.Rings.{bank_held, glances}
 use Rattle.pay_words.proofs.Seats.{bell_place}
-use Rattle.pay_words.proofs.board.Board.glance.Goals as goal
+use Rattle.pay_words.proofs.board.Board.read_bell.Goals as goal
 
 pub load-requires : goal.load-requires
 load-requires c =

@@ -1,0 +1,51 @@
+-- A lawful journal is within the limits of a journal file.
+use Rattle.std.proofs.Common.{◌≡◌, ℕ, zero, suc, ◌+◌, ◌<◌, ◌≤◌, All, List, [], ◌∷◌, length, get_or, set, sum, ap, ◌∙◌, arith, length-set}
+use Rattle.std.proofs.lemmas.List.{length-replicate}
+use Rattle.std.proofs.lemmas.List.Folds.{sum_by-replicate}
+use Rattle.std.proofs.lemmas.List.Sums.{sum_by-set}
+use Rattle.clr_net.specs.Limits.{IsNetwork}
+use Rattle.clr_net.specs.Net.{Net}
+use Rattle.clr_net.specs.declared.TheConstants.{MAX_CLAIM, MAX_OWED}
+use Rattle.clear_core.specs.Clearing.{least, zeros}
+use Rattle.clear_core.specs.History.{Stands, StandsFrom, replayed, replayed_from}
+use Rattle.clear_core.specs.declared.event.Raise.{Raise}
+use Rattle.clear_core.proofs.Lawful.{stands_in_range}
+use Rattle.clear_core.proofs.Pay.{pay_within}
+use Rattle.clear_core.proofs.Rows.{claim_in_limit}
+use Rattle.raise_journal.specs.ReadBack.{IsInLimits}
+use Rattle.settle.proofs.Quiet.{sum_low}
+
+-- each raise lifts what is paid by a unit at least
+grows_from : (net : Net) (stamp : ℕ) (P : List ℕ) (rs : List Raise) → length P ≡ length net.debts → All (λ r. r.debt.0 < length net.debts) rs → StandsFrom net stamp P rs
+    → sum P + length rs ≤ sum (replayed_from P rs)
+unfolding StandsFrom replayed_from
+grows_from net stamp P [] size known h = omega arith
+grows_from net stamp P (r ∷ rs) size known h =
+    let x = r.debt.0 in
+    let here : x < length net.debts = known 0 r (omega arith) in
+    let more = sum_by-set (λ (n : ℕ). n) P x r.to 0 (omega (arith, here, size)) in
+    let rest = grows_from net r.stamp (set P x r.to) rs (length-set P x r.to ∙ size) (λ k d lt. known (suc k) d (omega (arith, lt))) h.2 in
+    omega (arith, more, rest, h.1.0)
+
+-- so a journal has no more raises than it pays units
+pub few_raises : (net : Net) (rs : List Raise) → Stands net rs → length rs ≤ sum (replayed net rs)
+few_raises net rs h = omega (arith, grows_from net 0 (zeros net) rs (length-replicate (length net.debts) 0) (stands_in_range net rs h) h)
+
+-- no raise is above its claim
+low_from : (net : Net) (stamp : ℕ) (P : List ℕ) (rs : List Raise) → IsNetwork net → StandsFrom net stamp P rs → All (λ r. r.to ≤ MAX_CLAIM) rs
+unfolding StandsFrom
+low_from net stamp P [] network h k d lt = absurd (omega (arith, lt))
+low_from net stamp P (r ∷ rs) network h zero d lt = omega (arith, h.1.1, pay_within net P r.debt.0, claim_in_limit net r.debt.0 network)
+low_from net stamp P (r ∷ rs) network h (suc k) d lt = low_from net r.stamp (set P r.debt.0 r.to) rs network h.2 k d (omega (arith, lt))
+
+-- a journal that stands, pays the least and has low stamps is within the limits
+pub within_limits : (net : Net) (rs : List Raise) (paid : List ℕ) → IsNetwork net → Stands net rs → replayed net rs ≡ paid → paid ≡ least net
+    → All (λ r. r.stamp ≤ sum paid) rs → IsInLimits net rs
+within_limits net rs paid network stands replays least_paid stamps =
+    let low : sum paid ≤ MAX_OWED = omega (arith, sum_low net paid (λ x. omega (arith, ap (λ (P : List ℕ). get_or P x 0) least_paid)), network.owed_in_limit) in
+    record {
+      few = omega (arith, few_raises net rs stands, ap sum replays, low);
+      debts = stands_in_range net rs stands;
+      stamps = λ k d lt. omega (arith, stamps k d lt, low);
+      amounts = low_from net 0 (zeros net) rs network stands;
+    }

@@ -1,0 +1,85 @@
+use Rattle.std.proofs.Common.{◌≡◌, ◌≤◌, ◌++◌, All, length, sum, sym, ap, ◌∙◌, subst, arith}
+use Rattle.clr_net.specs.Net.{Net}
+use Rattle.clear_core.specs.Clearing.{least}
+use Rattle.clear_core.specs.History.{ordered, replayed}
+use Rattle.clear_core.specs.declared.event.Raise.{Raise}
+use Rattle.clear_core.proofs.Lawful.{stands_in_range}
+use Rattle.clear_core.proofs.Ordered.{length-ordered}
+use Rattle.pay_words.specs.Belongs.{Belongs}
+use Rattle.pay_words.specs.Ends.{AreAfter, values}
+use Rattle.pay_words.specs.Sealed.{Sealed}
+use Rattle.pay_words.specs.Views.{opening}
+use Rattle.pay_words.proofs.Histories.{replayed_is}
+use Rattle.pay_words.specs.declared.view.Shown.{Shown}
+use Rattle.pay_words.specs.Traces.{start_of}
+use Rattle.settle.specs.Drives.{EndsAtRest}
+use Rattle.settle.proofs.Limits.{within_limits}
+use Rattle.settle.proofs.Finished.{after_a_past, goes_on, lawful_at_least, paid_over, sealed_belongs, values_shown, values_written}
+use Rattle.settle.proofs.runs.settle_owned_from.Goals as goal
+
+pub payments_after-requires : goal.payments_after-requires
+payments_after-requires g c = stands_in_range c.args.net c.args.past.now c.requires.past.stands
+
+pub make-requires-clause-belongs : goal.make-requires-clause-belongs
+make-requires-clause-belongs g c =
+    subst (λ ps. Belongs c.args.net ps c.args.past.now) (sym (c.as_slice.ensures.value ∙ c.in_ok-payments.ensures)) c.requires.past
+
+pub drive-requires-clause-opened : goal.drive-requires-clause-opened
+drive-requires-clause-opened g c κs within =
+    c.in_ok-board.ensures.master.1 ∙ ap (opening c.args.net) (c.as_slice.ensures.value ∙ c.in_ok-payments.ensures)
+
+pub returns : goal.returns
+returns g c =
+    let net = c.args.net in
+    let past = c.args.past.now in
+    let t = c.drive.new.master.shows in
+    let d = c.in_ok-journal.ensures.driven in
+    let into = c.seal-sealed.new.into in
+    let p = c.in_ok-payments.payments in
+    let paid = c.in_ok-paid.paid in
+    let panel = c.in_ok-board.ensures.board in
+    let rs = c.in_ok-board.board.past ++ t.raises in
+    let seal = c.seal-sealed.ensures in
+    let journal = c.seal-sealed.result.journal in
+    let noted : journal ≡ ordered rs = ap (λ (r : Sealed). r.journal) seal.record_of in
+    let belongs : Belongs net into journal = sealed_belongs net c.in_ok-board.board.net into journal rs panel.0 noted seal.lawful in
+    let written : paid ≡ values into =
+    c.in_ok-paid.ensures ∙ ap values c.as_slice-2.ensures.value
+    ∙ values_written net past t p.len p.items into p.ok.0 c.in_ok-payments.ensures seal.payments d.settled.net_is in
+    let least_paid : paid ≡ least net =
+    written ∙ ap values seal.payments ∙ values_shown t (paid_over net t d.settled.net_is d.settled.paid) ∙ d.settled.paid in
+    let replays : replayed net journal ≡ paid = replayed_is net journal ∙ ap values (sym belongs.start_is) ∙ sym written in
+    let low_stamps : All (λ r. r.stamp ≤ sum paid) journal = subst (λ js. All (λ (r : Raise). r.stamp ≤ sum paid) js) (sym noted)
+    (subst (λ P. All (λ (r : Raise). r.stamp ≤ sum P) (ordered rs)) (sym written) seal.low_in_order) in
+    let opened : c.in_ok-board.master.shows ≡ opening net (start_of net past) = c.in_ok-board.ensures.master.1 ∙ ap (opening net) (c.as_slice.ensures.value ∙ c.in_ok-payments.ensures) in
+    let made : c.seal-sealed.result.made ≡ length t.raises = ap (λ (r : Sealed). r.made) seal.record_of in
+    record {
+      paid = least_paid;
+      verdict = lawful_at_least net journal c.banks.ensures.network belongs.stands (replays ∙ least_paid);
+      lawful = (belongs.stands, belongs.traced);
+      replays = replays;
+      in_order = belongs.in_order;
+      low_stamps = low_stamps;
+      within_limits = within_limits net journal paid c.banks.ensures.network belongs.stands replays least_paid low_stamps;
+      can_go_on = goes_on net into journal belongs;
+      record_is = record {
+        net_is = ap (λ (r : Sealed). r.net) seal.record_of ∙ panel.0;
+        raises = ordered t.raises;
+        journal_is = noted ∙ ap (λ ps. ordered (ps ++ t.raises)) panel.1
+            ∙ after_a_past past t.raises c.requires.past.in_order (subst (λ ps. AreAfter ps t.raises) panel.1 seal.after_past);
+        made = made ∙ sym (length-ordered t.raises);
+        workers = ap (λ (r : Sealed). r.workers) seal.record_of ∙ panel.2;
+        seats = ap (λ (r : Sealed). r.seats) seal.record_of ∙ d.seats;
+      };
+      bounds = record {
+        rounds_in_bounds = d.bounds;
+        visits_by_sweeps = c.in_ok-journal.ensures.few_visits;
+        visits_by_bells = omega (arith, d.visits, seal.few_bells, ap (λ (m : Net). length m.banks) panel.0, made);
+        rounds_by_raises = omega (arith, d.rounds_by_raises, made);
+      };
+      at_rest = record {
+        master = t;
+        rounds_are = subst (λ (s : Shown). EndsAtRest net c.args.plan s t c.in_ok-journal.field-0.rounds) opened d.at_rest;
+        paid_is = d.settled.paid ∙ sym least_paid;
+      };
+    }
