@@ -32,28 +32,29 @@ impl Shelf for Noting {
 // What is wrong with a file.
 #[derive(Clone, Copy, PartialEq, Eq)]
 enum Wrong {
+    Nothing,
     Missing,
     TooLong,
     NoFile,
 }
 
-// The names that a run of a line fetches, where the file of this number has something wrong.
+// The names that a run of a line fetches, where the file of this number and name is wrong.
 fn fetched<R: Threads + Sync + Abort>(
     rt: &R,
     alloc: Global,
     line: &str,
-    at: Option<(usize, &str)>,
     wrong: Wrong,
+    number: u64,
+    name: &str,
 ) -> Result<String, Fail> {
     let mut files = shelf(alloc, CHAIN_BANKS, CHAIN_DEBTS)?;
     files.add("s.toml", b"scenario = [{name = \"none\"}]")?;
     files.add("j.csv", b"stamp,debtor,creditor,class,to\n")?;
-    if let Some((number, name)) = at {
-        match wrong {
-            Wrong::Missing => files.fail_at(number as u64)?,
-            Wrong::TooLong => { files.add(name, vec![in alloc; b'\n'; 8_388_609]?.as_slice())? }
-            Wrong::NoFile => files.add(name, b"bad")?,
-        }
+    match wrong {
+        Wrong::Nothing => {}
+        Wrong::Missing => files.fail_at(number)?,
+        Wrong::TooLong => files.add(name, vec![in alloc; b'\n'; 8_388_609]?.as_slice())?,
+        Wrong::NoFile => files.add(name, b"bad")?,
     }
     let mut noting = Noting {
         files,
@@ -72,11 +73,20 @@ fn fetched<R: Threads + Sync + Abort>(
     Ok(noting.names)
 }
 
-// Names with a space after each.
-fn spaced(alloc: Global, names: &[&str]) -> Result<String, Fail> {
+// The name of the file of a number, where this is the third.
+fn name_at<'a>(number: u64, third: &'a str) -> &'a str {
+    match number {
+        1 => "b.csv",
+        2 => "d.csv",
+        _ => third,
+    }
+}
+
+// The names of so many files, with a space after each.
+fn names_of(alloc: Global, count: u64, third: &str) -> Result<String, Fail> {
     let mut text = String::new(alloc);
-    for name in names {
-        text.push_str(name)?;
+    for before in 0..count {
+        text.push_str(name_at(before.saturating_add(1), third))?;
         text.push(' ')?;
     }
     Ok(text)
@@ -85,34 +95,30 @@ fn spaced(alloc: Global, names: &[&str]) -> Result<String, Fail> {
 #[test]
 fn files_are_fetched_once_and_in_order(rt: HostRuntime) -> Result<(), Fail> {
     let alloc = rt.alloc();
-    let two = &["b.csv", "d.csv"][..];
-    for (line, names) in [
-        (CLEAR, two),
-        (STRESS, &["b.csv", "d.csv", "s.toml"]),
-        (REPLAY, &["b.csv", "d.csv", "j.csv"]),
-        ("rescue --banks b.csv --debts d.csv --bank B", two),
-        ("gen --seed 1 --size 2 --tries 3", &[]),
-        ("clear --banks b.csv", &[]),
+    for (line, count, third) in [
+        (CLEAR, 2, ""),
+        (STRESS, 3, "s.toml"),
+        (REPLAY, 3, "j.csv"),
+        ("rescue --banks b.csv --debts d.csv --bank B", 2, ""),
+        ("gen --seed 1 --size 2 --tries 3", 0, ""),
+        ("clear --banks b.csv", 0, ""),
     ] {
-        let all = spaced(alloc, names)?;
-        assert_eq!(rt;
-            fetched(&rt, alloc, line, None, Wrong::NoFile)?.as_str(),
-            all.as_str()
-        );
-        for (place, name) in names.iter().enumerate() {
-            let at = Some((place + 1, *name));
-            // Nothing more is fetched after a file that is missing or too long. A journal may be
+        let all = names_of(alloc, count, third)?;
+        let seen = fetched(&rt, alloc, line, Wrong::Nothing, 0, "")?;
+        assert_eq!(rt; seen.as_str(), all.as_str());
+        for number in 1..count + 1 {
+            let name = name_at(number, third);
+            let to_it = names_of(alloc, number, third)?;
+            // Nothing more is fetched after a file that is missing or too long; a journal may be
             // longer than is tried here.
-            let to_it = spaced(alloc, &names[..place + 1])?;
-            for wrong in [Wrong::Missing, Wrong::TooLong] {
-                if wrong == Wrong::TooLong && *name == "j.csv" {
-                    continue;
-                }
-                let seen = fetched(&rt, alloc, line, at, wrong)?;
+            let seen = fetched(&rt, alloc, line, Wrong::Missing, number, name)?;
+            assert_eq!(rt; seen.as_str(), to_it.as_str());
+            if name != "j.csv" {
+                let seen = fetched(&rt, alloc, line, Wrong::TooLong, number, name)?;
                 assert_eq!(rt; seen.as_str(), to_it.as_str());
             }
-            // What a file has in it is looked at when all are there.
-            let seen = fetched(&rt, alloc, line, at, Wrong::NoFile)?;
+            // What a file has in it is looked at once all are there.
+            let seen = fetched(&rt, alloc, line, Wrong::NoFile, number, name)?;
             assert_eq!(rt; seen.as_str(), all.as_str());
         }
     }

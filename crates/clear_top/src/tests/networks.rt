@@ -3,7 +3,7 @@
 //! shares no code with the program; what is compressed, for which more than one answer is right, was
 //! judged by it. And files with one bank or debt more than a network may have.
 
-use super::{run_line, twelve_banks};
+use super::{ends, run_line, twelve_banks};
 use crate::{Ended, Status};
 use clr_edge::{MemShelf, MemSink, OpenGate};
 use net_check::{Fault, FaultKind, FileKind};
@@ -222,44 +222,35 @@ fn debts_file(alloc: Global, debts: u32) -> Result<String, Fail> {
 #[test]
 fn one_bank_or_debt_too_many(rt: HostRuntime) -> Result<(), Fail> {
     let alloc = rt.alloc();
-    let too_many = |file: FileKind, row: u32| -> Status {
-        Status::Refused(Fault {
-            file,
-            row,
-            kind: FaultKind::TooMany,
-        })
-    };
-    for (banks, debts, wanted, told) in [
-        (1000, 20_000, Status::Done, ""),
+    for (banks, debts, file, row, told) in [
         (
             1001,
-            20_001,
-            too_many(FileKind::Banks, 1001),
+            0,
+            FileKind::Banks,
+            1001,
             "clearing: banks row 1001: too many (12)\n",
         ),
         (
-            1000,
+            142,
             20_001,
-            too_many(FileKind::Debts, 20_001),
+            FileKind::Debts,
+            20_001,
             "clearing: debts row 20001: too many (12)\n",
         ),
     ] {
         let banks = banks_file(alloc, banks)?;
         let debts = debts_file(alloc, debts)?;
         let mut files = super::shelf(alloc, banks.as_str(), debts.as_str())?;
-        let mut out = MemSink::with_room(alloc, 100_000, 100_000, 0)?;
-        let mut err = MemSink::with_room(alloc, 1000, 1000, 0)?;
-        let line = "convert --banks b.csv --debts d.csv";
-        let Ended { status, .. } = run_line(
+        let kind = FaultKind::TooMany;
+        let refused = (Status::Refused(Fault { file, row, kind }), told);
+        ends(
             &rt,
             alloc,
-            line,
+            "convert --banks b.csv --debts d.csv",
             &mut files,
-            (&mut out, &mut err),
-            &OpenGate,
+            100,
+            refused,
         )?;
-        assert_eq!(rt; status, wanted);
-        assert_eq!(rt; err.written(), told.as_bytes());
     }
     Ok(())
 }
