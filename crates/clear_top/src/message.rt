@@ -35,8 +35,8 @@ pub fn tell<E: Sink>(err: &mut E, status: Status, job: Option<&Job>)
     }
 }
 
-/// Writes a text, up to a fault of the sink. Takes no memory.
-pub fn put_text<S: Sink>(sink: &mut S, text: &str)
+// Writes a text, up to a fault of the sink. Takes no memory.
+fn put_text<S: Sink>(sink: &mut S, text: &str)
     ensures { TakesText
         (sink_call
         (S.written sink.old) (S.written sink.new) (S.faults sink.old) (S.faults sink.new))
