@@ -1,5 +1,5 @@
 -- A journal that is shown is read again as it was, and replayed.
-use Rattle.std.proofs.Common.{◌≡◌, ℕ, ◌+◌, ◌^◌, ◌<◌, List, ◌++◌, Option, None, Some, Result, Ok, Err, refl, sym, ap, ◌∙◌, subst, true, arith}
+use Rattle.std.proofs.Common.{◌≡◌, ℕ, ◌^◌, ◌<◌, List, Option, None, Some, Ok, Err, refl, sym, ap, ◌∙◌, subst, true, arith}
 use Rattle.std.specs.Option.{option_map}
 use Rattle.clr_net.specs.Limits.{IsNetwork}
 use Rattle.clr_net.specs.Net.{Net}
@@ -9,7 +9,6 @@ use Rattle.clear_words.specs.declared.job.Job.{Job}
 use Rattle.clear_words.specs.declared.show.Show.TheVariants as show
 use Rattle.clear_words.specs.declared.task.Task.TheVariants as task
 use Rattle.net_check.proofs.Passed.{and_then-ok, fault_unless-ok}
-use Rattle.net_check.specs.Checks.{fault_unless}
 use Rattle.net_check.specs.Record.{fault_at}
 use Rattle.net_check.specs.declared.fault.FileKind.TheVariants as file
 use Rattle.net_check.specs.declared.fault.FaultKind.TheVariants as fault

@@ -1,5 +1,5 @@
 -- Which tasks answer a record, and when a journal is told unlawful.
-use Rattle.std.proofs.Common.{◌≡◌, ◌≢◌, ◌↔◌, Bool, true, false, List, ℕ, Option, Some, None, Ok, refl, sym, ap, ◌∙◌, subst}
+use Rattle.std.proofs.Common.{◌≡◌, ◌≢◌, ◌↔◌, true, false, List, Option, Some, None, Ok, refl, sym, ap, ◌∙◌, subst}
 use Rattle.std.specs.Option.{IsSome, is_some}
 use Rattle.clr_net.specs.Net.{Net}
 use Rattle.clear_core.specs.declared.event.Raise.{Raise}
@@ -13,7 +13,7 @@ use Rattle.raise_journal.specs.declared.verdict.Verdict.TheVariants as verdict
 use Rattle.clear_top.specs.Ending.{AnswersRecord, IfTold, IsFoundUnlawful, JobEnds, RunEnds, ShelfCall}
 use Rattle.clear_top.specs.Ending.{SinkCall, Works, WritesText, has_record}
 use Rattle.clear_top.specs.Meaning.{ComesTo, answer_to}
-use Rattle.clear_top.specs.Reading.{Files, Given, reading}
+use Rattle.clear_top.specs.Reading.{Files, Given}
 use Rattle.clear_top.specs.declared.outcome.Outcome.{Outcome}
 use Rattle.clear_top.specs.declared.status.Ended.{Ended}
 use Rattle.clear_top.specs.declared.status.Status.{Status}

@@ -1,5 +1,5 @@
 -- The journal that clearing shows, as evidence: saved, read again and replayed.
-use Rattle.std.specs.Prelude.{◌≡◌, ℕ, List, length, None, Some, Ok}
+use Rattle.std.specs.Prelude.{◌≡◌, ℕ, List, length, Some, Ok}
 use Rattle.clr_net.specs.Net.{Net}
 use Rattle.clear_core.specs.Clearing.{least}
 use Rattle.clear_report.specs.Journals.{lawful_and_payments}

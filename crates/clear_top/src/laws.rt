@@ -4,7 +4,8 @@ ghost use Rattle.clear_top.specs.Ending.{AnswersRecord, IfTold, IsFoundUnlawful,
 ghost use Rattle.clear_top.specs.Ending.{IsUsageOrMem, NoneRose, RunEnds};
 ghost use Rattle.clear_top.specs.Ending.{IsUntouched, ShelfCall, SinkCall, SinkRose};
 ghost use Rattle.clear_top.specs.Ending.{WasPartWritten, WasWritten, WritesText};
-ghost use Rattle.clear_top.specs.Evidence.{IsEvidence, IsKeptWithinLimits, ReplaysText, ShowsJournal};
+ghost use Rattle.clear_top.specs.Evidence.{IsEvidence, IsKeptWithinLimits};
+ghost use Rattle.clear_top.specs.Evidence.{ReplaysText, ShowsJournal};
 ghost use Rattle.clear_top.specs.Meaning.{Means};
 ghost use Rattle.clear_top.specs.Reading.{Files, Given, IsReadBack, reading};
 ghost use Rattle.clear_top.specs.declared.outcome.Outcome.{Outcome};
@@ -18,7 +19,8 @@ ghost use Rattle.net_csv.specs.Printing.{KeepsNames};
 ghost use Rattle.net_csv.specs.Reading.{network_of};
 ghost use Rattle.net_gen.specs.Generated.{generated};
 ghost use Rattle.raise_journal.specs.declared.verdict.Verdict.{Verdict};
-ghost use Rattle.std.specs.Prelude.{◌≡◌, ◌≢◌, ◌≤◌, ◌⊎◌, ◌↔◌, ℕ, List, Option, IsSome, None, Some, Ok, Err};
+ghost use Rattle.std.specs.Prelude.{◌≡◌, ◌≢◌, ◌≤◌, ◌⊎◌, ◌↔◌, ℕ, List, Option, IsSome};
+ghost use Rattle.std.specs.Prelude.{None, Some, Ok, Err};
 ghost use Rattle.stress.specs.Shocks.{shocked};
 ghost use Rattle.stress.specs.declared.scenario.Scenario.{Scenario};
 
