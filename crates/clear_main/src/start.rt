@@ -1,13 +1,14 @@
 ghost use Rattle.clear_main.specs.Words.{words_of};
-ghost use Rattle.clear_top.specs.Ending.{RunEnds, shelf_call, sink_call};
+ghost use Rattle.clear_top.specs.Ending.{RunEnds, WritesNothing, shelf_call, sink_call};
 ghost use Rattle.clear_top.specs.Message.{message, TakesText};
+ghost use Rattle.clear_top.specs.Sources.{HasNoFiles};
 ghost use Rattle.clear_top.specs.Status.{code_of};
 ghost use Rattle.clear_top.specs.declared.status.Status.{Status};
 ghost use Rattle.clear_words.specs.Job.{job_of};
 ghost use Rattle.std.specs.Prelude.{◌≡◌, ◌⊎◌, ◌↔◌, IfOk, None, map};
 ghost use Rattle.std.specs.Process.{exit_status};
 
-use clear_top::{Ended, Status, put_text, run};
+use clear_top::{Ended, Status, run, tell};
 use clr_edge::{OpenGate, Shelf, Sink};
 use std::alloc::{AllocError, Global};
 use std::env::Env;
@@ -53,7 +54,10 @@ pub fn start<R: Threads + Sync + AllocGlobal, F: Shelf, O: Sink, E: Sink>(
     ensures told { TakesText
         (sink_call (E.written err.old) (E.written err.new) (E.faults err.old) (E.faults err.new))
         (message result.ended.status (job_of (words_of args.now))) }
-    ensures quiet { result.ended.status ≡ Status.Done → E.written err.new ≡ E.written err.old }
+    ensures files { F.files files.new ≡ F.files files.old }
+    ensures unasked { HasNoFiles (job_of (words_of args.now)) → files.new ≡ files.old }
+    ensures untouched { WritesNothing result.ended.status → out.new ≡ out.old }
+    ensures quiet { result.ended.status ≡ Status.Done → err.new ≡ err.old }
 {
     let alloc = rt.alloc();
     match words(alloc, args) {
@@ -74,25 +78,16 @@ pub fn refuse<E: Sink>(err: &mut E, cause: ErrorKind) -> Ending
         (sink_call (E.written err.old) (E.written err.new) (E.faults err.old) (E.faults err.new))
         (message result.ended.status None) }
 {
-    match cause {
-        ErrorKind::OutOfMemory => {
-            put_text(err, "clearing: out of memory\n");
-            Ending {
-                ended: Ended {
-                    status: Status::Mem,
-                    sealed: None,
-                },
-            }
-        }
-        _ => {
-            put_text(err, "clearing: the command line is not understood\n");
-            Ending {
-                ended: Ended {
-                    status: Status::Usage,
-                    sealed: None,
-                },
-            }
-        }
+    let status = match cause {
+        ErrorKind::OutOfMemory => Status::Mem,
+        _ => Status::Usage,
+    };
+    tell(err, status, None);
+    Ending {
+        ended: Ended {
+            status,
+            sealed: None,
+        },
     }
 }
 

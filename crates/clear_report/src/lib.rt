@@ -24,13 +24,13 @@ mod tests;
 mod with_costs;
 
 pub use bounds::bounds_text;
-pub use check::totals_text;
+pub use check::{check_text, totals_text};
 pub use compression::compress_text;
 pub use defaults::default_text;
 pub use heads::line_heads;
 pub use journals::{journal_text, lawful_text, verdict_text};
 pub use payments::pay_text;
 pub use rescues::rescue_text;
-pub use scenarios::scenario_text;
+pub use scenarios::{scenario_block, scenario_text};
 pub use summary::summary_text;
 pub use with_costs::cost_text;

@@ -1,9 +1,9 @@
 use crate::{
-    bounds_text, compress_text, cost_text, default_text, pay_text, rescue_text, summary_text,
-    totals_text,
+    bounds_text, check_text, compress_text, cost_text, default_text, line_heads, pay_text,
+    rescue_text, scenario_block, scenario_text, summary_text,
 };
 use cascade::{Health, Standing};
-use clr_net::BankId;
+use clr_net::{BankId, Name};
 use costs::CostStanding;
 use net_samples::{chain, ring};
 use rescue::Rescued;
@@ -61,8 +61,22 @@ fn a_cleared_chain_is_told(rt: HostRuntime) -> Result<(), Fail> {
             ],
         )
     );
-    let totals = totals_text(alloc, &net)?;
-    assert!(rt; has_lines(&totals, &["banks,3", "debts,2", "owed,19", "cash,8"]));
+    let checked = check_text(alloc, &net, b"the banks\n", b"the debts\n")?;
+    assert!(rt;
+        has_lines(
+            &checked,
+            &[
+                "banks,3",
+                "debts,2",
+                "owed,19",
+                "cash,8",
+                "",
+                "the banks",
+                "",
+                "the debts",
+            ],
+        )
+    );
     let standings = chain_standings();
     let defaults = default_text(alloc, &net, &standings)?;
     assert!(rt;
@@ -93,6 +107,34 @@ fn a_cleared_chain_is_told(rt: HostRuntime) -> Result<(), Fail> {
             ],
         )
     );
+    Ok(())
+}
+
+#[test]
+fn a_block_is_the_same_written_at_once(rt: HostRuntime) -> Result<(), Fail> {
+    let alloc = rt.alloc();
+    let net = chain(alloc)?;
+    let name = Name::of(alloc, b"half")?;
+    let lines = &[
+        "scenario,half",
+        "debtor,creditor,class,claim,paid",
+        "A,B,1,10,7",
+        "B,C,1,9,8",
+        "the defaults",
+    ];
+    let pay = pay_text(alloc, &net, &[7, 8])?;
+    let block = scenario_text(alloc, &name, pay.as_slice(), b"the defaults\n")?;
+    assert!(rt; has_lines(&block, lines));
+    let heads = line_heads(alloc, &net)?;
+    let at_once = scenario_block(
+        alloc,
+        &name,
+        &net,
+        heads.as_slice(),
+        &[7, 8],
+        b"the defaults\n",
+    )?;
+    assert!(rt; has_lines(&at_once, lines));
     Ok(())
 }
 

@@ -9,3 +9,5 @@ pub mod Writing
 pub mod Shocked
 pub mod Made
 pub mod Begun
+pub mod Evidence
+pub mod Records

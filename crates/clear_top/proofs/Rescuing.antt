@@ -4,8 +4,6 @@ use Rattle.clr_net.specs.Net.{Net}
 use Rattle.clear_core.specs.declared.event.Raise.{Raise}
 use Rattle.clear_words.specs.declared.job.Job.{Job}
 use Rattle.pay_words.specs.Sealed.{Sealed}
-use Rattle.raise_journal.specs.Verdicts.{judged}
-use Rattle.raise_journal.specs.declared.verdict.Verdict.TheVariants as verdict
 use Rattle.rescue.proofs.MoreCash.{belongs_added}
 use Rattle.rescue.specs.Rescue.{added, rescue, short_of}
 use Rattle.clear_core.specs.Clearing.{least}
@@ -24,16 +22,17 @@ goes_on_saved net saved i a past journal same past_is can =
     subst (λ n. CanGoOn n past) (sym same) (subst (CanGoOn (added net i a)) (sym past_is) there)
 
 -- all that is said of a rescue
-pub rescues : (net : Net) (job : Job) (bank : ℕ) (saved : Net) (past : List Raise) (rounds : ℕ)
-    (sealed : Sealed) (text : List ℕ) (o : Outcome) → saved ≡ rescued_net net bank
-    → (judged net past).verdict ≡ verdict.Lawful
+pub rescues : (net : Net) (job : Job) (bank : ℕ) (saved : Net) (past : List Raise)
+    (past_rounds rounds : ℕ) (sealed : Sealed) (text : List ℕ) (o : Outcome)
+    → saved ≡ rescued_net net bank → IsRun net past past_rounds
     → IsRecordAfter saved past (plan_of job) rounds sealed → IsRun saved sealed.journal rounds
     → text ≡ rescue_report net bank
     → o ≡ record { status = status.Done; sealed = Some sealed; text = text }
     → Rescues net job bank o
-rescues net job bank saved past rounds sealed text o same before record_is run text_is out = record {
+rescues net job bank saved past past_rounds rounds sealed text o same before record_is run text_is out = record {
   sealed = sealed;
   past = past;
+  past_rounds = past_rounds;
   rounds = rounds;
   record_is = subst (λ n. IsRecordAfter n past (plan_of job) rounds sealed) same record_is;
   before = before;

@@ -1,5 +1,5 @@
 -- What a run of settle comes to, and the lists that its reports are made of.
-use Rattle.std.proofs.Common.{◌≡◌, ℕ, ◌<◌, List, length, All, Result, Ok, Err, IfOk, Vec, Global, sym, ap, ◌∙◌, arith}
+use Rattle.std.proofs.Common.{◌≡◌, ℕ, ◌+◌, ◌<◌, ◌≤◌, List, length, sum, All, Result, Ok, Err, IfOk, Vec, Global, sym, ap, ◌∙◌, subst, arith}
 use Rattle.std.proofs.lemmas.List.FromFn.{length-map-range_with_len}
 use Rattle.clr_net.specs.Limits.{IsNetwork}
 use Rattle.clr_net.specs.Net.{Net}
@@ -14,7 +14,8 @@ use Rattle.clear_core.specs.declared.event.Raise.{Raise}
 use Rattle.raise_journal.proofs.Lawful.{lawful_is, lawful_pays_least}
 use Rattle.raise_journal.specs.Verdicts.{judged}
 use Rattle.raise_journal.specs.declared.verdict.Verdict.TheVariants as verdict
-use Rattle.settle.specs.Runs.{IsWithin, IsWithinAfter}
+use Rattle.pay_words.proofs.Lawful.{sum-least_le}
+use Rattle.settle.specs.Runs.{CanGoOn, IsWithin, IsWithinAfter}
 use Rattle.settle.specs.declared.plan.Plan.{Plan}
 use Rattle.settle.specs.declared.runs.Settled.{Settled}
 use Rattle.clear_top.specs.Meaning.{IsRun}
@@ -42,50 +43,46 @@ pub raises_in_range : (net : Net) → IsNetwork net → (rs : List Raise)
 raises_in_range net network rs lawful =
     stands_in_range net rs ((lawful_is net rs network).0 lawful).0
 
-module _ (net : Net) (network : IsNetwork net) {E : Type 0} (r : Result Settled E) where
-  -- what settle says of its journal and its rounds makes a run
-  pub is_run : (plan : Plan) → IfOk r (λ s. (judged net s.sealed.journal).verdict ≡ verdict.Lawful)
-      → IfOk r (λ s. Stands net s.sealed.journal × IsTraced net s.sealed.journal)
-      → IfOk r (λ s. ordered s.sealed.journal ≡ s.sealed.journal)
-      → IfOk r (λ s. IsWithin net plan s.rounds s.visits (length s.sealed.journal))
-      → IfOk r (λ s. IsRun net s.sealed.journal s.rounds)
-  is_run plan v l o w = by_result r v l o w
-    where
-      by_result : (r : Result Settled E) → IfOk r (λ s. (judged net s.sealed.journal).verdict ≡ verdict.Lawful)
-          → IfOk r (λ s. Stands net s.sealed.journal × IsTraced net s.sealed.journal)
-          → IfOk r (λ s. ordered s.sealed.journal ≡ s.sealed.journal)
-          → IfOk r (λ s. IsWithin net plan s.rounds s.visits (length s.sealed.journal))
-          → IfOk r (λ s. IsRun net s.sealed.journal s.rounds)
-      by_result (Ok s) v l o w = record {
-        lawful = v;
-        replays = lawful_pays_least net s.sealed.journal network v;
-        traced = l.1;
-        in_order = o;
-        some_round = w.some_round;
-        few_rounds = w.few_rounds;
-      }
-      by_result (Err e) v l o w = tt
+module _ (net : Net) (network : IsNetwork net) where
+  -- what was settled, with few rounds, is a run
+  run_of : (s : Settled) → s.paid ≡ least net → (judged net s.sealed.journal).verdict ≡ verdict.Lawful
+      → IsTraced net s.sealed.journal → ordered s.sealed.journal ≡ s.sealed.journal
+      → All (λ r. r.stamp ≤ sum s.paid) s.sealed.journal → CanGoOn net s.sealed.journal
+      → 1 ≤ s.rounds → s.rounds ≤ sum (least net) + 1 → IsRun net s.sealed.journal s.rounds
+  run_of s paid lawful traced in_order low can_go_on some few = record {
+    lawful = lawful;
+    replays = lawful_pays_least net s.sealed.journal network lawful;
+    traced = traced;
+    in_order = in_order;
+    low_stamps = subst (λ P. All (λ r. r.stamp ≤ sum P) s.sealed.journal) paid low;
+    can_go_on = can_go_on;
+    some_round = some;
+    few_rounds = omega (arith, few, sum-least_le net);
+    rounds_by_units_paid = few;
+  }
 
-  -- and so does what it says of a run that went on from a past
-  pub is_run_after : (plan : Plan) (past : List Raise)
+  -- what settle says of its journal and its rounds makes a run
+  pub is_run : {E : Type 0} (plan : Plan) (r : Result Settled E) → IfOk r (λ s. s.paid ≡ least net)
       → IfOk r (λ s. (judged net s.sealed.journal).verdict ≡ verdict.Lawful)
       → IfOk r (λ s. Stands net s.sealed.journal × IsTraced net s.sealed.journal)
       → IfOk r (λ s. ordered s.sealed.journal ≡ s.sealed.journal)
+      → IfOk r (λ s. All (λ r. r.stamp ≤ sum s.paid) s.sealed.journal)
+      → IfOk r (λ s. CanGoOn net s.sealed.journal)
+      → IfOk r (λ s. IsWithin net plan s.rounds s.visits (length s.sealed.journal))
+      → IfOk r (λ s. IsRun net s.sealed.journal s.rounds)
+  is_run plan (Ok s) p v l o low can w = run_of s p v l.1 o low can w.some_round w.few_rounds
+  is_run plan (Err e) p v l o low can w = tt
+
+  -- and so does what it says of a run that went on from a past
+  pub is_run_after : {E : Type 0} (plan : Plan) (past : List Raise) (r : Result Settled E)
+      → IfOk r (λ s. s.paid ≡ least net)
+      → IfOk r (λ s. (judged net s.sealed.journal).verdict ≡ verdict.Lawful)
+      → IfOk r (λ s. Stands net s.sealed.journal × IsTraced net s.sealed.journal)
+      → IfOk r (λ s. ordered s.sealed.journal ≡ s.sealed.journal)
+      → IfOk r (λ s. All (λ r. r.stamp ≤ sum s.paid) s.sealed.journal)
+      → IfOk r (λ s. CanGoOn net s.sealed.journal)
       → IfOk r (λ s. IsWithinAfter net past plan s.rounds s.visits s.sealed.made)
       → IfOk r (λ s. IsRun net s.sealed.journal s.rounds)
-  is_run_after plan past v l o w = by_result r v l o w
-    where
-      by_result : (r : Result Settled E) → IfOk r (λ s. (judged net s.sealed.journal).verdict ≡ verdict.Lawful)
-          → IfOk r (λ s. Stands net s.sealed.journal × IsTraced net s.sealed.journal)
-          → IfOk r (λ s. ordered s.sealed.journal ≡ s.sealed.journal)
-          → IfOk r (λ s. IsWithinAfter net past plan s.rounds s.visits s.sealed.made)
-          → IfOk r (λ s. IsRun net s.sealed.journal s.rounds)
-      by_result (Ok s) v l o w = record {
-        lawful = v;
-        replays = lawful_pays_least net s.sealed.journal network v;
-        traced = l.1;
-        in_order = o;
-        some_round = w.rounds_in_bounds.some_round;
-        few_rounds = omega (arith, w.rounds_in_bounds.few_rounds);
-      }
-      by_result (Err e) v l o w = tt
+  is_run_after plan past (Ok s) p v l o low can w =
+      run_of s p v l.1 o low can w.rounds_in_bounds.some_round (omega (arith, w.rounds_in_bounds.few_rounds))
+  is_run_after plan past (Err e) p v l o low can w = tt

@@ -1,5 +1,5 @@
 -- How a run ends whose work came to something.
-use Rattle.std.proofs.Common.{◌≡◌, ◌≢◌, ◌⊎◌, ℕ, List, Option, Ok, refl, inl, inr, ⊎_elim}
+use Rattle.std.proofs.Common.{◌≡◌, ◌≢◌, ◌⊎◌, ℕ, List, Option, Ok, refl, subst, inl, inr, ⊎_elim}
 use Rattle.clr_edge.specs.Sink.{with_bytes, WritesPart}
 use Rattle.clr_net.specs.Net.{Net}
 use Rattle.clear_core.specs.declared.event.Raise.{Raise}
@@ -10,7 +10,7 @@ use Rattle.pay_words.specs.Sealed.{Sealed}
 use Rattle.raise_journal.specs.Verdicts.{judged}
 use Rattle.raise_journal.specs.declared.verdict.Verdict.{Verdict}
 use Rattle.raise_journal.specs.declared.verdict.Verdict.TheVariants as verdict
-use Rattle.clear_top.specs.Ending.{Gives, JobEnds, ShelfCall, SinkCall, SinkRose}
+use Rattle.clear_top.specs.Ending.{Gives, JobEnds, ShelfCall, SinkCall, SinkRose, WritesNothing}
 use Rattle.clear_top.specs.Meaning.{ComesTo, answer_to}
 use Rattle.clear_top.specs.Reading.{Given}
 use Rattle.clear_top.specs.declared.outcome.Outcome.{Outcome}
@@ -49,6 +49,17 @@ comes_worked task.Costs job on o comes = by_status o _ comes (inl refl)
 not_worked : (s : Status) → s ≢ status.Done → ((v : Verdict) → s ≢ status.Unlawful v) → IsWorked s → ⊥
 not_worked s not_done not_unlawful worked =
     ⊎_elim (λ (d : s ≡ status.Done). not_done d) (λ (u : (v : Verdict) × (s ≡ status.Unlawful v)). not_unlawful u.0 u.1) worked
+
+worked_writes : (s : Status) → IsWorked s → WritesNothing s → ⊥
+worked_writes s worked nothing =
+    ⊎_elim (λ (d : s ≡ status.Done). subst WritesNothing d nothing)
+    (λ (u : (v : Verdict) × (s ≡ status.Unlawful v)). subst WritesNothing u.1 nothing) worked
+
+-- what work comes to is written
+pub work_writes : (job : Job) (on : Given) (s : Status) (sealed : Option Sealed) (text : List ℕ)
+    → ComesTo job.task job on (record { status = s; sealed = sealed; text = text }) → WritesNothing s → ⊥
+work_writes job on s sealed text comes nothing =
+    worked_writes s (comes_worked job.task job on (record { status = s; sealed = sealed; text = text }) comes) nothing
 
 module _ (shelf : ShelfCall) (sink : SinkCall) (job : Job) (on : Given) (gives : Gives shelf.files job (Ok on)) where
   ends_by : (s : Status) (sealed : Option Sealed) (text : List ℕ)

@@ -1,14 +1,19 @@
 -- How a run ends, status by status, and what is seen of the outside in it.
-use Rattle.std.specs.Prelude.{◌≡◌, ◌⊎◌, ◌<◌, ℕ, List, length, All, Option, None, Some}
-use Rattle.std.specs.Prelude.{Result, Ok, Err}
+use Rattle.std.specs.Prelude.{◌≡◌, ◌≢◌, ◌⊎◌, ◌<◌, ℕ, List, length, All, Option, None, Some}
+use Rattle.std.specs.Prelude.{Bool, true, false, Result, Ok, Err}
 use Rattle.std.specs.Borrow.{Bor}
 use Rattle.clr_edge.specs.Faults.{HasRisen}
 use Rattle.clr_edge.specs.Sink.{with_bytes, WritesPart}
 use Rattle.clear_words.specs.Job.{job_of, the_words}
 use Rattle.clear_words.specs.declared.job.Job.{Job}
+use Rattle.clear_words.specs.declared.task.Task.{Task}
+use Rattle.clear_words.specs.declared.task.Task.TheVariants as task
 use Rattle.net_check.specs.declared.fault.Fault.{Fault}
 use Rattle.net_check.specs.declared.fault.FileKind.{FileKind}
 use Rattle.net_check.specs.declared.fault.FileKind.TheVariants as file
+use Rattle.raise_journal.specs.Verdicts.{judged}
+use Rattle.raise_journal.specs.declared.verdict.Verdict.{Verdict}
+use Rattle.raise_journal.specs.declared.verdict.Verdict.TheVariants as verdict
 use Rattle.stress.specs.Shocks.{IsScenarioOf}
 use Rattle.clear_top.specs.Sources.{name_in}
 use Rattle.pay_words.specs.Sealed.{Sealed}
@@ -180,6 +185,42 @@ WritesText (status.ReadFault k) = ⊥
 WritesText (status.Refused f) = ⊥
 WritesText status.WriteFault = ⊥
 WritesText status.Mem = ⊥
+
+-- the statuses of a run that puts nothing into its sink
+abbrev pub WritesNothing : Status → Type 0
+WritesNothing status.Done = ⊥
+WritesNothing (status.Unlawful v) = ⊥
+WritesNothing status.Usage = Unit {0}
+WritesNothing (status.ReadFault k) = Unit {0}
+WritesNothing (status.Refused f) = Unit {0}
+WritesNothing status.WriteFault = ⊥
+WritesNothing status.Mem = Unit {0}
+
+-- whether a task answers the record of a board: a row for each
+abbrev pub has_record : Task → Bool
+has_record task.Check = false
+has_record task.Clear = true
+has_record task.Central = false
+has_record task.Defaults = true
+has_record task.Stress = false
+has_record task.Replay = false
+has_record task.Gen = true
+has_record task.Convert = false
+has_record task.Bounds = true
+has_record task.Rescue = true
+has_record task.Compress = false
+has_record task.Costs = false
+
+-- the words ask for such a task, and its text was written, whole or in part
+abbrev pub AnswersRecord : Option Job → Status → Type 0
+AnswersRecord None s = ⊥
+AnswersRecord (Some job) s = (has_record job.task ≡ true) × ¬ (WritesNothing s)
+
+-- the job's journal is read, and this is the verdict on it, which is not that it is lawful
+abbrev pub IsFoundUnlawful : Files → Job → Verdict → Type 0
+IsFoundUnlawful told job v =
+    (on : Given) × (job.task ≡ task.Replay) × (reading told job ≡ Some (Ok on))
+    × ((judged on.net on.journal).verdict ≡ v) × (v ≢ verdict.Lawful)
 
 -- what the job comes to, with this status and record, was written whole
 abbrev pub WasWritten : Files → SinkCall → Job → Ended → Type 0

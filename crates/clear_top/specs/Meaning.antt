@@ -1,5 +1,5 @@
 -- What a job comes to: from what it works on, how the run ends and the text that is written.
-use Rattle.std.specs.Prelude.{◌≡◌, ℕ, ◌+◌, ◌≤◌, List, length, map, None, Some, Ok}
+use Rattle.std.specs.Prelude.{◌≡◌, ℕ, ◌+◌, ◌≤◌, All, List, length, map, sum, None, Some, Ok}
 use Rattle.clr_net.specs.Net.{Net, units_owed}
 use Rattle.cascade.specs.Standings.{standings}
 use Rattle.cascade.specs.declared.standing.Standing.{Standing}
@@ -31,7 +31,7 @@ use Rattle.raise_journal.specs.Verdicts.{judged}
 use Rattle.raise_journal.specs.declared.verdict.Verdict.{Verdict}
 use Rattle.raise_journal.specs.declared.verdict.Verdict.TheVariants as verdict
 use Rattle.rescue.specs.Rescue.{added, rescue, short_of}
-use Rattle.settle.specs.Runs.{IsRecordAfter, IsRecordOf}
+use Rattle.settle.specs.Runs.{CanGoOn, IsRecordAfter, IsRecordOf}
 use Rattle.settle.specs.declared.plan.Plan.{Plan}
 use Rattle.stress.specs.Shocks.{shocked}
 use Rattle.stress.specs.declared.scenario.Scenario.{Scenario}
@@ -49,15 +49,19 @@ abbrev pub plan_of : Job → Plan
 plan_of job = record { workers = job.workers; sweeps = job.sweeps }
 
 -- a journal of raises that clears a network, each lawful where it stands, as it may be shown after
--- so many rounds: it replays to the least list, its raises differ and stand in order, and the
--- rounds are at most the units owed, and one more
+-- so many rounds: it replays to the least list, its raises differ and stand in order, no stamp is
+-- above the units paid, a run can go on from it, and the rounds are at most the units owed, and at
+-- most the units paid, and one more
 pub record IsRun (net : Net) (journal : List Raise) (rounds : ℕ) : Type 0 where
   pub lawful : (judged net journal).verdict ≡ verdict.Lawful
   pub replays : (judged net journal).paid ≡ least net
   pub traced : IsTraced net journal
   pub in_order : ordered journal ≡ journal
+  pub low_stamps : All (λ r. r.stamp ≤ sum (least net)) journal
+  pub can_go_on : CanGoOn net journal
   pub some_round : 1 ≤ rounds
   pub few_rounds : rounds ≤ units_owed net + 1
+  pub rounds_by_units_paid : rounds ≤ sum (least net) + 1
 
 -- done after a run of the job's workers on one board, whose record is answered; the text may show
 -- the record's journal, and the rounds
@@ -140,13 +144,15 @@ rescue_report net bank =
     (least (rescued_net net bank))
 
 -- done after a run on the network as it is, and one that goes on from it once the bank is saved: on
--- a board whose record is answered, and whose journal begins with that of the first run
+-- a board whose record is answered, and whose journal begins with that of the first run, before as
+-- many raises as were made on the board
 pub record Rescues (net : Net) (job : Job) (bank : ℕ) (o : Outcome) : Type 0 where
   pub sealed : Sealed
   pub past : List Raise
+  pub past_rounds : ℕ
   pub rounds : ℕ
   pub record_is : IsRecordAfter (rescued_net net bank) past (plan_of job) rounds sealed
-  pub before : (judged net past).verdict ≡ verdict.Lawful
+  pub before : IsRun net past past_rounds
   pub run : IsRun (rescued_net net bank) sealed.journal rounds
   pub comes : o ≡ record {
     status = status.Done;

@@ -1,5 +1,5 @@
 -- What a task works on, and the files of a job by their kind.
-use Rattle.std.specs.Prelude.{ℕ, Bool, true, false, List, Option, Some, None}
+use Rattle.std.specs.Prelude.{◌≡◌, ℕ, Bool, true, false, List, Option, Some, None}
 use Rattle.clear_words.specs.declared.job.Job.{Job}
 use Rattle.clear_words.specs.declared.task.Task.{Task}
 use Rattle.clear_words.specs.declared.task.Task.TheVariants as task
@@ -30,6 +30,11 @@ has_files source.FilesAndScenarios = true
 has_files source.FilesAndJournal = true
 has_files source.FilesAndBank = true
 has_files source.Generated = false
+
+-- the words ask for no job, or for one that has no files
+abbrev pub HasNoFiles : Option Job → Type 0
+HasNoFiles None = Unit {0}
+HasNoFiles (Some job) = has_files (source_of job.task) ≡ false
 
 -- the kind of the third file, where the source has one
 abbrev pub third_kind : Source → Option FileKind

@@ -2,7 +2,7 @@
 ghost use Rattle.clear_core.specs.Clearing.{least};
 ghost use Rattle.clear_top.specs.Meaning.{IsRun, Settles, clear_text, plan_of};
 ghost use Rattle.settle.specs.Drives.{IsPlan};
-ghost use Rattle.settle.specs.Runs.{CanGoOn, IsRecordOf};
+ghost use Rattle.settle.specs.Runs.{IsRecordOf};
 ghost use Rattle.std.specs.Prelude.{◌≡◌, IfOk};
 
 use crate::outcome::{Outcome, Text};
@@ -28,7 +28,6 @@ pub fn settle_own<R: Threads + Sync, G: Gate + Sync>(
     ensures paid { IfOk result (λ s. s.paid ≡ least net) }
     ensures record_is { IfOk result (λ s. IsRecordOf net (plan_of job.now) s.rounds s.sealed) }
     ensures run { IfOk result (λ s. IsRun net s.sealed.journal s.rounds) }
-    ensures can_go_on { IfOk result (λ s. CanGoOn net s.sealed.journal) }
 {
     prove!(net.banks() <= MAX_BANKS);
     settle(rt, alloc, net, plan_of(job), gate)
@@ -47,7 +46,6 @@ pub fn settle_for<R: Threads + Sync, G: Gate + Sync>(
     ensures record_is { IfOk result (λ s.
         IsRecordOf net.now (plan_of job.now) s.rounds s.sealed) }
     ensures run { IfOk result (λ s. IsRun net.now s.sealed.journal s.rounds) }
-    ensures can_go_on { IfOk result (λ s. CanGoOn net.now s.sealed.journal) }
 {
     settle_own(rt, alloc, net.copy(alloc)?, job, gate)
 }

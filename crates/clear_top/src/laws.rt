@@ -1,9 +1,14 @@
 //! What follows from how a run ends, and of the networks that a run works on. A law has nothing to
 //! run; its `ensures` is proved.
-ghost use Rattle.clear_top.specs.Ending.{IfTold, IsRefusedOrMem, IsUsageOrMem, NoneRose, RunEnds};
+ghost use Rattle.clear_top.specs.Ending.{AnswersRecord, IfTold, IsFoundUnlawful, IsRefusedOrMem};
+ghost use Rattle.clear_top.specs.Ending.{IsUsageOrMem, NoneRose, RunEnds};
 ghost use Rattle.clear_top.specs.Ending.{IsUntouched, ShelfCall, SinkCall, SinkRose};
 ghost use Rattle.clear_top.specs.Ending.{WasPartWritten, WasWritten, WritesText};
-ghost use Rattle.clear_top.specs.Reading.{Given, IsReadBack, reading};
+ghost use Rattle.clear_top.specs.Evidence.{IsEvidence, IsKeptWithinLimits};
+ghost use Rattle.clear_top.specs.Evidence.{ReplaysText, ShowsJournal};
+ghost use Rattle.clear_top.specs.Meaning.{Means};
+ghost use Rattle.clear_top.specs.Reading.{Files, Given, IsReadBack, reading};
+ghost use Rattle.clear_top.specs.declared.outcome.Outcome.{Outcome};
 ghost use Rattle.clear_top.specs.declared.status.Ended.{Ended};
 ghost use Rattle.clear_top.specs.declared.status.Status.{Status};
 ghost use Rattle.clear_words.specs.declared.job.Job.{Job};
@@ -13,7 +18,9 @@ ghost use Rattle.net_check.specs.declared.fault.Fault.{Fault};
 ghost use Rattle.net_csv.specs.Printing.{KeepsNames};
 ghost use Rattle.net_csv.specs.Reading.{network_of};
 ghost use Rattle.net_gen.specs.Generated.{generated};
-ghost use Rattle.std.specs.Prelude.{◌≡◌, ◌≢◌, ◌≤◌, ◌⊎◌, ℕ, List, Option, None, Some, Ok, Err};
+ghost use Rattle.raise_journal.specs.declared.verdict.Verdict.{Verdict};
+ghost use Rattle.std.specs.Prelude.{◌≡◌, ◌≢◌, ◌≤◌, ◌⊎◌, ◌↔◌, ℕ, List, Option, IsSome};
+ghost use Rattle.std.specs.Prelude.{None, Some, Ok, Err};
 ghost use Rattle.stress.specs.Shocks.{shocked};
 ghost use Rattle.stress.specs.declared.scenario.Scenario.{Scenario};
 
@@ -62,6 +69,31 @@ pub fn nothing_else_is_written()
     ensures { (shelf : ShelfCall) (sink : SinkCall) (job : Option Job) (e : Ended)
         → RunEnds shelf sink job e → ¬ (WritesText e.status) → e.status ≢ Status.WriteFault
         → IsUntouched sink e.sealed }
+{}
+
+/// A record is answered exactly where the task clears a network on one board, and its text was
+/// written, whole or in part.
+pub fn records_are_of_tasks_on_one_board()
+    ensures { (shelf : ShelfCall) (sink : SinkCall) (job : Option Job) (e : Ended)
+        → RunEnds shelf sink job e → IsSome e.sealed ↔ AnswersRecord job e.status }
+{}
+
+/// Of a shelf that tells its files: a journal is told unlawful exactly where it was read, the
+/// verdict on it is this one and not that it is lawful, and the line of it was written whole.
+pub fn unlawful_journals_are_told_so()
+    ensures { (shelf : ShelfCall) (sink : SinkCall) (job : Job) (e : Ended) (v : Verdict)
+        → RunEnds shelf sink (Some job) e
+        → IfTold shelf.files (λ told. (e.status ≡ Status.Unlawful v)
+        ↔ (IsFoundUnlawful told job v × WritesText e.status)) }
+{}
+
+/// The journal that clearing shows, saved as it was written and read with the same two files, is
+/// the journal of the record; to its replay there is one answer: that it is lawful, how many
+/// raises it has, and the least payments.
+pub fn a_shown_journal_is_evidence()
+    ensures { (files later : Files) (job again : Job) (o : Outcome)
+        → ShowsJournal job → Means files job o → ReplaysText files job later again o.text
+        → IsKeptWithinLimits files job o → IsEvidence files job o later again }
 {}
 
 /// What is printed of the network that a scenario leaves is read back as that network, where no

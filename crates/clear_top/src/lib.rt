@@ -21,7 +21,7 @@ mod status;
 mod top;
 mod work;
 
-pub use message::put_text;
+pub use message::tell;
 pub use status::{Ended, Status};
 pub use top::run;
 

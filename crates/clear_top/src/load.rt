@@ -5,7 +5,7 @@ ghost use Rattle.clear_top.specs.Sources.{has_files, source_of, third_kind};
 ghost use Rattle.clear_top.specs.declared.source.Source.{Source};
 ghost use Rattle.clear_words.specs.Limits.{IsJob};
 ghost use Rattle.clr_edge.specs.Faults.{NoneFalls};
-ghost use Rattle.std.specs.Prelude.{◌≡◌, IfOk, IfErr, Ok, Some, true};
+ghost use Rattle.std.specs.Prelude.{◌≡◌, IfOk, IfErr, Ok, Some, false, true};
 
 use crate::contents::{
     Both, Input, generated, network_alone, with_bank, with_journal, with_scenarios,
@@ -31,6 +31,8 @@ pub enum Stop {
 /// files are fetched before the first is read.
 pub fn load<F: Shelf>(alloc: Global, job: &Job, files: &mut F) -> Result<Input, Stop>
     requires job { IsJob job.now }
+    ensures files { F.files files.new ≡ F.files files.old }
+    ensures unasked { has_files (source_of job.now.task) ≡ false → files.new ≡ files.old }
     ensures input { IfOk result (λ input. Gives (F.files files.old) job.now (Ok input)) }
     ensures usable { IfOk result (IsUsable (source_of job.now.task)) }
     ensures stopped { IfErr result
@@ -51,6 +53,7 @@ pub fn load<F: Shelf>(alloc: Global, job: &Job, files: &mut F) -> Result<Input, 
 // The network of both files.
 fn load_network<F: Shelf>(alloc: Global, job: &Job, files: &mut F) -> Result<Input, Stop>
     requires { source_of job.now.task ≡ Source.Files }
+    ensures files { F.files files.new ≡ F.files files.old }
     ensures input { IfOk result (λ input. Gives (F.files files.old) job.now (Ok input)) }
     ensures stopped { IfErr result
         (Stops (shelf_call (F.files files.old) (F.faults files.old) (F.faults files.new)) job.now) }
@@ -66,6 +69,7 @@ fn load_network<F: Shelf>(alloc: Global, job: &Job, files: &mut F) -> Result<Inp
 // The network of both files, and the scenarios of the third.
 fn load_scenarios<F: Shelf>(alloc: Global, job: &Job, files: &mut F) -> Result<Input, Stop>
     requires { source_of job.now.task ≡ Source.FilesAndScenarios }
+    ensures files { F.files files.new ≡ F.files files.old }
     ensures input { IfOk result (λ input. Gives (F.files files.old) job.now (Ok input)) }
     ensures usable { IfOk result (IsUsable Source.FilesAndScenarios) }
     ensures stopped { IfErr result
@@ -82,6 +86,7 @@ fn load_scenarios<F: Shelf>(alloc: Global, job: &Job, files: &mut F) -> Result<I
 // The network of both files, and the journal of the third.
 fn load_journal<F: Shelf>(alloc: Global, job: &Job, files: &mut F) -> Result<Input, Stop>
     requires { source_of job.now.task ≡ Source.FilesAndJournal }
+    ensures files { F.files files.new ≡ F.files files.old }
     ensures input { IfOk result (λ input. Gives (F.files files.old) job.now (Ok input)) }
     ensures usable { IfOk result (IsUsable Source.FilesAndJournal) }
     ensures stopped { IfErr result
@@ -98,6 +103,7 @@ fn load_journal<F: Shelf>(alloc: Global, job: &Job, files: &mut F) -> Result<Inp
 // The network of both files, and the bank of it that the words name.
 fn load_bank<F: Shelf>(alloc: Global, job: &Job, files: &mut F) -> Result<Input, Stop>
     requires { source_of job.now.task ≡ Source.FilesAndBank }
+    ensures files { F.files files.new ≡ F.files files.old }
     ensures input { IfOk result (λ input. Gives (F.files files.old) job.now (Ok input)) }
     ensures usable { IfOk result (IsUsable Source.FilesAndBank) }
     ensures stopped { IfErr result
@@ -134,6 +140,7 @@ fn fetch_all<F: Shelf>(
     files: &mut F,
 ) -> Result<(Both, Vec<u8>), Stop>
     requires { third_kind (source_of job.now.task) ≡ Some kind }
+    ensures files { F.files files.new ≡ F.files files.old }
     ensures both { IfOk result (λ all.
         GivesBoth (F.files files.old) job.now all.0.banks.items all.0.debts.items) }
     ensures third { IfOk result (λ all.

@@ -13,15 +13,16 @@ use clr_edge::{Sink, put_all};
 use itoa::Buffer;
 use net_check::{Fault, FileKind};
 
-/// Writes the line that tells a person of a status. It takes no memory, and a fault of the sink
-/// changes nothing.
+/// Writes the line that tells a person of a status, and nothing where the run is done. It takes no
+/// memory, and a fault of the sink changes nothing.
 pub fn tell<E: Sink>(err: &mut E, status: Status, job: Option<&Job>)
-    ensures { TakesText
+    ensures told { TakesText
         (sink_call (E.written err.old) (E.written err.new) (E.faults err.old) (E.faults err.new))
         (message status (option_map (λ job. job.now) job.entry)) }
+    ensures quiet { status ≡ Status.Done → err.new ≡ err.old }
 {
     match status {
-        Status::Done => put_text(err, ""),
+        Status::Done => {}
         Status::Usage => put_text(err, "clearing: the command line is not understood\n"),
         Status::ReadFault(kind) => tell_name(err, name_of(job, kind)),
         Status::Refused(fault) => tell_fault(err, fault),
@@ -34,8 +35,8 @@ pub fn tell<E: Sink>(err: &mut E, status: Status, job: Option<&Job>)
     }
 }
 
-/// Writes a text, up to a fault of the sink. Takes no memory.
-pub fn put_text<S: Sink>(sink: &mut S, text: &str)
+// Writes a text, up to a fault of the sink. Takes no memory.
+fn put_text<S: Sink>(sink: &mut S, text: &str)
     ensures { TakesText
         (sink_call
         (S.written sink.old) (S.written sink.new) (S.faults sink.old) (S.faults sink.new))

@@ -11,7 +11,7 @@ ghost use Rattle.stress.specs.Shocks.{IsOfOtherCash, IsScenarioOf};
 use crate::clear::settle_own;
 use crate::outcome::{Outcome, Text};
 use crate::reports::defaults_of;
-use clear_report::{line_heads, scenario_text};
+use clear_report::{line_heads, scenario_block};
 use clear_words::Job;
 use clr_edge::Gate;
 use clr_net::{Mem, Name, Network};
@@ -202,5 +202,5 @@ fn block_text(
         (payments_text left.now (least left.now)) (defaults_report left.now)) }
 {
     let states = defaults_of(alloc, left, paid)?;
-    scenario_text(alloc, name, left, heads, paid, states.as_slice())
+    scenario_block(alloc, name, left, heads, paid, states.as_slice())
 }

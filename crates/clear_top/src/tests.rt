@@ -1,11 +1,13 @@
+mod fetches;
 mod hostile;
+mod networks;
 mod records;
 mod tasks;
 mod twelve_banks;
 
 use crate::{Ended, Status, run};
 use clear_least::central;
-use clr_edge::{MemShelf, MemSink, OpenGate};
+use clr_edge::{Gate, MemShelf, MemSink, OpenGate, Shelf};
 use clr_net::{BankId, Network};
 use net_check::{Fault, FaultKind, FileKind};
 use net_samples::chain;
@@ -15,46 +17,20 @@ use std::process::Abort;
 use std::test::Fail;
 use std::thread::Threads;
 
-const CLEAR: &[&str] = &["clear", "--banks", "b.csv", "--debts", "d.csv"];
+const CLEAR: &str = "clear --banks b.csv --debts d.csv";
 
-const REPLAY: &[&str] = &[
-    "replay",
-    "--banks",
-    "b.csv",
-    "--debts",
-    "d.csv",
-    "--journal",
-    "j.csv",
-];
+const REPLAY: &str = "replay --banks b.csv --debts d.csv --journal j.csv";
 
-const STRESS: &[&str] = &[
-    "stress",
-    "--banks",
-    "b.csv",
-    "--debts",
-    "d.csv",
-    "--scenarios",
-    "s.toml",
-];
+const STRESS: &str = "stress --banks b.csv --debts d.csv --scenarios s.toml";
 
 // Clearing by one worker, with payments and journal shown.
-const CLEAR_BOTH: &[&str] = &[
-    "clear",
-    "--banks",
-    "b.csv",
-    "--debts",
-    "d.csv",
-    "--show",
-    "both",
-    "--workers",
-    "1",
-];
+const CLEAR_BOTH: &str = "clear --banks b.csv --debts d.csv --show both --workers 1";
 
-const CHECK: &[&str] = &["check", "--banks", "b.csv", "--debts", "d.csv"];
+const CHECK: &str = "check --banks b.csv --debts d.csv";
 
-const CENTRAL: &[&str] = &["central", "--banks", "b.csv", "--debts", "d.csv"];
+const CENTRAL: &str = "central --banks b.csv --debts d.csv";
 
-const CONVERT: &[&str] = &["convert", "--banks", "b.csv", "--debts", "d.csv"];
+const CONVERT: &str = "convert --banks b.csv --debts d.csv";
 
 const CHAIN_BANKS: &str = "name,cash,rule\nA,7,order\nB,1,order\nC,0,order\n";
 
@@ -100,7 +76,7 @@ debtor,creditor,class,claim\nA,B,1,10\nB,C,1,9\n";
 // A command line on some files, and what a run on them comes to.
 #[derive(Drop)]
 struct Case<'a> {
-    words: &'a [&'a str],
+    line: &'a str,
     banks: &'a str,
     debts: &'a str,
     third: &'a str,
@@ -110,9 +86,9 @@ struct Case<'a> {
 }
 
 // A run on two files that ends well.
-fn done<'a>(words: &'a [&'a str], banks: &'a str, debts: &'a str, out: &'a str) -> Case<'a> {
+fn done<'a>(line: &'a str, banks: &'a str, debts: &'a str, out: &'a str) -> Case<'a> {
     Case {
-        words,
+        line,
         banks,
         debts,
         third: "",
@@ -136,16 +112,34 @@ fn refused<'a>(
     }
 }
 
-// Runs the words of a case on a shelf with its files, and compares.
+// A run of a command line.
+fn run_line<R: Threads + Sync, F: Shelf, G: Gate + Sync>(
+    rt: &R,
+    alloc: Global,
+    line: &str,
+    files: &mut F,
+    (out, err): (&mut MemSink, &mut MemSink),
+    gate: &G,
+) -> Result<Ended, Fail> {
+    let words = line.split_whitespace().collect::<Vec<&str>>(alloc)?;
+    Ok(run(rt, alloc, words.as_slice(), files, out, err, gate))
+}
+
+// Runs the line of a case on a shelf with its files, and compares.
 fn check<R: Threads + Sync + Abort>(rt: &R, alloc: Global, case: &Case<'_>) -> Result<(), Fail> {
     let mut files = shelf(alloc, case.banks, case.debts)?;
     files.add("s.toml", case.third.as_bytes())?;
     files.add("j.csv", case.third.as_bytes())?;
     let mut out = MemSink::with_room(alloc, 6000, 1000, 0)?;
     let mut err = MemSink::with_room(alloc, 1000, 1000, 0)?;
-    let ended = run(
-        rt, alloc, case.words, &mut files, &mut out, &mut err, &OpenGate,
-    );
+    let ended = run_line(
+        rt,
+        alloc,
+        case.line,
+        &mut files,
+        (&mut out, &mut err),
+        &OpenGate,
+    )?;
     assert_eq!(rt; ended.status, case.status);
     assert_eq!(rt; out.written(), case.out.as_bytes());
     assert_eq!(rt; err.written(), case.err.as_bytes());
@@ -313,22 +307,12 @@ fn faults_of_files_are_named(rt: HostRuntime) -> Result<(), Fail> {
 
 #[test]
 fn words_that_are_no_job(rt: HostRuntime) -> Result<(), Fail> {
-    for words in [
-        &[][..],
-        &["--help"],
-        &["clear", "--banks", "b.csv"],
-        &[
-            "clear",
-            "--banks",
-            "b.csv",
-            "--debts",
-            "d.csv",
-            "--workers",
-            "65",
-        ],
-        &[
-            "central", "--banks", "b.csv", "--debts", "d.csv", "--sweeps", "2",
-        ],
+    for line in [
+        "",
+        "--help",
+        "clear --banks b.csv",
+        "clear --banks b.csv --debts d.csv --workers 65",
+        "central --banks b.csv --debts d.csv --sweeps 2",
     ] {
         check(
             &rt,
@@ -336,26 +320,26 @@ fn words_that_are_no_job(rt: HostRuntime) -> Result<(), Fail> {
             &Case {
                 status: Status::Usage,
                 err: "clearing: the command line is not understood\n",
-                ..done(words, CHAIN_BANKS, CHAIN_DEBTS, "")
+                ..done(line, CHAIN_BANKS, CHAIN_DEBTS, "")
             },
         )?;
     }
     Ok(())
 }
 
-// Runs words on some files, and compares how the run ends and what is told, for which there is so
+// Runs a line on some files, and compares how the run ends and what is told, for which there is so
 // much room.
 fn ends<R: Threads + Sync + Abort>(
     rt: &R,
     alloc: Global,
-    words: &[&str],
+    line: &str,
     files: &mut MemShelf,
     room: usize,
     (wanted, message): (Status, &str),
 ) -> Result<(), Fail> {
     let mut out = MemSink::with_room(alloc, 1000, 1000, 0)?;
     let mut err = MemSink::with_room(alloc, room, 1000, 0)?;
-    let Ended { status, .. } = run(rt, alloc, words, files, &mut out, &mut err, &OpenGate);
+    let Ended { status, .. } = run_line(rt, alloc, line, files, (&mut out, &mut err), &OpenGate)?;
     assert_eq!(rt; status, wanted);
     assert_eq!(rt; out.written().is_empty(), wanted != Status::Done);
     assert_eq!(rt;
@@ -390,7 +374,14 @@ fn an_output_that_breaks(rt: HostRuntime) -> Result<(), Fail> {
     let mut files = shelf(alloc, CHAIN_BANKS, CHAIN_DEBTS)?;
     let mut out = MemSink::with_room(alloc, 1000, 10, 2)?;
     let mut err = MemSink::with_room(alloc, 1000, 7, 0)?;
-    let Ended { status, .. } = run(&rt, alloc, CLEAR, &mut files, &mut out, &mut err, &OpenGate);
+    let Ended { status, .. } = run_line(
+        &rt,
+        alloc,
+        CLEAR,
+        &mut files,
+        (&mut out, &mut err),
+        &OpenGate,
+    )?;
     assert_eq!(rt; status, Status::WriteFault);
     assert_eq!(rt; status.code(), 5);
     assert_eq!(rt; out.written(), b"debtor,cre".as_slice());

@@ -1,9 +1,11 @@
 //! The top call: a run of the program.
-ghost use Rattle.clear_top.specs.Ending.{JobEnds, RunEnds, asked, shelf_call, sink_call};
+ghost use Rattle.clear_top.specs.Ending.{JobEnds, RunEnds, WritesNothing, asked};
+ghost use Rattle.clear_top.specs.Ending.{shelf_call, sink_call};
 ghost use Rattle.clear_top.specs.Message.{message, TakesText};
+ghost use Rattle.clear_top.specs.Sources.{HasNoFiles, has_files, source_of};
 ghost use Rattle.clear_top.specs.declared.status.Status.{Status};
 ghost use Rattle.clear_words.specs.Limits.{IsJob};
-ghost use Rattle.std.specs.Prelude.{◌≡◌};
+ghost use Rattle.std.specs.Prelude.{◌≡◌, false};
 
 use crate::load::{Stop, load};
 use crate::message::tell;
@@ -22,7 +24,8 @@ use std::thread::Threads;
 /// `RunEnds` says, status by status, when each answer comes, what is written and what the record
 /// is: of a shelf that tells its files, and of what the sinks tell that they took. The module
 /// [`crate::laws`] says what follows from it. Want of memory may be answered at any place before
-/// the writing.
+/// the writing. Where the words ask for no job, or for one without files, the shelf itself is as it
+/// was; so is `out` where nothing is to be written, and `err` where the run is done.
 pub fn run<R: Threads + Sync, F: Shelf, O: Sink, E: Sink, G: Gate + Sync>(
     rt: &R,
     alloc: Global,
@@ -39,7 +42,10 @@ pub fn run<R: Threads + Sync, F: Shelf, O: Sink, E: Sink, G: Gate + Sync>(
     ensures told { TakesText
         (sink_call (E.written err.old) (E.written err.new) (E.faults err.old) (E.faults err.new))
         (message result.status (asked words.now)) }
-    ensures quiet { result.status ≡ Status.Done → E.written err.new ≡ E.written err.old }
+    ensures files { F.files files.new ≡ F.files files.old }
+    ensures unasked { HasNoFiles (asked words.now) → files.new ≡ files.old }
+    ensures untouched { WritesNothing result.status → out.new ≡ out.old }
+    ensures quiet { result.status ≡ Status.Done → err.new ≡ err.old }
 {
     match read_words(alloc, words) {
         Ok(job) => {
@@ -78,10 +84,13 @@ fn carry_out<R: Threads + Sync, F: Shelf, O: Sink, G: Gate + Sync>(
     gate: &G,
 ) -> Ended
     requires { IsJob job.now }
-    ensures { JobEnds
+    ensures ends { JobEnds
         (shelf_call (F.files files.old) (F.faults files.old) (F.faults files.new))
         (sink_call (O.written out.old) (O.written out.new) (O.faults out.old) (O.faults out.new))
         job.now result.status result.sealed }
+    ensures files { F.files files.new ≡ F.files files.old }
+    ensures unasked { has_files (source_of job.now.task) ≡ false → files.new ≡ files.old }
+    ensures untouched { WritesNothing result.status → out.new ≡ out.old }
 {
     let input = match load(alloc, job, files) {
         Ok(input) => input,

@@ -6,6 +6,7 @@
 #![tactic(auto)]
 
 mod gate;
+pub mod laws;
 mod mem_shelf;
 mod mem_sink;
 mod shelf;

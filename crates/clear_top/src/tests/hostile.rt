@@ -3,9 +3,9 @@
 
 use super::{
     CHAIN_BANKS, CHAIN_BOTH, CHAIN_DEBTS, CHAIN_TEXT, CLEAR, CLEAR_BOTH, Case, REPLAY, STRESS,
-    check_all, done, ends, refused, shelf,
+    check_all, done, ends, refused, run_line, shelf,
 };
-use crate::{Ended, Status, run};
+use crate::{Ended, Status};
 use clr_edge::{MemSink, OpenGate};
 use net_check::{Fault, FaultKind, FileKind};
 use std::alloc::Global;
@@ -16,14 +16,19 @@ use std::thread::Threads;
 #[test]
 fn every_put_may_fail(rt: HostRuntime) -> Result<(), Fail> {
     let alloc = rt.alloc();
-    for (words, text) in [(CLEAR, CHAIN_TEXT), (CLEAR_BOTH, CHAIN_BOTH)] {
+    for (line, text) in [(CLEAR, CHAIN_TEXT), (CLEAR_BOTH, CHAIN_BOTH)] {
         for before in 0..text.len() + 1 {
             let mut files = shelf(alloc, CHAIN_BANKS, CHAIN_DEBTS)?;
             let mut out = MemSink::with_room(alloc, 200, 1, before as u64 + 1)?;
             let mut err = MemSink::with_room(alloc, 100, 100, 0)?;
-            let Ended { status, .. } = run(
-                &rt, alloc, words, &mut files, &mut out, &mut err, &OpenGate,
-            );
+            let Ended { status, .. } = run_line(
+                &rt,
+                alloc,
+                line,
+                &mut files,
+                (&mut out, &mut err),
+                &OpenGate,
+            )?;
             let wanted = if before == text.len() {
                 Status::Done
             } else {
@@ -36,27 +41,28 @@ fn every_put_may_fail(rt: HostRuntime) -> Result<(), Fail> {
     Ok(())
 }
 
-// How a job ends where the fetch of this number fails, with a third file of this kind or none, and
-// what is told.
-fn unread(fail_at: u64, third: Option<FileKind>) -> (Status, &'static str) {
-    match (fail_at, third) {
-        (1, _) => (
+// A refusal of a file, with what is told.
+fn refusal(
+    file: FileKind,
+    row: u32,
+    kind: FaultKind,
+    told: &'static str,
+) -> (Status, &'static str) {
+    (Status::Refused(Fault { file, row, kind }), told)
+}
+
+// The file that is fetched at this number, by its kind and name in the message.
+fn unread(fail_at: u64, (third, told): (FileKind, &'static str)) -> (Status, &'static str) {
+    match fail_at {
+        1 => (
             Status::ReadFault(FileKind::Banks),
             "clearing: cannot read b.csv\n",
         ),
-        (2, _) => (
+        2 => (
             Status::ReadFault(FileKind::Debts),
             "clearing: cannot read d.csv\n",
         ),
-        (3, Some(FileKind::Journal)) => (
-            Status::ReadFault(FileKind::Journal),
-            "clearing: cannot read j.csv\n",
-        ),
-        (3, Some(_)) => (
-            Status::ReadFault(FileKind::Scenarios),
-            "clearing: cannot read s.toml\n",
-        ),
-        _ => (Status::Done, ""),
+        _ => (Status::ReadFault(third), told),
     }
 }
 
@@ -65,10 +71,37 @@ fn unread(fail_at: u64, third: Option<FileKind>) -> (Status, &'static str) {
 #[test]
 fn every_fetch_may_fail(rt: HostRuntime) -> Result<(), Fail> {
     let alloc = rt.alloc();
-    for (words, third) in [
-        (CLEAR, None),
-        (REPLAY, Some(FileKind::Journal)),
-        (STRESS, Some(FileKind::Scenarios)),
+    let done = (Status::Done, "");
+    let scenarios = (FileKind::Scenarios, "clearing: cannot read s.toml\n");
+    let journal = (FileKind::Journal, "clearing: cannot read j.csv\n");
+    let none = (FileKind::Words, "");
+    for (line, files_of, third, found) in [
+        (CLEAR, 2, none, done),
+        (REPLAY, 3, journal, done),
+        (STRESS, 3, scenarios, done),
+        (
+            "stress --banks b.csv --debts d.csv --scenarios bad.toml",
+            3,
+            (FileKind::Scenarios, "clearing: cannot read bad.toml\n"),
+            refusal(
+                FileKind::Scenarios,
+                1,
+                FaultKind::Shape,
+                "clearing: scenarios row 1: shape (17)\n",
+            ),
+        ),
+        ("rescue --banks b.csv --debts d.csv --bank B", 2, none, done),
+        (
+            "rescue --banks b.csv --debts d.csv --bank X",
+            2,
+            none,
+            refusal(
+                FileKind::Words,
+                0,
+                FaultKind::UnknownBank,
+                "clearing: words row 0: unknown bank (8)\n",
+            ),
+        ),
     ] {
         for fail_at in 1..5 {
             let mut files = shelf(alloc, CHAIN_BANKS, CHAIN_DEBTS)?;
@@ -77,12 +110,12 @@ fn every_fetch_may_fail(rt: HostRuntime) -> Result<(), Fail> {
                 b"stamp,debtor,creditor,class,to\n1,A,B,1,7\n2,B,C,1,8\n",
             )?;
             files.add("s.toml", b"scenario = [{name = \"none\"}]")?;
+            files.add("bad.toml", b"scenario = [{cut = 5}]")?;
             files.fail_at(fail_at)?;
-            let first = unread(fail_at, third);
-            ends(&rt, alloc, words, &mut files, 5, first)?;
-            if first.0 != Status::Done {
-                ends(&rt, alloc, words, &mut files, 5, (Status::Done, ""))?;
+            if fail_at <= files_of {
+                ends(&rt, alloc, line, &mut files, 100, unread(fail_at, third))?;
             }
+            ends(&rt, alloc, line, &mut files, 100, found)?;
         }
     }
     Ok(())
@@ -104,7 +137,7 @@ fn cut_at<R: Threads + Sync + Abort>(
     };
     files.add("d.csv", left)?;
     let mut err = MemSink::with_room(alloc, 1000, 1000, 0)?;
-    Ok(run(rt, alloc, CLEAR, &mut files, out, &mut err, &OpenGate).status)
+    Ok(run_line(rt, alloc, CLEAR, &mut files, (out, &mut err), &OpenGate)?.status)
 }
 
 #[test]

@@ -2,8 +2,7 @@ use Rattle.clear_top.specs.declared.status.Status.TheVariants as status
 use Rattle.std.proofs.Common.{rules, ◌≡◌, Some, length, sym, ap, ◌∙◌, subst}
 use Rattle.clear_report.specs.Rescues.{rescued_text}
 use Rattle.rescue.specs.Rescue.{added}
-use Rattle.raise_journal.specs.Verdicts.{judged}
-use Rattle.raise_journal.specs.declared.verdict.Verdict.TheVariants as verdict
+use Rattle.clear_top.specs.Meaning.{IsRun}
 use Rattle.clear_top.proofs.Rescuing.{goes_on_saved, report_is, rescues}
 use Rattle.clear_top.proofs.Runs.{least_places}
 use Rattle.clear_top.proofs.saving.save.Goals as goal
@@ -11,7 +10,7 @@ use Rattle.clear_top.proofs.saving.save.Goals as goal
 pub go_on-requires-clause-past : goal.go_on-requires-clause-past
 go_on-requires-clause-past g c = λ κs lives.
     goes_on_saved c.args.net.now c.in_ok-saved.saved c.args.bank.0 c.in_ok-found.found.added c.journal.result.now
-    c.in_ok-before.before.sealed.journal c.in_ok-saved.ensures c.journal.ensures c.in_ok-before.ensures.can_go_on
+    c.in_ok-before.before.sealed.journal c.in_ok-saved.ensures c.journal.ensures c.in_ok-before.ensures.run.can_go_on
 
 pub rescue_text-requires-clause-over : goal.rescue_text-requires-clause-over
 rescue_text-requires-clause-over g c =
@@ -24,10 +23,11 @@ returns g c =
     let found = c.in_ok-found.found in
     let out : c.with_record.result ≡ record { status = status.Done; sealed = Some c.in_ok-paid.sealed; text = c.in_ok-of.field-0 } =
     search rules in
-    rescues net c.args.job.now c.args.bank.0 c.in_ok-saved.saved c.journal.result.now c.in_ok-paid.field-0.rounds
+    rescues net c.args.job.now c.args.bank.0 c.in_ok-saved.saved c.journal.result.now
+    c.in_ok-before.before.rounds c.in_ok-paid.field-0.rounds
     c.in_ok-paid.field-0.sealed c.in_ok-of.field-0 c.with_record.result
     (c.in_ok-saved.ensures ∙ ap (added net c.args.bank.0) c.in_ok-found.ensures.added)
-    (subst (λ j. (judged net j).verdict ≡ verdict.Lawful) (sym c.journal.ensures) c.in_ok-before.ensures.run.lawful)
+    (subst (λ j. IsRun net j c.in_ok-before.before.rounds) (sym c.journal.ensures) c.in_ok-before.ensures.run)
     c.in_ok-paid.ensures.record_is c.in_ok-paid.ensures.run
     (c.in_ok-of.ensures ∙ c.in_ok-text.ensures
     ∙ ap (λ P. rescued_text net c.args.bank.0 found.added found.short P) (c.as_slice-2.ensures ∙ c.in_ok-paid.ensures.paid)

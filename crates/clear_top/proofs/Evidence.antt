@@ -1,0 +1,136 @@
+-- A journal that is shown is read again as it was, and replayed.
+use Rattle.std.proofs.Common.{◌≡◌, ℕ, ◌^◌, ◌<◌, List, Option, None, Some, Ok, Err, refl, sym, ap, ◌∙◌, subst, true, arith}
+use Rattle.std.specs.Option.{option_map}
+use Rattle.clr_net.specs.Limits.{IsNetwork}
+use Rattle.clr_net.specs.Net.{Net}
+use Rattle.clear_core.specs.declared.event.Raise.{Raise}
+use Rattle.clear_report.specs.Journals.{journal_and_rounds}
+use Rattle.clear_words.specs.declared.job.Job.{Job}
+use Rattle.clear_words.specs.declared.show.Show.TheVariants as show
+use Rattle.clear_words.specs.declared.task.Task.TheVariants as task
+use Rattle.net_check.proofs.Passed.{and_then-ok, fault_unless-ok}
+use Rattle.net_check.specs.Record.{fault_at}
+use Rattle.net_check.specs.declared.fault.FileKind.TheVariants as file
+use Rattle.net_check.specs.declared.fault.FaultKind.TheVariants as fault
+use Rattle.net_csv.proofs.KeptNames.{network_of_names}
+use Rattle.net_csv.proofs.Networks.{network_of_ok}
+use Rattle.net_csv.specs.Reading.{is_within_limit}
+use Rattle.pay_words.specs.Sealed.{Sealed}
+use Rattle.raise_journal.proofs.ReadBacks.{closed_journal_back}
+use Rattle.raise_journal.specs.ReadBack.{IsInLimits}
+use Rattle.raise_journal.specs.ReadJournal.{journal_of, raises_in_file}
+use Rattle.raise_journal.specs.Verdicts.{judged}
+use Rattle.raise_journal.specs.declared.verdict.Verdict.TheVariants as verdict
+use Rattle.clear_top.specs.Evidence.{IsEvidence, IsKeptWithinLimits, ReplaysText, ShowsJournal}
+use Rattle.clear_top.specs.Meaning.{ComesTo, IsRun, Means, Settles, answer_to, clear_text}
+use Rattle.clear_top.specs.Reading.{Files, Given, Read, alone, all_whole, both_whole, contents, in_size}
+use Rattle.clear_top.specs.Reading.{net_in, reading, reading_by, then_read, whole}
+use Rattle.clear_top.specs.Sources.{source_of}
+use Rattle.clear_top.specs.declared.outcome.Outcome.{Outcome}
+use Rattle.clear_top.specs.declared.source.Source.TheVariants as source
+
+-- two files, the network that they give, and that it is all that was read
+record TwoFiles (r : Read (List ℕ × List ℕ)) (on : Given) : Type 0 where
+  both : List ℕ × List ℕ
+  net : Net
+  both_are : r ≡ Some (Ok both)
+  net_is : net_in both ≡ Ok net
+  on_is : alone net ≡ on
+
+two_files : (r : Read (List ℕ × List ℕ)) (on : Given)
+    → then_read r (λ both. Some (contents both)) ≡ Some (Ok on) → TwoFiles r on
+two_files None on h = absurd (cc)
+two_files (Some (Err f)) on h = absurd (cc)
+two_files (Some (Ok both)) on h =
+    let is : contents both ≡ Ok on = cc in
+    let found = and_then-ok (net_in both) (λ net. Ok (alone net)) on is in
+    record { both = both; net = found.0; both_are = refl; net_is = found.1; on_is = (cc) }
+
+-- both files by what is there under their names
+both_by : Option (List ℕ) → Option (List ℕ) → Read (List ℕ × List ℕ)
+both_by banks debts =
+    then_read (option_map (in_size file.Banks) banks) (λ b.
+    then_read (option_map (in_size file.Debts) debts) (λ d. Some (Ok (b, d))))
+
+-- the same two files give the same
+same_both : (files later : Files) (job again : Job) → later again.banks ≡ files job.banks
+    → later again.debts ≡ files job.debts → both_whole later again ≡ both_whole files job
+unfolding both_by
+same_both files later job again banks debts = λ i. both_by (banks i) (debts i)
+
+-- a journal that is read from a text is not longer than a file may be
+text_fits : (net : Net) (text : List ℕ) (journal : List Raise) → journal_of net text ≡ Ok journal
+    → is_within_limit file.Journal text ≡ true
+text_fits net text journal h =
+    (fault_unless-ok (is_within_limit file.Journal text) (fault_at file.Journal 0 fault.FileSize)
+    (raises_in_file net text) journal h).0
+
+-- two files and the text of a journal are read as the network and the journal
+journal_read : (later : Files) (again : Job) (both : List ℕ × List ℕ) (net : Net) (text : List ℕ)
+    (journal : List Raise) → source_of again.task ≡ source.FilesAndJournal
+    → both_whole later again ≡ Some (Ok both) → later again.third ≡ Some text
+    → net_in both ≡ Ok net → journal_of net text ≡ Ok journal
+    → reading later again ≡ Some (Ok (record (alone net) { journal = journal }))
+journal_read later again both net text journal of_journal both_are third net_is read =
+    let fits = text_fits net text journal read in
+    let whole_third : whole later file.Journal again.third ≡ Some (Ok text) = rw (third, fits) refl in
+    let all : all_whole later again file.Journal ≡ Some (Ok (both, text)) = rw (both_are, whole_third) refl in
+    rw of_journal (rw all (rw (net_is, read) refl))
+
+-- a lawful journal has one answer
+one_answer : (net : Net) (journal : List Raise) (later : Files) (again : Job) (p : Outcome)
+    → again.task ≡ task.Replay
+    → reading later again ≡ Some (Ok (record (alone net) { journal = journal }))
+    → (judged net journal).verdict ≡ verdict.Lawful → Means later again p
+    → p ≡ answer_to net journal verdict.Lawful
+one_answer net journal later again p replays read lawful (on, given, comes) =
+    let both : Some (Ok on) ≡ Some (Ok (record (alone net) { journal = journal })) = sym given ∙ read in
+    let is : on ≡ record (alone net) { journal = journal } = cc in
+    let here : ComesTo task.Replay again on p = subst (λ t. ComesTo t again on p) replays comes in
+    let there : p ≡ answer_to net journal (judged net journal).verdict =
+    subst (λ g. p ≡ answer_to g.net g.journal (judged g.net g.journal).verdict) is here in
+    there ∙ ap (answer_to net journal) lawful
+
+module _ (files later : Files) (job again : Job) (o : Outcome) where
+  -- of a run whose text was saved, on the network of two files
+  by_run : (both : List ℕ × List ℕ) (net : Net) (sealed : Sealed) (rounds : ℕ)
+      → ReplaysText files job later again o.text → both_whole files job ≡ Some (Ok both)
+      → net_in both ≡ Ok net → reading files job ≡ Some (Ok (alone net))
+      → IsRun net sealed.journal rounds → IsInLimits net sealed.journal → o.sealed ≡ Some sealed
+      → o.text ≡ journal_and_rounds net sealed.journal rounds → IsEvidence files job o later again
+  by_run both net sealed rounds (replays, banks, debts, third) both_are net_is cleared run limits sealed_is text_is =
+      let network : IsNetwork net = network_of_ok both.0 both.1 net net_is in
+      let keeps = network_of_names both.0 both.1 net net_is in
+      let few : rounds < 2 ^ 63 = omega (arith, run.few_rounds, network.owed_in_limit) in
+      let back = closed_journal_back net sealed.journal rounds network keeps limits few in
+      let read : reading later again ≡ Some (Ok (record (alone net) { journal = sealed.journal })) =
+      journal_read later again both net (journal_and_rounds net sealed.journal rounds) sealed.journal
+      (ap source_of replays) (same_both files later job again banks debts ∙ both_are)
+      (third ∙ ap Some text_is) net_is back in
+      record {
+        net = net;
+        sealed = sealed;
+        cleared = cleared;
+        record_is = sealed_is;
+        read = read;
+        replayed = λ p means. one_answer net sealed.journal later again p replays read run.lawful means;
+      }
+
+  -- what is shown of a run and saved is evidence
+  pub shown_is_evidence : ShowsJournal job → Means files job o → ReplaysText files job later again o.text
+      → IsKeptWithinLimits files job o
+      → IsEvidence files job o later again
+  shown_is_evidence (clears, shows) (on, given, comes) saved limits =
+      let read : reading_by source.Files files job ≡ Some (Ok on) =
+      subst (λ t. reading_by (source_of t) files job ≡ Some (Ok on)) clears given in
+      let found = two_files (both_whole files job) on read in
+      let cleared : ComesTo task.Clear job on o = subst (λ t. ComesTo t job on o) clears comes in
+      let settled : Settles on.net job (clear_text show.Journal on.net) o =
+      subst (λ s. Settles on.net job (clear_text s on.net) o) shows cleared in
+      let net_is : on.net ≡ found.net = ap (λ g. g.net) (sym found.on_is) in
+      by_run found.both found.net settled.sealed settled.rounds saved found.both_are found.net_is
+      (given ∙ ap (λ g. Some (Ok g)) (sym found.on_is))
+      (subst (λ n. IsRun n settled.sealed.journal settled.rounds) net_is settled.run)
+      (subst (λ n. IsInLimits n settled.sealed.journal) net_is (limits on settled.sealed given (ap (λ p. p.sealed) settled.comes)))
+      (ap (λ p. p.sealed) settled.comes)
+      (ap (λ p. p.text) settled.comes ∙ ap (λ n. journal_and_rounds n settled.sealed.journal settled.rounds) net_is)
