@@ -11,7 +11,7 @@ use clear_report::{journal_text, pay_text};
 use clear_words::{Job, Show};
 use clr_edge::Gate;
 use clr_net::{MAX_BANKS, Mem, Network};
-use settle::{Plan, Settled, settle};
+use settle::{Plan, Settled, settle_owned};
 use std::alloc::Global;
 use std::thread::Threads;
 
@@ -30,7 +30,7 @@ pub fn settle_own<R: Threads + Sync, G: Gate + Sync>(
     ensures run { IfOk result (λ s. IsRun net s.sealed.journal s.rounds) }
 {
     prove!(net.banks() <= MAX_BANKS);
-    settle(rt, alloc, net, plan_of(job), gate)
+    settle_owned(rt, alloc, net, plan_of(job), gate)
 }
 
 /// Clears a copy of a network that is still needed.

@@ -13,7 +13,7 @@ use clear_words::Job;
 use clr_edge::Gate;
 use clr_net::{BankId, MAX_BANKS, Mem, Network};
 use rescue::{added, rescue};
-use settle::{Settled, settle_from};
+use settle::{Settled, settle_owned_from};
 use std::alloc::Global;
 use std::thread::Threads;
 
@@ -57,5 +57,5 @@ fn go_on<R: Threads + Sync, G: Gate + Sync>(
     ensures run { IfOk result (λ s. IsRun net s.sealed.journal s.rounds) }
 {
     prove!(net.banks() <= MAX_BANKS);
-    settle_from(rt, alloc, net, plan_of(job), past, gate)
+    settle_owned_from(rt, alloc, net, plan_of(job), past, gate)
 }

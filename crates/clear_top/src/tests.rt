@@ -432,7 +432,7 @@ fn clears<R: Threads + Sync + Abort>(
         sweeps: 1,
     };
     assert_eq!(rt;
-        settle(rt, alloc, net.copy(alloc)?, plan, &OpenGate)?
+        settle(rt, alloc, net, plan, &OpenGate)?
             .paid
             .as_slice(),
         paid

@@ -3,6 +3,6 @@ use Rattle.clear_top.proofs.saving.go_on.Goals as goal
 
 pub returns-clause-run : goal.returns-clause-run
 returns-clause-run g c =
-    let settled = c.settle_from.ensures in
+    let settled = c.settle_owned_from.ensures in
     is_run_after c.args.net c.banks.ensures.network _ _ _ settled.paid settled.verdict settled.lawful settled.in_order
     settled.low_stamps settled.can_go_on settled.bounds
