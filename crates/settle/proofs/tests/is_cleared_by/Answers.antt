@@ -3,10 +3,7 @@ use Rattle.clear_core.specs.declared.event.Raise.{Raise}
 use Rattle.clear_core.proofs.Lawful.{stands_in_range}
 use Rattle.settle.proofs.tests.is_cleared_by.Goals as goal
 
--- the run is on a copy of the network
 pub replay-verdict-requires-clause-debts : goal.replay-verdict-requires-clause-debts
 replay-verdict-requires-clause-debts g c =
-    let journal = c.in_ok-settled.settled.sealed.journal in
     subst (λ rs. All (λ (r : Raise). r.debt.0 < length c.args.net.now.debts) rs) (sym c.journal-journal.ensures)
-    (subst (λ n. All (λ (r : Raise). r.debt.0 < length n.debts) journal) c.in_ok-copy.ensures
-    (stands_in_range c.in_ok-copy.field-0 journal c.in_ok-settled.ensures.lawful.0))
+    (stands_in_range c.args.net.now c.in_ok-settled.settled.sealed.journal c.in_ok-settled.ensures.lawful.0)
