@@ -17,11 +17,10 @@ use Rattle.net_csv.proofs.Networks.{network_of_ok}
 use Rattle.net_csv.specs.Reading.{is_within_limit}
 use Rattle.pay_words.specs.Sealed.{Sealed}
 use Rattle.raise_journal.proofs.ReadBacks.{closed_journal_back}
-use Rattle.raise_journal.specs.ReadBack.{IsInLimits}
 use Rattle.raise_journal.specs.ReadJournal.{journal_of, raises_in_file}
 use Rattle.raise_journal.specs.Verdicts.{judged}
 use Rattle.raise_journal.specs.declared.verdict.Verdict.TheVariants as verdict
-use Rattle.clear_top.specs.Evidence.{IsEvidence, IsKeptWithinLimits, ReplaysText, ShowsJournal}
+use Rattle.clear_top.specs.Evidence.{IsEvidence, ReplaysText, ShowsJournal}
 use Rattle.clear_top.specs.Meaning.{ComesTo, IsRun, Means, Settles, answer_to, clear_text}
 use Rattle.clear_top.specs.Reading.{Files, Given, Read, alone, all_whole, both_whole, contents, in_size}
 use Rattle.clear_top.specs.Reading.{net_in, reading, reading_by, then_read, whole}
@@ -96,13 +95,13 @@ module _ (files later : Files) (job again : Job) (o : Outcome) where
   by_run : (both : List ℕ × List ℕ) (net : Net) (sealed : Sealed) (rounds : ℕ)
       → ReplaysText files job later again o.text → both_whole files job ≡ Some (Ok both)
       → net_in both ≡ Ok net → reading files job ≡ Some (Ok (alone net))
-      → IsRun net sealed.journal rounds → IsInLimits net sealed.journal → o.sealed ≡ Some sealed
+      → IsRun net sealed.journal rounds → o.sealed ≡ Some sealed
       → o.text ≡ journal_and_rounds net sealed.journal rounds → IsEvidence files job o later again
-  by_run both net sealed rounds (replays, banks, debts, third) both_are net_is cleared run limits sealed_is text_is =
+  by_run both net sealed rounds (replays, banks, debts, third) both_are net_is cleared run sealed_is text_is =
       let network : IsNetwork net = network_of_ok both.0 both.1 net net_is in
       let keeps = network_of_names both.0 both.1 net net_is in
       let few : rounds < 2 ^ 63 = omega (arith, run.few_rounds, network.owed_in_limit) in
-      let back = closed_journal_back net sealed.journal rounds network keeps limits few in
+      let back = closed_journal_back net sealed.journal rounds network keeps run.in_limits few in
       let read : reading later again ≡ Some (Ok (record (alone net) { journal = sealed.journal })) =
       journal_read later again both net (journal_and_rounds net sealed.journal rounds) sealed.journal
       (ap source_of replays) (same_both files later job again banks debts ∙ both_are)
@@ -118,9 +117,8 @@ module _ (files later : Files) (job again : Job) (o : Outcome) where
 
   -- what is shown of a run and saved is evidence
   pub shown_is_evidence : ShowsJournal job → Means files job o → ReplaysText files job later again o.text
-      → IsKeptWithinLimits files job o
       → IsEvidence files job o later again
-  shown_is_evidence (clears, shows) (on, given, comes) saved limits =
+  shown_is_evidence (clears, shows) (on, given, comes) saved =
       let read : reading_by source.Files files job ≡ Some (Ok on) =
       subst (λ t. reading_by (source_of t) files job ≡ Some (Ok on)) clears given in
       let found = two_files (both_whole files job) on read in
@@ -131,6 +129,5 @@ module _ (files later : Files) (job again : Job) (o : Outcome) where
       by_run found.both found.net settled.sealed settled.rounds saved found.both_are found.net_is
       (given ∙ ap (λ g. Some (Ok g)) (sym found.on_is))
       (subst (λ n. IsRun n settled.sealed.journal settled.rounds) net_is settled.run)
-      (subst (λ n. IsInLimits n settled.sealed.journal) net_is (limits on settled.sealed given (ap (λ p. p.sealed) settled.comes)))
       (ap (λ p. p.sealed) settled.comes)
       (ap (λ p. p.text) settled.comes ∙ ap (λ n. journal_and_rounds n settled.sealed.journal settled.rounds) net_is)

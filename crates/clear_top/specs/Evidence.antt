@@ -7,20 +7,13 @@ use Rattle.clear_words.specs.declared.job.Job.{Job}
 use Rattle.clear_words.specs.declared.show.Show.TheVariants as show
 use Rattle.clear_words.specs.declared.task.Task.TheVariants as task
 use Rattle.pay_words.specs.Sealed.{Sealed}
-use Rattle.raise_journal.specs.ReadBack.{IsInLimits}
 use Rattle.clear_top.specs.Meaning.{IsPlain, Means}
-use Rattle.clear_top.specs.Reading.{Files, Given, alone, reading}
+use Rattle.clear_top.specs.Reading.{Files, alone, reading}
 use Rattle.clear_top.specs.declared.outcome.Outcome.{Outcome}
 
 -- the job clears, and shows the journal alone
 abbrev pub ShowsJournal : Job → Type 0
 ShowsJournal job = (job.task ≡ task.Clear) × (job.show ≡ show.Journal)
-
--- the record's journal is within the limits of a journal file
-abbrev pub IsKeptWithinLimits : Files → Job → Outcome → Type 0
-IsKeptWithinLimits files job o =
-    (on : Given) (sealed : Sealed) → reading files job ≡ Some (Ok on) → o.sealed ≡ Some sealed
-    → IsInLimits on.net sealed.journal
 
 -- the second job replays a file of this text, with the two files of the first
 abbrev pub ReplaysText : Files → Job → Files → Job → List ℕ → Type 0

@@ -27,6 +27,7 @@ use Rattle.costs.specs.CostStandings.{cost_standings}
 use Rattle.net_csv.specs.Printing.{banks_text, banks_text_2, debts_text}
 use Rattle.pay_words.specs.Sealed.{Sealed}
 use Rattle.raise_journal.specs.Texts.{verdict_line}
+use Rattle.raise_journal.specs.ReadBack.{IsInLimits}
 use Rattle.raise_journal.specs.Verdicts.{judged}
 use Rattle.raise_journal.specs.declared.verdict.Verdict.{Verdict}
 use Rattle.raise_journal.specs.declared.verdict.Verdict.TheVariants as verdict
@@ -50,18 +51,20 @@ plan_of job = record { workers = job.workers; sweeps = job.sweeps }
 
 -- a journal of raises that clears a network, each lawful where it stands, as it may be shown after
 -- so many rounds: it replays to the least list, its raises differ and stand in order, no stamp is
--- above the units paid, a run can go on from it, and the rounds are at most the units owed, and at
--- most the units paid, and one more
+-- above the units paid, it is within the limits of a journal file, a run can go on from it, and the
+-- rounds are at most the units owed, at most the units paid, and at most the raises, and one more
 pub record IsRun (net : Net) (journal : List Raise) (rounds : ℕ) : Type 0 where
   pub lawful : (judged net journal).verdict ≡ verdict.Lawful
   pub replays : (judged net journal).paid ≡ least net
   pub traced : IsTraced net journal
   pub in_order : ordered journal ≡ journal
   pub low_stamps : All (λ r. r.stamp ≤ sum (least net)) journal
+  pub in_limits : IsInLimits net journal
   pub can_go_on : CanGoOn net journal
   pub some_round : 1 ≤ rounds
   pub few_rounds : rounds ≤ units_owed net + 1
   pub rounds_by_units_paid : rounds ≤ sum (least net) + 1
+  pub rounds_by_raises : rounds ≤ length journal + 1
 
 -- done after a run of the job's workers on one board, whose record is answered; the text may show
 -- the record's journal, and the rounds

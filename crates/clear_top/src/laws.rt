@@ -4,7 +4,7 @@ ghost use Rattle.clear_top.specs.Ending.{AnswersRecord, IfTold, IsFoundUnlawful,
 ghost use Rattle.clear_top.specs.Ending.{IsUsageOrMem, NoneRose, RunEnds};
 ghost use Rattle.clear_top.specs.Ending.{IsUntouched, ShelfCall, SinkCall, SinkRose};
 ghost use Rattle.clear_top.specs.Ending.{WasPartWritten, WasWritten, WritesText};
-ghost use Rattle.clear_top.specs.Evidence.{IsEvidence, IsKeptWithinLimits};
+ghost use Rattle.clear_top.specs.Evidence.{IsEvidence};
 ghost use Rattle.clear_top.specs.Evidence.{ReplaysText, ShowsJournal};
 ghost use Rattle.clear_top.specs.Meaning.{Means};
 ghost use Rattle.clear_top.specs.Reading.{Files, Given, IsReadBack, reading};
@@ -93,7 +93,7 @@ pub fn unlawful_journals_are_told_so()
 pub fn a_shown_journal_is_evidence()
     ensures { (files later : Files) (job again : Job) (o : Outcome)
         → ShowsJournal job → Means files job o → ReplaysText files job later again o.text
-        → IsKeptWithinLimits files job o → IsEvidence files job o later again }
+        → IsEvidence files job o later again }
 {}
 
 /// What is printed of the network that a scenario leaves is read back as that network, where no

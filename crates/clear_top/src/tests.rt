@@ -432,9 +432,7 @@ fn clears<R: Threads + Sync + Abort>(
         sweeps: 1,
     };
     assert_eq!(rt;
-        settle(rt, alloc, net, plan, &OpenGate)?
-            .paid
-            .as_slice(),
+        settle(rt, alloc, net, plan, &OpenGate)?.paid.as_slice(),
         paid
     );
     assert_eq!(rt; central(alloc, net)?.as_slice(), paid);
