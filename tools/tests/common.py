@@ -1,7 +1,9 @@
 """What the tests of the tools share: the program (from the environment variable CLEARING, else the repository's
 `./clearing`), the tools, and a case with a folder of its own."""
+import functools
 import os
 import pathlib
+import shutil
 import subprocess
 import sys
 import tempfile
@@ -16,14 +18,36 @@ def clearing(*words):
     return subprocess.run([PROGRAM, *map(str, words)], stdin=subprocess.DEVNULL, capture_output=True)
 
 
-def tool(name, *words):
-    """A run of one of the tools, with its status, output and messages as text."""
+def tool(name, *words, python=None, cwd=None):
+    """A run of one of the tools, with its status, output and messages as text; by another Python where one is named."""
     return subprocess.run(
-        [sys.executable, str(ROOT / "tools" / name), *map(str, words)],
+        [python or sys.executable, str(ROOT / "tools" / name), *map(str, words)],
+        cwd=cwd,
         stdin=subprocess.DEVNULL,
         capture_output=True,
         encoding="utf-8",
     )
+
+
+@functools.cache
+def python_with(*modules):
+    """A Python that can import some modules: the one that runs the tests, else the system's, else none."""
+    for python in (sys.executable, "/usr/bin/python3"):
+        run = [python, "-c", "import " + ", ".join(modules)]
+        if shutil.which(python) and subprocess.run(run, capture_output=True).returncode == 0:
+            return python
+    return None
+
+
+def needs(*commands):
+    """Skips a test or a class where a command is not on the path."""
+    missing = [command for command in commands if not shutil.which(command)]
+    return unittest.skipIf(missing, f"{', '.join(missing)} is not on the path")
+
+
+def needs_modules(*modules):
+    """Skips a test or a class where neither Python has some modules; else python_with names the one that has them."""
+    return unittest.skipUnless(python_with(*modules), f"no Python here has {', '.join(modules)}")
 
 
 class Case(unittest.TestCase):
