@@ -95,3 +95,12 @@ class Matrix(Case):
         paid = self.file("paid.csv", "debtor,creditor,class,claim,paid\nA,B,1,6,5\n")
         self.refused("to_matrix.py", 1, "is not of the debts in", *self.files, "--payments", paid)
         self.refused("to_matrix.py", 1, "the first row is not", *self.files, "--payments", self.debts)
+
+    def test_a_matrix_is_not_written_over_what_was_read(self):
+        self.banks.write_text("name,cash,rule\nA,9,order\nB,0,order\n")
+        self.debts.write_text("debtor,creditor,class,claim\nA,B,1,5\n")
+        paid = self.file("paid.csv", self.printed("clear", *self.files))
+        for name in (self.banks, self.debts, paid):
+            before = name.read_bytes()
+            self.refused("to_matrix.py", 1, f"{name} is also read", *self.files, "--payments", paid, "--out", name)
+            self.assertEqual(name.read_bytes(), before)
