@@ -29,6 +29,30 @@ def tool(name, *words, python=None, cwd=None):
     )
 
 
+# Names of banks that a shell, a spreadsheet, XML or a careless reader of lines may take for something else.
+ODD_NAMES = [
+    "$(touch X)", "`touch X`", "${IFS}", "A$HOME", "d'Italia", "''", "B&W", "a;touch X", "a|touch X", "a>X", "a<b", "*", "?", "[a-z]*", "~",
+    "~root", "\\", "a\\", "\\n", "!!", "!$", "#", "a#b", "{a..b}", "(x)", ")", "%s%n", "%q", "a:b:c", "a=b", "=1+1", "@SUM(A1)", "+1", "a  b",
+    "a - b", "0", "00", "1e3", "1", "nan", "order", "name", "cash", "rule", "debtor", "total", "rounds", "null", "true", "<b>&amp;</b>",
+    "]]>", "<!--", "Crédit Loire", "Cre\u0301dit Loire", "Straße", "STRASSE", "İ", "漢字", "עברית", "😀", "\U0010ffff", "\u00a0A", "A\u00a0", "A\u200b",
+    "\u200bA", "\ufeffA", "A\ufeff", "A\u2028B", "A\u2029B", "\u202eA", "\ue000", "\ufffd", "\u00ad", "x" * 64, "é" * 32, "😀" * 16,
+]
+
+
+def all_names(first=0xA0, last=0x10FFFF, step=1):
+    """Names of at most 64 bytes in which every character from a first to a last one stands that a name may have."""
+    name, size = "", 0
+    for code in [*range(33, 127), *range(max(first, 160), last + 1, step)]:
+        if 0xD800 <= code <= 0xDFFF or chr(code) in ',"':
+            continue
+        more = len(chr(code).encode())
+        if size + more > 62:
+            yield f"N{name}N"
+            name, size = "", 0
+        name, size = name + chr(code), size + more
+    yield f"N{name}N"
+
+
 @functools.cache
 def python_with(*modules):
     """A Python that can import some modules: the one that runs the tests, else the system's, else none."""

@@ -1,7 +1,7 @@
 import os
 import subprocess
 
-from common import ROOT, Case, clearing
+from common import ROOT, Case
 
 
 class Install(Case):
@@ -35,38 +35,3 @@ class Install(Case):
         self.assertEqual(self.installed("--prefix").returncode, 2)
         self.assertEqual(self.installed("a", "b").returncode, 2)
         self.assertIn("PREFIX", self.installed("--help").stdout)
-
-    def completed(self, line):
-        """What bash offers for the last word of a line."""
-        script = f"""
-            source {ROOT}/tools/clearing.bash
-            read -r -a COMP_WORDS <<<"$1"
-            [[ $1 == *" " ]] && COMP_WORDS+=("")
-            COMP_CWORD=$((${{#COMP_WORDS[@]}} - 1))
-            _clearing 2>/dev/null
-            printf '%s\\n' "${{COMPREPLY[@]}}"
-        """
-        run = ["bash", "--norc", "-c", script, "bash", line]
-        return subprocess.run(run, cwd=self.folder, capture_output=True, encoding="utf-8").stdout.split("\n")[:-1]
-
-    def test_words_are_completed(self):
-        self.file("banks.csv", "name,cash,rule\nAster,1,order\nBank Two,2,order\n")
-        self.assertEqual(self.completed("clearing c"), ["check", "clear", "central", "compress", "costs", "convert"])
-        self.assertEqual(self.completed("clearing clear --s"), ["--sweeps", "--show"])
-        self.assertEqual(self.completed("clearing clear --show b"), ["both"])
-        self.assertEqual(self.completed("clearing costs --banks banks.csv --"), ["--debts", "--keep"])
-        self.assertEqual(self.completed("clearing check --banks b"), ["banks.csv"])
-        self.assertEqual(self.completed("clearing rescue --banks banks.csv --bank B"), ["Bank\\ Two"])
-
-    def test_each_option_of_the_completion_is_one_of_the_program(self):
-        # The program refuses words that are no job with 2; here it comes as far as a file that is missing.
-        files = ["--banks", "none", "--debts", "none"]
-        more = {"stress": ["--scenarios", "none"], "replay": ["--journal", "none"], "rescue": ["--bank", "A"],
-                "costs": ["--keep", "1"], "gen": ["--seed", "1", "--size", "1", "--tries", "1"]}
-        value = {"--workers": "2", "--sweeps": "2", "--show": "both"}
-        for task in self.completed("clearing "):
-            words = ([] if task == "gen" else files) + more.get(task, [])
-            for option in self.completed(f"clearing {task} --"):
-                if option not in words:
-                    words = words + [option, value[option]]
-            self.assertEqual(clearing(task, *words).returncode, 0 if task == "gen" else 3, words)
