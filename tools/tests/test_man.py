@@ -37,3 +37,25 @@ class Man(Case):
         self.refused("man.py", 1, "--help ends with 1", none, "--out", self.folder / "man")
         self.assertFalse((self.folder / "man").exists())
         self.assertEqual(none.read_bytes(), before)
+
+    def test_the_page_of_the_program_has_what_the_formats_say(self):
+        formats = (ROOT / "docs/FORMATS.md").read_text(encoding="utf-8")
+        page = (ROOT / "docs/clearing.1").read_text(encoding="utf-8").replace("\\-", "-")
+        table = formats.partition("| number | kind |")[2].partition("\n\n")[0]
+        faults = re.findall(r"^\| ([0-9]+) \| ([a-z ]+) \| (.*) \|$", table, re.MULTILINE)
+        self.assertGreaterEqual(len(faults), 17)
+        for number, kind, _ in faults:
+            self.assertRegex(page, rf"(?m)^{number}\|{kind}\|")
+        self.assertEqual(len(re.findall(r"(?m)^[0-9]+\|", page)), len(faults))
+        statuses = re.findall(r"^\| ([0-9]) \| .* \| (?:`(.*)`|none) \|$", formats, re.MULTILINE)
+        self.assertEqual(len(statuses), 7)
+        for status, message in statuses + [("8", "")]:
+            self.assertIn(f".TP\n.B {status}\n", page)
+            self.assertIn(message, page)
+        tasks = re.findall(r"^\| `([a-z]+)` \| ", formats, re.MULTILINE)
+        options = set(re.findall(r"`(--[a-z]+)`", formats)) - {"--help", "--version"}
+        self.assertEqual((len(tasks), len(options)), (12, 12))
+        for word in [*(f".B {task}\n" for task in tasks), *options, *(f"[[{table}]]" for table in ("scenario", "scenario.loss")),
+                     *(f".TP\n.B {key}\n" for key in ("name", "cut", "loss")), ".B bank\n(a name", ".B amount\n(0", "/dev/stdin", "| head -4",
+                     "order", "equal", "losses", "jefferson", "webster", "adams"]:
+            self.assertIn(word, page)
