@@ -102,6 +102,7 @@ def main():
     cells = Cells(words, faults)
     debts = list(debts_of(matrix, words, cells))
     network = Network(sheets.banks_of(table, list(matrix.rows), words, cells), debts, words.outside in table.header)
+    faults.end_if_any()
     units = Units(network, words, faults, matrix.name)
     faults.end_if_any()
     outputs = [(words.banks, units.banks_text()), (words.debts, units.debts_text())]

@@ -49,7 +49,14 @@ class Matrix(Case):
             "m.csv row 1 column A: the diagonal is not 0",
             "m.csv row 2 column cash: '1.00x' is not an amount",
             "m.csv row 1 column B: '-2' is below 0; what a bank is owed stands as a debt of the bank that owes",
+        ]:
+            self.refused("from_matrix.py", 1, told, matrix, *self.files)
+        # Limits are looked at where all amounts are known.
+        matrix = self.file("m.csv", ",A,B,cash\nA,0,1000003,1\nB,2000000,0,1000000000002\n")
+        for told in [
             "m.csv: the claim of A on B is 2,000,000, in units 2,000,000: 1,000,000 more than the most, 1,000,000",
+            "m.csv: the claim of B on A is 1,000,003, in units 1,000,003: 3 more than the most, 1,000,000",
+            "m.csv: the cash of B is 1,000,000,000,002, in units 1,000,000,000,002: 2 more than the most, 1,000,000,000,000",
             "m.csv: a unit of 2 keeps all limits on amounts (--unit 2 --round, or --unit auto)",
         ]:
             self.refused("from_matrix.py", 1, told, matrix, *self.files)
