@@ -162,7 +162,10 @@ def whole(numpy, matrix, totals):
     rounding down leaves go where most was cut off, and where that comes to an end, along a path of cells that gives way.
     Only where fitting stopped before its end a cell may be further off."""
     near = Near(numpy, matrix, totals)
-    for flat in numpy.argsort(-near.cut, axis=None, kind="stable"):
+    # Of what is cut off alike the cells go first that lie on one line beside the diagonal, one in each row and column.
+    places = numpy.arange(totals.size)
+    beside = (places[None, :] - places[:, None]) % max(totals.size, 1)
+    for flat in numpy.lexsort((beside.ravel(), -numpy.round(near.cut, 6).ravel())):
         row, column = divmod(int(flat), totals.size)
         if near.rows[row] > 0 and near.columns[column] > 0 and near.cut[row, column] > 1e-6:
             near.move(row, column, 1)
@@ -238,6 +241,12 @@ class Near:
                 self.move(row, column, -1)
 
 
+def even(numpy, totals):
+    """The claims of the network of maximum entropy in whole units."""
+    matrix = whole(numpy, fitted(numpy, totals), totals)
+    return {(int(r), int(c)): int(matrix[r, c]) for r, c in zip(*numpy.nonzero(matrix))}
+
+
 # Minimum density
 
 def sparse(numpy, totals, draw):
@@ -308,8 +317,7 @@ class Chain:
         length = 2
         while length < self.size and self.draw.random() < 0.3:
             length += 1
-        rows = self.draw.sample(range(self.size), length)
-        columns = self.draw.sample(range(self.size), length)
+        rows, columns = self.some(length), self.some(length)
         up = list(zip(rows, columns))
         down = list(zip(rows, columns[1:] + columns[:1]))
         if any(row == column for row, column in up + down):
@@ -324,6 +332,13 @@ class Chain:
             cells[row][column] += move
         for row, column in down:
             cells[row][column] -= move
+
+    def some(self, length):
+        """So many banks, each once."""
+        if length > 2:
+            return self.draw.sample(range(self.size), length)
+        one, other = int(self.draw.random() * self.size), int(self.draw.random() * (self.size - 1))
+        return [one, other + (other >= one)]
 
     def drawn(self, least, most, up, down):
         """How far a cycle moves: each place between its ends has no cell at 0, and weighs the same."""
@@ -342,8 +357,8 @@ class Chain:
 
 
 def sampled(numpy, totals, words, draw):
-    """Networks at random, one after another of one chain."""
-    chain = Chain(totals, words.density, draw, sparse(numpy, totals, draw))
+    """Networks at random, one after another of one chain. It begins with the most even network, in which every cycle moves."""
+    chain = Chain(totals, words.density, draw, even(numpy, totals))
     steps = words.steps or min(200 * totals.size * totals.size, MAX_STEPS)
     for at in range(words.samples or 1):
         for _ in range(steps if at == 0 else max(steps // 10, 1)):
@@ -356,8 +371,7 @@ def networks_of(numpy, totals, words):
     """The networks that are asked for, each a dict of claims by the places of debtor and creditor."""
     draw = random.Random(words.seed)
     if words.method == "entropy":
-        matrix = whole(numpy, fitted(numpy, totals), totals)
-        yield {(int(r), int(c)): int(matrix[r, c]) for r, c in zip(*numpy.nonzero(matrix))}
+        yield even(numpy, totals)
     elif words.method == "sparse":
         for _ in range(words.samples or 1):
             yield sparsest(numpy, totals, words, draw)
@@ -371,7 +385,7 @@ def check_network(claims, where, faults, table):
     """Refuses a network beyond the limits."""
     if len(claims) > sheets.MAX_DEBTS:
         what = f"{where}{len(claims):,} debts, {len(claims) - sheets.MAX_DEBTS:,} more than the most, {sheets.MAX_DEBTS:,}"
-        faults.add(table.name, None, None, f"{what}; take --method sparse, or sample with a smaller --density")
+        faults.add(table.name, None, None, f"{what}; take --method sparse, or sample with a smaller --density and more --steps")
     most = max(claims.values(), default=0)
     if most > sheets.MAX_CLAIM:
         what = f"{where}a claim of {most:,} units, {most - sheets.MAX_CLAIM:,} more than the most, {sheets.MAX_CLAIM:,}"

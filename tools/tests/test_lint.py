@@ -8,7 +8,7 @@ from common import ROOT, Case, all_names, clearing, tool
 sys.path.insert(0, str(ROOT / "tools"))
 import lint
 
-FILES = 1500
+FILES = 1200
 NAMES = ["A", "B", "C", "Crédit Loire", "D 1", "x" * 64, "é" * 32, "order", "0", "\u00a0E"]
 # What is put in place of a field, or into it.
 FIELDS = [

@@ -147,6 +147,17 @@ class Totals(Case):
             want = weight / whole
             self.assertAlmostEqual(counts[network] / rounds, want, delta=6 * (want / rounds) ** 0.5 * 2 + 0.001, msg=network)
 
+    def test_samples_forget_where_the_chain_began(self):
+        draw = random.Random(2)
+        claims = {(a, b): draw.randrange(1, 900) for a in range(20) for b in range(20) if a != b and draw.random() < 0.5}
+        owes, owed = ([sum(claim for pair, claim in claims.items() if pair[place] == n) for n in range(20)] for place in (0, 1))
+        table = "bank,assets,liabilities,cash\n" + "".join(f"N{n},{owed[n]},{owes[n]},1\n" for n in range(20))
+        for density in (0.2, 0.6):
+            self.made_of(table, "--method", "sample", "--samples", 20, "--density", density, "--steps", 40000)
+            count = sum(len(self.debts(f"out/{n}")) for n in range(1, 21)) / 20
+            # Of 380 pairs: the totals were not drawn with this density, so that it is met roughly.
+            self.assertAlmostEqual(count / 380, density, delta=0.1)
+
     def test_totals_that_no_network_has_are_refused(self):
         head = "bank,assets,liabilities,cash\n"
         self.refuse("liabilities come to 30 and assets to 40: assets are 10 more; add a bank that stands for", head + "A,25,10,1\nB,15,20,1\n")
@@ -157,8 +168,8 @@ class Totals(Case):
         self.refuse("row 4: All is a row of totals", head + "A,10,20,1\nB,20,5,1\nC,5,10,7\nAll,35,35,9\n")
         self.refuse("all claims come to 40,000,000 units: 30,000,000 more than the most, 10,000,000", head + "A,20000000,20000000,1\nB,20000000,20000000,1\n")
         self.refuse("a claim of 2,000,000 units, 1,000,000 more than the most", head + "A,2000000,2000000,1\nB,2000000,2000000,1\n")
-        many = head + "".join(f"N{n},1000,1000,{n % 7}\n" for n in range(150))
-        self.refuse("22,350 debts, 2,350 more than the most, 20,000; take --method sparse", many)
+        many = head + "".join(f"N{n},1000,1000,{n % 7}\n" for n in range(143))
+        self.refuse("20,306 debts, 306 more than the most, 20,000; take --method sparse", many)
         self.refuse("--samples is for sparse and sample", TABLE, "--samples", 2, status=2)
 
     def test_a_unit_is_chosen_and_the_sums_are_kept(self):
