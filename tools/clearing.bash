@@ -1,5 +1,7 @@
 # Completion of the command `clearing` for bash: the tasks, the options that the task takes and that were not given yet, and
 # the values of options. tools/install.sh puts it in place; `source tools/clearing.bash` tries it.
+#
+# What stands in a file is data: names of banks are compared and quoted, and never expanded.
 
 _clearing_options() { # the task
     case $1 in
@@ -14,23 +16,122 @@ _clearing_options() { # the task
     esac
 }
 
-# The names of the banks in the file that `--banks` names, one a line.
-_clearing_banks() {
-    local at
-    for ((at = 1; at < ${#COMP_WORDS[@]} - 1; at++)); do
-        if [[ ${COMP_WORDS[at]} == --banks ]]; then
-            tail -n +2 -- "${COMP_WORDS[at + 1]}" 2>/dev/null | cut -d, -f1
-            return
+# The words of a part of a line as the shell would take them, without expanding anything, into the list `words`; the last one
+# as it is typed into `typed`, and the quote that it is within, or nothing, into `quote`.
+_clearing_words() { # the part of a line
+    local line=$1 at=0 c value= begun= escape
+    words=() typed= quote=
+    while ((at < ${#line})); do
+        c=${line:at:1}
+        at=$((at + 1))
+        if [[ -z $quote && $c == [[:blank:]] ]]; then
+            [[ -n $begun ]] && words+=("$value")
+            value= begun= typed=
+            continue
         fi
+        begun=1
+        typed+=$c
+        case $quote$c in
+        \\) value+=${line:at:1} typed+=${line:at:1} at=$((at + 1)) ;;
+        \') quote=\' ;;
+        \") quote=\" ;;
+        "''" | '""') quote= ;;
+        '"\')
+            # Between double quotes a backslash quotes these alone.
+            [[ ${line:at:1} == [\$\`\"\\] ]] || value+=$c
+            value+=${line:at:1} typed+=${line:at:1} at=$((at + 1))
+            ;;
+        '$')
+            if [[ ${line:at:1} == \' && ${line:at+1} =~ ^(([^\\\']|\\.)*)\' ]]; then
+                escape=${BASH_REMATCH[1]}
+                typed+=\'$escape\' at=$((at + ${#escape} + 2))
+                printf -v escape %b "${escape//\\\'/\'}"
+                value+=$escape
+            else
+                value+=$c
+            fi
+            ;;
+        *) value+=$c ;;
+        esac
+    done
+    words+=("$value")
+}
+
+# The names of the banks in a file into the list `names`.
+_clearing_names() { # the file
+    local file=$1 records record name
+    names=()
+    case $file in
+    '~/'*) file=$HOME/${file:2} ;;
+    esac
+    [[ -f $file && -r $file ]] || return
+    mapfile -t records < <(head -c 8388608 -- "$file" | tr '\r' '\n' | grep .)
+    # The header is the first record with a byte, a byte order mark apart.
+    [[ ${records[0]} == $'\xef\xbb\xbf' ]] && records=("${records[@]:1}")
+    for record in "${records[@]:1}"; do
+        name=${record%%,*}
+        name=${name#"${name%%[! 	]*}"}
+        name=${name%"${name##*[! 	]}"}
+        [[ $name == \"*\" ]] && name=${name:1:${#name}-2}
+        [[ -z $name || $name == -* ]] || names+=("$name")
+    done
+}
+
+# The names that begin with what is typed so far become replies, each quoted as the rest of the word has to be.
+_clearing_reply() { # the value of the word so far; the part of it before what the shell completes
+    local name rest
+    for name in "${names[@]}"; do
+        [[ $name == "$1"* ]] || continue
+        rest=${name:${#2}}
+        case $quote in
+        \')
+            rest=${rest//\'/\'\\\'\'}
+            # The shell adds no quote where one stands at the end.
+            [[ $name == *\' ]] && rest=${rest%\'}
+            ;;
+        \")
+            rest=${rest//\\/\\\\}
+            rest=${rest//\"/\\\"}
+            rest=${rest//\$/\\\$}
+            rest=${rest//\`/\\\`}
+            ;;
+        *) [[ -z $rest ]] || printf -v rest %q "$rest" ;;
+        esac
+        COMPREPLY+=("$rest")
+    done
+}
+
+# The value that an option has in the list `all`.
+_clearing_value() { # the option
+    local at
+    for ((at = 1; at < ${#all[@]}; at++)); do
+        case ${all[at]} in
+        "$1") printf '%s' "${all[at + 1]}" && return ;;
+        "$1"=*) printf '%s' "${all[at]#*=}" && return ;;
+        esac
     done
 }
 
 _clearing() {
     local tasks="check clear central defaults stress replay bounds rescue compress costs convert gen"
-    local word=${COMP_WORDS[COMP_CWORD]} before=${COMP_WORDS[COMP_CWORD - 1]} task= given
-    for given in "${COMP_WORDS[@]:1:COMP_CWORD-1}"; do
-        [[ " $tasks " == *" $given "* ]] && task=$given
+    local words typed quote all names task= given option at IFS=$' \t\n'
+    _clearing_words "$COMP_LINE"
+    all=("${words[@]}")
+    _clearing_words "${COMP_LINE:0:COMP_POINT}"
+    local last=${#words[@]}-1 text=${2-}
+    local word=${words[last]} before=
+    ((last > 0)) && before=${words[last - 1]}
+    for given in "${words[@]:1:last-1}"; do
+        [[ $given != *[!a-z]* && " $tasks " == *" $given "* ]] && task=$given
     done
+    # Of `--banks=FILE` the shell completes what stands after the sign, as of any word with one.
+    local head=${typed%"$text"}
+    if [[ $word == --*=* ]]; then
+        before=${word%%=*} word=${word#*=} head=${head#*=}
+    fi
+    case $quote in
+    ?) head=${head#"$quote"} ;;
+    esac
     COMPREPLY=()
     case $before in
     --banks | --debts | --scenarios | --journal)
@@ -39,18 +140,23 @@ _clearing() {
         ;;
     --show) mapfile -t COMPREPLY < <(compgen -W "payments journal both" -- "$word") ;;
     --bank)
-        local IFS=$'\n'
-        mapfile -t COMPREPLY < <(compgen -W "$(_clearing_banks)" -- "$word")
-        COMPREPLY=("${COMPREPLY[@]// /\\ }")
+        _clearing_names "$(_clearing_value --banks)"
+        local typed_quote=$quote
+        _clearing_words "$head"
+        quote=$typed_quote
+        _clearing_reply "$word" "${words[${#words[@]} - 1]}"
         ;;
     --workers | --sweeps | --seed | --size | --tries | --keep) ;;
     *)
         if [[ -z $task ]]; then
             mapfile -t COMPREPLY < <(compgen -W "$tasks" -- "$word")
         else
-            local option left=()
+            local left=()
             for option in $(_clearing_options "$task"); do
-                [[ " ${COMP_WORDS[*]} " == *" $option "* ]] || left+=("$option")
+                for ((at = 1; at < ${#all[@]}; at++)); do
+                    ((at != last)) && [[ ${all[at]} == "$option" || ${all[at]} == "$option"=* ]] && continue 2
+                done
+                left+=("$option")
             done
             mapfile -t COMPREPLY < <(compgen -W "${left[*]}" -- "$word")
         fi

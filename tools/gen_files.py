@@ -4,7 +4,7 @@
 In:  --seed S --size N --tries T, the words of the task `gen`, with the same limits: a seed of 0 to
      18,446,744,073,709,551,615, 1 to 1,000 banks, 0 to 20,000 tries at a debt.
 Out: --banks FILE and --debts FILE, the banks file (version 1) and the debts file of that network, in the form in
-     which `clearing check` prints them. Nothing on standard output.
+     which `clearing check` prints them. Both are written or none. Nothing on standard output.
 
 The network is the "Generated network" of docs/DEFINITIONS.md: the successive 32-bit words of the generator PCG32
 (O'Neill 2014), stream 0. `clearing gen` prints seven sums of it; `check` and `defaults` on the two files give the same.
@@ -13,6 +13,8 @@ Ends with 0, or with 1 where a file cannot be written, or with 2 where the words
 """
 import argparse
 import sys
+
+import files
 
 MAX_SEED = 2**64 - 1
 MAX_BANKS = 1000
@@ -88,15 +90,13 @@ def main():
     parser.add_argument("--debts", required=True, metavar="FILE", help="the debts file to write")
     words = parser.parse_args()
     banks, debts = generate(words.seed, words.size, words.tries)
-    for name, text in [
-        (words.banks, text_of(("name", "cash", "rule"), banks)),
-        (words.debts, text_of(("debtor", "creditor", "class", "claim"), debts)),
-    ]:
-        try:
-            with open(name, "w", encoding="utf-8", newline="") as file:
-                file.write(text)
-        except OSError as error:
-            sys.exit(f"gen_files: cannot write {name}: {error.strerror}")
+    try:
+        files.write_all([
+            (words.banks, text_of(("name", "cash", "rule"), banks)),
+            (words.debts, text_of(("debtor", "creditor", "class", "claim"), debts)),
+        ])
+    except files.Refused as refused:
+        sys.exit(f"gen_files: {refused}")
 
 
 if __name__ == "__main__":

@@ -1,14 +1,18 @@
 #!/usr/bin/env python3
-"""Names all faults of a banks file and a debts file at once, each with a hint.
+"""Names all faults of a banks file and a debts file at once, and of scenarios or a journal, each with a hint.
 
-In:  --banks FILE and --debts FILE, the two files as `clearing` reads them (docs/FORMATS.md), of any content.
+In:  --banks FILE and --debts FILE, the two files as `clearing` reads them (docs/FORMATS.md), of any content; with
+     --scenarios FILE also the scenarios of `clearing stress`, with --journal FILE the journal of `clearing replay`.
 Out: on standard output a line for each fault, in the order in which `clearing` looks for them, and a last line with
      their number. A line has the file, the line and the row (the header is row 0), the field, the kind and number of
      the fault as `clearing` names it, what is wrong, and, where one is known, what to do.
 
-It accepts exactly the files that `clearing check` accepts, and the first fault that it names is the one that `clearing` does.
-What follows from a fault already named is left out where it can be: a bank whose record is faulty counts as a bank for
-the debts, and below a header that says something else altogether nothing is looked at.
+It accepts exactly the files that `clearing check`, `stress` or `replay` accepts, and the first fault that it names is
+the one that `clearing` does; whether the raises of a journal are lawful is for `replay` to say. What follows from a
+fault already named is left out where it can be: a bank whose record is faulty counts as a bank for the debts, and
+below a header that says something else altogether nothing is looked at.
+
+--scenarios needs Python 3.11 or later.
 
 Ends with 0 where there is no fault, with 1 where there are some, with 2 where the words are not understood, and
 with 3 where a file cannot be read.
@@ -22,21 +26,25 @@ import unicodedata
 from dataclasses import dataclass
 
 RULES = ["order", "equal", "losses", "jefferson", "webster", "adams"]
-MAX_BYTES = 8_388_608
-MAX_BANKS, MAX_DEBTS = 1000, 20_000
+MAX_BYTES = {"banks": 8_388_608, "debts": 8_388_608, "scenarios": 8_388_608, "journal": 1_600_000_000}
+MAX_BANKS, MAX_DEBTS, MAX_SCENARIOS, MAX_RAISES = 1000, 20_000, 100, 10_000_000
 MAX_CASH, MAX_OUTSIDE, MAX_CLAIM, MAX_OWED = 10**12, 10**11, 10**6, 10**7
+MAX_CUT, MAX_LOSS, MAX_STAMP = 1000, 10**12, 2**32 - 1
 BANKS_1 = ["name", "cash", "rule"]
 BANKS_2 = ["name", "cash", "rule", "outside"]
 DEBTS = ["debtor", "creditor", "class", "claim"]
+JOURNAL = ["stamp", "debtor", "creditor", "class", "to"]
 NUMBERS = {
     "header": 1, "fields": 2, "name": 3, "number": 4, "rule": 5, "limit": 6, "double bank": 7, "unknown bank": 8,
     "self debt": 9, "class": 10, "double debt": 11, "too many": 12, "total": 13, "file size": 14,
+    "unknown debt": 15, "toml": 16, "shape": 17,
 }
 
 
 @dataclass
 class Fault:
-    """A fault of a record of the file `banks` or `debts`; the field may be empty, and so may the hint."""
+    """A fault of a record of the file `banks`, `debts`, `scenarios` or `journal`; the field may be empty, and so may the hint.
+    The line is 0 where it is not known."""
 
     file: str
     line: int
@@ -226,32 +234,123 @@ def fields_hint(record, header):
     return "a comma within a number or a name begins a field"
 
 
+# Scenarios and journals
+
+def document_of(data):
+    """The document of a scenarios file, or else the line of a fault, what is wrong, and a hint."""
+    import tomllib
+
+    try:
+        text = data.decode("utf-8")
+    except UnicodeDecodeError as error:
+        hint = "save the file as UTF-8"
+        return None, (data.count(b"\n", 0, error.start) + 1, f"it is not UTF-8 at byte {error.start:,}", hint)
+    try:
+        document = tomllib.loads(text.removeprefix("\ufeff"))
+    except (tomllib.TOMLDecodeError, RecursionError, ValueError) as error:
+        place = re.search(r"at line ([0-9]+)", str(error))
+        line = int(place[1]) if place else text.count("\n") + ("at end" in str(error))
+        return None, (line, f"it is not TOML: {error}", toml_hint(text.split("\n")[line - 1 : line]))
+    if any(not -(2**63) <= number < 2**63 for number in numbers_in(document)):
+        return None, (1, "it is not TOML: it has a whole number of more than 64 bits", "")
+    return document, None
+
+
+def toml_hint(lines):
+    line = lines[0] if lines else ""
+    if re.search("[\u201c\u201d\u201e\u00ab\u00bb]", line):
+        return "quotes are straight: \""
+    if re.search(r"=\s*[0-9.,']+[,'][0-9]", line):
+        return "write the number without separators between thousands"
+    if re.search(r"=\s*[^\s\"'\[{0-9+-]", line):
+        return "a text stands between quotes"
+    return ""
+
+
+def numbers_in(value):
+    """The whole numbers in a document."""
+    if isinstance(value, dict):
+        value = list(value.values())
+    if isinstance(value, list):
+        for part in value:
+            yield from numbers_in(part)
+    elif is_whole(value):
+        yield value
+
+
+def is_whole(value):
+    return isinstance(value, int) and not isinstance(value, bool)
+
+
+def lines_of_scenarios(data, count):
+    """The line of each scenario, 0 where that cannot be told."""
+    lines = [at for at, line in enumerate(data.split(b"\n"), 1) if re.match(rb"[ \t]*\[\[[ \t]*scenario[ \t]*\]\]", line)]
+    return lines if len(lines) == count else [0] * count
+
+
+def shape_faults(scenario):
+    """What is wrong with the shape of a scenario: the field, what it is, and a hint."""
+    if not isinstance(scenario, dict):
+        yield "", "the scenario is no table", "write [[scenario]] and its keys below"
+        return
+    yield from key_faults(scenario, "the scenario", {"name": str, "cut": int, "loss": list}, ["name"])
+    losses = scenario.get("loss", [])
+    for loss in losses if isinstance(losses, list) else []:
+        if isinstance(loss, dict):
+            yield from key_faults(loss, "a loss", {"bank": str, "amount": int}, ["bank", "amount"])
+        else:
+            yield "loss", "a loss is no table", "write [[scenario.loss]], and bank and amount below"
+
+
+def key_faults(table, what, kinds, required):
+    """Keys that a table may not have, lacks, or has with another kind of value."""
+    for key in table:
+        if key not in kinds:
+            close = difflib.get_close_matches(key.casefold(), kinds, 1)
+            yield key, f"{what} has a key {key!r}", f"is it {close[0]}?" if close else f"its keys are {', '.join(kinds)}"
+    for key in required:
+        if key not in table:
+            yield key, f"{what} has no {key}", ""
+    words = {str: "a text between quotes", int: "a whole number, without quotes or a point", list: "an array of tables, [[scenario.loss]]"}
+    for key, kind in kinds.items():
+        value = table.get(key)
+        if key in table and not (is_whole(value) if kind is int else isinstance(value, kind)):
+            yield key, f"{key} is not {words[kind]}", ""
+
+
+def is_closing(record):
+    """Whether a record closes a journal, where it is the last."""
+    return len(record.fields) == 2 and record.fields[0] == b"rounds" and 1 <= len(record.fields[1]) <= 20 and record.fields[1].isdigit()
+
+
 # The checks
 
 class Linter:
-    """All faults of two files, in the order in which the program looks for them."""
+    """All faults of two files and a third, in the order in which the program looks for them."""
 
-    def __init__(self, banks, debts):
+    def __init__(self, banks, debts, **third):
         self.faults = []
         # The bank records by name; none where the banks were not looked at.
         self.known = None
         self.banks = 0
         self.debts = 0
         self.hints = {}
-        sizes = [self.is_small("banks", banks), self.is_small("debts", debts)]
-        if sizes[0]:
-            self.check_banks(banks)
-        if sizes[1]:
-            self.check_debts(debts)
+        # The debts by debtor, creditor and class; none where they were not looked at.
+        self.claims = None
+        files = {"banks": banks, "debts": debts, **third}
+        checks = {"banks": self.check_banks, "debts": self.check_debts, "scenarios": self.check_scenarios, "journal": self.check_journal}
+        small = [file for file in files if self.is_small(file, files[file])]
+        for file in small:
+            checks[file](files[file])
 
     def add(self, file, record, field, kind, what, hint=""):
         self.faults.append(Fault(file, record.line, record.row, field, kind, what, hint))
 
     def is_small(self, file, data):
-        if len(data) > MAX_BYTES:
-            what = f"the file is longer than {MAX_BYTES:,} bytes"
+        if len(data) > MAX_BYTES[file]:
+            what = f"the file is longer than {MAX_BYTES[file]:,} bytes"
             self.add(file, Record(1, 0, []), "", "file size", what, "are there many empty lines below the records?")
-        return len(data) <= MAX_BYTES
+        return len(data) <= MAX_BYTES[file]
 
     def rows(self, file, data, words):
         """The header that the file has, or means, and the records below it that are not blank."""
@@ -287,7 +386,7 @@ class Linter:
             self.add(file, record, header[place], "number", f"{shown(field)} is not a number", number_hint(field))
         elif int(field) > most:
             what = f"{int(field):,} is more than {most:,}"
-            self.add(file, record, header[place], "limit", what, "take a larger unit of account")
+            self.add(file, record, header[place], "limit", what, "" if header[place] == "stamp" else "take a larger unit of account")
         else:
             return int(field)
         return None
@@ -328,6 +427,8 @@ class Linter:
     def check_debts(self, data):
         header, rows = self.rows("debts", data, [DEBTS])
         owed, seen = 0, {}
+        if header:
+            self.claims = seen
         for record in rows:
             self.debts += 1
             if self.debts == MAX_DEBTS + 1:
@@ -343,12 +444,11 @@ class Linter:
     def check_debt(self, record, header, seen):
         """The claim of a debt, or 0 where it has a fault."""
         debtor, creditor, rank, _ = record.fields
-        are_banks = [self.is_bank(record, 0, header), self.is_bank(record, 1, header)]
+        are_banks = [self.is_bank("debts", record, place, header) for place in (0, 1)]
         if all(are_banks) and debtor == creditor:
             what = f"{shown(debtor)} is its own creditor"
             self.add("debts", record, "creditor", "self debt", what, "delete the record: no bank owes itself")
-        if rank not in [b"%d" % n for n in range(1, 10)]:
-            self.add("debts", record, "class", "class", f"{shown(rank)} is not a class", class_hint(rank))
+        self.is_class("debts", record, rank)
         claim = self.number("debts", record, 3, header, MAX_CLAIM)
         first = seen.setdefault((debtor, creditor, rank), record)
         if first is not record and debtor and creditor:
@@ -356,16 +456,110 @@ class Linter:
             self.add("debts", record, "", "double debt", what, "add up the two claims, or give one another class")
         return claim or 0
 
-    def is_bank(self, record, place, header):
+    def is_class(self, file, record, rank):
+        if rank in [b"%d" % n for n in range(1, 10)]:
+            return True
+        self.add(file, record, "class", "class", f"{shown(rank)} is not a class", class_hint(rank))
+        return False
+
+    def is_bank(self, file, record, place, header):
         name = record.fields[place]
-        if not self.is_name("debts", record, name, header[place]):
-            return False
+        return self.is_name(file, record, name, header[place]) and self.is_known(file, record, header[place], name)
+
+    def is_known(self, file, record, word, name):
         if self.known is None or name in self.known:
             return True
         if name not in self.hints:
             self.hints[name] = self.bank_hint(name)
-        self.add("debts", record, header[place], "unknown bank", f"no bank has the name {shown(name)}", self.hints[name])
+        self.add(file, record, word, "unknown bank", f"no bank has the name {shown(name)}", self.hints[name])
         return False
+
+    def check_journal(self, data):
+        header, rows = self.rows("journal", data, [JOURNAL])
+        raises = 0
+        for at, record in enumerate(rows):
+            if is_closing(record):
+                if at + 1 < len(rows):
+                    kind = "fields" if raises < MAX_RAISES else "too many"
+                    what = f"{len(record.fields)} fields in place of {len(header)}" if kind == "fields" else "one more raise than the most"
+                    self.add("journal", record, "", kind, what, "the record of rounds is the last; is this two journals in one?")
+                continue
+            raises += 1
+            if raises == MAX_RAISES + 1:
+                self.add("journal", record, "", "too many", f"the most is {MAX_RAISES:,} raises")
+            if self.has_fields("journal", record, header):
+                self.check_raise(record, header)
+
+    def check_raise(self, record, header):
+        self.number("journal", record, 0, header, MAX_STAMP)
+        is_well = [self.is_bank("journal", record, place, header) for place in (1, 2)]
+        is_well.append(self.is_class("journal", record, record.fields[3]))
+        key = tuple(record.fields[1:4])
+        if all(is_well) and self.claims is not None and key not in self.claims:
+            what = f"no debt is of {shown(key[0])} to {shown(key[1])} in class {key[2].decode()}"
+            self.add("journal", record, "", "unknown debt", what, self.debt_hint(key))
+        self.number("journal", record, 4, header, MAX_CLAIM)
+
+    def debt_hint(self, key):
+        debtor, creditor, _ = key
+        ranks = sorted(rank.decode("utf-8", "replace") for a, b, rank in self.claims if (a, b) == (debtor, creditor))
+        if ranks:
+            return f"there is one in class {' and '.join(ranks)}"
+        if any((a, b) == (creditor, debtor) for a, b, _ in self.claims):
+            return "there is one the other way round"
+        return "is the journal of another debts file?"
+
+    def check_scenarios(self, data):
+        document, fault = document_of(data)
+        if fault:
+            self.add("scenarios", Record(fault[0], 0, []), "", "toml", *fault[1:])
+            return
+        whole = Record(1, 0, [])
+        for key in document:
+            if key != "scenario":
+                hint = "write [[scenario]]" if key.casefold() in ("scenario", "scenarios") else "the document has [[scenario]] alone"
+                self.add("scenarios", whole, "", "shape", f"the document has a key {key!r}", hint)
+        scenarios = document.get("scenario", [])
+        if not isinstance(scenarios, list):
+            self.add("scenarios", whole, "scenario", "shape", "scenario is no array of tables", "write [[scenario]], with two brackets at each end")
+            return
+        lines = lines_of_scenarios(data, len(scenarios))
+        for row, scenario in enumerate(scenarios, 1):
+            record = Record(lines[row - 1], row, [])
+            if row == MAX_SCENARIOS + 1:
+                what = f"the file has {len(scenarios):,} scenarios, and the most is {MAX_SCENARIOS}"
+                self.add("scenarios", record, "", "too many", what, "more go into several files")
+            self.check_scenario(record, scenario)
+
+    def check_scenario(self, record, scenario):
+        for field, what, hint in shape_faults(scenario):
+            self.add("scenarios", record, field, "shape", what, hint)
+        if not isinstance(scenario, dict):
+            return
+        name, cut = scenario.get("name"), scenario.get("cut", 0)
+        if isinstance(name, str):
+            self.is_name("scenarios", record, name.encode("utf-8", "surrogatepass"), "name")
+        if is_whole(cut):
+            self.is_within(record, "cut", cut, MAX_CUT, "a cut is per mille: 0 to 1,000")
+        losses, named = scenario.get("loss", []), set()
+        for loss in losses if isinstance(losses, list) else []:
+            self.check_loss(record, loss if isinstance(loss, dict) else {}, named)
+
+    def check_loss(self, record, loss, named):
+        bank, amount = loss.get("bank"), loss.get("amount")
+        if isinstance(bank, str):
+            bank = bank.encode("utf-8", "surrogatepass")
+            if self.is_known("scenarios", record, "bank", bank) and bank in named:
+                what = f"the bank {shown(bank)} has two losses"
+                self.add("scenarios", record, "bank", "double bank", what, "add them up")
+            named.add(bank)
+        if is_whole(amount):
+            self.is_within(record, "amount", amount, MAX_LOSS, "take a larger unit of account")
+
+    def is_within(self, record, field, number, most, hint):
+        if not 0 <= number <= most:
+            what = f"{number:,} is {'below 0' if number < 0 else f'more than {most:,}'}"
+            self.add("scenarios", record, field, "limit", what, "write it without a sign" if number < 0 else hint)
 
     def bank_hint(self, name):
         """How a bank of the banks file is written that may be meant."""
@@ -389,23 +583,24 @@ class Linter:
         return ""
 
 
-def faults_of(banks, debts):
-    """The faults of a banks file and a debts file, given as bytes."""
-    return Linter(banks, debts).faults
+def faults_of(banks, debts, **third):
+    """The faults of a banks file and a debts file, and of scenarios or a journal, given as bytes."""
+    return Linter(banks, debts, **third).faults
 
 
 def line_of(fault, names):
-    place = f"{names[fault.file]} line {fault.line} (row {fault.row})"
+    line = f" line {fault.line}" if fault.line else ""
+    place = f"{names[fault.file]}{line} (row {fault.row})"
     field = f" {fault.field}" if fault.field else ""
     hint = f"; {fault.hint}" if fault.hint else ""
     return f"{place}{field}: {fault.kind} ({NUMBERS[fault.kind]}): {fault.what}{hint}"
 
 
-def content_of(name):
+def content_of(file, name):
     """The bytes of a file, or one more than the limit of a longer one, or nothing where it cannot be read."""
     try:
-        with open(name, "rb") as file:
-            return file.read(MAX_BYTES + 1)
+        with open(name, "rb") as opened:
+            return opened.read(MAX_BYTES[file] + 1)
     except OSError as error:
         print(f"lint: cannot read {name}: {error.strerror}", file=sys.stderr)
         return None
@@ -418,12 +613,16 @@ def main():
     )
     parser.add_argument("--banks", required=True, metavar="FILE", help="the banks file")
     parser.add_argument("--debts", required=True, metavar="FILE", help="the debts file")
+    parser.add_argument("--scenarios", metavar="FILE", help="the scenarios file")
+    parser.add_argument("--journal", metavar="FILE", help="the journal file")
     words = parser.parse_args()
-    names = {"banks": words.banks, "debts": words.debts}
-    contents = [content_of(name) for name in names.values()]
-    if None in contents:
+    if words.scenarios and sys.version_info < (3, 11):
+        parser.error(f"--scenarios needs Python 3.11 or later, and {sys.executable} is {sys.version.split()[0]}")
+    names = {file: getattr(words, file) for file in MAX_BYTES if getattr(words, file) is not None}
+    contents = {file: content_of(file, name) for file, name in names.items()}
+    if None in contents.values():
         sys.exit(3)
-    faults = faults_of(*contents)
+    faults = faults_of(**contents)
     count = {0: "no fault", 1: "1 fault"}.get(len(faults), f"{len(faults):,} faults")
     sys.stdout.reconfigure(encoding="utf-8", errors="backslashreplace")
     try:

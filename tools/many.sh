@@ -1,18 +1,22 @@
 #!/bin/sh
 # Runs many jobs of the program: thousands of scenarios or networks, on one machine or as an array of a cluster.
 #
-#   tools/many.sh run JOBS FOLDER [SLOTS]     all jobs by GNU parallel, so many at a time (as many as processors)
-#   tools/many.sh one JOBS FOLDER NUMBER      the job of one line, counted from 1
+#   tools/many.sh run JOBS FOLDER [SLOTS]     all jobs, so many at a time (1 to 1000; as many as processors)
+#   tools/many.sh one JOBS FOLDER NUMBER      one job, counted from 1
 #   tools/many.sh slurm JOBS FOLDER           prints a batch script for sbatch, an array with a task for each job
 #
 # In:   JOBS, a file with a line for each job: its name, then the words of the program, with a tab between any two. Names differ, and
-#       are made of letters, digits, `.`, `_` and `-`. Names of files in it are from the folder that the command is run in. The environment
-#       variable CLEARING names the program, the repository's where it is not set.
-# Out:  in FOLDER, for each job, NAME.out with what it prints, where its status is 0, or 7 (a journal that is not lawful and complete);
-#       else NAME.failed with the status and the message. `run` ends with a line of counts.
+#       are made of letters, digits, `.`, `_` and `-`. Lines end with LF or CR LF; a line without a byte is no job. Names of files in it
+#       are from the folder that the command is run in. The environment variable CLEARING names the program, the repository's where it is
+#       not set.
+# Out:  in FOLDER, for each job, NAME.out with what it prints, where its status is 0, or 7 (a journal that is not lawful and complete),
+#       and beside it NAME.job with its words and the SHA-256 checksums of the program and of the files that it reads; else
+#       NAME.failed with the status and the message, and no NAME.out. `run` ends with a line of counts.
 #
-# A result is moved into its place when it is whole, and a job whose result is there is not run again: after an interrupt the same
-# command goes on. Ends with 0, with 1 where a job failed, and with 2 where the words are not understood.
+# A result is moved into its place when it is whole. A job whose words, files and program are those in NAME.job is not run again:
+# after an interrupt the same command goes on, and what was changed is made anew.
+#
+# Ends with 0, with 1 where a job failed, and with 2 where the words, or a file or folder that they name, cannot be used.
 #
 # Example: the network of each of a thousand seeds, in sums
 #   for seed in $(seq 1000); do
@@ -24,56 +28,103 @@ self=$(realpath -- "$0")
 root=$(dirname -- "$(dirname -- "$self")")
 program=${CLEARING:-$root/clearing}
 
-help() { sed -n '2,23s/^# \{0,1\}//p' "$self"; }
+help() { sed -n '2,25s/^# \{0,1\}//p' "$self"; }
 
 refuse() {
     echo "many.sh: $1; --help says more" >&2
     exit 2
 }
 
-# The line of a job, and its name.
-line_of() { sed -n "$1{p;q}" "$jobs"; }
-name_of() { printf '%s' "${1%%	*}"; }
+# The jobs, a line for each.
+all_jobs() { tr '\r' '\n' <"$jobs" | LC_ALL=C awk 'NR == 1 { sub(/^\357\273\277/, "") } $0 != ""'; }
 
-# Runs the job of a line, where its result is not there yet. Ends with 1 where it failed.
-one() {
-    line=$(line_of "$1")
-    name=$(name_of "$line")
-    [ -e "$folder/$name.out" ] && return 0
-    part=$folder/$name.part.$$
-    (
-        set -f
-        IFS='	'
-        # The words of the line, split at its tabs alone.
-        set -- ${line#*	}
-        exec "$program" "$@"
-    ) >"$part" 2>"$part.err" </dev/null
+# The checksum of a file, or why there is none.
+sum_of() {
+    if [ -f "$1" ] && [ -r "$1" ]; then
+        sha256sum <"$1" | cut -d ' ' -f 1
+    else
+        echo "no regular file that can be read"
+    fi
+}
+
+# The checksum of the program; where that is the repository's script, of what it runs.
+program_sum() {
+    built=$root/crates/clear_main/out/clear_main
+    if [ "$program" -ef "$root/clearing" ] && [ -f "$built" ]; then sum_of "$built"; else sum_of "$(command -v -- "$program")"; fi
+}
+
+# What a result depends on: the program, the words, and the files that the words name.
+key_of() { # the words
+    printf 'program %s\n' "${MANY_PROGRAM_SUM:-$(program_sum)}"
+    before=
+    for word; do
+        printf 'word %s\n' "$word"
+        case $before in
+        --banks | --debts | --scenarios | --journal) printf 'file %s %s\n' "$(sum_of "$word")" "$word" ;;
+        esac
+        case $word in
+        --banks=* | --debts=* | --scenarios=* | --journal=*) printf 'file %s %s\n' "$(sum_of "${word#*=}")" "${word#*=}" ;;
+        esac
+        before=$word
+    done
+}
+
+# Runs a job, where its result is not there yet. Ends with 1 where it failed.
+one() { # its number
+    line=$(all_jobs | sed -n "$1{p;q}")
+    name=${line%%	*}
+    at=$folder/$name
+    for place in "$at.out" "$at.failed" "$at.job"; do
+        [ ! -d "$place" ] || { echo "many.sh: $place is a folder" >&2; return 1; }
+    done
+    set -f
+    IFS='	'
+    # The words of the line, split at its tabs alone.
+    set -- ${line#*	}
+    unset IFS
+    key=$(key_of "$@")
+    [ -f "$at.out" ] && [ -f "$at.job" ] && [ "$(cat "$at.job")" = "$key" ] && return 0
+    part=$at.part.$$
+    "$program" "$@" >"$part" 2>"$part.err" </dev/null
     status=$?
     case $status in
     0 | 7)
-        rm -f "$folder/$name.failed" "$part.err"
-        mv -- "$part" "$folder/$name.out"
+        rm -f -- "$at.failed" "$part.err"
+        printf '%s\n' "$key" >"$part.job" && mv -- "$part" "$at.out" && mv -- "$part.job" "$at.job"
         ;;
     *)
+        rm -f -- "$at.out" "$at.job"
         { echo "status $status"; cat "$part.err"; } >"$part.failed"
-        mv -- "$part.failed" "$folder/$name.failed"
-        rm -f "$part" "$part.err"
+        mv -- "$part.failed" "$at.failed"
+        rm -f -- "$part" "$part.err"
         return 1
         ;;
     esac
 }
 
+is_number() { # the word, the most
+    case $1 in
+    '' | *[!0-9]* | ??????????*) return 1 ;;
+    esac
+    [ "$1" -ge 1 ] && [ "$1" -le "$2" ]
+}
+
 case "${1:-}" in
 --help | -h) help; exit 0 ;;
-run | slurm) [ $# -ge 3 ] && [ $# -le 4 ] || refuse "$1 takes a file of jobs and a folder" ;;
+run) [ $# -eq 3 ] || [ $# -eq 4 ] || refuse "run takes a file of jobs, a folder, and how many at a time" ;;
+slurm) [ $# -eq 3 ] || refuse "slurm takes a file of jobs and a folder" ;;
 one) [ $# -eq 4 ] || refuse "one takes a file of jobs, a folder and a number" ;;
 *) refuse "the first word is run, one or slurm" ;;
 esac
 task=$1 jobs=$2 folder=$3
-[ -r "$jobs" ] || { echo "many.sh: cannot read $jobs" >&2; exit 2; }
-count=$(wc -l <"$jobs")
-bad=$(awk -F '\t' 'NF < 2 || $1 !~ /^[A-Za-z0-9._-]+$/ || seen[$1]++ { print NR; exit }' "$jobs")
-[ -z "$bad" ] || refuse "$jobs: line $bad: no name of its own and words, with a tab between any two"
+slots=${4-$(getconf _NPROCESSORS_ONLN 2>/dev/null || echo 1)}
+[ -n "$folder" ] || refuse "the folder has no name"
+[ -f "$jobs" ] || refuse "$jobs is no regular file of jobs"
+[ -r "$jobs" ] || refuse "$jobs cannot be read"
+count=$(all_jobs | wc -l)
+[ "$count" -ge 1 ] || refuse "$jobs has no job"
+bad=$(all_jobs | awk -F '\t' 'NF < 2 || $1 !~ /^[A-Za-z0-9._-]+$/ || seen[$1]++ { print NR; exit }')
+[ -z "$bad" ] || refuse "$jobs: job $bad: no name of its own and words, with a tab between any two"
 case $task in
 slurm)
     quoted() { printf '%s' "$1" | sed "s/'/'\\\\''/g; s/^/'/; s/\$/'/"; }
@@ -86,21 +137,23 @@ CLEARING=$(quoted "$program") exec $(quoted "$self") one $(quoted "$jobs") $(quo
 END
     exit 0
     ;;
+one) is_number "$4" "$count" || refuse "$4 is no number of a job; $jobs has $count" ;;
+run) is_number "$slots" 1000 || refuse "$slots is not how many jobs may run at a time, 1 to 1000" ;;
 esac
-mkdir -p -- "$folder" || exit 2
+mkdir -p -- "$folder" 2>/dev/null && [ -w "$folder" ] || refuse "$folder is no folder that can be written"
+case $folder in
+-*) folder=./$folder ;;
+esac
 if [ "$task" = one ]; then
-    case $4 in
-    '' | *[!0-9]*) refuse "$4 is no number of a line" ;;
-    esac
-    [ "$4" -ge 1 ] && [ "$4" -le "$count" ] || refuse "$jobs has $count jobs"
     one "$4"
     exit
 fi
-command -v parallel >/dev/null 2>&1 || { echo "many.sh: parallel is not on the path (Debian's package parallel)" >&2; exit 2; }
-seq "$count" | CLEARING=$program parallel --will-cite --jobs "${4:-100%}" "$self" one "$jobs" "$folder" {} >/dev/null 2>&1
+MANY_PROGRAM_SUM=$(program_sum) CLEARING=$program
+export MANY_PROGRAM_SUM CLEARING
+seq "$count" | xargs -n 1 -P "$slots" "$self" one "$jobs" "$folder"
 done=0 failed=0
-for name in $(cut -f 1 -- "$jobs"); do
-    if [ -e "$folder/$name.out" ]; then done=$((done + 1)); else failed=$((failed + 1)); fi
+for name in $(all_jobs | cut -f 1); do
+    if [ -f "$folder/$name.out" ] && [ -f "$folder/$name.job" ]; then done=$((done + 1)); else failed=$((failed + 1)); fi
 done
 echo "$done done, $failed failed"
 [ "$failed" -eq 0 ]

@@ -6,7 +6,7 @@ In:  --banks FILE and --debts FILE, two files that `clearing check` accepts. Wit
 Out: on standard output, or in --out FILE, comma-separated records in UTF-8: the names of the banks in the first row
      and the first column, where they meet what the bank of the row owes or pays the bank of the column, all classes
      together or one alone (--class), and last the columns `cash`, `outside` where the banks file has it, and `rule`.
-     from_matrix.py reads it back.
+     from_matrix.py reads it back. No file that is read is written over.
 
 With --unit, amounts are units times it, as decimal numbers.
 
@@ -16,6 +16,8 @@ import argparse
 import csv
 import sys
 from decimal import Decimal, InvalidOperation
+
+import files
 
 BANKS = (["name", "cash", "rule"], ["name", "cash", "rule", "outside"])
 DEBTS = (["debtor", "creditor", "class", "claim"],)
@@ -126,13 +128,14 @@ def main():
     text = "".join(",".join(record) + "\n" for record in matrix_of(words, as_amount))
     try:
         if words.out:
-            with open(words.out, "w", encoding="utf-8", newline="") as file:
-                file.write(text)
+            files.write_all({words.out: text}, [words.banks, words.debts, words.payments])
         else:
             sys.stdout.buffer.write(text.encode())
             sys.stdout.flush()
+    except files.Refused as refused:
+        fail(refused)
     except OSError as error:
-        fail(f"cannot write {words.out or 'the output'}: {error.strerror}")
+        fail(f"cannot write the output: {error.strerror}")
 
 
 if __name__ == "__main__":

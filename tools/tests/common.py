@@ -1,7 +1,9 @@
 """What the tests of the tools share: the program (from the environment variable CLEARING, else the repository's
 `./clearing`), the tools, and a case with a folder of its own."""
+import functools
 import os
 import pathlib
+import shutil
 import subprocess
 import sys
 import tempfile
@@ -16,14 +18,60 @@ def clearing(*words):
     return subprocess.run([PROGRAM, *map(str, words)], stdin=subprocess.DEVNULL, capture_output=True)
 
 
-def tool(name, *words):
-    """A run of one of the tools, with its status, output and messages as text."""
+def tool(name, *words, python=None, cwd=None):
+    """A run of one of the tools, with its status, output and messages as text; by another Python where one is named."""
     return subprocess.run(
-        [sys.executable, str(ROOT / "tools" / name), *map(str, words)],
+        [python or sys.executable, str(ROOT / "tools" / name), *map(str, words)],
+        cwd=cwd,
         stdin=subprocess.DEVNULL,
         capture_output=True,
         encoding="utf-8",
     )
+
+
+# Names of banks that a shell, a spreadsheet, XML or a careless reader of lines may take for something else.
+ODD_NAMES = [
+    "$(touch X)", "`touch X`", "${IFS}", "A$HOME", "d'Italia", "''", "B&W", "a;touch X", "a|touch X", "a>X", "a<b", "*", "?", "[a-z]*", "~",
+    "~root", "\\", "a\\", "\\n", "!!", "!$", "#", "a#b", "{a..b}", "(x)", ")", "%s%n", "%q", "a:b:c", "a=b", "=1+1", "@SUM(A1)", "+1", "a  b",
+    "a - b", "0", "00", "1e3", "1", "nan", "order", "name", "cash", "rule", "debtor", "total", "rounds", "null", "true", "<b>&amp;</b>",
+    "]]>", "<!--", "Crédit Loire", "Cre\u0301dit Loire", "Straße", "STRASSE", "İ", "漢字", "עברית", "😀", "\U0010ffff", "\u00a0A", "A\u00a0", "A\u200b",
+    "\u200bA", "\ufeffA", "A\ufeff", "A\u2028B", "A\u2029B", "\u202eA", "\ue000", "\ufffd", "\u00ad", "x" * 64, "é" * 32, "😀" * 16,
+]
+
+
+def all_names(first=0xA0, last=0x10FFFF, step=1):
+    """Names of at most 64 bytes in which every character from a first to a last one stands that a name may have."""
+    name, size = "", 0
+    for code in [*range(33, 127), *range(max(first, 160), last + 1, step)]:
+        if 0xD800 <= code <= 0xDFFF or chr(code) in ',"':
+            continue
+        more = len(chr(code).encode())
+        if size + more > 62:
+            yield f"N{name}N"
+            name, size = "", 0
+        name, size = name + chr(code), size + more
+    yield f"N{name}N"
+
+
+@functools.cache
+def python_with(*modules):
+    """A Python that can import some modules: the one that runs the tests, else the system's, else none."""
+    for python in (sys.executable, "/usr/bin/python3"):
+        run = [python, "-c", "import " + ", ".join(modules)]
+        if shutil.which(python) and subprocess.run(run, capture_output=True).returncode == 0:
+            return python
+    return None
+
+
+def needs(*commands):
+    """Skips a test or a class where a command is not on the path."""
+    missing = [command for command in commands if not shutil.which(command)]
+    return unittest.skipIf(missing, f"{', '.join(missing)} is not on the path")
+
+
+def needs_modules(*modules):
+    """Skips a test or a class where neither Python has some modules; else python_with names the one that has them."""
+    return unittest.skipUnless(python_with(*modules), f"no Python here has {', '.join(modules)}")
 
 
 class Case(unittest.TestCase):

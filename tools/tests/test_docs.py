@@ -21,8 +21,13 @@ PAGES = ["docs/GUIDE.md", "examples/README.md"]
 BLOCK = re.compile(r"(?<=^```console\n).*?(?=^```$)", re.MULTILINE | re.DOTALL)
 
 
+# Reads all of its input, where head itself ends at once: else the program writes to a pipe that is closed, or does not,
+# as the two happen to run.
+HEAD = 'head() { command head "$@"; local status=$?; cat >/dev/null; return $status; }'
+
+
 def output_of(command, folder):
-    run = ["bash", "-c", command]
+    run = ["bash", "-c", f"{HEAD}\n{command}"]
     environment = {**os.environ, "LC_ALL": "C.UTF-8", "PYTHONDONTWRITEBYTECODE": "1"}
     return subprocess.run(run, cwd=folder, env=environment, stdin=subprocess.DEVNULL,
                           stdout=subprocess.PIPE, stderr=subprocess.STDOUT, encoding="utf-8").stdout
@@ -51,6 +56,10 @@ def page_run(text):
 
 class Pages(Case):
     maxDiff = None
+
+    def test_head_does_not_break_the_pipe_that_it_reads(self):
+        command = "(trap '' PIPE; echo one; sleep 0.2; echo two || echo broken >&2) | head -1; echo status $?"
+        self.assertEqual(output_of(command, self.folder), "one\nstatus 0\n")
 
     def test_commands_print_what_the_pages_say(self):
         for page in PAGES:

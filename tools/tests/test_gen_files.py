@@ -37,5 +37,12 @@ class GenFiles(Case):
         for seed, size, tries in [(2**64, 3, 3), (1, 0, 3), (1, 1001, 3), (1, 3, 20001), ("-1", 3, 3), ("٣", 3, 3)]:
             self.refused("gen_files.py", 2, "is not a number from",
                          f"--seed={seed}", f"--size={size}", f"--tries={tries}", *files)
-        self.refused("gen_files.py", 1, "cannot write", "--seed", 1, "--size", 1, "--tries", 1,
-                     "--banks", self.folder / "none" / "banks.csv", "--debts", self.folder / "debts.csv")
+
+    def test_both_files_are_written_or_none(self):
+        words = ["--seed", 1, "--size", 3, "--tries", 9]
+        banks = self.file("banks.csv", "kept")
+        self.refused("gen_files.py", 1, "cannot write", *words, "--banks", banks, "--debts", "/dev/full")
+        self.refused("gen_files.py", 1, "are one file", *words, "--banks", banks, "--debts", banks)
+        self.refused("gen_files.py", 1, "a folder", *words, "--banks", banks, "--debts", self.folder)
+        self.refused("gen_files.py", 1, "cannot write", *words, "--banks", banks, "--debts", banks / "debts.csv")
+        self.assertEqual((banks.read_text(), list(self.folder.iterdir())), ("kept", [banks]))

@@ -1,12 +1,12 @@
 import os
 import subprocess
 
-from common import ROOT, Case, clearing
+from common import ROOT, Case
 
 
 class Install(Case):
-    def installed(self, *words):
-        environment = {**os.environ, "CLEARING": self.program()}
+    def installed(self, *words, program=None):
+        environment = {**os.environ, "CLEARING": program or self.program()}
         run = [str(ROOT / "tools/install.sh"), *map(str, words)]
         return subprocess.run(run, env=environment, stdin=subprocess.DEVNULL, capture_output=True, encoding="utf-8")
 
@@ -16,17 +16,27 @@ class Install(Case):
         script.chmod(0o755)
         return str(script)
 
-    def test_program_page_and_completion_are_put_in_place(self):
+    def test_program_tools_pages_and_completion_are_put_in_place(self):
         prefix = self.folder / "a prefix"
         done = self.installed(prefix)
         self.assertEqual((done.returncode, done.stderr), (0, ""))
         names = ["bin/clearing", "share/man/man1/clearing.1", "share/bash-completion/completions/clearing"]
-        self.assertEqual(done.stdout.splitlines(), [f"{prefix}/{name}" for name in names])
+        told = done.stdout.splitlines()
+        self.assertEqual(told[:3], [f"{prefix}/{name}" for name in names])
         self.assertEqual(subprocess.check_output([prefix / names[0], "gen"]), b"gen\n")
         self.assertEqual((prefix / names[1]).read_text(), (ROOT / "docs/clearing.1").read_text())
+        self.assertEqual(sorted(told), sorted(str(path) for path in prefix.rglob("*") if not path.is_dir()))
+        # A tool from there, by its own name, and one that runs the program.
+        for folder in ("chain", "hub"):
+            files = [word for kind in ("banks", "debts") for word in (f"--{kind}", ROOT / f"examples/{folder}/{kind}.csv")]
+            self.assertEqual(subprocess.check_output([prefix / "bin/clearing-lint", *files]), b"no fault\n")
+        jobs = self.file("jobs.tsv", "a\tgen\t7\n")
+        environment = {**os.environ, "CLEARING": ""}
+        subprocess.run([prefix / "bin/clearing-many", "run", jobs, self.folder / "out"], env=environment, check=True, capture_output=True)
+        self.assertEqual((self.folder / "out/a.out").read_text(), "gen 7\n")
         # A second time, over the first.
-        self.assertEqual(self.installed(prefix).returncode, 0)
-        self.assertEqual(sorted(path.name for path in prefix.rglob("*.new")), [])
+        self.assertEqual(self.installed(prefix).stdout, done.stdout)
+        self.assertEqual(sorted(told), sorted(str(path) for path in prefix.rglob("*") if not path.is_dir()))
 
     def test_what_cannot_be_written_is_said(self):
         done = self.installed(self.file("taken", "a file"))
@@ -36,37 +46,28 @@ class Install(Case):
         self.assertEqual(self.installed("a", "b").returncode, 2)
         self.assertIn("PREFIX", self.installed("--help").stdout)
 
-    def completed(self, line):
-        """What bash offers for the last word of a line."""
-        script = f"""
-            source {ROOT}/tools/clearing.bash
-            read -r -a COMP_WORDS <<<"$1"
-            [[ $1 == *" " ]] && COMP_WORDS+=("")
-            COMP_CWORD=$((${{#COMP_WORDS[@]}} - 1))
-            _clearing 2>/dev/null
-            printf '%s\\n' "${{COMPREPLY[@]}}"
-        """
-        run = ["bash", "--norc", "-c", script, "bash", line]
-        return subprocess.run(run, cwd=self.folder, capture_output=True, encoding="utf-8").stdout.split("\n")[:-1]
+    def test_a_prefix_without_a_name_is_refused(self):
+        before = sorted(os.listdir("/usr/local/bin")) if os.path.isdir("/usr/local/bin") else None
+        done = self.installed("", program="/no/such/program")
+        self.assertEqual((done.returncode, done.stdout, done.stderr), (2, "", "install.sh: the prefix has no name\n"))
+        self.assertEqual(sorted(os.listdir("/usr/local/bin")) if before is not None else None, before)
 
-    def test_words_are_completed(self):
-        self.file("banks.csv", "name,cash,rule\nAster,1,order\nBank Two,2,order\n")
-        self.assertEqual(self.completed("clearing c"), ["check", "clear", "central", "compress", "costs", "convert"])
-        self.assertEqual(self.completed("clearing clear --s"), ["--sweeps", "--show"])
-        self.assertEqual(self.completed("clearing clear --show b"), ["both"])
-        self.assertEqual(self.completed("clearing costs --banks banks.csv --"), ["--debts", "--keep"])
-        self.assertEqual(self.completed("clearing check --banks b"), ["banks.csv"])
-        self.assertEqual(self.completed("clearing rescue --banks banks.csv --bank B"), ["Bank\\ Two"])
+    def test_all_files_are_put_in_place_or_none(self):
+        prefix = self.folder / "prefix"
+        (prefix / "bin").mkdir(parents=True)
+        (prefix / "bin/clearing").write_text("older")
+        # The last file has a folder in its place.
+        (prefix / "share/clearing/clearing").mkdir(parents=True)
+        done = self.installed(prefix)
+        self.assertEqual((done.returncode, done.stdout), (1, ""))
+        self.assertIn("share/clearing/clearing cannot be written", done.stderr)
+        self.assertEqual([path.name for path in prefix.rglob("*") if not path.is_dir()], ["clearing"])
+        self.assertEqual((prefix / "bin/clearing").read_text(), "older")
 
-    def test_each_option_of_the_completion_is_one_of_the_program(self):
-        # The program refuses words that are no job with 2; here it comes as far as a file that is missing.
-        files = ["--banks", "none", "--debts", "none"]
-        more = {"stress": ["--scenarios", "none"], "replay": ["--journal", "none"], "rescue": ["--bank", "A"],
-                "costs": ["--keep", "1"], "gen": ["--seed", "1", "--size", "1", "--tries", "1"]}
-        value = {"--workers": "2", "--sweeps": "2", "--show": "both"}
-        for task in self.completed("clearing "):
-            words = ([] if task == "gen" else files) + more.get(task, [])
-            for option in self.completed(f"clearing {task} --"):
-                if option not in words:
-                    words = words + [option, value[option]]
-            self.assertEqual(clearing(task, *words).returncode, 0 if task == "gen" else 3, words)
+    def test_the_program_is_not_put_over_itself(self):
+        prefix = self.folder / "prefix"
+        self.installed(prefix)
+        done = self.installed(prefix, program=str(prefix / "bin/clearing"))
+        self.assertEqual((done.returncode, done.stdout), (1, ""))
+        self.assertIn("is the file that is to be installed", done.stderr)
+        self.assertEqual(subprocess.check_output([prefix / "bin/clearing", "x"]), b"x\n")

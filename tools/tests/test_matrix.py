@@ -1,4 +1,10 @@
-from common import ROOT, Case
+import sys
+from fractions import Fraction
+
+from common import ODD_NAMES, ROOT, Case, all_names, tool
+
+sys.path.insert(0, str(ROOT / "tools"))
+import sheets
 
 # A network of three, with the columns that systemicrisk calls external assets and external liabilities.
 MATRIX = ""","A","B","C","ea","el"
@@ -36,14 +42,22 @@ class Matrix(Case):
         self.check("name,cash,rule\nA,2,webster\nB,4,webster\n", "debtor,creditor,class,claim\nA,B,1,2\n")
 
     def test_all_faults_are_told_at_once(self):
-        matrix = self.file("m.csv", ",A,B,cash,rule\nA,1,-2,1.5,order\nB,2000000,0,\"1,000\",pari\n")
+        matrix = self.file("m.csv", ",A,B,cash,rule\nA,1,-2,1.5,order\nB,2000000,0,1.00x,pari\n")
         for told in [
             "m.csv row 1 column cash: 1.5 is not a whole number of units",
-            "m.csv row 2 column cash: '1,000' is not an amount; write a decimal point",
             "m.csv row 2 column rule: 'pari' is not one of",
             "m.csv row 1 column A: the diagonal is not 0",
-            "m.csv row 1 column B: '-2' is not an amount; a liability is not below 0",
-            "m.csv row 2 column A: 2000000 is 2,000,000 units, and the most is 1,000,000",
+            "m.csv row 2 column cash: '1.00x' is not an amount",
+            "m.csv row 1 column B: '-2' is below 0; what a bank is owed stands as a debt of the bank that owes",
+        ]:
+            self.refused("from_matrix.py", 1, told, matrix, *self.files)
+        # Limits are looked at where all amounts are known.
+        matrix = self.file("m.csv", ",A,B,cash\nA,0,1000003,1\nB,2000000,0,1000000000002\n")
+        for told in [
+            "m.csv: the claim of A on B is 2,000,000, in units 2,000,000: 1,000,000 more than the most, 1,000,000",
+            "m.csv: the claim of B on A is 1,000,003, in units 1,000,003: 3 more than the most, 1,000,000",
+            "m.csv: the cash of B is 1,000,000,000,002, in units 1,000,000,000,002: 2 more than the most, 1,000,000,000,000",
+            "m.csv: a unit of 2 keeps all limits on amounts (--unit 2 --round, or --unit auto)",
         ]:
             self.refused("from_matrix.py", 1, told, matrix, *self.files)
         self.assertFalse(self.banks.exists())
@@ -56,11 +70,149 @@ class Matrix(Case):
             ("row 2: 2 fields, and the first row has 3", ",A,cash\nA,0,0\nB,0\n"),
             ("row 2: a second row of the name A", ",A,cash\nA,0,0\nA,0,0\n"),
             ("column A: a second column", ",A,A,cash\nA,0,0,0\n"),
-            ("has one column alone", "x;A;cash\nA;0;0\n"),
+            ("has one column alone", "x|A|cash\nA|0|0\n"),
             ("has no record", ""),
-            ("is not UTF-8", "x,A,cash\nA,0,0\n".encode("utf-16")),
+            ("is not UTF-8; save it as UTF-8, or say its --encoding", "x,É,cash\nÉ,0,0\n".encode("cp1252")),
         ]:
             self.refused("from_matrix.py", 1, told, self.file("m.csv", text), *self.files)
+
+    def test_a_sign_that_could_be_either_is_asked_for(self):
+        text = ";A;B;cash\nA;-;30.445;808\nB;;0;1.000\n"
+        sheet = self.file("m.csv", text)
+        ask = "row 1 column B: 30.445: thousands or decimals? say --thousands . or --decimal ."
+        for more in ([], ["--round"], ["--unit", "auto"]):
+            self.refused("from_matrix.py", 1, ask, sheet, *more, *self.files)
+        self.assertFalse(self.banks.exists() or self.debts.exists())
+        for sign in (["--thousands", "."], ["--decimal", ","], ["--thousands", ".", "--decimal", ","]):
+            self.assertEqual(self.made("from_matrix.py", sheet, *sign, *self.files), "")
+            self.check("name,cash,rule\nA,808,webster\nB,1000,webster\n", "debtor,creditor,class,claim\nA,B,1,30445\n")
+        self.made("from_matrix.py", sheet, "--decimal", ".", "--unit", "0.001", *self.files)
+        self.check("name,cash,rule\nA,808000,webster\nB,1000,webster\n", "debtor,creditor,class,claim\nA,B,1,30445\n")
+        # A hundred cells ask once.
+        many = self.file("m.csv", ";A;B;cash\n" + "A;0;1.234;1.000\nB;2.345;0;3.000\n")
+        done = tool("from_matrix.py", many, *self.files)
+        self.assertEqual(done.stderr.splitlines(), [f"from_matrix: {many} row 1 column B: 1.234: thousands or decimals? "
+                         "say --thousands . or --decimal . (3 more cells ask the same)"])
+
+    def test_amounts_are_read_as_sheets_write_them(self):
+        read = sheets.Amounts
+        for text, want in [
+            ("", 0), ("-", 0), (" – ", 0), ("0", 0), ("-0,00", 0), ("- €", 0), ("007", 7), ("7,5", "7.5"), ("7.5", "7.5"), ("1.234.567", 1234567),
+            ("1,234.50", "1234.5"), ("1.234,50", "1234.5"), ("1'234.5", "1234.5"), ("1’234", 1234), ("1 234,5", "1234.5"),
+            ("1\u00a0234", 1234), ("1\u202f234\u202f567", 1234567), ("0.445", "0.445"), ("1234.567", "1234.567"), (".5", "0.5"), ("5.", 5),
+            ("1e3", 1000), ("1,5E+06", 1500000), ("2.345e-3", "0.002345"), ("€ 1.234,50", "1234.5"), ("1,234.50 EUR", "1234.5"), ("CHF1'000", 1000),
+            ("US$ 7", 7), ("$7", 7), ("\u00a07\u00a0", 7), ("12345678901234567890", 12345678901234567890),
+        ]:
+            self.assertEqual(read().read(text), Fraction(want), text)
+        for text in ("x", "n/a", "NAN", "1-2", "-7", "(7)", "7-", "−7", "7%", "1.00.000", "1,00,000", "1 00", "12 34 567", "1.234,567.8", "1,,000", "--7", "#####",
+                     "=3+4", "٣", "²", "1e999", "EUR", "€", "9" * 41, "0x10", "1_000", "1;2", "."):
+            with self.assertRaises(sheets.Unread, msg=text):
+                read().read(text)
+        for texts in (["7,5", "7.5"], ["1.234.567", "7.5"], ["1,234.5", "7,5"], ["€7", "7 USD"], ["1 234,5", "1,234.5"]):
+            amounts = read()
+            amounts.read(texts[0])
+            with self.assertRaises(sheets.Unread, msg=texts):
+                amounts.read(texts[1])
+
+    def test_lines_of_totals_are_refused_by_name(self):
+        text = ",A,B,C,{0},cash\nA,0,6,4,10,3\nB,2,0,8,10,4\nC,3,1,0,4,5\n{0},5,7,12,24,12\n"
+        for name, why in [("Total", "its name says so"), ("SUMME", "its name says so"), ("Banking system", "each of its cells is the sum of the others")]:
+            sheet = self.file("m.csv", text.format(name))
+            word = name if " " not in name else f"'{name}'"
+            self.refused("from_matrix.py", 1, f"m.csv row 4: {name} is a row of totals: {why}; say --drop {word}, or --keep {word}", sheet, *self.files)
+            self.assertFalse(self.banks.exists())
+            self.assertEqual(self.made("from_matrix.py", sheet, "--drop", name, *self.files), "")
+            self.check("name,cash,rule\nA,3,webster\nB,4,webster\nC,5,webster\n",
+                       "debtor,creditor,class,claim\nA,B,1,6\nA,C,1,4\nB,A,1,2\nB,C,1,8\nC,A,1,3\nC,B,1,1\n")
+            self.banks.unlink()
+        # One of the two alone; sums of what is printed, which are off in the last digit; no cash in the line.
+        for text, told in [(",A,B,C,All banks,cash\nA,0,6,4,10,3\nB,2,0,8,10,4\nC,3,1,0,4,5\n", "column All banks: All banks is a column"),
+                           (",A,B,C,cash\nA,0,6,4,3\nB,2,0,8,4\nC,3,1,0,5\nAll banks,5,7,12,\n", "row 4: All banks is a row"),
+                           (",A,B,C,cash\nA,0,6.4,4.4,3\nB,2.4,0,8.4,4\nC,3.4,1.4,0,5\nAll banks,5.9,7.9,12.9,12\n", "row 4: All banks is a row")]:
+            self.refused("from_matrix.py", 1, told, self.file("m.csv", text), *self.files)
+        self.refused("from_matrix.py", 1, "there is no Totals to drop", sheet, "--drop", "Totals", *self.files)
+
+    def test_a_bank_that_owes_the_sum_of_the_others_may_be_kept(self):
+        text = ",A,B,C,cash\nA,0,5,0,1\nB,0,0,3,1\nC,0,5,3,2\n"
+        self.refused("from_matrix.py", 1, "C is a row of totals", self.file("m.csv", text), *self.files)
+        text = ",A,B,C,cash\nA,0,5,3,2\nB,0,0,3,1\nC,0,5,0,1\n"
+        sheet = self.file("m.csv", text)
+        self.refused("from_matrix.py", 1, "A is a row of totals", sheet, *self.files)
+        self.made("from_matrix.py", sheet, "--keep", "A", *self.files)
+        self.assertEqual(self.debts.read_text(), "debtor,creditor,class,claim\nA,B,1,5\nA,C,1,3\nB,C,1,3\nC,B,1,5\n")
+        # With cash of its own in a table it is a bank.
+        table = self.file("t.csv", ",cash\nA,7\nB,1\nC,1\n")
+        self.made("from_matrix.py", self.file("n.csv", ",A,B,C\nA,0,5,3\nB,0,0,3\nC,0,5,0\n"), "--table", table, *self.files)
+
+    def test_the_input_stays_and_both_files_are_written_or_none(self):
+        sheet = self.file("same.csv", MATRIX)
+        table = self.file("table.csv", "bank,ea,el\nA,3,0\nB,1,2\nC,4,1\n")
+        names = ["--cash", "ea", "--outside", "el", "--unit", "0.5"]
+        for files, told in [((sheet, self.debts), "also read"), ((self.banks, sheet), "also read"), ((self.banks, self.banks), "one file"),
+                            ((self.banks, self.folder), "a folder"), ((self.banks, "/dev/full"), "No space left"),
+                            ((self.banks, sheet / "debts.csv"), "cannot write")]:
+            self.banks.write_text("kept")
+            self.refused("from_matrix.py", 1, told, sheet, *names, "--banks", files[0], "--debts", files[1])
+            self.assertEqual((sheet.read_text(), self.banks.read_text()), (MATRIX, "kept"))
+            self.assertEqual(sorted(path.name for path in self.folder.iterdir()), ["banks.csv", "same.csv", "table.csv"])
+        self.refused("from_matrix.py", 1, "also read", self.file("m.csv", ",A,B,C\nA,0,6,4\nB,2,0,8\nC,3,1,0\n"), "--table", table,
+                     *names, "--banks", table, "--debts", self.debts)
+
+    def test_the_smallest_unit_that_keeps_all_limits_is_taken(self):
+        sheet = self.file("m.csv", ",A,B,cash\nA,0,45000020,20\nB,12,0,1000000\n")
+        self.assertEqual(self.made("from_matrix.py", sheet, "--unit", "auto", *self.files),
+                         "unit 50: owed 45,000,032 becomes 900,000 units; 1 claim became 0; largest rounding 20\n"
+                         "became 0: B owes A 12\n")
+        self.check("name,cash,rule\nA,0,webster\nB,20000,webster\n", "debtor,creditor,class,claim\nA,B,1,900000\n")
+        sheet = self.file("m.csv", ",A,B,cash,outside\nA,0,2.25,1,0\nB,1,0,0.5,7\n")
+        self.assertEqual(self.made("from_matrix.py", sheet, "--unit", "auto", *self.files),
+                         "unit 0.01: owed 3.25 becomes 325 units; 0 claims became 0; largest rounding 0\n")
+        # Each limit in turn decides, and a unit that is one step smaller breaks it.
+        for text, unit, smaller in [
+            (",A,B,cash\nA,0,1000001,1\nB,0,0,1\n", "2", "1"),
+            (",A,B,cash\nA,0,1,1000000000001\nB,0,0,1\n", "2", "1"),
+            (",A,B,cash,outside\nA,0,1,1,500000000003\nB,0,0,1,0\n", "10", "5"),
+            ("," + ",".join(f"B{n}" for n in range(12)) + ",cash\n" + "".join(
+                f"B{n}," + ",".join("0" if m == n else "100000" if (m + n) % 2 else "65000" for m in range(12)) + ",5\n" for n in range(12)), "2", "1"),
+        ]:
+            sheet = self.file("m.csv", text)
+            self.assertTrue(self.made("from_matrix.py", sheet, "--unit", "auto", *self.files).startswith(f"unit {unit}: "), text[:60])
+            self.printed("check", *self.files)
+            self.refused("from_matrix.py", 1, "more than the most", sheet, "--unit", smaller, "--round", *self.files)
+
+    def test_what_is_rounded_is_told(self):
+        sheet = self.file("m.csv", ",A,B,cash\nA,0,2.5,1.5\nB,0.4,0,3.5\n")
+        self.assertEqual(self.made("from_matrix.py", sheet, "--round", *self.files),
+                         "unit 1: owed 2.9 becomes 2 units; 1 claim became 0; largest rounding 0.5\nbecame 0: B owes A 0.4\n")
+        done = tool("from_matrix.py", sheet, "--round", "--banks", "/dev/stdout", "--debts", self.debts)
+        self.assertEqual((done.stdout, done.stderr.splitlines()[0][:7]), ("name,cash,rule\nA,2,webster\nB,4,webster\n", "unit 1:"))
+
+    def test_too_many_debts_are_told_with_their_number(self):
+        names = [f"B{n}" for n in range(150)]
+        text = "," + ",".join(names) + ",cash\n" + "".join(f"{a}," + ",".join("0" if a == b else str(1 + n % 3) for n, b in enumerate(names)) + f",{n}\n" for n, a in enumerate(names))
+        self.refused("from_matrix.py", 1, "22,350 debts, 2,350 more than the most, 20,000", self.file("m.csv", text), "--unit", "auto", *self.files)
+
+    def test_sheets_are_read_as_they_are_saved(self):
+        text = "Exposures\n\nlender;É;B;cash;\nÉ;0;2;3;\nB;4;0;5\n;;;;\n"
+        want = ("name,cash,rule\nÉ,3,webster\nB,5,webster\n", "debtor,creditor,class,claim\nÉ,B,1,2\nB,É,1,4\n")
+        for data in [text.encode(), b"\xef\xbb\xbf" + text.replace("\n", "\r\n").encode(), text.replace(";", "\t").encode("utf-16"), text.replace("\n", "\r").encode()]:
+            self.made("from_matrix.py", self.file("m.csv", data), "--skip", 1, *self.files)
+            self.check(*want)
+        self.made("from_matrix.py", self.file("m.csv", text.encode("cp1252")), "--skip", 1, "--encoding", "cp1252", *self.files)
+        self.check(*want)
+
+    def test_names_of_every_character_come_through(self):
+        for names in [ODD_NAMES, list(all_names(last=0xFFFF))[:900]]:
+            names = [name for name in dict.fromkeys(name.strip(" ") for name in names) if name not in ("cash", "rule", "outside")]
+            names = [name for name in names if not sheets.is_called_total(name)]
+            rows = [[name] + ["1" if at in ((n + 1) % len(names), (n + 7) % len(names)) else "" for at in range(len(names))] for n, name in enumerate(names)]
+            matrix = "".join(",".join(row) + "\n" for row in [["", *names], *rows])
+            table = "bank,cash\n" + "".join(f"{name},{n}\n" for n, name in enumerate(names))
+            self.made("from_matrix.py", self.file("m.csv", matrix), "--table", self.file("t.csv", table), *self.files)
+            self.check("name,cash,rule\n" + "".join(f"{name},{n},webster\n" for n, name in enumerate(names)), self.debts.read_text())
+            self.assertEqual(len(self.debts.read_text().split("\n")), 2 * len(names) + 2)
+            back = self.made("to_matrix.py", *self.files)
+            self.assertEqual(back.split("\n")[0], ",".join(["", *names, "cash", "rule"]))
 
     def test_there_and_back_gives_the_same_matrix(self):
         self.made("from_matrix.py", self.file("m.csv", MATRIX), "--cash", "ea", "--outside", "el", "--unit", "0.5", *self.files)
@@ -95,3 +247,12 @@ class Matrix(Case):
         paid = self.file("paid.csv", "debtor,creditor,class,claim,paid\nA,B,1,6,5\n")
         self.refused("to_matrix.py", 1, "is not of the debts in", *self.files, "--payments", paid)
         self.refused("to_matrix.py", 1, "the first row is not", *self.files, "--payments", self.debts)
+
+    def test_a_matrix_is_not_written_over_what_was_read(self):
+        self.banks.write_text("name,cash,rule\nA,9,order\nB,0,order\n")
+        self.debts.write_text("debtor,creditor,class,claim\nA,B,1,5\n")
+        paid = self.file("paid.csv", self.printed("clear", *self.files))
+        for name in (self.banks, self.debts, paid):
+            before = name.read_bytes()
+            self.refused("to_matrix.py", 1, f"{name} is also read", *self.files, "--payments", paid, "--out", name)
+            self.assertEqual(name.read_bytes(), before)

@@ -1,0 +1,110 @@
+from common import ODD_NAMES, ROOT, Case, all_names
+
+TABLE = "bank,cash,outside,rule\nA,3,0,order\nB,4,1,equal\nC,5,0,webster\n"
+
+
+class List(Case):
+    def setUp(self):
+        super().setUp()
+        self.banks, self.debts = self.folder / "banks.csv", self.folder / "debts.csv"
+        self.files = ["--banks", self.banks, "--debts", self.debts]
+
+    def words(self, text, table=TABLE):
+        return [self.file("list.csv", text), "--table", self.file("table.csv", table), *self.files]
+
+    def told(self, text, *more, table=TABLE):
+        return self.made("from_list.py", *self.words(text, table), *more)
+
+    def refuse(self, message, text, *more, table=TABLE):
+        self.refused("from_list.py", 1, message, *self.words(text, table), *more)
+        self.assertFalse(self.banks.exists() or self.debts.exists())
+
+    def check(self, banks, debts):
+        self.assertEqual((self.banks.read_text(), self.debts.read_text()), (banks, debts))
+        self.printed("check", *self.files)
+
+    def test_a_list_becomes_two_files(self):
+        self.assertEqual(self.told("debtor,creditor,amount\nA,B,10\nC,A,7\nB,C,0\n"), "1 debt of amount 0 left out\n")
+        self.check("name,cash,rule,outside\nA,3,order,0\nB,4,equal,1\nC,5,webster,0\n", "debtor,creditor,class,claim\nA,B,1,10\nC,A,1,7\n")
+
+    def test_columns_have_other_names_and_amounts_decimals_and_a_currency(self):
+        text = "date;lender;borrower;seniority;exposure (EUR)\r\n1.1.;B;A;2;€ 1.234,50\r\n1.1.;A;B;1;7,25\r\n"
+        table = "\ufeffname;liquid;own rule\r\nA;1.000,5 €;adams\r\nB;2;losses\r\n"
+        names = ["--debtor", "borrower", "--creditor", "lender", "--amount", "exposure (EUR)", "--class-column", "seniority",
+                 "--cash", "liquid", "--rule-column", "own rule", "--unit", "0.25"]
+        self.assertEqual(self.told(text, *names, table=table), "")
+        self.check("name,cash,rule\nA,4002,adams\nB,8,losses\n", "debtor,creditor,class,claim\nA,B,2,4938\nB,A,1,29\n")
+        self.refuse_again("no column debtor; it has date, lender, borrower, seniority, exposure (EUR); say --debtor NAME", text, table)
+
+    def refuse_again(self, message, text, table):
+        self.banks.unlink(), self.debts.unlink()
+        self.refuse(message, text, table=table)
+
+    def test_lines_of_one_pair_are_summed_on_demand_alone(self):
+        text = "debtor,creditor,amount\nA,B,1.5\nB,A,2\nA,B,2.5\nA,B,0.25\nA,C,1\n"
+        self.refuse("row 3: a debt of A to B of class 1 is also in row 1; say --sum", text, "--round")
+        self.assertEqual(self.told(text, "--sum", "--unit", "0.25"), "3 lines summed into 1 debt\n")
+        self.check("name,cash,rule,outside\nA,12,order,0\nB,16,equal,4\nC,20,webster,0\n",
+                   "debtor,creditor,class,claim\nA,B,1,17\nB,A,1,8\nA,C,1,4\n")
+        # Two classes are two debts.
+        self.told("debtor,creditor,class,amount\nA,B,1,1\nA,B,2,2\n")
+        self.assertEqual(self.debts.read_text(), "debtor,creditor,class,claim\nA,B,1,1\nA,B,2,2\n")
+
+    def test_what_is_no_debt_is_refused(self):
+        head = "debtor,creditor,class,amount\n"
+        for message, line in [
+            ("row 2 column debtor: table.csv has no bank D", "D,A,1,5"), ("row 2 column creditor: no bank is named; is it a line of totals?", "A,,1,5"),
+            ("row 2 column creditor: A is its own creditor", "A,A,1,5"), ("row 2 column class: '0' is not a class", "A,B,0,5"),
+            ("row 2 column class: '1.0' is not a class", "A,B,1.0,5"), ("row 2 column amount: '-5' is below 0", "A,B,1,-5"),
+            ("row 2 column amount: '5x' is not an amount", "A,B,1,5x"), ("row 2 column amount: 2.5 is not a whole number", "A,B,1,2.5"),
+            ("row 2 column amount: 30.445: thousands or decimals? say --thousands . or --decimal .", "A,B,1,30.445"),
+            ("row 2: 3 fields, and the first row has 4", "A,B,1"), ("the claim of B on A is 1,000,001, in units 1,000,001: 1 more than the most", "A,B,1,1000001"),
+        ]:
+            text = head + "B,C,1,1\n" + line + "\n"
+            done_text = message.replace("table.csv", str(self.folder / "table.csv"))
+            self.refuse(done_text, text)
+        for table, message in [("bank,money\nA,1\n", "no column cash; it has money; say --cash NAME"), ("bank,cash\nA,1\nA,2\n", "a second row of the name A"),
+                               (TABLE.replace("equal", "equals"), "'equals' is not one of"), (TABLE.replace("C,", "x" * 65 + ","), "is not a name")]:
+            self.refuse(message, head + "A,B,1,1\n", table=table)
+
+    def test_lines_of_totals_are_refused_by_name(self):
+        text = "debtor,creditor,amount\nA,B,10\nC,A,7\nTotal,Total,17\n"
+        self.refuse("row 3 column debtor: Total is no bank of", text)
+        self.assertEqual(self.told(text, "--drop", "Total"), "1 line left out by --drop\n")
+        self.check("name,cash,rule,outside\nA,3,order,0\nB,4,equal,1\nC,5,webster,0\n", "debtor,creditor,class,claim\nA,B,1,10\nC,A,1,7\n")
+        self.banks.unlink(), self.debts.unlink()
+        table = TABLE + "Banking system,12,1,webster\n"
+        self.refuse("row 4: Banking system is a row of totals: each of its cells is the sum", text.replace("Total,Total,17\n", ""), table=table)
+        self.refuse("row 4: Total is a row of totals: its name says so", text, table=table.replace("Banking system", "Total"))
+        self.told(text, "--drop", "Total", table=table.replace("Banking system", "Total"))
+        self.assertEqual(self.banks.read_text().count("\n"), 4)
+
+    def test_a_unit_is_chosen_and_told(self):
+        self.assertEqual(self.told("debtor,creditor,amount\nA,B,451847000\nB,A,331\nC,A,24\n", "--unit", "auto"),
+                         "unit 500: owed 451,847,355 becomes 903,695 units; 1 claim became 0; largest rounding 169\nbecame 0: C owes A 24\n")
+        self.printed("check", *self.files)
+
+    def test_nothing_is_written_over_or_by_half(self):
+        words = self.words("debtor,creditor,amount\nA,B,10\n")
+        listed, table = words[0], words[2]
+        for banks, debts, message in [(listed, self.debts, "also read"), (self.banks, table, "also read"), (self.banks, self.banks, "one file"),
+                                      (self.banks, "/dev/full", "No space")]:
+            self.refused("from_list.py", 1, message, listed, "--table", table, "--banks", banks, "--debts", debts)
+            self.assertEqual(sorted(path.name for path in self.folder.iterdir()), ["list.csv", "table.csv"])
+        self.assertEqual(table.read_text(), TABLE)
+
+    def test_names_of_every_character_come_through(self):
+        for names in (ODD_NAMES, list(all_names(last=0xFFFF))[:1000]):
+            names = [name for name in dict.fromkeys(name.strip(" ") for name in names) if name.casefold() not in ("total",)]
+            pairs = list(zip(names, names[1:]))
+            self.told("debtor,creditor,amount\n" + "".join(f"{a},{b},1\n" for a, b in pairs),
+                      table="bank,cash\n" + "".join(f"{name},{at}\n" for at, name in enumerate(names)))
+            self.check("name,cash,rule\n" + "".join(f"{name},{at},webster\n" for at, name in enumerate(names)),
+                       "debtor,creditor,class,claim\n" + "".join(f"{a},{b},1,1\n" for a, b in pairs))
+
+    def test_the_list_of_an_example_gives_back_its_files(self):
+        example = ROOT / "examples/twelve-banks"
+        rows = [line.split(",") for line in (example / "banks.csv").read_text(encoding="utf-8").splitlines()]
+        self.made("from_list.py", example / "debts.csv", "--amount", "claim", "--table", example / "banks.csv", *self.files)
+        self.assertEqual(self.debts.read_text(), (example / "debts.csv").read_text(encoding="utf-8"))
+        self.assertEqual([line.split(",") for line in self.banks.read_text().splitlines()], rows)
