@@ -107,7 +107,7 @@ class Report(Case):
 
 class TheFile(Report):
     def test_nothing_in_it_is_loaded_and_only_its_own_style_and_script_may_run(self):
-        read = Reader(self.page(files_of(TWELVE), "--scenarios", TWELVE / "scenarios.toml"))
+        read = Reader(self.page(files_of(TWELVE), "--scenarios", TWELVE / "scenarios.toml", "--d3", self.file("d3.js", "0;")))
         policy = next(a["content"] for tag, a in read.elements if tag == "meta" and a.get("http-equiv") == "Content-Security-Policy")
         allowed = dict(part.split(" ", 1) for part in policy.split("; "))
         self.assertEqual(allowed["default-src"], "'none'")
@@ -134,7 +134,7 @@ class TheFile(Report):
 
     def test_names_stand_as_they_are(self):
         files, names = odd_net(self.folder)
-        read = Reader(self.page(files, "--title", "<b>Title</b> & 'more'"))
+        read = Reader(self.page(files, "--title", "<b>Title</b> & 'more'", "--d3", self.file("d3.js", "0;")))
         rows = [cells[0] for pairs, cells in read.rows if "data-bank" in pairs]
         self.assertEqual(rows, names)
         self.assertFalse([tag for tag, _ in read.elements if tag in ("img", "b")])
