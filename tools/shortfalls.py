@@ -3,10 +3,12 @@
 
 In:   DEFAULTS     what `clearing defaults` prints
       --payments   what `clearing clear` prints for the same files
-      --bounds     what `clearing bounds` prints for the same files: banks in gridlock then have a colour of their own
-Out:  a bar for each bank in default, the longest shortfall first: what it pays of what it owes in the network in grey, and what it
-      leaves unpaid in the colour of its state. With --payments two bars: what it has, cash and receipts, and below it what it
-      owes, class by class, paid and unpaid. The kind of picture is the ending of OUTPUT: .svg, .png or .pdf.
+      --bounds     what `clearing bounds` prints for the same files: banks in gridlock then have a mark of their own
+      --banks      the banks file: what banks owe outside is then drawn whole, else as far as it is paid
+Out:  a bar for each bank in default, the longest shortfall first: what it pays of all it owes, in blue, and what it leaves unpaid,
+      hollow. With --payments two bars: what it has, cash and receipts, and below it what it owes, outside first and then class by
+      class, paid and unpaid. The mark beside a name is the bank's state. --unit and --currency say what a unit of account is worth. The
+      kind of picture is the ending of OUTPUT: .svg, .png or .pdf.
 
 Example:
     clearing defaults --banks banks.csv --debts debts.csv >defaults.csv
@@ -19,122 +21,150 @@ understood or matplotlib is missing.
 import argparse
 import sys
 
-from texts import FILL, Refused, check_same_network, read_defaults, read_gridlock, read_payments
+import drawing
+import files
+import results
+from drawing import LIGHT
+from results import STATES, Money
+from texts import Refused, check_same_network, read_gridlock, read_payments
 
-CASH, RECEIPTS, PAID = "#4f7f93", "#a9c7d3", "#c5cacf"
+CASH = {"facecolor": "#5b6670", "edgecolor": LIGHT["ink"]}
+RECEIPTS = {"facecolor": "#d7dce0", "edgecolor": LIGHT["ink"]}
+PAID = {"facecolor": LIGHT["paid"], "edgecolor": LIGHT["ground"]}
+UNPAID = {"facecolor": LIGHT["ground"], "edgecolor": LIGHT["ink"], "hatch": "////"}
 
 
-def plain(text):
-    """Text that matplotlib shows as it is."""
-    return text.replace("$", r"\$")
-
-
-def shown_of(banks, most):
-    """The banks in default, the largest shortfall first, and at most so many of them to be shown."""
-    short = sorted((bank for bank in banks if bank.paid < bank.owed), key=lambda bank: bank.paid - bank.owed)
+def in_default(banks, most):
+    """The banks in default by their state, the largest shortfall first, and at most so many of them to be shown."""
+    short = sorted((bank for bank in banks if bank.state != "sound"), key=lambda bank: -results.shortfall_of(bank))
     return short, short[:most]
 
 
-def finish(pyplot, figure, axes, banks, short, shown, handles):
-    """What both pictures have: the title, the names, the legend."""
-    total = sum(bank.owed - bank.paid for bank in short)
-    left_out = f", the {len(shown)} largest shown" if len(shown) < len(short) else ""
-    axes.set_title(f"{len(short)} of {len(banks)} banks in default leave {total:,} units unpaid{left_out}", fontsize=11)
-    axes.set_yticks(range(len(shown)), [plain(bank.name) for bank in shown])
-    axes.invert_yaxis()
-    axes.axvline(0, color="#1a1a1a", linewidth=0.8)
-    axes.xaxis.set_major_formatter(lambda units, _: f"{abs(units):,.0f}")
-    states = [(state, FILL[state]) for state in FILL if any(bank.state == state for bank in shown)]
-    boxes = [pyplot.Rectangle((0, 0), 1, 1, color=colour) for _, colour in handles + states]
-    if shown:
-        axes.legend(boxes, [words for words, _ in handles + states], loc="upper left", bbox_to_anchor=(1, 1), frameon=False)
+def parts_owed(bank, debts):
+    """What a bank owes, in the order in which it is paid: a word, how much, and how much of it is paid."""
+    outside = bank.outside_paid if bank.outside is None else bank.outside
+    parts = [("outside", outside, bank.outside_paid)] if outside else []
+    if debts is None:
+        return parts + [("", bank.owed, bank.paid)]
+    own = [debt for debt in debts if debt.debtor == bank.name]
+    for rank in sorted({debt.rank for debt in own}):
+        parts.append(
+            (
+                rank,
+                sum(debt.claim for debt in own if debt.rank == rank),
+                sum(debt.paid for debt in own if debt.rank == rank),
+            )
+        )
+    return parts
+
+
+def part(axes, place, at, units, kind, height):
+    if units:
+        axes.barh(place, units, height=height, left=at, linewidth=0.7, **kind)
+    return at + units
+
+
+def draw(pyplot, banks, debts, money, most):
+    """A bar for each bank, or two where the debts are known."""
+    short, shown = in_default(banks, most)
+    longest = max([max(results.due_of(bank), bank.estate) for bank in shown], default=0) or 1
+    step = 0.6 if debts is not None else 0.34
+    wide, tall = 9.5, 2.3 + step * max(len(shown), 1)
+    left = max([drawing.width_of(bank.name, 10) / 72 + 0.55 for bank in shown], default=1.0)
+    figure, axes = pyplot.subplots(figsize=(wide, tall))
+    figure.subplots_adjust(left=left / wide, right=1 - 0.25 / wide, bottom=1.15 / tall, top=1 - 0.8 / tall)
+    for place, bank in enumerate(shown):
+        if debts is not None:
+            receipts = sum(debt.paid for debt in debts if debt.creditor == bank.name)
+            part(axes, place - 0.2, part(axes, place - 0.2, 0, bank.estate - receipts, CASH, 0.34), receipts, RECEIPTS, 0.34)
+        bars_owed(axes, place + 0.2 if debts is not None else place, 0.36 if debts is not None else 0.62, bank, debts, longest, money)
+        axes.plot([-0.018 * longest], [place], clip_on=False, **drawing.mark_of(bank.state, 7))
+    titles(figure, banks, short, shown, money)
+    scale(axes, shown, longest, money)
+    legend(pyplot, figure, shown, debts)
+    return figure
+
+
+def bars_owed(axes, place, height, bank, debts, longest, money):
+    """What a bank owes, part by part, each with what is paid of it; and the shortfall beside it."""
+    at = 0
+    for word, claim, paid in parts_owed(bank, debts):
+        begins = at
+        at = part(axes, place, part(axes, place, at, paid, PAID, height), claim - paid, UNPAID, height)
+        if word and claim > (0.04 if len(word) == 1 else 0.1) * longest:
+            box = {"boxstyle": "round,pad=0.15", "facecolor": LIGHT["ground"], "edgecolor": LIGHT["ink"], "linewidth": 0.5}
+            axes.text(begins + claim / 2, place, word, va="center", ha="center", fontsize=7, color=LIGHT["ink"], bbox=box)
+    unpaid = results.shortfall_of(bank)
+    text = f"{money.number(unpaid)} ({results.percent(unpaid, results.due_of(bank))})"
+    axes.text(at + 0.008 * longest, place, text, va="center", fontsize=8.5, color=LIGHT["ink"])
+
+
+def titles(figure, banks, short, shown, money):
+    total = sum(map(results.shortfall_of, short))
+    left_out = f"; the {len(shown)} largest are shown" if len(shown) < len(short) else ""
+    title = f"{len(short):,} of {results.count(len(banks), 'bank')} in default leave {money(total)} unpaid{left_out}"
+    wide, tall = figure.get_size_inches()
+    for down, text, how in (
+        (0.12, title, {"fontsize": 12, "fontweight": "bold", "color": LIGHT["ink"]}),
+        (0.4, money.about(), {"fontsize": 9, "color": LIGHT["muted"]}),
+    ):
+        figure.text(0.1 / wide, 1 - down / tall, drawing.plain(text), va="top", **how)
+
+
+def scale(axes, shown, longest, money):
+    axes.set(xlim=(-0.035 * longest, 1.2 * longest), ylim=(max(len(shown), 1) - 0.4, -0.6))
+    axes.set_yticks(range(len(shown)), [drawing.plain(bank.name) for bank in shown], fontsize=10)
+    axes.tick_params(axis="y", length=0, pad=8)
+    axes.locator_params(axis="x", nbins=6)
+    axes.xaxis.set_major_formatter(lambda units, _: money.number(round(units)) if units >= 0 else "")
+    axes.tick_params(axis="x", labelsize=8.5)
     axes.spines[["top", "right", "left"]].set_visible(False)
 
 
-def shortfall(bank):
-    return f" {bank.owed - bank.paid:,} ({100 * (bank.owed - bank.paid) / bank.owed:.1f}%)"
+def legend(pyplot, figure, shown, debts):
+    kinds = {"paid": PAID, "left unpaid": UNPAID}
+    if debts is not None:
+        kinds = {"above: cash": CASH, "above: receipts": RECEIPTS, "below: paid, by class": PAID, "below: left unpaid": UNPAID}
+    states = [state for state in STATES if any(bank.state == state for bank in shown)]
+    handles = [pyplot.Rectangle((0, 0), 1, 1, **kind) for kind in kinds.values()]
+    handles += [pyplot.Line2D([], [], linestyle="", **drawing.mark_of(state, 7)) for state in states]
+    words = [*kinds, *(results.in_short(state) for state in states)]
+    wide, tall = figure.get_size_inches()
+    place, columns = (0.05 / wide, 0.02 / tall), 4 if len(handles) > 5 else 3
+    figure.legend(handles, words, loc="lower left", bbox_to_anchor=place, ncol=columns, frameon=False, fontsize=8.5)
 
 
-def draw(pyplot, banks, most, output):
-    """A bar for each bank: paid to the left, unpaid to the right."""
-    short, shown = shown_of(banks, most)
-    figure, axes = pyplot.subplots(figsize=(9, 1.6 + 0.3 * max(len(shown), 2)), layout="constrained")
-    places = range(len(shown))
-    axes.barh(places, [bank.owed - bank.paid for bank in shown], color=[FILL[bank.state] for bank in shown])
-    axes.barh(places, [-bank.paid for bank in shown], color=PAID)
-    for place, bank in zip(places, shown):
-        axes.text(bank.owed - bank.paid, place, shortfall(bank), va="center", fontsize=8)
-    axes.margins(x=0.18)
-    axes.set_xlabel("units: paid to the left, left unpaid to the right")
-    finish(pyplot, figure, axes, banks, short, shown, [("paid", PAID)])
-    figure.savefig(output, dpi=150)
-
-
-def draw_with_payments(pyplot, banks, debts, most, output):
-    """Two bars for each bank: what it has, and what it owes by class."""
-    short, shown = shown_of(banks, most)
-    figure, axes = pyplot.subplots(figsize=(10, 1.6 + 0.55 * max(len(shown), 2)), layout="constrained")
-    received = {}
-    for debt in debts:
-        received[debt.creditor] = received.get(debt.creditor, 0) + debt.paid
-
-    def part(place, at, units, colour):
-        if units:
-            axes.barh(place, units, height=0.36, left=at, color=colour, edgecolor="#ffffff", linewidth=0.6)
-        return at + units
-
-    for place, bank in enumerate(shown):
-        receipts = received.get(bank.name, 0)
-        part(place - 0.2, part(place - 0.2, 0, bank.estate - receipts, CASH), receipts, RECEIPTS)
-        at = 0
-        for rank in sorted({debt.rank for debt in debts if debt.debtor == bank.name}):
-            own = [debt for debt in debts if debt.debtor == bank.name and debt.rank == rank]
-            paid, claim = sum(debt.paid for debt in own), sum(debt.claim for debt in own)
-            begins = at
-            at = part(place + 0.2, part(place + 0.2, at, paid, PAID), claim - paid, FILL[bank.state])
-            if claim > 0.04 * max(bank.owed for bank in shown):
-                axes.text(begins + claim / 2, place + 0.2, rank, va="center", ha="center", fontsize=6.5)
-        axes.text(at, place + 0.2, shortfall(bank), va="center", fontsize=8)
-    axes.margins(x=0.18)
-    axes.set_xlim(left=0)
-    axes.set_xlabel("units; above what the bank has, below what it owes, by class")
-    finish(pyplot, figure, axes, banks, short, shown, [("cash", CASH), ("receipts", RECEIPTS), ("paid", PAID)])
-    figure.savefig(output, dpi=150)
-
-
-def main():
+def words():
     parser = argparse.ArgumentParser(description=__doc__, formatter_class=argparse.RawDescriptionHelpFormatter)
     parser.add_argument("defaults", metavar="DEFAULTS", help="what `clearing defaults` prints")
     parser.add_argument("output", metavar="OUTPUT", help="the picture to write")
     parser.add_argument("--payments", metavar="FILE", help="what `clearing clear` prints")
     parser.add_argument("--bounds", metavar="FILE", help="what `clearing bounds` prints")
+    parser.add_argument("--banks", metavar="FILE", help="the banks file, for what banks owe outside")
     parser.add_argument("--most", metavar="N", type=int, default=40, help="how many banks are shown at most (40)")
+    results.add_money(parser)
     asked = parser.parse_args()
     if asked.most < 1:
         parser.error("--most is at least 1")
-    try:
-        import matplotlib
-    except ImportError:
-        print("shortfalls.py: matplotlib is missing; on Debian it is the package python3-matplotlib", file=sys.stderr)
-        sys.exit(2)
-    matplotlib.use("Agg")
-    from matplotlib import pyplot
+    return asked
 
+
+def main():
+    asked = words()
+    pyplot = drawing.pyplot_or_end("shortfalls.py")
     try:
-        banks = read_defaults(asked.defaults)
+        drawing.check_kind(asked.output)
+        banks = results.read_banks(asked.defaults, results.read_outside(asked.banks) if asked.banks else None)
         if asked.bounds:
-            gridlock = read_gridlock(asked.bounds)
-            banks = [bank._replace(state="gridlock") if bank.name in gridlock else bank for bank in banks]
-        if asked.payments:
-            debts = read_payments(asked.payments)
+            banks = results.with_gridlock(banks, read_gridlock(asked.bounds))
+        debts = read_payments(asked.payments) if asked.payments else None
+        if debts is not None:
             check_same_network(debts, banks, asked.payments, asked.defaults)
-            draw_with_payments(pyplot, banks, debts, asked.most, asked.output)
-        else:
-            draw(pyplot, banks, asked.most, asked.output)
-    except Refused as fault:
+        figure = draw(pyplot, banks, debts, Money(asked.unit, asked.currency), asked.most)
+        drawing.save(figure, asked.output, [asked.defaults, asked.payments, asked.bounds, asked.banks])
+    except (Refused, files.Refused, OSError) as fault:
         sys.exit(f"shortfalls.py: {fault}")
-    except (OSError, ValueError) as fault:
-        sys.exit(f"shortfalls.py: {asked.output}: cannot be written: {fault}")
 
 
-main()
+if __name__ == "__main__":
+    main()

@@ -2,10 +2,11 @@
 """Draws which banks default in which scenarios, and how much they leave unpaid.
 
 In:   STRESS     what `clearing stress` prints
-Out:  a map with a column for each scenario, in file order, and a row for each bank that defaults in one of them, those that
-      default most often first. A cell is coloured by the share of what the bank owes in the network that it leaves unpaid; a dot
-      marks a default that is the bank's own (fundamental), so that a coloured cell without one is contagion. The margins count
-      the defaults of each scenario and of each bank. The kind of picture is the ending of OUTPUT: .svg, .png or .pdf.
+      --banks    the banks file: what is left unpaid then has what banks owe outside, too
+Out:  a map with a row for each scenario, in file order, and a column for each bank that defaults in one of them, those that default
+      most often first. A cell has the share of all it owes that the bank leaves unpaid, and a strip filled with blue as far as it
+      pays; a square marks a default by the bank's own fundamentals, a diamond one by contagion. The margins count the defaults of
+      each scenario and of each bank. The kind of picture is the ending of OUTPUT: .svg, .png or .pdf.
 
 Example:
     clearing stress --banks banks.csv --debts debts.csv --scenarios scenarios.toml >stress.txt
@@ -18,120 +19,155 @@ import argparse
 import sys
 from collections import namedtuple
 
-from texts import DEFAULTS_HEADERS, Refused, number, text_of
+import drawing
+import files
+import results
+from drawing import LIGHT
+from texts import DEFAULTS_HEADERS, Refused, lines_of
 
-Standing = namedtuple("Standing", "share state")
+# A scenario, and its banks by name.
 Scenario = namedtuple("Scenario", "name banks")
 
-STATES = ("sound", "fundamental", "contagion")
 
-
-def read_scenario(name, first, lines):
+def read_scenario(name, first, lines, outside):
     """One scenario, whose first line has that number in the file: the payments are passed over, the defaults read."""
     if not lines[0].startswith("scenario,"):
         raise Refused(f"{name}: line {first}: no scenario begins here")
     header = next((at for at, line in enumerate(lines) if line in DEFAULTS_HEADERS), None)
     if header is None:
         raise Refused(f"{name}: line {first}: the scenario has no table of defaults")
-    if not lines[-2].startswith("total,") or not lines[-1].startswith("cash,"):
+    if len(lines) < header + 3 or not lines[-2].startswith("total,") or not lines[-1].startswith("cash,"):
         raise Refused(f"{name}: line {first}: the scenario does not end with the lines total and cash")
-    banks = {}
-    for at, line in enumerate(lines[header + 1 : -2], first + header + 1):
-        fields = line.split(",")
-        if len(fields) != lines[header].count(",") + 1 or fields[-1] not in STATES:
-            raise Refused(f"{name}: line {at}: not the record of a bank")
-        paid, owed = number(name, at, fields[-4]), number(name, at, fields[-3])
-        banks[fields[0]] = Standing((owed - paid) / owed if owed else 0.0, fields[-1])
-    return Scenario(lines[0].removeprefix("scenario,"), banks)
+    banks = results.table_of(name, lines[header], lines[header + 1 : -2], first + header + 1, outside)
+    return Scenario(lines[0].removeprefix("scenario,"), {bank.name: bank for bank in banks})
 
 
-def read_stress(name):
-    """The scenarios in file order. An empty line stands between two."""
-    text = text_of(name).removesuffix("\n")
-    if not text:
-        raise Refused(f"{name}: it has no scenario")
-    scenarios, line = [], 1
-    for block in text.split("\n\n"):
-        lines = block.split("\n")
-        scenarios.append(read_scenario(name, line, lines))
-        line += len(lines) + 1
+def read_stress(name, outside=None):
+    """The scenarios in file order. An empty line stands between two, and one before the defaults of each."""
+    lines = lines_of(name)
+    starts = [at for at, line in enumerate(lines) if line.startswith("scenario,") and (at == 0 or not lines[at - 1])]
+    if not starts or starts[0]:
+        raise Refused(f"{name}: line 1: no scenario begins here" if any(lines) else f"{name}: it has no scenario")
+    scenarios = []
+    for start, end in zip(starts, [*starts[1:], len(lines) + 1]):
+        scenarios.append(read_scenario(name, start + 1, lines[start : end - 1], outside))
         if scenarios[-1].banks.keys() != scenarios[0].banks.keys():
             raise Refused(f"{name}: scenario {len(scenarios)} has other banks than the first")
     return scenarios
 
 
-def plain(text):
-    """Text that matplotlib shows as it is, and not too long."""
-    return (text if len(text) <= 32 else text[:31] + "…").replace("$", r"\$")
-
-
-def rows_of(scenarios):
+def columns_of(scenarios):
     """The banks that default in some scenario, those that do most often first, and then by what they leave unpaid."""
     weight = {}
-    for bank in scenarios[0].banks:
-        standings = [scenario.banks[bank] for scenario in scenarios]
-        defaults = sum(standing.state != "sound" for standing in standings)
+    for name in scenarios[0].banks:
+        standings = [scenario.banks[name] for scenario in scenarios]
+        defaults = sum(bank.state != "sound" for bank in standings)
         if defaults:
-            weight[bank] = (-defaults, -sum(standing.share for standing in standings))
+            weight[name] = (-defaults, -sum(map(results.shortfall_of, standings)))
     return sorted(weight, key=weight.get)
 
 
-def draw(pyplot, scenarios, most, output):
+def title_of(scenarios, columns, shown):
+    banks, one = len(scenarios[0].banks), len(columns) == 1
+    left_out = f"; the first {len(shown)} are shown" if len(shown) < len(columns) else ""
+    times = results.count(len(scenarios), "scenario")
+    return f"{len(columns):,} of {results.count(banks, 'bank')} {'defaults' if one else 'default'} in at least one of {times}{left_out}"
+
+
+class Map:
+    """The figure, in inches: room for the names at the left and above, a cell for each scenario and bank, margins, and a legend."""
+
+    WIDE, TALL, BELOW = 0.68, 0.42, 1.0
+
+    def __init__(self, pyplot, scenarios, shown, title):
+        self.pyplot, self.scenarios, self.shown = pyplot, scenarios, shown
+        rows, columns = len(scenarios), max(len(shown), 1)
+        left = max(drawing.width_of(scenario.name, 9) for scenario in scenarios) / 72 + 0.3
+        above = max([drawing.width_of(name, 9) for name in shown], default=0) / 72 * 0.87 + 0.3
+        wide = max(left + self.WIDE * columns + 1.1, 7)
+        lines = drawing.wrapped(title, int(wide * 10))
+        tall = above + self.TALL * rows + self.BELOW + 0.3 + 0.2 * len(lines)
+        self.size = wide, tall
+        self.figure, self.axes = pyplot.subplots(figsize=self.size)
+        right, top = (left + self.WIDE * columns) / wide, (self.BELOW + self.TALL * rows) / tall
+        self.figure.subplots_adjust(left=left / wide, right=right, bottom=self.BELOW / tall, top=top)
+        self.axes.set(xlim=(0, columns), ylim=(rows, 0), xticks=[])
+        self.axes.tick_params(length=0)
+        self.axes.spines[:].set_visible(False)
+        self.say(0.1, tall - 0.12, "\n".join(lines), fontsize=11, fontweight="bold")
+
+    def say(self, x, y, text, **how):
+        self.figure.text(x / self.size[0], y / self.size[1], drawing.plain(text), va="top", color=LIGHT["ink"], **how)
+
+    def box(self, x, y, wide, tall, ground, edge):
+        self.axes.add_patch(self.pyplot.Rectangle((x, y), wide, tall, facecolor=ground, edgecolor=edge, linewidth=0.6))
+
+    def cell(self, column, row, bank):
+        """What a bank pays in a scenario: a strip filled with blue, above it the number and the mark of its state."""
+        due, given = results.due_of(bank), results.given_by(bank)
+        self.box(column + 0.04, row + 0.05, 0.92, 0.9, LIGHT["panel" if bank.state == "sound" else "ground"], LIGHT["line"])
+        if due:
+            self.box(column + 0.1, row + 0.7, 0.8, 0.16, LIGHT["ground"], LIGHT["ink"])
+            self.box(column + 0.1, row + 0.7, 0.8 * drawing.filled(given / due, 30), 0.16, LIGHT["paid"], LIGHT["ink"])
+        if bank.state != "sound":
+            self.axes.plot([column + 0.17], [row + 0.36], **drawing.mark_of(bank.state, 6))
+            text = results.percent(due - given, due)
+            self.axes.text(column + 0.93, row + 0.38, text, ha="right", va="center", fontsize=8, color=LIGHT["ink"])
+
+    def names_and_sums(self):
+        """The names of scenarios and banks, and the defaults of each in the margins."""
+        axes, how = self.axes, {"va": "center", "fontsize": 9, "color": LIGHT["ink"]}
+        rows, columns = len(self.scenarios), max(len(self.shown), 1)
+        axes.set_yticks([row + 0.5 for row in range(rows)], [drawing.plain(scenario.name) for scenario in self.scenarios], fontsize=9)
+        for row, scenario in enumerate(self.scenarios):
+            axes.text(columns + 0.15, row + 0.5, sum(bank.state != "sound" for bank in scenario.banks.values()), **how)
+        for column, name in enumerate(self.shown):
+            defaults = sum(scenario.banks[name].state != "sound" for scenario in self.scenarios)
+            axes.text(column + 0.5, rows + 0.35, defaults, ha="center", **how)
+            axes.text(column + 0.4, -0.15, drawing.plain(name), rotation=60, ha="left", **{**how, "va": "bottom"})
+        axes.text(columns + 0.15, rows + 0.35, "defaults", **{**how, "fontsize": 8, "color": LIGHT["muted"]})
+
+    def legend(self):
+        line, box = self.pyplot.Line2D, self.pyplot.Rectangle
+        marks = [line([], [], linestyle="", **drawing.mark_of(state, 7)) for state in ("fundamental", "contagion")]
+        boxes = [box((0, 0), 1, 1, facecolor=LIGHT[ground], edgecolor=LIGHT["ink"]) for ground in ("paid", "ground")]
+        words = ["by own fundamentals", "by contagion", "paid", "left unpaid: the number"]
+        place = 0.05 / self.size[0], 0.02 / self.size[1]
+        self.figure.legend(marks + boxes, words, loc="lower left", bbox_to_anchor=place, ncol=2, frameon=False, fontsize=9)
+
+
+def draw(pyplot, scenarios, most):
     """The map, with at most so many banks."""
-    rows = rows_of(scenarios)
-    shown = rows[:most]
-    size = (3 + max(4, 0.17 * len(scenarios)), 2.2 + 0.2 * max(len(shown), 4))
-    figure, axes = pyplot.subplots(figsize=size, layout="constrained")
-    left_out = f", {len(shown)} shown" if len(shown) < len(rows) else ""
-    title = f"{len(rows)} of {len(scenarios[0].banks)} banks default in at least one of {len(scenarios)} scenarios{left_out}"
-    axes.set_title(f"{title}\ndot: fundamental, without a dot: contagion; numbers: defaults", fontsize=10, loc="left", pad=14)
-    if shown:
-        shares = [[scenario.banks[bank].share for scenario in scenarios] for bank in shown]
-        colours = pyplot.get_cmap("YlOrRd").copy()
-        colours.set_under("#eef1f3")  # nothing unpaid
-        image = axes.imshow(shares, cmap=colours, vmin=1e-9, vmax=1, aspect="auto", interpolation="nearest")
-        own = [
-            (column, row)
-            for row, bank in enumerate(shown)
-            for column, scenario in enumerate(scenarios)
-            if scenario.banks[bank].state == "fundamental"
-        ]
-        if own:
-            axes.scatter(*zip(*own), s=4, color="#1a1a1a")
-        for column, scenario in enumerate(scenarios):
-            count = sum(standing.state != "sound" for standing in scenario.banks.values())
-            axes.text(column, -0.62, count, ha="center", va="bottom", fontsize=6)
-        for row, bank in enumerate(shown):
-            count = sum(scenario.banks[bank].state != "sound" for scenario in scenarios)
-            axes.text(len(scenarios) - 0.4, row, count, ha="left", va="center", fontsize=6)
-        figure.colorbar(image, ax=axes, label="share unpaid", pad=0.05, format=lambda share, _: f"{100 * share:.0f}%")
-    axes.set_yticks(range(len(shown)), [plain(bank) for bank in shown], fontsize=7)
-    axes.set_xticks(range(len(scenarios)), [plain(scenario.name) for scenario in scenarios], rotation=90, fontsize=7)
-    figure.savefig(output, dpi=150)
+    columns = columns_of(scenarios)
+    shown = columns[:most]
+    whole = Map(pyplot, scenarios, shown, title_of(scenarios, columns, shown))
+    for row, scenario in enumerate(scenarios):
+        for column, name in enumerate(shown):
+            whole.cell(column, row, scenario.banks[name])
+    whole.names_and_sums()
+    whole.legend()
+    return whole.figure
 
 
 def main():
     parser = argparse.ArgumentParser(description=__doc__, formatter_class=argparse.RawDescriptionHelpFormatter)
     parser.add_argument("stress", metavar="STRESS", help="what `clearing stress` prints")
     parser.add_argument("output", metavar="OUTPUT", help="the picture to write")
-    parser.add_argument("--most", metavar="N", type=int, default=60, help="how many banks are shown at most (60)")
+    parser.add_argument("--banks", metavar="FILE", help="the banks file, for what banks owe outside")
+    parser.add_argument("--most", metavar="N", type=int, default=30, help="how many banks are shown at most (30)")
     asked = parser.parse_args()
     if asked.most < 1:
         parser.error("--most is at least 1")
+    pyplot = drawing.pyplot_or_end("stress_map.py")
     try:
-        import matplotlib
-    except ImportError:
-        print("stress_map.py: matplotlib is missing; on Debian it is the package python3-matplotlib", file=sys.stderr)
-        sys.exit(2)
-    matplotlib.use("Agg")
-    from matplotlib import pyplot
-
-    try:
-        draw(pyplot, read_stress(asked.stress), asked.most, asked.output)
-    except Refused as fault:
+        drawing.check_kind(asked.output)
+        outside = results.read_outside(asked.banks) if asked.banks else None
+        drawing.save(
+            draw(pyplot, read_stress(asked.stress, outside), asked.most), asked.output, [asked.stress, asked.banks]
+        )
+    except (Refused, files.Refused, OSError) as fault:
         sys.exit(f"stress_map.py: {fault}")
-    except (OSError, ValueError) as fault:
-        sys.exit(f"stress_map.py: {asked.output}: cannot be written: {fault}")
 
 
-main()
+if __name__ == "__main__":
+    main()
