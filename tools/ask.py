@@ -4,7 +4,9 @@ The program is that of the environment variable CLEARING, else the repository's 
 time, each run by one worker. On a terminal a line on standard error says how many runs are done. At an interrupt all runs are ended
 at once, and the tool ends with 130.
 """
+import argparse
 import concurrent.futures
+import json
 import os
 import pathlib
 import signal
@@ -12,6 +14,7 @@ import subprocess
 import sys
 import tempfile
 import threading
+from collections import namedtuple
 
 ROOT = pathlib.Path(__file__).resolve().parents[1]
 TOOL = pathlib.Path(sys.argv[0]).name
@@ -92,11 +95,16 @@ class Asking:
         items = list(items)
         pool = concurrent.futures.ThreadPoolExecutor(processors())
         told = Progress(what, len(items))
-        waiting = [pool.submit(work, item) for item in items]
+        waiting = []
         try:
-            for done in concurrent.futures.as_completed(waiting):
-                done.result()
-                told.one_more()
+            waiting += [pool.submit(work, item) for item in items]
+            left = set(waiting)
+            while left:
+                # Not for long at a time: a signal that comes just before a wait is looked at after it.
+                ended, left = concurrent.futures.wait(left, 0.1, concurrent.futures.FIRST_COMPLETED)
+                for done in ended:
+                    done.result()
+                    told.one_more()
             return [done.result() for done in waiting]
         except BaseException:
             for future in waiting:
@@ -134,6 +142,110 @@ def groups_of(items, most=100):
     items = list(items)
     size = max(1, min(most, -(-len(items) // processors())))
     return [items[at : at + size] for at in range(0, len(items), size)]
+
+
+# Networks and scenarios.
+
+Network = namedtuple("Network", "names cash rules outside debts")
+Standing = namedtuple("Standing", "estate outside_paid paid owed equity state")
+
+HEADERS = (b"bank,estate,paid,owed,equity,state", b"bank,estate,outside_paid,paid,owed,equity,state")
+MAX_SCENARIOS, MAX_SCENARIO_BYTES = 100, 8_388_608
+
+
+def files_parser(doc):
+    """A parser of words that takes the two files, with this text as its help."""
+    summary, _, rest = doc.partition("\n\n")
+    parser = argparse.ArgumentParser(
+        description=summary, epilog=rest, formatter_class=argparse.RawDescriptionHelpFormatter, allow_abbrev=False
+    )
+    parser.add_argument("--banks", metavar="FILE", required=True, help="the banks file")
+    parser.add_argument("--debts", metavar="FILE", required=True, help="the debts file")
+    return parser
+
+
+def words_of(asked):
+    """The two files as words of the program."""
+    return [f"--banks={asked.banks}", f"--debts={asked.debts}"]
+
+
+def network_of(asking, files):
+    """The network as `clearing check` prints it."""
+    _, banks, debts = asking.answer(["check", *files]).decode().removesuffix("\n").split("\n\n")
+    banks = [line.split(",") for line in banks.split("\n")[1:]]
+    debts = [line.split(",") for line in debts.split("\n")[1:]]
+    return Network(
+        [bank[0] for bank in banks],
+        [int(bank[1]) for bank in banks],
+        [bank[2] for bank in banks],
+        [int(bank[3]) if len(bank) == 4 else 0 for bank in banks],
+        [(debtor, creditor, int(rank), int(claim)) for debtor, creditor, rank, claim in debts],
+    )
+
+
+def scenario_text(cut, losses):
+    """A scenario with a cut per mille and losses, each a bank's name and units."""
+    lines = ['[[scenario]]\nname = "s"\n', f"cut = {cut}\n"]
+    for bank, amount in losses:
+        lines.append(f"[[scenario.loss]]\nbank = {json.dumps(bank, ensure_ascii=False)}\namount = {amount}\n")
+    return "".join(lines).encode()
+
+
+def scenario_groups(texts):
+    """The numbers of scenarios, in groups that a file of scenarios may have, for all processors."""
+    for group in groups_of(range(len(texts)), MAX_SCENARIOS):
+        part, size = [], 0
+        for number in group:
+            if part and size + len(texts[number]) > MAX_SCENARIO_BYTES:
+                yield part
+                part, size = [], 0
+            part.append(number)
+            size += len(texts[number])
+        yield part
+
+
+def stress(asking, folder, files, texts, take, what):
+    """What `take` makes of the table of defaults of each scenario, in their order; it gets the lines of the banks."""
+    groups = list(scenario_groups(texts))
+
+    def work(group):
+        handle, name = tempfile.mkstemp(suffix=".toml", dir=folder)
+        with open(handle, "wb") as file:
+            file.writelines(texts[number] for number in group)
+        output = asking.answer(["stress", *files, "--scenarios", name, "--workers", "1"])
+        os.unlink(name)
+        made = [take(lines) for lines in tables_of(output)]
+        if len(made) != len(group):
+            raise Failed(f"{program()} did not print a table for each scenario")
+        return made
+
+    return [made for part in asking.all(work, groups, what) for made in part]
+
+
+def tables_of(output):
+    """The lines of the banks in each table of defaults of an output."""
+    output = b"\n" + output
+    for header in HEADERS:
+        # No name has a comma or an end of a line, so that no other line is a header. A table ends at an empty line, or with the output.
+        at = output.find(b"\n" + header + b"\n")
+        while at >= 0:
+            end = output.find(b"\n\n", at + 1)
+            table = output[at : end if end >= 0 else len(output)].strip(b"\n").split(b"\n")
+            yield table[1:-2]  # without the header, `total` and `cash`
+            at = output.find(b"\n" + header + b"\n", at + 1)
+
+
+def standing_of(line):
+    """The numbers and the state of a bank's line. What is paid outside is 0 where the table has no column for it."""
+    fields = line.split(b",")
+    outside = int(fields[2]) if len(fields) == 7 else 0
+    return Standing(int(fields[1]), outside, *map(int, fields[-4:-1]), fields[-1].decode())
+
+
+def defaults_of(asking, files):
+    """How the banks stand, by `clearing defaults`."""
+    output = asking.answer(["defaults", *files, "--workers", "1"])
+    return next(tables_of(output))
 
 
 # Files.
