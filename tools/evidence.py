@@ -4,6 +4,9 @@
     tools/evidence.sh make FOLDER --banks FILE --debts FILE [--scenarios FILE] [--bank NAME]
     tools/evidence.sh check FOLDER
 
+In:   for `make` the two files, a file of scenarios and the name of a bank, as `clearing` takes them; for `check` the folder
+Out:  for `make` the folder, and a line with the checksum of its checksums; for `check` a line for each thing looked at
+
 `make` writes a new folder, whole or not at all: the inputs as they were (inputs/); for the network as it is (as-is/), and for each
 scenario (scenario-1/ ...) with the banks file that it leaves, a journal, the payments and the defaults; with --bank the rescue
 of that bank, the network with the sum that saves it (rescue/) and with a unit less (unit-less/), and the same of each; stress.csv
@@ -15,9 +18,9 @@ rescue anew, and follows each journal by tools/audit.py, which shares no code wi
 (CLEARING, or that of the repository) it replays the journals too, and runs each command again. It prints a line for each, and at the
 end what was checked and what was not.
 
-`make` ends with 0; 1 where the program fails, or where two of its answers do not agree; 2 where the words are not understood or FOLDER is
+Ends with 0 where all is well. `make` ends with 1 where the program fails, or where two of its answers do not agree; 2 where the words are not understood or FOLDER is
 there already; 3 where a file cannot be read; 4 where a file is refused; 5 where FOLDER cannot be written.
-`check` ends with 0 where all holds. Else with the first of these that does not: 3 the folder can be read and has what belongs to it; 4
+`check` ends with the first of these that does not hold: 3 the folder can be read and has what belongs to it; 4
 the checksums; 5 the banks files; 6 the journals; 7 the payments and defaults; 8 what the program here prints. Both end with 2 where the words
 are not understood and with 130 at an interrupt.
 """

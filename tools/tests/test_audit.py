@@ -8,9 +8,10 @@ sys.path[:0] = [str(ROOT / "tools"), str(ROOT / "bench")]
 import audit  # noqa: E402
 import model  # noqa: E402
 
-# A defaults by its own doing, B by contagion, C is sound with something to spare, D owes nothing, and E has no debts at all.
+# A defaults by its own doing, B by contagion, C is sound with something to spare, D owes nothing, and E has no debts at all. Of its
+# last debt A pays nothing.
 BANKS = "name,cash,rule,outside\nA,7,webster,0\nB,1,order,2\nC,20,equal,3\nD,0,adams,0\nE,2,losses,0\n"
-DEBTS = "debtor,creditor,class,claim\nA,B,1,6\nA,C,1,4\nB,C,2,5\nC,D,1,5\nC,A,2,1\n"
+DEBTS = "debtor,creditor,class,claim\nA,B,1,6\nA,C,1,4\nB,C,2,5\nC,D,1,5\nC,A,2,1\nA,D,2,3\n"
 
 # What stands in a file, by its name: what a field is changed to, by the word of the header above it.
 CHANGES = {
@@ -236,7 +237,8 @@ UNNOTICED = {
 } - {("banks", 2, 2, "order"), ("banks", 3, 2, "equal"), ("banks", 4, 2, "adams"), ("banks", 5, 2, "losses")}
 
 # What a replay alone does not notice, but the tables do: the tables have these numbers, and the division does not use them. Cash and
-# outside claims of a bank that pays all nevertheless; the claim of a bank that divides as before; the name of a bank without debts.
+# outside claims of a bank that pays all nevertheless; the claim of a bank that divides as before; any field of a debt that is paid
+# nothing; the name of a bank without debts.
 UNNOTICED_BY_REPLAY = {
     *(("banks", 3, 1, cash) for cash in ("19", "21")),
     *(("banks", 3, 3, outside) for outside in ("2", "4")),
@@ -246,6 +248,7 @@ UNNOTICED_BY_REPLAY = {
     ("banks", 5, 3, "1"),
     ("debts", 1, 3, "7"),
     *(("debts", 3, 3, claim) for claim in ("4", "6")),
+    *(("debts", 6, at, field) for at, field in [(0, "B"), (1, "B"), (1, "C"), (2, "9"), (3, "0"), (3, "2"), (3, "4")]),
 }
 
 if __name__ == "__main__":

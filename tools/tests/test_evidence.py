@@ -241,6 +241,39 @@ class Evidence(Case):
         checked(3, "checksums: scenario-1/payments.csv is not there", "scenario-1/payments.csv is not there")
         self.assertEqual(evidence("check", folder).returncode, 0)
 
+    # Builds.
+
+    def test_two_builds_are_compared(self):
+        """With a build that takes no time in place of the real one."""
+        root = self.folder / "repository"
+        (root / "bench").mkdir(parents=True)
+        script = root / "bench/same_build.sh"
+        script.write_bytes((ROOT / "bench/same_build.sh").read_bytes())
+        (root / ".gitignore").write_text("crates/*/out/\n")
+        commands = self.folder / "commands"
+        commands.mkdir()
+        (commands / "rt").write_text("#!/bin/sh\necho kit\n")
+        environment = {**os.environ, "PATH": f"{commands}:{os.environ['PATH']}", "GIT_CONFIG_GLOBAL": os.devnull}
+        git = lambda *words: subprocess.run(
+            ["git", "-c", "user.name=a", "-c", "user.email=a@b", *words], cwd=root, check=True, capture_output=True, env=environment)
+        git("init", "--quiet")
+        sums = []
+        for content, status, said in [("true program", 0, "the same bytes\n"), ("$PWD", 1, "the programs differ\n"), (None, 1, "no rt\n")]:
+            make = f'mkdir -p crates/clear_main/out; echo "{content}" >crates/clear_main/out/clear_main'
+            (root / "clearing").write_text("#!/bin/sh\n" + (make if content else "echo no rt >&2; exit 8") + "\n")
+            for path in (root / "clearing", script, commands / "rt"):
+                path.chmod(0o755)
+            git("add", "--all")
+            git("commit", "--quiet", "--message", "x")
+            done = subprocess.run([str(script)], env=environment, capture_output=True, encoding="utf-8")
+            self.assertEqual((done.returncode, done.stdout[-len(said) :]), (status, said), done.stderr)
+            sums.append(done.stdout.splitlines()[2].split()[0])
+        program = self.file("program", "true program\n")
+        for given, status in ((sums[0], 0), (sums[1], 1)):
+            self.assertEqual(subprocess.run([str(script), given, str(program)], capture_output=True).returncode, status)
+        for words in (["no-such-commit"], ["-x"], ["a", "b", "c"], [sums[0], str(self.folder / "none")]):
+            self.assertEqual(subprocess.run([str(script), *words], env=environment, capture_output=True).returncode, 2)
+
     # What goes wrong while a folder is made.
 
     def nothing_is_left(self, folder, *others):
