@@ -4,6 +4,7 @@ import bisect
 import functools
 import importlib.util
 import os
+import pathlib
 import random
 import signal
 import statistics
@@ -123,6 +124,14 @@ class Solver:
 
     def after(self, cut=0, losses={}):
         return self.standings(tuple(max(0, c - c * cut // 1000 - losses.get(i, 0)) for i, c in enumerate(self.cash)))
+
+
+def is_running(number):
+    """Whether a process runs; one that ended and was not waited for does not."""
+    try:
+        return pathlib.Path(f"/proc/{number}/stat").read_text().rsplit(") ", 1)[1][0] not in "ZX"
+    except OSError:
+        return False
 
 
 def records(text):
@@ -400,7 +409,7 @@ class Analysis(Case):
         for command in self.commands():
             output = self.folder / "out.csv"
             begun = self.folder / f"{command[0]}.begun"
-            running = self.with_program(f'case $1 in stress|rescue) echo . >"{begun}"; exec sleep 60;; esac', *command, *words,
+            running = self.with_program(f'case $1 in stress|rescue) echo $$ >>"{begun}"; exec sleep 60;; esac', *command, *words,
                                         "--ranking" if command[0] == "impact.py" else "--output", output, start_new_session=True)
             deadline = time.monotonic() + 30
             while not begun.exists() and time.monotonic() < deadline:
@@ -408,8 +417,12 @@ class Analysis(Case):
             sent = time.monotonic()
             running.send_signal(signal.SIGINT)
             self.assertEqual(running.wait(30), 130)
-            self.assertLess(time.monotonic() - sent, 5)
+            self.assertLess(time.monotonic() - sent, 20)
             self.assertFalse(output.exists())
+            # What is ended may take a moment to be gone.
+            while (left := [number for number in begun.read_text().split() if is_running(number)]) and time.monotonic() - sent < 20:
+                time.sleep(0.05)
+            self.assertEqual(left, [])
 
     def test_a_terminal_is_told_how_far_it_is(self):
         pty = importlib.import_module("pty")
