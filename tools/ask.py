@@ -81,7 +81,7 @@ class Asking:
         status, output, messages = self.run([program(), *words], folder)
         if status != 0:
             said = messages.decode("utf-8", "replace").strip() or f"{program()} ended with {status}"
-            raise Failed(said.splitlines()[-1].removeprefix("clearing: "), 4 if status == 4 else 3 if status == 3 else 1)
+            raise Failed(said.splitlines()[-1].removeprefix("clearing: "), status if status in (2, 3, 4) else 1)
         return output
 
     def stop(self):

@@ -201,7 +201,8 @@ class Analysis(Case):
         self.assertEqual({int(cut) <= 1000 for _, cut, _ in found}, {True, False})
 
     def test_breaking_losses(self):
-        for words, of in ((self.small(), 0), (self.generated(), 7)):
+        example = lambda name: ["--banks", EXAMPLES / name / "banks.csv", "--debts", EXAMPLES / name / "debts.csv"]
+        for words, of in ((self.small(), 0), (example("twelve-banks"), 9), (example("core"), 2), (self.generated(), 7)):
             solver = self.solver(words)
             name = solver.net.banks[of].name.decode()
             text = self.made("breaking.py", *words, "--loss", name)
@@ -264,10 +265,15 @@ class Analysis(Case):
                 self.assertEqual(per_unit, sorted(per_unit, reverse=True))
 
     def test_draws_of_the_past(self):
-        words = self.generated()
+        for name, words in self.networks():
+            with self.subTest(network=name):
+                self.check_draws(words)
+
+    def check_draws(self, words):
         solver = self.solver(words)
-        past = self.file("past.csv", "year,cut,N3,N7\n2001,10,0,100\n2008,600,900,50.5\n2020,100,5e1,-4\n2021,2000,0,0\n")
-        losses = [(10, {7: 100}), (600, {3: 900, 7: 51}), (100, {3: 50}), (1000, {})]
+        names = [bank.name.decode() for bank in solver.net.banks]
+        past = self.file("past.csv", f"year,cut,{names[3]},{names[1]}\n2001,10,0,100\n2008,600,900,50.5\n2020,100,5e1,-4\n2021,2000,0,0\n")
+        losses = [(10, {1: 100}), (600, {3: 900, 1: 51}), (100, {3: 50}), (1000, {})]
         each = self.file("each.csv")
         first, second, third = self.made("draws.py", *words, "--past", past, "--draws", 60, "--seed", 4, "--each", each).split("\n\n")
         chance = random.Random(4)
@@ -277,10 +283,11 @@ class Analysis(Case):
             standings = solver.after(cut, lost)
             states = [standing[2] for standing in standings]
             unpaid = sum(numbers[3] - numbers[2] for _, numbers, _ in standings)
+            outside = sum(bank.outside - numbers[1] for bank, (_, numbers, _) in zip(solver.net.banks, standings))
             defaults, fundamental = len(states) - states.count("sound"), states.count("fundamental")
             gone = sum(solver.cash) - sum(max(0, c - c * cut // 1000 - lost.get(i, 0)) for i, c in enumerate(solver.cash))
-            lines.append([str(number), str(cut), *map(str, (gone, defaults, fundamental, unpaid, 0))])
-            columns.append((defaults, fundamental, unpaid, 0, gone))
+            lines.append([str(number), str(cut), *map(str, (gone, defaults, fundamental, unpaid, outside))])
+            columns.append((defaults, fundamental, unpaid, outside, gone))
             for i, state in enumerate(states):
                 causes[i][0] += state == "fundamental"
                 causes[i][1] += state == "contagion"
@@ -292,7 +299,6 @@ class Analysis(Case):
             self.assertEqual(numbers, [*map(str, wanted), f"{statistics.fmean(column):.3f}"], name)
         counts = [column[0] for column in columns]
         self.assertEqual(records(second), [[str(n), str(counts.count(n))] for n in sorted(set(counts))])
-        names = [bank.name.decode() for bank in solver.net.banks]
         self.assertEqual(records(third), [[name, *map(str, cause)] for name, cause in zip(names, causes)])
 
     def test_draws_have_the_moments_that_are_asked_for(self):
