@@ -295,13 +295,17 @@ class Checking:
         sys.stdout.buffer.write((line + "\n").encode("utf-8", "surrogateescape"))
         sys.stdout.flush()
 
-    def read(self, name):
-        """A file of the folder. What is no plain file within it is none."""
+    def must_be_there(self, name):
+        """What is no plain file within the folder is none."""
         path = self.folder / name
+        if not path.is_file() or path.is_symlink() or path.parent.is_symlink():
+            raise ask.Failed(f"{name} is not there", UNREAD)
+        return path
+
+    def read(self, name):
+        """The content of a file of the folder."""
         try:
-            if not path.is_file() or path.is_symlink() or path.parent.is_symlink():
-                raise ask.Failed(f"{name} is not there", UNREAD)
-            return path.read_bytes()
+            return self.must_be_there(name).read_bytes()
         except OSError as fault:
             raise ask.Failed(f"{name} cannot be read: {fault.strerror}", UNREAD) from fault
 
@@ -344,6 +348,9 @@ class Checking:
         except ask.Failed as fault:
             raise ask.Failed(f"inputs: {fault}", fault.status if fault.status == 2 else UNREAD) from fault
         self.parts = parts_of(self.network.banks, self.scenarios, self.rescue)
+        for part in self.parts:
+            for name in ("journal", "payments", "defaults"):
+                self.must_be_there(f"{part.folder}/{name}.csv")
         rescued = read_rescue(self.rescue)[0].decode() if self.rescue is not None else None
         self.commands = commands_of(self.parts, scenarios is not None, rescued)
         if self.read("commands.tsv") != commands_text(self.commands):

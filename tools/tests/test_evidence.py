@@ -238,6 +238,16 @@ class Evidence(Case):
         checked(3, "inputs: debts row 0: header (1)")
         (folder / "scenario-1/payments.csv").unlink()
         checked(3, "checksums: scenario-1/payments.csv is not there", "scenario-1/payments.csv is not there")
+        # What is no plain file is none: a link to the same bytes, and a pipe, which is not waited for.
+        for put in (lambda path: path.symlink_to(HUB / "banks.csv"), os.mkfifo):
+            path = folder / "as-is/journal.csv"
+            path.unlink()
+            put(path)
+            done = evidence("check", folder, timeout=60)
+            path.unlink()
+            path.write_bytes(kept[path])
+            self.assertEqual(done.returncode, 3)
+            self.assertIn(b"as-is/journal.csv is not there\n", done.stderr)
         self.assertEqual(evidence("check", folder).returncode, 0)
 
     # Builds.
