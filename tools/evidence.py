@@ -187,9 +187,10 @@ def program_file():
 
 
 def versions():
+    top = first_line(["git", "rev-parse", "--show-toplevel"])
     commit = first_line(["git", "rev-parse", "HEAD"])
     changes = first_line(["git", "status", "--porcelain"])
-    if commit is None:
+    if commit is None or not ask.same_file(top, ask.ROOT):
         commit = "none: the tools are not in a repository"
     elif changes:
         commit += ", with changes that are not committed"
