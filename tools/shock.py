@@ -1,0 +1,149 @@
+#!/usr/bin/env python3
+"""Writes the banks file that a scenario leaves.
+
+In:   --banks FILE and --scenarios FILE, as `clearing stress` reads them, and --scenario N, the scenario's number from 1
+Out:  the banks file with what the scenario leaves of each bank's cash, on standard output, or in --output FILE, which must be none of
+      the inputs. It is in the form in which `clearing check` prints it, in version 2 where a bank owes something outside.
+
+Of a bank's cash c a cut k leaves c less c k / 1000, the quotient rounded down; then its loss is taken away, down to nothing at
+least. `clearing clear` and `clearing defaults` on that file print what `clearing stress` prints of the scenario.
+
+It shares no code with the program. Ends with 0; 2 where the words are not understood, there is no scenario of that number, or Python is
+older than 3.11, whose module tomllib is wanted; 3 where a file cannot be read; 4 where a file is refused, with its first fault
+as `clearing` names it; 5 where the output cannot be written; 130 at an interrupt.
+"""
+import argparse
+import pathlib
+from collections import namedtuple
+
+import ask
+import audit
+
+Scenario = namedtuple("Scenario", "name cut losses")  # losses by the bank's place
+
+MAX_BYTES, MAX_SCENARIOS, MAX_CUT, MAX_LOSS = 8_388_608, 100, 1000, 10**12
+
+
+def refused(row, kind):
+    return ask.Failed("scenarios row {}: {} ({})".format(row, kind, {**audit.KINDS, "toml": 16, "shape": 17}[kind]), 4)
+
+
+def document(data):
+    """The TOML document, all numbers of which are within 64 bits."""
+    try:
+        import tomllib
+    except ImportError as fault:
+        raise ask.Failed("scenarios are read by Python's module tomllib, which came with 3.11", 2) from fault
+    try:
+        found = tomllib.loads(data.decode())
+    except (UnicodeDecodeError, tomllib.TOMLDecodeError, RecursionError, ValueError) as fault:
+        raise refused(0, "toml") from fault
+    waiting = [found]
+    while waiting:
+        value = waiting.pop()
+        if isinstance(value, dict):
+            waiting.extend(value.values())
+        elif isinstance(value, list):
+            waiting.extend(value)
+        elif type(value) is int and not -(2**63) <= value < 2**63:
+            raise refused(0, "toml")
+    return found
+
+
+def has_shape(table, required, optional):
+    """Whether a value is a table with these keys alone, each of its type."""
+    if not isinstance(table, dict) or not set(required) <= set(table) <= set(required) | set(optional):
+        return False
+    types = {**required, **optional}
+    return all(type(value) is types[key] for key, value in table.items())
+
+
+def scenario_of(row, table, places):
+    if not has_shape(table, {"name": str}, {"cut": int, "loss": list}):
+        raise refused(row, "shape")
+    losses = table.get("loss", [])
+    if not all(has_shape(loss, {"bank": str, "amount": int}, {}) for loss in losses):
+        raise refused(row, "shape")
+    if not audit.is_name(table["name"].encode()):
+        raise refused(row, "name")
+    cut = table.get("cut", 0)
+    if not 0 <= cut <= MAX_CUT:
+        raise refused(row, "limit")
+    lost = {}
+    for loss in losses:
+        bank = loss["bank"].encode()
+        if bank not in places:
+            raise refused(row, "unknown bank")
+        if places[bank] in lost:
+            raise refused(row, "double bank")
+        if not 0 <= loss["amount"] <= MAX_LOSS:
+            raise refused(row, "limit")
+        lost[places[bank]] = loss["amount"]
+    return Scenario(table["name"], cut, lost)
+
+
+def read_scenarios(data, banks):
+    if len(data) > MAX_BYTES:
+        raise refused(0, "file size")
+    found = document(data)
+    tables = found.get("scenario", [])
+    if not set(found) <= {"scenario"} or not isinstance(tables, list):
+        raise refused(0, "shape")
+    places = {bank.name: place for place, bank in enumerate(banks)}
+    scenarios = []
+    for row, table in enumerate(tables, 1):
+        if row > MAX_SCENARIOS:
+            raise refused(row, "too many")
+        scenarios.append(scenario_of(row, table, places))
+    return scenarios
+
+
+def left_by(banks, scenario):
+    """The banks after a scenario."""
+    left = []
+    for place, bank in enumerate(banks):
+        after_cut = bank.cash - bank.cash * scenario.cut // 1000
+        left.append(bank._replace(cash=max(0, after_cut - scenario.losses.get(place, 0))))
+    return left
+
+
+def banks_text(banks):
+    """The banks file, as it is printed."""
+    second = any(bank.outside for bank in banks)
+    text = [audit.line(b"name", b"cash", b"rule", *([b"outside"] if second else []))]
+    text += [audit.line(bank.name, bank.cash, bank.rule, *([bank.outside] if second else [])) for bank in banks]
+    return b"".join(text)
+
+
+def contents(name):
+    try:
+        return pathlib.Path(name).read_bytes()
+    except OSError as fault:
+        raise ask.Failed(f"cannot read {name}", 3) from fault
+
+
+def main():
+    summary, _, rest = __doc__.partition("\n\n")
+    parser = argparse.ArgumentParser(
+        description=summary, epilog=rest, formatter_class=argparse.RawDescriptionHelpFormatter, allow_abbrev=False
+    )
+    parser.add_argument("--banks", metavar="FILE", required=True, help="the banks file")
+    parser.add_argument("--scenarios", metavar="FILE", required=True, help="the scenarios file")
+    parser.add_argument("--scenario", metavar="N", type=int, required=True, help="the scenario's number, from 1")
+    parser.add_argument("--output", metavar="FILE", help="the file to write, standard output where it is not given")
+    asked = parser.parse_args()
+    ask.keep_inputs([asked.banks, asked.scenarios], [asked.output])
+    banks_data, scenarios_data = contents(asked.banks), contents(asked.scenarios)
+    try:
+        audit.check_sizes({"banks": banks_data})
+        banks = audit.read_banks(banks_data)
+    except audit.Refused as fault:
+        raise ask.Failed(str(fault), 4) from fault
+    scenarios = read_scenarios(scenarios_data, banks)
+    if not 1 <= asked.scenario <= len(scenarios):
+        raise ask.Failed(f"{asked.scenarios} has {len(scenarios)} scenarios, and none of the number {asked.scenario}", 2)
+    ask.write_bytes(asked.output, banks_text(left_by(banks, scenarios[asked.scenario - 1])))
+
+
+if __name__ == "__main__":
+    ask.main_of(main)
