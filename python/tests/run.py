@@ -24,20 +24,25 @@ class Told(unittest.TextTestResult):
         self.passed += 1
 
 
-parser = argparse.ArgumentParser(description=__doc__, formatter_class=argparse.RawDescriptionHelpFormatter)
-parser.add_argument("--quick", action="store_true")
-parser.add_argument("--without", default="")
-parser.add_argument("--only", default="")
-words = parser.parse_args()
-sys.dont_write_bytecode = True
-sys.modules.update({name: None for name in words.without.split(",") if name})
+def main():
+    parser = argparse.ArgumentParser(description=__doc__, formatter_class=argparse.RawDescriptionHelpFormatter)
+    parser.add_argument("--quick", action="store_true")
+    parser.add_argument("--without", default="")
+    parser.add_argument("--only", default="")
+    words = parser.parse_args()
+    sys.dont_write_bytecode = True
+    sys.modules.update({name: None for name in words.without.split(",") if name})
 
-here = pathlib.Path(__file__).resolve().parent
-sys.path.insert(0, str(here))
-modules = sorted(path.stem for path in here.glob("test_*.py") if not (words.quick and path.stem in SLOW))
-modules = [name for name in words.only.split(",") if name] or modules
-suite = unittest.defaultTestLoader.loadTestsFromNames(modules)
-result = unittest.TextTestRunner(stream=sys.stdout, resultclass=Told, verbosity=2).run(suite)
-failed = len(result.failures) + len(result.errors)
-print(f"{result.passed} passed, {len(result.skipped)} skipped, {failed} failed")
-sys.exit(1 if failed or not result.passed else 0)
+    here = pathlib.Path(__file__).resolve().parent
+    sys.path.insert(0, str(here))
+    modules = sorted(path.stem for path in here.glob("test_*.py") if not (words.quick and path.stem in SLOW))
+    modules = [name for name in words.only.split(",") if name] or modules
+    suite = unittest.defaultTestLoader.loadTestsFromNames(modules)
+    result = unittest.TextTestRunner(stream=sys.stdout, resultclass=Told, verbosity=2).run(suite)
+    failed = len(result.failures) + len(result.errors)
+    print(f"{result.passed} passed, {len(result.skipped)} skipped, {failed} failed")
+    sys.exit(1 if failed or not result.passed else 0)
+
+
+if __name__ == "__main__":
+    main()

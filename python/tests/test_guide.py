@@ -4,6 +4,7 @@ import importlib
 import inspect
 import os
 import pkgutil
+import types
 import unittest
 
 from support import ROOT, Case, needs
@@ -11,6 +12,7 @@ from support import ROOT, Case, needs
 import clearing_client
 
 PAGE = ROOT / "docs" / "PYTHON.md"
+PUBLIC = [name for name, one in vars(clearing_client).items() if not name.startswith("_") and not isinstance(one, types.ModuleType)]
 
 
 class Guide(Case):
@@ -25,7 +27,7 @@ class Guide(Case):
         self.assertGreater(tried + result.attempted, 50)
 
     def test_every_public_name_says_what_it_is(self):
-        for name in clearing_client.__all__:
+        for name in PUBLIC:
             one = getattr(clearing_client, name)
             self.assertTrue(one.__doc__ and not one.__doc__.startswith(name + "("), name)
             for member, value in vars(one).items() if isinstance(one, type) else ():
@@ -46,7 +48,7 @@ class Guide(Case):
 
     def test_the_page_names_every_exception_and_result(self):
         text = PAGE.read_text(encoding="utf-8")
-        for name in clearing_client.__all__:
+        for name in PUBLIC:
             if name.endswith("Error") or isinstance(getattr(clearing_client, name), type) and issubclass(
                     getattr(clearing_client, name), clearing_client.Result) and name not in ("Result", "Journal", "Converted"):
                 self.assertIn(f"`{name}", text)

@@ -1,4 +1,4 @@
-"""The package installs by the line of its page into a fresh virtual environment, without a network."""
+"""The package installs by the line of its pages into a fresh virtual environment, without a network."""
 import os
 import pathlib
 import subprocess
@@ -32,9 +32,9 @@ class Install(Case):
         self.assertEqual(done.returncode, 0, done.stdout + done.stderr)
         return done.stdout
 
-    def test_by_the_line_of_the_page(self):
-        page = (ROOT / "docs/PYTHON.md").read_text(encoding="utf-8")
-        line, = [line for line in page.splitlines() if line.startswith("python3 -m venv ~/")]
+    def test_by_the_line_of_the_pages(self):
+        pages = [(ROOT / page).read_text(encoding="utf-8") for page in ("README.md", "docs/PYTHON.md", "python/README.md")]
+        line, = {line for page in pages for line in page.splitlines() if line.startswith("python3 -m venv ~/")}
         line = line.replace("~", str(self.folder)).replace("python3 -m venv", f"{sys.executable} -m venv")
         before = sorted(path for path in (ROOT / "python").rglob("*") if "__pycache__" not in path.parts)
         self.run_in(ROOT, "sh", "-c", line)

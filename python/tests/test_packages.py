@@ -119,6 +119,8 @@ class Numpy(Case):
         text = cc.read(of(HUB).clear().text)
         self.assertEqual(text.names(), ["East", "Hub", "North", "South", "West"])
         self.assertEqual(text.to_matrix().sum(), 680)
+        outcome = cc.read(of(HUB).stress([cc.Scenario("x")]).text).scenarios[0]
+        self.assertEqual(outcome.names(), of(HUB).banks.column("name"))
 
     def test_numbers_of_numpy(self):
         import numpy

@@ -118,6 +118,13 @@ class Texts(Case):
         text = printed("defaults", *files_of(TWELVE))
         path = self.file("d.csv", b"\xef\xbb\xbf" + text.replace("\n", "\r\n").encode())
         self.assertEqual(read(path), read(text))
+        self.assertEqual(read(path.read_bytes().decode()), read(text))
+
+    def test_nothing_may_stand_behind_a_text(self):
+        for task, text in self.texts(HUB):
+            for more in (text, "\n", "x\n", "\n\n", "total,1\n"):
+                with self.subTest(task=task, more=more), self.assertRaises(TextError):
+                    read(text + "\n" + more if more == text and task != "stress" else text + more)
 
     def test_verdicts_on_journals_that_are_not_lawful(self):
         known = [("falls,3,9,8\n", ("falls", 3, 9, 8)), ("unlawful,48,632223,643335\n", ("unlawful", 48, 632223, 643335))]

@@ -2,7 +2,7 @@
 from __future__ import annotations
 
 import importlib
-from typing import Any, Dict, Optional, Tuple, Union
+from typing import Any, Dict, Optional, Tuple, Type
 
 KINDS: Dict[int, Tuple[str, str]] = {
     1: ("header", "the first record is missing, or not the header's words"),
@@ -29,6 +29,18 @@ class ClearingError(Exception):
     """Something went wrong. `status` is what the program ended with, None where it did not run."""
 
     status: Optional[int] = None
+
+    def __reduce__(self) -> Any:
+        """How an exception goes from one process to another, as `multiprocessing` sends it."""
+        return rebuilt, (type(self), self.args, dict(vars(self)))
+
+
+def rebuilt(kind: Type[ClearingError], words: Tuple[Any, ...], state: Dict[str, Any]) -> ClearingError:
+    """An exception of a kind, from its words and what it carries."""
+    fault = kind.__new__(kind)
+    fault.args = words
+    vars(fault).update(state)
+    return fault
 
 
 class TableError(ClearingError, ValueError):
@@ -90,7 +102,7 @@ class OutputError(ClearingError):
         super().__init__("the program cannot write its output")
 
 
-class OutOfMemoryError(ClearingError, MemoryError):
+class OutOfMemoryError(ClearingError):
     """Status 6: the program ran out of memory."""
 
     status = 6
@@ -129,9 +141,6 @@ class MissingPackageError(ClearingError, ImportError):
 
     def __init__(self, name: str, call: str) -> None:
         super().__init__(f"{call} wants {name}: Debian's package python3-{name}, or `pip install {name}`")
-
-
-Words = Union[Tuple[str, ...], str]
 
 
 def package(name: str, call: str) -> Any:

@@ -73,10 +73,10 @@ def run(words: Sequence[Union[str, bytes]]) -> Done:
     except OSError as fault:
         raise NoProgramError(f"{program} cannot be started: {fault.strerror}") from fault
     with process:
-        assert process.stdout is not None and process.stderr is not None
-        listener = threading.Thread(target=listen, args=(process.stderr, messages), daemon=True)
-        listener.start()
         try:
+            assert process.stdout is not None and process.stderr is not None
+            listener = threading.Thread(target=listen, args=(process.stderr, messages), daemon=True)
+            listener.start()
             output = process.stdout.read()
             listener.join()
             status = process.wait()

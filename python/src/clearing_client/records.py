@@ -1,7 +1,5 @@
 """The records of the program's files and texts. Amounts are whole units of account. What the texts call `class` is the
 field `class_` here, since `class` is a word of Python; as a column it is called `class` again."""
-from __future__ import annotations
-
 from typing import NamedTuple, Optional
 
 
