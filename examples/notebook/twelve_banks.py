@@ -66,8 +66,8 @@ for edge in edges.itertuples():
                            width=0.5 + 4 * edge.claim / edges["claim"].max(), connectionstyle="arc3,rad=0.12",
                            edge_color=[plt.cm.Reds(0.35 + 0.65 * unpaid) if unpaid else "#9aa5ab"])
 for (name, (x, y)), size in zip(place.items(), sizes):
-    away = 1.04 + 0.0025 * size ** 0.5
     side = "left" if x > 0.2 else "right" if x < -0.2 else "center"
+    away = (1.11 if side == "center" else 1.06) + 0.0027 * size ** 0.5
     axes.annotate(name, (away * x, away * y), ha=side, va="center", fontsize=10)
 handles = [plt.Line2D([], [], marker="o", ls="", ms=10, mfc=colour, mec="#444444", label=state) for state, colour in colours.items()]
 axes.legend(handles=handles, loc="lower left", frameon=False)

@@ -237,9 +237,9 @@ class SideBySide(Case):
             cc.map_stress([of(CHAIN), Network([("A", 1, "none")], []), of(HUB)], [], jobs=2)
 
     def test_runs_go_side_by_side(self):
-        # Each run waits until the other has begun.
-        self.program(f'touch {self.folder}/$$; while [ $(ls {self.folder} | grep -c "^[0-9]*$") -lt 2 ]; do sleep 0.01; done; '
-                     f'exec {os.environ["CLEARING"]} "$@"')
+        # Each run waits until the other has begun, but not for ever.
+        self.program(f'touch {self.folder}/$$; n=0; while [ $(ls {self.folder} | grep -c "^[0-9]*$") -lt 2 ]; do sleep 0.02; '
+                     f'n=$((n + 1)); [ $n -lt 500 ] || exit 77; done; exec {os.environ["CLEARING"]} "$@"')
         self.assertEqual(len(cc.map_stress([of(CHAIN), of(HUB)], Scenarios.cuts([1]), jobs=2)), 2)
 
 
