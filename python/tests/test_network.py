@@ -49,6 +49,14 @@ class Tasks(Case):
                         self.assertEqual(answer.text, printed(*words, *files_of(folder)))
                         self.assertEqual(cc.read(answer.text), answer)
 
+    def test_a_journal_is_handed_over_as_the_program_printed_it(self):
+        text = printed("clear", *files_of(TWELVE), "--workers", 1, "--show", "journal")
+        seen = self.folder / "seen.csv"
+        net, before = of(TWELVE), os.environ["CLEARING"]
+        self.program(f'for word; do case $word in */journal.csv) cat "$word" >{seen};; esac; done; exec {before} "$@"')
+        self.assertTrue(net.replay(cc.read(text)).lawful)
+        self.assertEqual(seen.read_text(encoding="utf-8"), text)
+
     def test_a_made_network_is_told_in_sums(self):
         words = ["gen", "--seed", 2**64 - 1, "--size", 40, "--tries", 300]
         self.assertEqual(cc.generate(2**64 - 1, 40, 300).text, printed(*words))

@@ -9,6 +9,10 @@ from decimal import Decimal
 
 from common import ROOT, Case, clearing, tool
 
+sys.path.insert(0, str(ROOT / "tools"))
+
+import texts  # noqa: E402
+
 HUB = ["--banks", ROOT / "examples/hub/banks.csv", "--debts", ROOT / "examples/hub/debts.csv"]
 CHAIN = ["--banks", ROOT / "examples/chain/banks.csv", "--debts", ROOT / "examples/chain/debts.csv"]
 SCENARIOS = '[[scenario]]\nname = " half "\ncut = 500\n\n[[scenario]]\nname = " half "\n'
@@ -112,8 +116,10 @@ class Tidy(Case):
         self.assertEqual(again, plain)
 
     def test_standard_input_and_a_folder_that_is_made(self):
-        text = self.printed("clear", *CHAIN)
-        done = subprocess.run([sys.executable, ROOT / "tools/tidy.py", "-", "--folder", "a/b"], input=text.encode(),
+        banks = self.file("b.csv", "name,cash,rule\nCrédit Loire,7,order\nB,1,order\n")
+        text = self.printed("clear", "--banks", banks, "--debts", self.file("d.csv", "debtor,creditor,class,claim\nCrédit Loire,B,1,9\n"))
+        sent = b"\xef\xbb\xbf" + text.replace("\n", "\r\n").encode()
+        done = subprocess.run([sys.executable, ROOT / "tools/tidy.py", "-", "--folder", "a/b"], input=sent,
                               capture_output=True, cwd=self.folder)
         self.assertEqual((done.returncode, done.stdout, done.stderr), (0, b"a/b/output-payments.csv\n", b""))
         self.assertEqual((self.folder / "a/b/output-payments.csv").read_text(), text)
@@ -124,6 +130,7 @@ class Tidy(Case):
                                (text.replace("\ntotal,", "\ntotals,"), "line 7"), (text + "x\n", "line 7"), (text + "\n" + text, "not the end of the text")]:
             path = self.file("wrong.csv", wrong)
             self.refused("tidy.py", 1, message, path)
+            self.assertEqual(tool("tidy.py", path).stderr.count("\n"), 1)
             self.assertEqual(list(self.folder.iterdir()), [path])
         self.refused("tidy.py", 1, "cannot be read", self.folder / "none.csv")
         self.refused("tidy.py", 1, "cannot be read", self.folder)
@@ -131,10 +138,50 @@ class Tidy(Case):
     def test_all_files_are_written_or_none(self):
         output = self.file("x.csv", self.printed("clear", *CHAIN, "--show", "both"))
         (self.folder / "x-totals.csv").mkdir()
-        self.refused("tidy.py", 1, "x-totals.csv", output)
+        self.refused("tidy.py", 1, "tidy: cannot write", output)
+        self.assertEqual(tool("tidy.py", output).stderr.count("\n"), 1)
         self.assertFalse((self.folder / "x-payments.csv").exists())
         (self.folder / "x-totals.csv").rmdir()
         os.link(output, self.folder / "x-payments.csv")
         before = output.read_bytes()
         self.refused("tidy.py", 1, "is also read", output)
         self.assertEqual(output.read_bytes(), before)
+
+
+class Texts(Case):
+    """What the tools of pictures read by the same parser."""
+
+    def test_files_that_came_through_a_spreadsheet_are_read_the_same(self):
+        words = {"payments": ["clear"], "defaults": ["defaults"], "gridlock": ["bounds"]}
+        for name, task in words.items():
+            text, read = self.printed(*task, *HUB), getattr(texts, f"read_{name}")
+            plain = read(self.file("plain.csv", text))
+            changed = b"\xef\xbb\xbf" + text.replace("\n", "\r\n").encode()
+            self.assertEqual(read(self.file("changed.csv", changed)), plain)
+            self.assertEqual(read(self.file("last.csv", text[:-1])), plain)
+        self.assertEqual(plain, set())
+
+    def test_what_they_read(self):
+        payments = texts.read_payments(self.file("p.csv", self.printed("clear", *HUB, "--show", "both")))
+        self.assertEqual((payments[0], len(payments)), (("East", "Hub", "1", 90, 80), 8))
+        hub = texts.read_defaults(self.file("d.csv", self.printed("defaults", *HUB)))[0]
+        self.assertEqual((hub.name, hub.estate, hub.owed, hub.paid, hub.state), ("Hub", 440, 360, 360, "sound"))
+        self.assertEqual((hub.outside_paid, hub.equity), (40, 40))
+        ring = [ROOT / f"examples/gridlock/{name}.csv" for name in ("banks", "debts")]
+        bounds = self.file("b.csv", self.printed("bounds", "--banks", ring[0], "--debts", ring[1]))
+        self.assertEqual(texts.read_gridlock(bounds), {"A", "B", "C"})
+        stress = self.file("s.csv", self.printed("stress", *HUB, "--scenarios", self.file("s.toml", SCENARIOS)))
+        self.assertEqual([one.name for one in texts.read_stress(stress)], [" half ", " half "])
+
+    def test_what_they_refuse(self):
+        text = self.printed("defaults", *HUB)
+        for name, wrong, message in [
+            ("defaults", text.replace("sound", "Sound", 1), "line 2: 'Sound'"), ("defaults", text.replace("total,", "t,"), "line 7"),
+            ("defaults", self.printed("clear", *HUB), "line 1: not the header"), ("payments", text, "line 1: not the header"),
+            ("gridlock", text, "it has no line bank,wave"), ("stress", text, "not what `stress` prints"),
+            ("gridlock", "bank,wave,gridlock,equity\nA,0,maybe,0\n", "line 2: 'maybe'"),
+            ("payments", "debtor,creditor,class,claim,paid\nA,B,1,10,x\n", "line 2: 'x' is not a number"),
+        ]:
+            with self.subTest(name=name, message=message), self.assertRaises(texts.Refused) as caught:
+                getattr(texts, f"read_{name}")(self.file("wrong.csv", wrong))
+            self.assertIn(message, str(caught.exception))
