@@ -64,7 +64,9 @@ class Install(Case):
         name = build.build_wheel(self.folder / "a")
         self.assertEqual(build.build_wheel(self.folder / "b"), name)
         self.assertEqual((self.folder / "a" / name).read_bytes(), (self.folder / "b" / name).read_bytes())
-        names = zipfile.ZipFile(self.folder / "a" / name).namelist()
+        entries = zipfile.ZipFile(self.folder / "a" / name).infolist()
+        self.assertEqual({entry.date_time for entry in entries}, {(1980, 1, 1, 0, 0, 0)})
+        names = [entry.filename for entry in entries]
         self.assertIn("clearing_client/py.typed", names)
         sources = {f"clearing_client/{path.name}" for path in (ROOT / "python/src/clearing_client").glob("*.py")}
         self.assertLessEqual(sources, set(names))

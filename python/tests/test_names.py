@@ -105,6 +105,10 @@ class Names(Case):
     @needs("tomli_w")
     def test_both_writers_say_the_same(self):
         scenarios = Scenarios([Scenario(name, n, {name: 7, "\x01\x7f\"\\\n\t": 8}) for n, name in enumerate(HOSTILE)])
+        import tomli_w
+
+        document = {"scenario": [one.as_table() for one in scenarios]}
+        self.assertEqual(scenarios.to_toml(), tomli_w.dumps(document))
         self.assertNotEqual(scenarios.to_toml(), scenarios.to_toml(plain=True))
         if there("tomllib"):
             import tomllib
