@@ -1,0 +1,151 @@
+"""What can go wrong: an exception for each status of the program but 0 and 7, and those of this package."""
+from __future__ import annotations
+
+import importlib
+from typing import Any, Dict, Optional, Tuple, Type
+
+KINDS: Dict[int, Tuple[str, str]] = {
+    1: ("header", "the first record is missing, or not the header's words"),
+    2: ("fields", "the record has not as many fields as the header"),
+    3: ("name", "a field is not a name"),
+    4: ("number", "a field is not 1 to 20 digits"),
+    5: ("rule", "a field is not one of the six rules"),
+    6: ("limit", "a number is outside its limit"),
+    7: ("double bank", "the bank was named before"),
+    8: ("unknown bank", "no bank has the name"),
+    9: ("self debt", "debtor and creditor are the same bank"),
+    10: ("class", "a field is not one digit from 1 to 9"),
+    11: ("double debt", "a debt of this debtor, creditor and class came before"),
+    12: ("too many", "one more bank, debt, scenario or raise than the limit"),
+    13: ("total", "the claims so far pass 10,000,000"),
+    14: ("file size", "the file is longer than its limit"),
+    15: ("unknown debt", "no debt has this debtor, creditor and class"),
+    16: ("toml", "the scenarios file is not UTF-8, or not TOML"),
+    17: ("shape", "the document, or a scenario, is not of its shape"),
+}
+
+
+class ClearingError(Exception):
+    """Something went wrong. `status` is what the program ended with, None where it did not run."""
+
+    status: Optional[int] = None
+
+    def __reduce__(self) -> Any:
+        """How an exception goes from one process to another, as `multiprocessing` sends it."""
+        return rebuilt, (type(self), self.args, dict(vars(self)))
+
+
+def rebuilt(kind: Type[ClearingError], words: Tuple[Any, ...], state: Dict[str, Any]) -> ClearingError:
+    """An exception of a kind, from its words and what it carries."""
+    fault = kind.__new__(kind)
+    fault.args = words
+    vars(fault).update(state)
+    return fault
+
+
+class TableError(ClearingError, ValueError):
+    """A table, graph or scenario that cannot be written as a file of the program. Says which, its row (from 1, 0 for
+    the table), the field, and the value that it has there."""
+
+    def __init__(self, table: str, row: int, field: str, value: object, what: str) -> None:
+        self.file, self.row, self.field, self.value = table, row, field, value
+        place = f" row {row}" if row else ""
+        super().__init__(f"{table}{place}{', ' + field if field else ''}: {what}")
+
+
+class UsageError(ClearingError, ValueError):
+    """Status 2: the program does not understand the words, such as a number of workers outside 1 to 64."""
+
+    status = 2
+
+    def __init__(self, words: Tuple[str, ...]) -> None:
+        self.words = words
+        super().__init__(f"the command line is not understood: {' '.join(words)}")
+
+
+class UnreadableError(ClearingError):
+    """Status 3: a file cannot be read. `file` is its name."""
+
+    status = 3
+
+    def __init__(self, file: str, reason: str = "") -> None:
+        self.file = file
+        super().__init__(f"cannot read {file}{': ' + reason if reason else ''}")
+
+
+class RefusedError(ClearingError, ValueError):
+    """Status 4: a file is refused.
+
+    file    `banks`, `debts`, `scenarios`, `journal` or `words`
+    row     the record's number in the file, where the header is 0; the scenario's number from 1, 0 for the document
+    kind    the kind of fault in words, and `number`, its number for good; `meaning` says it in a sentence
+    record  the fields of the record as they stand; the `Scenario`; the name of the bank for `words`; None where there
+            is none
+    """
+
+    status = 4
+
+    def __init__(self, file: str, row: int, kind: str, number: int, record: object = None) -> None:
+        self.file, self.row, self.kind, self.number, self.record = file, row, kind, number, record
+        self.meaning = KINDS.get(number, ("", ""))[1]
+        what = f": {self.meaning}" if self.meaning else ""
+        shown = "" if record is None else f": {record!r}"
+        super().__init__(f"{file} row {row}: {kind} ({number}){what}{shown}")
+
+
+class OutputError(ClearingError):
+    """Status 5: the program could not write its output."""
+
+    status = 5
+
+    def __init__(self) -> None:
+        super().__init__("the program cannot write its output")
+
+
+class OutOfMemoryError(ClearingError):
+    """Status 6: the program ran out of memory."""
+
+    status = 6
+
+    def __init__(self) -> None:
+        super().__init__("the program ran out of memory")
+
+
+class NoProgramError(ClearingError):
+    """Status 8, or no program: it is not found, cannot be started, or cannot be built. The message says why."""
+
+    def __init__(self, message: str, status: Optional[int] = None) -> None:
+        self.status = status
+        super().__init__(message)
+
+
+class StatusError(ClearingError):
+    """A status that the program does not have: it was ended by a signal, or is another program."""
+
+    def __init__(self, status: int, message: str) -> None:
+        self.status = status
+        how = f"was ended by signal {-status}" if status < 0 else f"ended with status {status}"
+        super().__init__(f"the program {how}{': ' + message if message else ''}")
+
+
+class TextError(ClearingError, ValueError):
+    """A text that the program does not print. `line` is the number of the line from 1, 0 for the whole text."""
+
+    def __init__(self, line: int, what: str) -> None:
+        self.line, self.what = line, what
+        super().__init__(f"line {line}: {what}" if line else what)
+
+
+class MissingPackageError(ClearingError, ImportError):
+    """A package that the call wants is not there."""
+
+    def __init__(self, name: str, call: str) -> None:
+        super().__init__(f"{call} wants {name}: Debian's package python3-{name}, or `pip install {name}`")
+
+
+def package(name: str, call: str) -> Any:
+    """A package that is used where it is there, for a call that wants it."""
+    try:
+        return importlib.import_module(name)
+    except ImportError as fault:
+        raise MissingPackageError(name, call) from fault

@@ -1,0 +1,467 @@
+"""A network of banks and debts, and the tasks of the program on it."""
+from __future__ import annotations
+
+import csv
+import io
+import os
+import pathlib
+import tempfile
+from concurrent.futures import ThreadPoolExecutor
+from functools import cached_property
+from typing import Any, Callable, Dict, Iterable, List, Mapping, Optional, Sequence, Tuple, Type, TypeVar, Union
+
+from . import tabular
+from .errors import RefusedError, TableError, TextError, UnreadableError
+from .program import Done, fault_of, run
+from .records import Bank, Debt, Raise
+from .results import (
+    Bounds,
+    Check,
+    Clearing,
+    Compression,
+    Costs,
+    Defaults,
+    Generated,
+    Journal,
+    Rescue,
+    Result,
+    Stress,
+    Verdict,
+    graph_of,
+)
+from .scenarios import MOST, Scenario, Scenarios
+from .table import Table, words_of
+from .texts import parse
+
+T = TypeVar("T", bound=Result)
+File = Union[str, "os.PathLike[str]"]
+ScenariosLike = Union[Scenarios, Iterable[Union[Scenario, Mapping[str, Any]]], File]
+JournalLike = Union[Journal, Table[Raise], Iterable[Raise], File]
+
+LARGEST = 8_388_608
+"""How many bytes a banks, debts or scenarios file may have; one more is handed over, for the program to refuse."""
+
+
+class Network:
+    """Banks, and the debts between them.
+
+    banks   a DataFrame or a dict of columns `name`, `cash`, `rule`, `outside`; records (dicts, `Bank`s or tuples in that
+            order); a dict of each bank's cash; or the name of a banks file
+    debts   a DataFrame or a dict of columns `debtor`, `creditor`, `class`, `claim`; records (dicts, `Debt`s or tuples in
+            that order, or without the class); a dict from (debtor, creditor) or (debtor, creditor, class) to the claim; or
+            the name of a debts file
+    rule    the rule of the banks where there is no column `rule`: `webster` (pro rata), `jefferson`, `adams`, `equal`,
+            `losses` or `order`
+    class_  the class of the debts where there is no column `class`
+
+    With a networkx graph in place of both: nodes with `cash` (`rule`, `outside`), edges with `claim` (`class`).
+
+    Amounts are whole units of account. A float is taken where it is a whole number, and refused otherwise. Names are texts;
+    an integer is taken as its digits. The order of the rows is that of the files, and decides ties. Files are read once, here.
+
+    >>> net = Network({"A": 7, "B": 1, "C": 0}, {("A", "B"): 10, ("B", "C"): 9}, rule="order")
+    >>> print(net.clear().payments)
+    debtor  creditor  class  claim  paid
+    A       B             1     10     7
+    B       C             1      9     8
+    """
+
+    def __init__(self, banks: Any, debts: Any = None, *, rule: str = "webster", class_: int = 1) -> None:
+        if debts is None:
+            if not tabular.is_graph(banks):
+                raise TypeError("a network is of banks and debts, or of one networkx graph")
+            banks, debts = tabular.tables_of_graph(banks)
+        self._banks = read_file(banks) if is_file(banks) else tabular.banks_csv(banks, rule)
+        self._debts = read_file(debts) if is_file(debts) else tabular.debts_csv(debts, class_)
+
+    def __repr__(self) -> str:
+        return f"<Network of {len(self._banks)} bytes of banks and {len(self._debts)} bytes of debts>"
+
+    # The network itself
+
+    @property
+    def banks(self) -> Table[Bank]:
+        """The banks as the program reads them, in order."""
+        return self._checked.banks
+
+    @property
+    def debts(self) -> Table[Debt]:
+        """The debts as the program reads them, in order."""
+        return self._checked.debts
+
+    @cached_property
+    def _checked(self) -> Check:
+        return self.check()
+
+    def to_pandas(self) -> Dict[str, Any]:
+        """The banks and the debts, each a pandas `DataFrame`."""
+        return {"banks": self.banks.to_pandas(), "debts": self.debts.to_pandas()}
+
+    def to_networkx(self) -> Any:
+        """The network as a networkx `MultiDiGraph`, with the class as the key of an edge."""
+        columns = self.banks.columns[1:]
+        return graph_of({bank.name: dict(zip(columns, bank[1:])) for bank in self.banks}, self.debts)
+
+    def to_matrix(self) -> Any:
+        """The claims as a numpy matrix of int64, banks by banks: what the bank of the row owes the bank of the column."""
+        return self._checked.to_matrix()
+
+    def write(self, banks: File, debts: File) -> None:
+        """Writes the two files, byte by byte as the program is given them; both or none, and never over a file that is
+        there."""
+        made: List[File] = []
+        try:
+            for name, data in ((banks, self._banks), (debts, self._debts)):
+                with open(name, "xb") as file:
+                    made.append(name)
+                    file.write(data)
+        except BaseException:
+            for name in made:
+                os.unlink(name)
+            raise
+
+    def with_cash(self, cash: Mapping[str, int]) -> "Network":
+        """A network in which these banks have this cash.
+
+        >>> net = Network({"A": 7, "B": 1}, {("A", "B"): 10})
+        >>> net.with_cash({"A": 10}).defaults().defaults
+        []
+        """
+        unknown = [name for name in cash if name not in self.banks.column("name")]
+        if unknown:
+            raise TableError("banks", 0, "name", unknown[0], f"no bank has the name {unknown[0]!r}")
+        return Network([bank._replace(cash=cash.get(bank.name, bank.cash)) for bank in self.banks], self.debts)
+
+    def with_debts(self, debts: Any) -> "Network":
+        """A network of the same banks with other debts, such as those that `compress` leaves."""
+        return Network(self.banks, debts)
+
+    # The tasks
+
+    def check(self) -> Check:
+        """Reads the network and gives it back as the program understands it, with all claims and all cash together.
+
+        >>> Network({"A": 7, "B": 1}, {("A", "B"): 10}).check().total
+        CheckTotals(banks=2, debts=1, owed=10, cash=8)
+        """
+        return self._ask(Check, "check")
+
+    def clear(self, workers: int = 4, sweeps: int = 1, journal: bool = False) -> Clearing:
+        """The least payments that clear, by this many workers (1 to 64), each of which goes so often over its banks in a
+        round; with the journal of the run, where it is asked for. The payments depend on neither number; which lawful
+        journal is made does.
+
+        >>> net = Network({"A": 7, "B": 1, "C": 0}, {("A", "B"): 10, ("B", "C"): 9})
+        >>> done = net.clear(workers=1, journal=True)
+        >>> done.total, done.journal.rounds
+        (Sums(claim=19, paid=15), 2)
+        >>> done.journal.raises[0]
+        Raise(stamp=1, debtor='A', creditor='B', class_=1, to=7)
+        """
+        show = ["--show", "both"] if journal else []
+        return self._ask(Clearing, "clear", *effort(workers, sweeps), *show)
+
+    def central(self) -> Clearing:
+        """The same payments, by rounds in which all banks pay at once."""
+        return self._ask(Clearing, "central")
+
+    def defaults(self, workers: int = 4, sweeps: int = 1) -> Defaults:
+        """How each bank stands after clearing, who defaults, and whether it is its own doing.
+
+        >>> net = Network({"A": 7, "B": 1, "C": 0}, {("A", "B"): 10, ("B", "C"): 9})
+        >>> [(bank.bank, bank.state) for bank in net.defaults().standings]
+        [('A', 'fundamental'), ('B', 'contagion'), ('C', 'sound')]
+        """
+        return self._ask(Defaults, "defaults", *effort(workers, sweeps))
+
+    def stress(self, scenarios: ScenariosLike, workers: int = 4, sweeps: int = 1) -> Stress:
+        """What each scenario leaves: `Scenarios`, `Scenario`s, dicts of the shape of the TOML document, or the name of a
+        TOML file. At most 100; `map_stress` takes more.
+
+        >>> net = Network({"A": 7, "B": 1, "C": 0}, {("A", "B"): 7, ("B", "C"): 8})
+        >>> left = net.stress([Scenario("as it is"), Scenario("A loses 1", losses={"A": 1})])
+        >>> [one.defaults for one in left.scenarios]
+        [[], ['A', 'B']]
+        """
+        chosen: Union[Scenarios, bytes] = read_file(scenarios) if is_file(scenarios) else as_scenarios(scenarios)
+        return self._stress(chosen, workers, sweeps)
+
+    def _stress(self, scenarios: Union[Scenarios, bytes], workers: int, sweeps: int) -> Stress:
+        document = scenarios if isinstance(scenarios, bytes) else toml_bytes(scenarios)
+        known = None if isinstance(scenarios, bytes) else scenarios
+        return self._ask(Stress, "stress", *effort(workers, sweeps), third=("scenarios", "toml", document), known=known)
+
+    def bounds(self, workers: int = 4, sweeps: int = 1) -> Bounds:
+        """The least and the greatest payments that clear; for each bank the round in which it first falls short on the way
+        down from all debts paid in full (0: never), and whether it is in gridlock.
+
+        >>> ring = Network({"A": 0, "B": 0}, {("A", "B"): 5, ("B", "A"): 5})
+        >>> ring.bounds().payments[0]
+        Bound(debtor='A', creditor='B', class_=1, claim=5, least=0, greatest=5)
+        >>> ring.bounds().waves[0].gridlock
+        True
+        """
+        return self._ask(Bounds, "bounds", *effort(workers, sweeps))
+
+    def rescue(self, bank: str, workers: int = 4, sweeps: int = 1) -> Rescue:
+        """The least cash to add so that a bank pays all it owes, and the payments with it.
+
+        >>> Network({"A": 7, "B": 1}, {("A", "B"): 10}).rescue("A").added
+        3
+        """
+        if bank.startswith("-") and bank in self.banks.column("name"):
+            return self._rescue_renamed(bank, workers, sweeps)
+        return self._ask(Rescue, "rescue", "--bank", bank, *effort(workers, sweeps), known=bank)
+
+    def _rescue_renamed(self, bank: str, workers: int, sweeps: int) -> Rescue:
+        """The command line cannot name a bank that begins with a dash: it has another name for this run."""
+        there = set(self.banks.column("name"))
+        other = next(name for name in (f"bank {n}" for n in range(len(there) + 1)) if name not in there)
+        net = read_check(with_fields(self._checked.text, bank, other))
+        text = with_fields(net.rescue(other, workers, sweeps).text, other, bank)
+        return read_as(text, Rescue).told(text, self)
+
+    def costs(self, keep: int) -> Costs:
+        """The payments and standings where an estate in default is worth only `keep` thousandths, 0 to 1,000.
+
+        >>> left = Network({"A": 7, "B": 1}, {("A", "B"): 10}).costs(500)
+        >>> left.standings[0].lost, left.payments[0].paid
+        (4, 3)
+        """
+        return self._ask(Costs, "costs", "--keep", keep)
+
+    def compress(self) -> Compression:
+        """The debts that are left when cycles of debts of one class are cancelled.
+
+        >>> ring = Network({"A": 0, "B": 0}, {("A", "B"): 5, ("B", "A"): 3})
+        >>> left = ring.compress()
+        >>> left.cancelled, left.debts.column("claim")
+        (6, [2, 0])
+        """
+        return self._ask(Compression, "compress")
+
+    def replay(self, journal: JournalLike) -> Verdict:
+        """Judges a journal (a `Journal`, its raises, or the name of a file) and gives the payments that a lawful one makes.
+
+        >>> net = Network({"A": 7, "B": 1}, {("A", "B"): 10})
+        >>> net.replay(net.clear(journal=True).journal).lawful
+        True
+        >>> verdict = net.replay([Raise(1, "A", "B", 1, 8)])
+        >>> verdict.verdict, verdict.allowed, verdict.record
+        ('unlawful', 7, Raise(stamp=1, debtor='A', creditor='B', class_=1, to=8))
+        """
+        data = read_file(journal, None) if is_file(journal) else journal_bytes(journal)
+        verdict = self._ask(Verdict, "replay", third=("journal", "csv", data))
+        if verdict.entry is None:
+            return verdict
+        fields = dict(zip(words_of(Raise), fields_at(data, verdict.entry, passing=True) or ()))
+        numbers = {name: int(fields[name]) for name in ("stamp", "class", "to")}
+        told = Raise(numbers["stamp"], fields["debtor"], fields["creditor"], numbers["class"], numbers["to"])
+        object.__setattr__(verdict, "record", told)
+        return verdict
+
+    # How the program is asked
+
+    def _ask(
+        self,
+        kind: Type[T],
+        task: str,
+        *words: object,
+        third: Optional[Tuple[str, str, bytes]] = None,
+        known: object = None,
+    ) -> T:
+        """Runs a task on the files, and reads its text. A third file has its option, its ending and its bytes."""
+        with tempfile.TemporaryDirectory(prefix="clearing-") as name:
+            folder = pathlib.Path(name)
+            line: List[Union[str, bytes]] = [task]
+            files = [("banks", "csv", self._banks), ("debts", "csv", self._debts), *([third] if third else [])]
+            for option, ending, data in files:
+                path = folder / f"{option}.{ending}"
+                path.write_bytes(data)
+                line += [f"--{option}", os.fsencode(path)]
+            line += [word if isinstance(word, bytes) else str(word) for word in words]
+            if any("\0" in word for word in line if isinstance(word, str)):
+                raise TableError("words", 0, "", words, "a word has a character NUL")
+            done = run(line)
+        if done.status not in (0, 7):
+            raise with_record(fault_of(done, [task, *map(str, words)]), {one: data for one, _, data in files}, known)
+        return read_as(text_of(done), kind).told(text_of(done), self)
+
+
+def read_as(text: str, kind: Type[T]) -> T:
+    """The result of a run that prints a text."""
+    result = parse(text) if text or kind is not Stress else Stress(()).told(text)
+    if not isinstance(result, kind):
+        raise TextError(0, f"the program printed {type(result).__name__} in place of {kind.__name__}")
+    return result
+
+
+def text_of(done: Done) -> str:
+    """What a run printed."""
+    try:
+        return done.output.decode()
+    except UnicodeDecodeError as fault:
+        raise TextError(0, "the program printed what is not UTF-8") from fault
+
+
+def with_fields(text: str, old: str, new: str) -> str:
+    """A text with a field in the place of another."""
+    lines = (line.split(",") for line in text.split("\n"))
+    return "\n".join(",".join(new if field == old else field for field in line) for line in lines)
+
+
+def read_check(text: str) -> Network:
+    """The network that `check` prints."""
+    check = read_as(text, Check)
+    return Network(check.banks, check.debts)
+
+
+def effort(workers: int, sweeps: int) -> List[object]:
+    """The words for the number of workers and of sweeps."""
+    return ["--workers", workers, "--sweeps", sweeps]
+
+
+def is_file(table: object) -> bool:
+    """Whether it is the name of a file."""
+    return isinstance(table, (str, os.PathLike))
+
+
+def read_file(name: Any, most: Optional[int] = LARGEST) -> bytes:
+    """The bytes of a file, but no more than one beyond the most that the program takes."""
+    try:
+        with open(name, "rb") as file:
+            return file.read() if most is None else file.read(most + 1)
+    except (OSError, ValueError) as fault:
+        raise UnreadableError(os.fspath(name), getattr(fault, "strerror", None) or str(fault)) from fault
+
+
+def as_scenarios(scenarios: Any) -> Scenarios:
+    """Scenarios of an iterable of them."""
+    return scenarios if isinstance(scenarios, Scenarios) else Scenarios(scenarios)
+
+
+def toml_bytes(scenarios: Scenarios) -> bytes:
+    """The scenarios file."""
+    try:
+        return scenarios.to_toml().encode()
+    except UnicodeEncodeError as fault:
+        raise TableError("scenarios", 0, "", fault.object, "a name cannot be written as UTF-8") from fault
+
+
+def journal_bytes(journal: Any) -> bytes:
+    """The journal file of a journal or of raises."""
+    raises = journal.raises if isinstance(journal, Journal) else journal
+    raises = raises if isinstance(raises, Table) else Table.of(Raise, [Raise(*one) for one in raises])
+    columns = {name: tabular.fields_of(raises.column(name), "journal", name) for name in raises.columns}
+    data = tabular.csv_of(columns)
+    ends = isinstance(journal, Journal) and journal.rounds is not None
+    return data + f"rounds,{journal.rounds}\n".encode() if ends else data
+
+
+def with_record(fault: Exception, files: Mapping[str, bytes], known: object) -> Exception:
+    """A fault with the record that it is about."""
+    if isinstance(fault, RefusedError):
+        record: object = None
+        if fault.file in ("banks", "debts", "journal") and fault.number != 14:
+            record = fields_at(files[fault.file], fault.row)
+        elif fault.file == "scenarios" and isinstance(known, Scenarios) and 0 < fault.row <= len(known):
+            record = known[fault.row - 1]
+        elif fault.file == "words":
+            record = known
+        return RefusedError(fault.file, fault.row, fault.kind, fault.number, record)
+    return fault
+
+
+def fields_at(data: bytes, row: int, passing: bool = False) -> Optional[Tuple[str, ...]]:
+    """The fields of a record of a file, without blanks at their ends; a line without a byte is no record. `passing` counts
+    no record of empty fields."""
+    text = data.decode("utf-8-sig", "replace")
+    try:
+        at = -1
+        for record in csv.reader(io.StringIO(text, newline="")):
+            if record and (any(field.strip(" \t") for field in record) or not passing):
+                at += 1
+                if at == row:
+                    return tuple(field.strip(" \t") for field in record)
+    except csv.Error:
+        pass
+    return None
+
+
+# Without a network of one's own, and many of them
+
+
+def generate(seed: int, size: int, tries: int, workers: int = 4, sweeps: int = 1) -> Generated:
+    """The sums of a network made from a number: `size` banks (1 to 1,000), `tries` at a debt (0 to 20,000).
+
+    >>> generate(seed=1, size=5, tries=9).total.defaults
+    1
+    """
+    words = ["gen", "--seed", seed, "--size", size, "--tries", tries, *effort(workers, sweeps)]
+    done = run([str(word) for word in words])
+    if done.status:
+        raise fault_of(done, [str(word) for word in words])
+    return read_as(text_of(done), Generated)
+
+
+def read(text: Union[str, "os.PathLike[str]"]) -> Result:
+    """The result that a text of the program says, from the text itself or, by a path of `pathlib`, from a file.
+
+    >>> read("debtor,creditor,class,claim,paid\\nA,B,1,10,7\\n").total
+    Sums(claim=10, paid=7)
+    """
+    if isinstance(text, str):
+        return parse(text)
+    try:
+        return parse(read_file(text, None).decode("utf-8-sig"))
+    except UnicodeDecodeError as fault:
+        raise TextError(0, f"{os.fspath(text)} is not UTF-8") from fault
+
+
+def map_stress(
+    networks: Iterable[Network],
+    scenarios: ScenariosLike,
+    jobs: Optional[int] = None,
+    workers: int = 1,
+    sweeps: int = 1,
+) -> List[Stress]:
+    """What the same scenarios leave of each network, in order, by so many runs of the program side by side (as many as
+    there are processors, where it is not said). More scenarios than a file may have are cut into several runs and put together
+    again. The first fault ends it; the runs that have begun are ended first.
+
+    >>> nets = [Network({"A": cash, "B": 0}, {("A", "B"): 10}) for cash in (10, 20)]
+    >>> [[one.total.defaults for one in left.scenarios] for left in map_stress(nets, Scenarios.cuts([0, 100]))]
+    [[0, 1], [0, 0]]
+    """
+    parts: List[Tuple[int, Union[Scenarios, bytes]]]
+    if is_file(scenarios):
+        parts = [(0, read_file(scenarios))]
+    else:
+        every = as_scenarios(scenarios)
+        parts = [(at, every[at : at + MOST]) for at in range(0, len(every), MOST)] or [(0, every)]
+
+    def stress(net: Network, before: int, part: Union[Scenarios, bytes]) -> Stress:
+        try:
+            return net._stress(part, workers, sweeps)
+        except RefusedError as fault:
+            row = fault.row + before if fault.file == "scenarios" and fault.row else fault.row
+            raise RefusedError(fault.file, row, fault.kind, fault.number, fault.record) from fault
+
+    nets = list(networks)
+    with ThreadPoolExecutor(jobs or os.cpu_count() or 1) as pool:
+        runs = [[pool.submit(stress, net, before, part) for before, part in parts] for net in nets]
+        try:
+            return [joined([one.result() for one in row], net) for row, net in zip(runs, nets)]
+        except BaseException:
+            pool.shutdown(wait=True, cancel_futures=True)
+            raise
+
+
+def joined(parts: Sequence[Stress], net: Network) -> Stress:
+    """The outcomes of several files of scenarios, numbered as if they were one."""
+    if len(parts) == 1:
+        return parts[0]
+    outcomes = [one for part in parts for one in part.scenarios]
+    for number, outcome in enumerate(outcomes, 1):
+        object.__setattr__(outcome, "number", number)
+    return Stress(tuple(outcomes)).told("\n".join(part.text for part in parts), net)

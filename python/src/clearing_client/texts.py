@@ -1,0 +1,322 @@
+"""Reads the texts that the program prints: one parser, for this package and for the tools of the repository.
+
+A text is read whole and strictly: what the program would not print is a `TextError` with its line. A byte order mark
+at the start and CR LF as line ends are passed over, since editors and spreadsheets put them there. The last line must have
+its end, as a text without it was cut short and its last number may be too.
+"""
+from __future__ import annotations
+
+import sys
+from typing import Any, Callable, Dict, List, Optional, Sequence, Tuple, Type, TypeVar, get_type_hints
+
+from .errors import TextError
+from .records import (
+    Bank,
+    Bound,
+    CheckTotals,
+    CostStanding,
+    CostTotals,
+    Debt,
+    GeneratedTotals,
+    Payment,
+    Raise,
+    Rank,
+    Standing,
+    Totals,
+    Wave,
+)
+from .results import (
+    Bounds,
+    Check,
+    Clearing,
+    Compression,
+    Converted,
+    Costs,
+    Defaults,
+    Generated,
+    Journal,
+    Outcome,
+    Rescue,
+    Result,
+    Stress,
+    Verdict,
+)
+from .table import Table, words_of
+
+R = TypeVar("R", bound=Tuple[Any, ...])
+
+STATES = ("sound", "fundamental", "contagion")
+YES_NO = {"yes": True, "no": False}
+MAX_DIGITS = 40
+
+
+def header_of(record: Type[R], without: str = "") -> str:
+    """The header of a table of these records, with one column left out."""
+    return ",".join(name for name in words_of(record) if name != without)
+
+
+BANKS_2 = header_of(Bank)
+BANKS_1 = header_of(Bank, "outside")
+DEBTS = header_of(Debt)
+PAYMENTS = header_of(Payment)
+STANDINGS_2 = header_of(Standing)
+STANDINGS_1 = header_of(Standing, "outside_paid")
+COSTS = header_of(CostStanding)
+BOUNDS = header_of(Bound)
+WAVES = header_of(Wave)
+RANKS = header_of(Rank)
+JOURNAL = header_of(Raise)
+
+
+def lines_of(text: str) -> List[str]:
+    """The lines of a text. A name may have any character that is no control, so that only LF ends a line."""
+    text = text[1:] if text.startswith("\ufeff") else text
+    if "\r" in text:
+        text = text.replace("\r\n", "\n")
+    if not text:
+        return []
+    if not text.endswith("\n"):
+        raise TextError(text.count("\n") + 1, "the line has no end: the text was cut short")
+    return text[:-1].split("\n")
+
+
+def numbers_of(column: Sequence[str], at: int) -> List[int]:
+    """The numbers of a column whose first field stands on a line."""
+    together = "".join(column)
+    if together and not (together.isascii() and together.isdigit()) or "" in column:
+        place = next(n for n, field in enumerate(column) if not (field.isascii() and field.isdigit()))
+        raise TextError(at + place, f"{column[place]!r} is not a number")
+    if max(map(len, column), default=0) > MAX_DIGITS:
+        raise TextError(at, f"a number of more than {MAX_DIGITS} digits")
+    return list(map(int, column))
+
+
+def one_of(words: Sequence[str], column: Sequence[str], at: int) -> List[str]:
+    """A column that has only these words."""
+    for place, field in enumerate(column):
+        if field not in words:
+            raise TextError(at + place, f"{field!r} is none of {', '.join(words)}")
+    return list(map(sys.intern, column))
+
+
+def read_column(name: str, kind: object, column: Sequence[str], at: int) -> List[Any]:
+    """The values of a column whose first field stands on a line."""
+    if kind is int:
+        return numbers_of(column, at)
+    if kind is bool:
+        return [YES_NO[field] for field in one_of(list(YES_NO), column, at)]
+    if name == "state":
+        return one_of(STATES, column, at)
+    return list(map(sys.intern, column))
+
+
+def records_of(record: Type[R], lines: Sequence[str], at: int, without: str = "") -> Table[R]:
+    """The table of lines, the first of which stands on a line; a column that they do not have is 0."""
+    kinds = dict(zip(words_of(record), get_type_hints(record).values()))
+    there = [name for name in kinds if name != without]
+    commas = [line.count(",") for line in lines]
+    if commas.count(len(there) - 1) != len(lines):
+        place = next(place for place, count in enumerate(commas) if count != len(there) - 1)
+        raise TextError(at + place, f"not {len(there)} fields: {lines[place][:80]}")
+    fields = ",".join(lines).split(",") if lines else []
+    columns: Dict[str, List[Any]] = {
+        name: read_column(name, kinds[name], fields[place :: len(there)], at) for place, name in enumerate(there)
+    }
+    return Table(record, [columns.get(name, [0] * len(lines)) for name in kinds])
+
+
+class Lines:
+    """The lines of a text, and how far they are read."""
+
+    def __init__(self, lines: List[str]) -> None:
+        self.lines, self.at = lines, 0
+
+    @property
+    def next(self) -> Optional[str]:
+        """The next line; None at the end."""
+        return self.lines[self.at] if self.at < len(self.lines) else None
+
+    def fail(self, wanted: str) -> TextError:
+        """What is wrong where the next line is not what it should be."""
+        found = "the end of the text" if self.next is None else f"the line {self.next[:80]}"
+        return TextError(self.at + 1, f"not {wanted}, but {found}")
+
+    def take(self, line: str) -> None:
+        """Goes on behind a line that must be the next; the empty one stands between two tables."""
+        if self.next != line:
+            raise self.fail(f"the line {line}" if line else "an empty line")
+        self.at += 1
+
+    def fields(self, word: str, count: int) -> List[str]:
+        """The fields of the next line behind its word."""
+        first, *fields = (self.next or "").split(",")
+        if first != word or len(fields) != count:
+            raise self.fail(f"a line with {word} and {count} field{'s' if count > 1 else ''}")
+        self.at += 1
+        return fields
+
+    def numbers(self, word: str, count: int = 1) -> List[int]:
+        """The numbers of the next line behind its word."""
+        return [numbers_of([field], self.at)[0] for field in self.fields(word, count)]
+
+    def end(self) -> None:
+        """The text must end here."""
+        if self.next is not None:
+            raise self.fail("the end of the text")
+
+    def table(self, record: Type[R], last: int = 0, without: str = "", until: Sequence[str] = ("",)) -> Table[R]:
+        """A header and the lines below it, as far as a line that ends them or the end; the last few of them are left."""
+        self.take(header_of(record, without))
+        start = self.at
+        stop = next((at for at in range(start, len(self.lines)) if self.lines[at] in until), len(self.lines))
+        self.at = stop - last
+        if self.at < start:
+            raise self.fail("lines of sums below a table")
+        return records_of(record, self.lines[start : self.at], start + 1, without)
+
+
+def read_clearing(lines: Lines) -> Result:
+    """Payments, and a journal or the standings with costs behind them."""
+    payments = lines.table(Payment)
+    if lines.next is None:
+        return Clearing(payments)
+    lines.take("")
+    if lines.next == COSTS:
+        standings = lines.table(CostStanding, last=2)
+        sums = lines.numbers("total", 6)
+        return Costs(payments, standings, CostTotals(*sums, *lines.numbers("cash")))
+    return Clearing(payments, read_journal(lines))
+
+
+def read_journal(lines: Lines) -> Journal:
+    """A journal, with or without the line `rounds`."""
+    ends = bool(lines.lines) and lines.lines[-1].startswith("rounds,")
+    raises = lines.table(Raise, last=1 if ends else 0)
+    return Journal(raises, lines.numbers("rounds")[0] if ends else None)
+
+
+def read_standings(lines: Lines) -> Defaults:
+    """Standings with their sums, with or without what is paid outside."""
+    without = "" if lines.next == STANDINGS_2 else "outside_paid"
+    standings = lines.table(Standing, last=2, without=without)
+    sums = lines.numbers("total", 5 if without else 6)
+    if without:
+        sums.insert(1, 0)
+    return Defaults(standings, Totals(*sums, *lines.numbers("cash")))
+
+
+def read_stress(lines: Lines) -> Stress:
+    """An outcome for each scenario."""
+    outcomes: List[Outcome] = []
+    while lines.next is not None:
+        if outcomes:
+            lines.take("")
+        if not (lines.next or "").startswith("scenario,"):
+            raise lines.fail("a line with scenario")
+        name = (lines.next or "").partition(",")[2]
+        lines.at += 1
+        payments = lines.table(Payment, until=(STANDINGS_1, STANDINGS_2))
+        left = read_standings(lines)
+        outcomes.append(Outcome(len(outcomes) + 1, name, payments, left.standings, left.total))
+    return Stress(tuple(outcomes))
+
+
+def read_banks(lines: Lines) -> Table[Bank]:
+    """A banks file, of either version."""
+    return lines.table(Bank, without="" if lines.next == BANKS_2 else "outside")
+
+
+def read_counts(lines: Lines) -> Result:
+    """The counts of `check` with both files behind them, or those of `gen`."""
+    banks, debts, owed, cash = (lines.numbers(word)[0] for word in ("banks", "debts", "owed", "cash"))
+    if lines.next is not None and lines.next.startswith("paid,"):
+        rest = [lines.numbers(word)[0] for word in ("paid", "defaults", "equity")]
+        return Generated(GeneratedTotals(banks, debts, owed, cash, *rest))
+    lines.take("")
+    table = read_banks(lines)
+    lines.take("")
+    check = Check(table, lines.table(Debt), CheckTotals(banks, debts, owed, cash))
+    if (len(check.banks), len(check.debts)) != (banks, debts):
+        raise TextError(0, f"{len(check.banks)} banks and {len(check.debts)} debts in place of {banks} and {debts}")
+    return check
+
+
+def read_bounds(lines: Lines) -> Bounds:
+    """The least and greatest payments, and the waves."""
+    payments = lines.table(Bound)
+    lines.take("")
+    return Bounds(payments, lines.table(Wave))
+
+
+def read_compression(lines: Lines) -> Compression:
+    """The debts that are left, the ranks and what was cancelled."""
+    debts = lines.table(Debt)
+    lines.take("")
+    ranks = lines.table(Rank, last=1)
+    return Compression(debts, ranks, lines.numbers("cancelled")[0])
+
+
+def read_rescue(lines: Lines) -> Rescue:
+    """The sum that saves a bank, and the payments with it."""
+    bank, added = lines.fields("rescue", 2)
+    short = lines.numbers("short")[0]
+    lines.take("")
+    return Rescue(bank, numbers_of([added], 1)[0], short, lines.table(Payment))
+
+
+def read_verdict(lines: Lines) -> Verdict:
+    """The verdict on a journal, and the payments where it is lawful."""
+    word = (lines.next or "").partition(",")[0]
+    if word == "unfinished":
+        return Verdict(word, bank=lines.fields(word, 1)[0])
+    if word == "lawful":
+        raises = lines.numbers(word)[0]
+        lines.take("")
+        return Verdict(word, raises=raises, payments=lines.table(Payment))
+    entry, first, second = lines.numbers(word, 3)
+    if word == "falls":
+        return Verdict(word, entry=entry, last=first, stamp=second)
+    return Verdict(word, entry=entry, had=first, allowed=second)
+
+
+READERS: Dict[str, Callable[[Lines], Result]] = {
+    PAYMENTS: read_clearing,
+    JOURNAL: read_journal,
+    STANDINGS_1: read_standings,
+    STANDINGS_2: read_standings,
+    BOUNDS: read_bounds,
+    DEBTS: read_compression,
+    BANKS_1: lambda lines: Converted(read_banks(lines)),
+    BANKS_2: lambda lines: Converted(read_banks(lines)),
+}
+WORDS: Dict[str, Callable[[Lines], Result]] = {
+    "scenario": read_stress,
+    "banks": read_counts,
+    "rescue": read_rescue,
+    "lawful": read_verdict,
+    "falls": read_verdict,
+    "unlawful": read_verdict,
+    "unfinished": read_verdict,
+}
+
+
+def parse(text: str) -> Result:
+    """The result that a text of the program says. What kind it is, the first line tells. No text at all is refused: a run
+    that failed leaves it, or `stress` without a scenario.
+
+    >>> parse("debtor,creditor,class,claim,paid\\nA,B,1,10,7\\n").payments[0].paid
+    7
+    >>> parse("debtor,creditor,class,claim,paid\\nA,B,1,10,7")
+    Traceback (most recent call last):
+    clearing_client.errors.TextError: line 2: the line has no end: the text was cut short
+    """
+    lines = Lines(lines_of(text))
+    first = lines.next
+    if first is None:
+        raise TextError(0, "there is no text: the run failed, or had no scenario")
+    reader = READERS.get(first) or WORDS.get(first.partition(",")[0])
+    if reader is None:
+        raise TextError(1, f"no text of the program begins with {first[:80]}")
+    result = reader(lines)
+    lines.end()
+    return result.told(text)
