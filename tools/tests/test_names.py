@@ -2,10 +2,13 @@
 
 A name in back quotes is looked for where its text says that it stands: `crate::name` in that crate, `crate::laws::name` among its
 laws, `crate`: `name` in that crate, names after a file in that file, and any other name somewhere in the repository.
+
+`python3 test_names.py --list` prints the names of code that each page cites.
 """
 import functools
 import pathlib
 import re
+import sys
 import unittest
 
 from common import ROOT
@@ -68,6 +71,12 @@ def anchors_of(path):
 def is_name(token):
     """Whether a word in back quotes can only be a name of code: it has an underscore, or a capital within."""
     return re.fullmatch(WORD, token) and ("_" in token.strip("_") or re.search(r"[a-z][A-Z]", token))
+
+
+def cited_names(text):
+    """The names of code that a text cites, each once."""
+    tokens = QUOTED.findall(prose_of(text))
+    return sorted({token for token in tokens if is_name(token) or re.fullmatch(r"\w+(::\w+)+", token)})
 
 
 def missing_names(text):
@@ -187,4 +196,8 @@ class Names(unittest.TestCase):
 
 
 if __name__ == "__main__":
-    unittest.main()
+    if sys.argv[1:] == ["--list"]:
+        for page in documents():
+            print(page.relative_to(ROOT), *cited_names(page.read_text(encoding="utf-8")), sep="\n    ")
+    else:
+        unittest.main()
