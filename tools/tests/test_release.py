@@ -17,6 +17,20 @@ def ran(*words, **more):
     return subprocess.run([str(word) for word in words], stdin=subprocess.DEVNULL, capture_output=True, encoding="utf-8", **more)
 
 
+class Version(unittest.TestCase):
+    def test_it_is_the_same_everywhere(self):
+        version = (ROOT / "VERSION").read_text(encoding="utf-8").strip()
+        self.assertIn(f"\nversion: {version}\n", (ROOT / "CITATION.cff").read_text(encoding="utf-8"))
+        first = re.search(r"^## (\S+?),? ", (ROOT / "CHANGELOG.md").read_text(encoding="utf-8"), re.MULTILINE)[1]
+        self.assertEqual(first, version)
+
+    def test_no_licence_is_assumed(self):
+        """None has been chosen, which the README says, and no file says otherwise."""
+        self.assertIn("No licence has been chosen", (ROOT / "README.md").read_text(encoding="utf-8"))
+        self.assertNotIn("\nlicense", (ROOT / "CITATION.cff").read_text(encoding="utf-8"))
+        self.assertEqual([path.name for path in ROOT.glob("*") if re.match(r"(?i)licen[cs]e|copying", path.name)], [])
+
+
 class Completions(Case):
     def test_each_has_the_tasks_of_the_program(self):
         fish = (ROOT / "tools/clearing.fish").read_text(encoding="utf-8")
