@@ -1,0 +1,92 @@
+#!/bin/sh
+# Where the time of a build goes: how long each crate takes to be proved from nothing, and its library to be made.
+#
+#   bench/build.sh [--tests] [CRATE..]
+#
+# In:   crates of crates.txt, or none for all. With --tests the proofs of each crate's tests are measured too.
+# Out:  a line for each crate, lowest first: what was done, seconds, processor seconds, the most memory in MB, and lines of code and of
+#       proofs; and last a line with the sums. Crates below those that are named are built first and not told.
+#
+# Works on a copy of the sources in a temporary folder, one job at a time, and leaves the repository's own work alone. Wants GNU time
+# (Debian's package time).
+# Ends with 0, with 1 where a proof fails, and with 2 where the words are not understood.
+case "${1:-}" in
+--help | -h)
+    sed -n '2,12s/^# \{0,1\}//p' "$0"
+    exit 0
+    ;;
+esac
+unset CDPATH
+root=$(dirname -- "$(dirname -- "$(realpath -- "$0")")")
+
+fail() {
+    echo "build.sh: error: $1" >&2
+    exit "${2:-1}"
+}
+
+tests=
+named=
+for word in "$@"; do
+    case $word in
+    --tests) tests=yes ;;
+    -*) fail "no option $word" 2 ;;
+    *)
+        grep -q "^$word\( staticlib\)\{0,1\}:" "$root/crates.txt" || fail "no crate $word in crates.txt" 2
+        named="$named $word"
+        ;;
+    esac
+done
+command -v rt >/dev/null 2>&1 || fail "the command rt of the toolchain is not on the path"
+[ -x /usr/bin/time ] || fail "/usr/bin/time is missing (Debian's package time)"
+
+# The crates that are named, or all, and those that they stand on, lowest first.
+needed() {
+    awk -F: -v named="$named" '
+        { gsub(/#.*/, ""); sub(/ .*/, "", $1); if ($1 != "") { below[$1] = $2; names[++count] = $1 } }
+        function tell(name,  parts, n, i) {
+            if (name in told) return
+            told[name] = 1
+            n = split(below[name], parts, " ")
+            for (i = 1; i <= n; i++) if (parts[i] in below) tell(parts[i])
+            print name
+        }
+        END { for (i = 1; i <= count; i++) if (named == "" || index(named " ", " " names[i] " ")) tell(names[i]) }' "$root/crates.txt"
+}
+
+work=$(mktemp -d) || exit 1
+trap 'rm -rf "$work"' EXIT
+trap 'exit 1' INT TERM HUP
+cp "$root/crates.txt" "$work/" && cp "$root/HANDLES" "$work/" 2>/dev/null
+git -C "$work" init -q
+(cd "$root" && find crates \( -name out -o -name must-fail \) -prune -o -type f -print0 | tar --null -T - -cf -) | tar -C "$work" -xf - || exit 1
+
+lines() { # the files' ending, and the folders
+    ending=$1
+    shift
+    find "$@" -name "*.$ending" -exec cat {} + 2>/dev/null | wc -l
+}
+
+measured() { # the crate, what is done, whether it is told, and the words of the command
+    name=$1 what=$2 tell=$3
+    shift 3
+    (cd "$work/crates/$name" && exec nice /usr/bin/time -o "$work/time" -f '%e %U %S %M' "$@") >"$work/log" 2>&1 </dev/null || {
+        cat "$work/log" >&2
+        fail "$name: $what"
+    }
+    [ -n "$tell" ] || return 0
+    tail -n 1 "$work/time" | awk -v name="$name" -v what="$what" -v code="$(lines rt "$root/crates/$name/src")" \
+        -v proofs="$(lines antt "$root/crates/$name/specs" "$root/crates/$name/proofs")" \
+        '{ printf "%-14s %-8s %8.1f %9.1f %8d %6d %7d\n", name, what, $1, $2 + $3, $4 / 1024, code, proofs }' | tee -a "$work/table"
+}
+
+printf '%-14s %-8s %8s %9s %8s %6s %7s\n' crate what seconds processor MB code proofs
+for name in $(needed); do
+    tell=yes
+    if [ -n "$named" ]; then case "$named " in *" $name "*) ;; *) tell= ;; esac; fi
+    measured "$name" proofs "$tell" rt check --jobs 1
+    if [ -n "$tests" ] && [ -n "$tell" ] && grep -rq '#\[test\]' "$work/crates/$name/src"; then
+        measured "$name" tests "$tell" rt check --test --jobs 1
+    fi
+    if grep -q "[: ]$name\( \|$\)" "$work/crates.txt"; then measured "$name" library "$tell" rt lib; fi
+done
+awk '{ seconds += $3; processor += $4 } END { printf "%-14s %-8s %8.1f %9.1f\n", "all", "", seconds, processor }' "$work/table"

@@ -1,0 +1,51 @@
+#compdef clearing
+# Completion of the command `clearing` for zsh. tools/release.sh puts it into the package, as _clearing in a folder of fpath.
+
+_clearing_banks() {
+    local at=${words[(i)--banks]}
+    local file=${(Q)words[at + 1]}
+    [[ -r $file ]] || return 1
+    local -a banks=(${(f)"$(tail -n +2 -- $file | cut -d, -f1)"})
+    compadd -a banks
+}
+
+_clearing() {
+    local -a tasks=(
+        'check:the counts of the network, and both files as they are printed'
+        'clear:the least payments, the journal of the run, or both'
+        'central:the same payments by plain repetition'
+        'defaults:who defaults, and whether it is its own doing'
+        'stress:the payments and defaults of each scenario'
+        'replay:whether a journal is lawful and complete'
+        'bounds:the least and the greatest payments'
+        'rescue:the least sum of cash that saves a bank'
+        'compress:the debts with cycles cancelled'
+        'costs:where an estate in default is worth only a part'
+        'convert:the banks file in its second form'
+        'gen:a network made from a number'
+    )
+    local task word
+    for word in ${words[2,CURRENT-1]}; do
+        (( ${tasks[(I)$word:*]} )) && { task=$word; break }
+    done
+    if [[ -z $task ]]; then
+        _describe task tasks
+        return
+    fi
+    local -a options
+    [[ $task == gen ]] || options+=('--banks[the banks file]:file:_files' '--debts[the debts file]:file:_files')
+    case $task in
+    clear | defaults | bounds | stress | rescue | gen) options+=('--workers[1 to 64]:number:' '--sweeps[1 to 1000]:number:') ;;
+    esac
+    case $task in
+    clear) options+=('--show[what is printed]:what:(payments journal both)') ;;
+    stress) options+=('--scenarios[the scenarios, in TOML]:file:_files') ;;
+    replay) options+=('--journal[the journal]:file:_files') ;;
+    rescue) options+=('--bank[the bank to be saved]:bank:_clearing_banks') ;;
+    costs) options+=('--keep[0 to 1000 per mille]:number:') ;;
+    gen) options+=('--seed[the number]:number:' '--size[1 to 1000 banks]:number:' '--tries[0 to 20000 tries]:number:') ;;
+    esac
+    _arguments "1:task:" $options
+}
+
+_clearing "$@"

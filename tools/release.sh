@@ -1,0 +1,187 @@
+#!/bin/sh
+# Makes a release of the program that was built and proved: an archive, a Debian package, and their checksums.
+#
+#   tools/release.sh [--draft] [--gate LOG] FOLDER
+#
+# In:   a checkout without changes, its built program, and LOG, what `.ci/run` printed of it: its last line is `N passed, 0 failed`,
+#       and no source is newer. FOLDER is made where it is not there. With --draft changes and a missing log are let through, and
+#       the environment variable CLEARING may name another program; the record says then that it is a draft.
+# Out:  FOLDER/clearing-VERSION-x86_64.tar.gz, FOLDER/clearing_VERSION_amd64.deb and FOLDER/SHA256SUMS; their names on standard output. They have the
+#       program, the tools, manual pages, completions for bash, zsh and fish, the documents as HTML, examples, and the record of the
+#       gate. The same checkout and program make the same bytes.
+#
+# Wants pandoc and dpkg-deb (Debian's packages pandoc and dpkg).
+# Ends with 0, with 1 and a message where something is not as it must be, and with 2 where the words are not understood.
+case "${1:-}" in
+--help | -h)
+    sed -n '2,17s/^# \{0,1\}//p' "$0"
+    exit 0
+    ;;
+esac
+unset CDPATH
+umask 022
+here=$(dirname -- "$(realpath -- "$0")")
+root=${here%/*}
+
+fail() {
+    echo "release.sh: error: $1" >&2
+    exit "${2:-1}"
+}
+
+draft=
+gate=
+folder=
+while [ $# -gt 0 ]; do
+    case $1 in
+    --draft) draft=yes ;;
+    --gate)
+        [ $# -gt 1 ] || fail "--gate wants a file" 2
+        gate=$2
+        shift
+        ;;
+    -*) fail "no option $1" 2 ;;
+    *)
+        [ -z "$folder" ] || fail "one folder is wanted" 2
+        folder=$1
+        ;;
+    esac
+    shift
+done
+[ -n "$folder" ] || fail "a folder is wanted" 2
+for command in pandoc dpkg-deb; do
+    command -v $command >/dev/null 2>&1 || fail "$command is not on the path (Debian's package ${command%-deb})"
+done
+version=$(cat "$root/VERSION") || fail "there is no file VERSION"
+echo "$version" | grep -Eqx '[0-9]+(\.[0-9]+){2}' || fail "VERSION has no number of the form 1.2.3"
+
+# What is released: a commit, a program, and what the gate said of them.
+commit=$(git -C "$root" rev-parse HEAD 2>/dev/null) || fail "$root is no checkout of git"
+said="It was built and proved from this commit."
+[ -z "$draft" ] || said="This is a draft: nothing here says that the program was proved."
+if [ -n "$(git -C "$root" status --porcelain)" ]; then
+    [ -n "$draft" ] || fail "the checkout has changes; commit them, or make a draft with --draft"
+    said="$said The checkout had changes beside the commit."
+fi
+if [ -n "$gate" ]; then
+    [ -r "$gate" ] || fail "$gate cannot be read"
+    last=$(tail -n 1 "$gate")
+    echo "$last" | grep -Eqx '[0-9]+ passed, 0 failed' || fail "the last line of $gate is not 'N passed, 0 failed'"
+    newer=$(find "$root/crates.txt" "$root"/crates/*/src "$root"/crates/*/specs "$root"/crates/*/proofs -type f -newer "$gate" | head -n 1)
+    [ -z "$newer" ] || fail "$newer is newer than $gate"
+elif [ -n "$draft" ]; then
+    last="not given"
+else
+    fail "the gate's record is wanted: --gate LOG, what .ci/run printed"
+fi
+if [ -n "${CLEARING:-}" ]; then
+    [ -n "$draft" ] || fail "a release has the repository's own program; CLEARING is for drafts alone"
+    program=$CLEARING
+    [ -f "$program" ] && [ -x "$program" ] || fail "$program is no program"
+else
+    "$root/clearing" check --banks "$root/examples/chain/banks.csv" --debts "$root/examples/chain/debts.csv" >/dev/null ||
+        fail "the program is not built"
+    program=$root/crates/clear_main/out/clear_main
+fi
+kit=$(rt version 2>/dev/null) || kit="not on this machine's path"
+glibc=$(grep -a -o 'GLIBC_[0-9.]*' "$program" | sort -t _ -k 2 -Vu | tail -n 1 | sed 's/GLIBC_//')
+SOURCE_DATE_EPOCH=$(git -C "$root" log -1 --format=%ct)
+export SOURCE_DATE_EPOCH
+
+work=$(mktemp -d) || exit 1
+trap 'rm -rf "$work"' EXIT
+trap 'exit 1' INT TERM HUP
+stage=$work/clearing-$version
+docs=$stage/share/doc/clearing
+mkdir -p "$docs"
+
+# The program, its pages, tools and completions.
+CLEARING=$program "$here/install.sh" "$stage" >/dev/null || fail "the program cannot be laid out"
+# These belong to the repository.
+for name in architecture install man pictures quick release test; do
+    rm -f "$stage/bin/clearing-$name" "$stage/share/man/man1/clearing-$name.1" "$stage/share/clearing/tools/$name".*
+done
+mkdir -p "$stage/share/zsh/vendor-completions" "$stage/share/fish/vendor_completions.d"
+cp "$here/clearing.zsh" "$stage/share/zsh/vendor-completions/_clearing" || exit 1
+cp "$here/clearing.fish" "$stage/share/fish/vendor_completions.d/clearing.fish" || exit 1
+
+# The documents for users, as HTML: links between them stay, and links to files of the repository become words.
+cat >"$work/links.lua" <<'LUA'
+function Link(link)
+  local page, anchor = link.target:match("^([%w-]+)%.md(#?.*)$")
+  if page and PAGES[page] then
+    link.target = page:lower() .. ".html" .. anchor
+  elseif not link.target:match("^%a+:") and not link.target:match("^#") then
+    return link.content
+  end
+  return link
+end
+LUA
+pages="GUIDE FORMATS DEFINITIONS THEORY PROVED TRUST REFERENCES"
+printf 'PAGES = {%s}\n' "$(for page in $pages; do printf '%s = true, ' "$page"; done)" >"$work/pages.lua"
+cat "$work/pages.lua" "$work/links.lua" >"$work/filter.lua"
+for page in $pages; do
+    [ -f "$root/docs/$page.md" ] || continue
+    title=$(sed -n 's/^# //p' "$root/docs/$page.md" | head -n 1)
+    name=$(echo "$page" | tr '[:upper:]' '[:lower:]')
+    pandoc --standalone --mathml --toc --from gfm+tex_math_dollars --to html5 --metadata title="clearing: $title" \
+        --lua-filter "$work/filter.lua" --output "$docs/$name.html" "$root/docs/$page.md" 2>"$work/pandoc.log" ||
+        fail "pandoc: $(cat "$work/pandoc.log")"
+done
+cp -R "$root/docs/pictures" "$root/examples" "$docs/" && cp "$root/CHANGELOG.md" "$root/CITATION.cff" "$root/VERSION" "$docs/" || exit 1
+cat >"$docs/RECORD" <<RECORD
+clearing $version
+commit $commit
+toolchain $kit
+crates $(find "$root"/crates/*/src -maxdepth 0 | wc -l)
+edits that must be refused $(find "$root"/crates/*/must-fail -name '*.edit' | wc -l)
+gate $last
+program $(sha256sum <"$program" | cut -d ' ' -f 1)
+
+$said
+The program wants Linux on x86-64 with glibc $glibc or later, and a processor of the level x86-64-v2.
+Its checksum tells whether it is this program, and not whether a program is right.
+No licence has been chosen.
+RECORD
+cat >"$docs/INSTALL" <<INSTALL
+From the archive:   tar -xzf clearing-$version-x86_64.tar.gz --strip-components=1 -C PREFIX
+From the package:   dpkg -i clearing_${version}_amd64.deb
+Without either:     the program is bin/clearing and wants nothing beside it. The tools want Python 3.
+RECORD says what was built and proved; guide.html is where to begin.
+INSTALL
+find "$stage" -name __pycache__ -prune -exec rm -rf {} +
+find "$stage" -exec touch -h -d "@$SOURCE_DATE_EPOCH" {} +
+
+mkdir -p -- "$folder" 2>/dev/null || fail "$folder cannot be made"
+archive=clearing-$version-x86_64.tar.gz
+package=clearing_${version}_amd64.deb
+tar -C "$work" --sort=name --mtime="@$SOURCE_DATE_EPOCH" --owner=0 --group=0 --numeric-owner --format=gnu -cf - "clearing-$version" |
+    gzip -9n >"$work/$archive" || fail "the archive cannot be written"
+
+# The package has the same files under /usr, its pages packed as Debian's are.
+tree=$work/tree
+mkdir -p "$tree/usr" "$tree/DEBIAN" && cp -a "$stage/." "$tree/usr/" && gzip -9n "$tree"/usr/share/man/man1/*.1 || exit 1
+rm "$tree/usr/share/doc/clearing/INSTALL"
+size=$(du -sk "$tree/usr" | cut -f 1)
+cat >"$tree/DEBIAN/control" <<CONTROL
+Package: clearing
+Version: $version
+Architecture: amd64
+Maintainer: The authors of clearing <root@localhost>
+Installed-Size: $size
+Depends: libc6 (>= $glibc)
+Recommends: python3
+Suggests: graphviz, python3-matplotlib, parallel
+Section: science
+Priority: optional
+Description: proved settlement simulator for networks of banks
+ Computes who pays what when banks owe each other more than they have, in whole
+ units and by a bankruptcy rule for each bank. What it prints is proved.
+CONTROL
+find "$tree" -exec touch -h -d "@$SOURCE_DATE_EPOCH" {} +
+dpkg-deb --root-owner-group --build "$tree" "$work/$package" >"$work/dpkg.log" 2>&1 || fail "dpkg-deb: $(cat "$work/dpkg.log")"
+
+(cd "$work" && sha256sum "$archive" "$package" >SHA256SUMS) || exit 1
+for name in "$archive" "$package" SHA256SUMS; do
+    mv -f -- "$work/$name" "$folder/" 2>/dev/null || fail "$folder cannot be written"
+    echo "$folder/$name"
+done

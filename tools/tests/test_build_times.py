@@ -1,0 +1,62 @@
+"""bench/build.sh measures each crate on a copy: tried with a toolchain that only tells its calls."""
+import os
+import pathlib
+import shutil
+import subprocess
+import unittest
+
+from common import ROOT, Case
+
+TOOLCHAIN = """#!/bin/sh
+echo "$(basename "$PWD"): $*" >>"$CALLS"
+echo "$PWD" >>"$CALLS.places"
+[ "$(basename "$PWD") $*" != "$FAULTY" ] || { echo "a goal is left"; exit 1; }
+"""
+
+
+@unittest.skipUnless(pathlib.Path("/usr/bin/time").exists(), "GNU time is missing")
+class BuildTimes(Case):
+    def setUp(self):
+        super().setUp()
+        (self.folder / "bin").mkdir()
+        self.file("bin/rt", TOOLCHAIN).chmod(0o755)
+        self.root = self.folder / "repository"
+        (self.root / "bench").mkdir(parents=True)
+        shutil.copy(ROOT / "bench/build.sh", self.root / "bench")
+        (self.root / "crates.txt").write_text("top: low\nlow:\nbeside:\n")
+        for name in ("top", "low", "beside"):
+            (self.root / "crates" / name / "src").mkdir(parents=True)
+            (self.root / "crates" / name / "out").mkdir()
+            (self.root / "crates" / name / "src/lib.rt").write_text("#[test]\nfn shows() {}\n" if name == "top" else "\n")
+
+    def run_with(self, *words, faulty=""):
+        self.calls = self.file("calls", "")
+        environment = {**os.environ, "CALLS": str(self.calls), "FAULTY": faulty, "PATH": f"{self.folder}/bin:/usr/bin:/bin"}
+        done = subprocess.run([str(self.root / "bench/build.sh"), *words], env=environment, stdin=subprocess.DEVNULL,
+                              capture_output=True, encoding="utf-8")
+        return done, self.calls.read_text().splitlines()
+
+    def test_crates_are_measured_lowest_first_on_a_copy(self):
+        done, calls = self.run_with("--tests")
+        self.assertEqual((done.returncode, done.stderr), (0, ""))
+        self.assertEqual(calls, ["low: check --jobs 1", "low: lib", "top: check --jobs 1", "top: check --test --jobs 1", "beside: check --jobs 1"])
+        self.assertEqual([line.split()[:2] for line in done.stdout.splitlines()[1:-1]],
+                         [["low", "proofs"], ["low", "library"], ["top", "proofs"], ["top", "tests"], ["beside", "proofs"]])
+        self.assertEqual(done.stdout.splitlines()[-1].split()[0], "all")
+        self.assertNotIn(str(self.root), (self.folder / "calls.places").read_text())
+
+    def test_what_is_named_is_told_and_what_is_below_built(self):
+        done, calls = self.run_with("top")
+        self.assertEqual(calls, ["low: check --jobs 1", "low: lib", "top: check --jobs 1"])
+        self.assertEqual([line.split()[0] for line in done.stdout.splitlines()], ["crate", "top", "all"])
+
+    def test_a_proof_that_fails_ends_it(self):
+        done, _ = self.run_with(faulty="low check --jobs 1")
+        self.assertEqual(done.returncode, 1)
+        self.assertIn("a goal is left", done.stderr)
+        for words in (["none"], ["--fast"]):
+            self.assertEqual(self.run_with(*words)[0].returncode, 2)
+
+
+if __name__ == "__main__":
+    unittest.main()

@@ -1,0 +1,181 @@
+"""The script `./clearing` builds what has changed, and nothing else: tried in a small repository with a toolchain of its own making,
+which counts its calls and links a program that prints the sources."""
+import os
+import pathlib
+import shutil
+import signal
+import subprocess
+import time
+import unittest
+
+from common import ROOT, Case
+
+TOOLCHAIN = """#!/bin/sh
+echo "$*" >>"$CALLS"
+root=$(cd "$(dirname "$0")/.." && pwd)
+case "$*" in
+"all check --jobs "*)
+    for name in low clear_main; do
+        sleep "${SLOW:-0}"
+        mkdir -p "$REPOSITORY/crates/$name/out/rlib"
+        : >"$REPOSITORY/crates/$name/out/rlib/stamp"
+        echo "crate $name: modules loaded=0 checked=1"
+        echo "logic=proved functions=1"
+    done ;;
+"run -- check "*)
+    [ -z "$FAULTY" ] || exit 1
+    { echo '#!/bin/sh'; echo 'echo "$*" here'; sed 's/^/# /' src/main.rt; } >out/clear_main
+    chmod +x out/clear_main ;;
+esac
+"""
+
+
+class Launcher(Case):
+    def setUp(self):
+        super().setUp()
+        self.folder.chmod(0o755)
+        self.calls = self.file("calls", "")
+        (self.folder / "bin").mkdir()
+        self.rt = self.folder / "bin/rt"
+        self.rt.write_text(TOOLCHAIN)
+        self.rt.chmod(0o755)
+        self.root = self.folder / "a folder"
+        for name in ("low", "clear_main"):
+            for part in ("src", "specs", "proofs", "out"):
+                (self.root / "crates" / name / part).mkdir(parents=True)
+            (self.root / "crates" / name / "src/main.rt").write_text(f"fn {name}() {{}}\n")
+        (self.root / "crates.txt").write_text("low:\nclear_main: low\n")
+        shutil.copy(ROOT / "clearing", self.root / "clearing")
+
+    def run_at(self, root, *words, path=True, **more):
+        environment = {"PATH": (f"{self.folder}/bin:" if path else "") + "/usr/bin:/bin", "CALLS": str(self.calls),
+                       "REPOSITORY": str(root), "CLEARING_JOBS": "2", **more}
+        prefix = []
+        if os.geteuid() == 0 and more.get("READER"):
+            prefix = ["setpriv", "--reuid=65534", "--regid=65534", "--clear-groups"]
+        return subprocess.run([*prefix, str(root / "clearing"), *words], env=environment, cwd=self.folder, stdin=subprocess.DEVNULL,
+                              capture_output=True, encoding="utf-8")
+
+    def builds(self):
+        return self.calls.read_text().count("run -- ")
+
+    def built(self):
+        """The repository, once it was built."""
+        done = self.run_at(self.root, "a", "b")
+        self.assertEqual((done.returncode, done.stdout, self.builds()), (0, "a b here\n", 1), done.stderr)
+        self.assertIn("clearing: building the program, since it is not there", done.stderr)
+        return self.root
+
+    def quiet(self, root, **more):
+        done = self.run_at(root, "x", **more)
+        self.assertEqual((done.returncode, done.stdout, done.stderr), (0, "x here\n", ""))
+
+    def test_it_is_built_once(self):
+        self.built()
+        self.assertIn("all check --jobs 2", self.calls.read_text())
+        # And then it needs no toolchain.
+        self.quiet(self.root, path=False)
+        self.assertEqual(self.builds(), 1)
+
+    def test_a_source_that_changes_is_built(self):
+        source = self.built() / "crates/low/src/main.rt"
+        stamp = source.stat()
+        source.write_text("fn low() { }\n")
+        # Also where its date stays what it was.
+        os.utime(source, ns=(stamp.st_atime_ns, stamp.st_mtime_ns))
+        done = self.run_at(self.root)
+        self.assertIn("building the program, since its sources have changed", done.stderr)
+        self.assertEqual((done.returncode, self.builds()), (0, 2))
+        self.quiet(self.root)
+        # A source more, and a source less.
+        (source.parent / "more.rt").write_text("")
+        self.run_at(self.root)
+        (source.parent / "more.rt").unlink()
+        self.run_at(self.root)
+        self.assertEqual(self.builds(), 4)
+
+    def test_a_touched_folder_is_not_built_again(self):
+        for path in self.built().rglob("*.rt"):
+            path.touch()
+        done = self.run_at(self.root, "x")
+        self.assertEqual((done.returncode, done.stdout), (0, "x here\n"))
+        self.assertIn("it is not built again", done.stderr)
+        # It is said once.
+        self.quiet(self.root)
+        self.assertEqual(self.builds(), 1)
+
+    def test_a_moved_or_copied_folder_is_not_built_again(self):
+        moved = self.built().rename(self.folder / "moved")
+        self.quiet(moved)
+        copied = self.folder / "copied"
+        shutil.copytree(moved, copied, copy_function=shutil.copy)
+        self.assertIn("it is not built again", self.run_at(copied).stderr)
+        self.quiet(copied, path=False)
+        self.assertEqual(self.builds(), 1)
+
+    @unittest.skipUnless(os.geteuid() != 0 or shutil.which("setpriv"), "setpriv is missing: root may write everywhere")
+    def test_a_folder_that_may_not_be_written_runs_what_is_built(self):
+        self.built()
+        for path in [self.root, *self.root.rglob("*")]:
+            path.chmod(0o555)
+            path.touch()
+        self.quiet(self.root, READER="yes", path=False)
+        source = self.root / "crates/low/src/main.rt"
+        source.chmod(0o644)
+        source.write_text("fn low() { }\n")
+        done = self.run_at(self.root, READER="yes")
+        self.assertEqual((done.returncode, done.stdout), (8, ""))
+        self.assertIn("since its sources have changed, but", done.stderr)
+        self.assertIn("may not be written", done.stderr)
+        for path in [self.root, *self.root.rglob("*")]:
+            path.chmod(0o755)
+
+    def test_a_program_from_elsewhere_goes_by_dates(self):
+        program = self.built() / "crates/clear_main/out/clear_main"
+        program.write_text("#!/bin/sh\necho other\n")
+        self.assertEqual(self.run_at(self.root).stdout, "other\n")
+        source = self.root / "crates/low/src/main.rt"
+        os.utime(program, (1, 1))
+        program.write_text("#!/bin/sh\necho another\n")
+        os.utime(program, (1, 1))
+        self.assertIn("a source is newer than it", self.run_at(self.root).stderr)
+        self.assertEqual((source.exists(), self.builds()), (True, 2))
+
+    def test_without_a_toolchain_or_a_build_it_says_why(self):
+        done = self.run_at(self.root, path=False)
+        self.assertEqual((done.returncode, done.stdout), (8, ""))
+        self.assertIn("since it is not there, but the command rt of the toolchain is not on the path", done.stderr)
+        done = self.run_at(self.root, FAULTY="yes")
+        self.assertEqual(done.returncode, 8)
+        self.assertIn("the build failed", done.stderr)
+
+    def test_an_interrupt_ends_the_build(self):
+        environment = {"PATH": f"{self.folder}/bin:/usr/bin:/bin", "CALLS": str(self.calls), "REPOSITORY": str(self.root),
+                       "CLEARING_JOBS": "2", "SLOW": "30"}
+        going = subprocess.Popen([str(self.root / "clearing")], env=environment, stderr=subprocess.PIPE, encoding="utf-8")
+        deadline = time.monotonic() + 20
+        while not self.calls.read_text() and time.monotonic() < deadline:
+            time.sleep(0.1)
+        time.sleep(0.5)
+        going.send_signal(signal.SIGTERM)
+        message = going.communicate(timeout=20)[1]
+        self.assertEqual(going.returncode, 8, message)
+        self.assertIn("the build was interrupted", message)
+        deadline = time.monotonic() + 10
+        while self.is_running() and time.monotonic() < deadline:
+            time.sleep(0.1)
+        self.assertFalse(self.is_running())
+
+    def is_running(self):
+        return any(str(self.rt).encode() in self.text_of(path) for path in pathlib.Path("/proc").glob("[0-9]*/cmdline"))
+
+    @staticmethod
+    def text_of(path):
+        try:
+            return path.read_bytes()
+        except OSError:
+            return b""
+
+
+if __name__ == "__main__":
+    unittest.main()
