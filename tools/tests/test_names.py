@@ -17,8 +17,10 @@ CRATES = sorted(folder.name for folder in (ROOT / "crates").iterdir() if (folder
 # Crates of the toolchain that documents name.
 PORTED = {"atomic_table", "clap", "csv", "indexmap", "itoa", "rand_core", "rand_pcg", "std", "toml"}
 # Programs that commands begin with beside those of the repository.
-PROGRAMS = {"awk", "cat", "cmp", "cp", "diff", "docker", "dpkg", "echo", "for", "git", "grep", "head", "man", "mkdir", "nice", "printf",
+PROGRAMS = {"awk", "cat", "cmp", "cp", "diff", "docker", "dpkg", "echo", "for", "git", "grep", "head", "ls", "man", "mkdir", "nice", "printf",
             "python3", "rt", "sed", "sh", "sha256sum", "tail", "tar", "wc"}
+# Functions of the C library and of the toolchain's own, which documents name as what is trusted.
+TRUSTED = re.compile(r"(rattle|pthread)_[a-z_]+|__[a-z_]+")
 WORD = re.compile(r"[A-Za-z_][A-Za-z0-9_]*")
 QUOTED = re.compile(r"`([^`\n]+)`")
 FENCED = re.compile(r"^```(\w*)\n(.*?)^```$", re.MULTILINE | re.DOTALL)
@@ -92,7 +94,7 @@ def missing_names(text):
                 lost += [token] if names[-1] not in here else []
             elif crate not in PORTED and not (crate in all_words() and names[-1] in all_words()):
                 lost.append(token)
-        elif is_name(token) and token not in all_words():
+        elif is_name(token) and not TRUSTED.fullmatch(token) and token not in all_words():
             lost.append(token)
     for crate, names in IN_CRATE.findall(prose_of(text)):
         if crate in CRATES:
@@ -154,7 +156,8 @@ def wrong_commands(text):
             lost.append(command)
         for tool, rest in re.findall(r"((?:tools|bench)/[\w.]+)([^|;>]*)", command):
             file = ROOT / tool
-            known = file.read_text(encoding="utf-8") if file.is_file() else ""
+            # A shell script that starts a Python one of its name has the options of both.
+            known = "".join(part.read_text(encoding="utf-8") for part in (file, file.with_suffix(".py")) if part.is_file())
             lost += [f"{tool} {option}" for option in re.findall(r"(?<!\S)--[a-z-]+", rest) if option not in known]
             lost += [] if known else [tool]
     return lost
