@@ -151,8 +151,9 @@ def main():
     for name, piece in (("empty-lines", "\n"), ("blank-records", " \n"), ("commas", ","), ("comma-records", ",\n")):
         full(f"full-{name}", piece)
     for size, claim in ((10, 10000), (100, 10000), (1000, 1000)):
-        write(f"dry-ring-{size}-forward", *dry_ring(size, claim, 1))
-        write(f"dry-ring-{size}-reverse", *dry_ring(size, claim, -1))
+        for way, step in (("forward", 1), ("reverse", -1)):
+            write(f"dry-ring-{size}-{way}", *dry_ring(size, claim, step))
+            write(f"one-ring-{size}-{way}", *ring(size, claim, step))
     write("chain", *chain(1000))
     write("one-debtor", *one_debtor())
     write("leak", *leak(90000))

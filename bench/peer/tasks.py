@@ -3,8 +3,8 @@
     tasks.py PROGRAM [INPUT..]
 
 Reads the files that inputs.py made in the current folder. In the environment: RUNS, how often each is run, and LIMIT, the most
-seconds of a run. `stress` has a hundred scenarios and is told by the scenario. `rescue` saves the last bank that defaults,
-`replay` has the journal that `clear` prints.
+seconds of a run. A ring without cash stands beside `clear` of the same ring with one unit at a bank. `stress` has a hundred
+scenarios and is told by the scenario. `rescue` saves the last bank that defaults, `replay` has the journal that `clear` prints.
 """
 import os
 import subprocess
@@ -44,7 +44,7 @@ def row_of(program, name):
         "costs": ("--keep", "500"),
         "bounds": one,
     }
-    jobs = {"clear": words_of(program, "clear", name, *one)}
+    jobs = {"clear": words_of(program, "clear", name.replace("dry-", "one-"), *one)}
     jobs.update({task: words_of(program, task, name, *more.get(task, ())) for task in TASKS})
     best = least(jobs)
     if best["stress"] is not None:
