@@ -202,7 +202,7 @@ class Matrix(Case):
         self.check(*want)
 
     def test_names_of_every_character_come_through(self):
-        for names in [ODD_NAMES, list(all_names(last=0xFFFF))[:900]]:
+        for names in [ODD_NAMES, list(all_names(last=0xFFFF, step=13))]:
             names = [name for name in dict.fromkeys(name.strip(" ") for name in names) if name not in ("cash", "rule", "outside")]
             names = [name for name in names if not sheets.is_called_total(name)]
             rows = [[name] + ["1" if at in ((n + 1) % len(names), (n + 7) % len(names)) else "" for at in range(len(names))] for n, name in enumerate(names)]
