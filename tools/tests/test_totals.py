@@ -106,13 +106,12 @@ class Totals(Case):
             self.made_of(TABLE, "--method", method, "--samples", 6, "--seed", 6, "--steps", 2000)
             self.assertNotEqual([self.debts(f"out/{n}") for n in range(1, 7)], first)
 
-    def test_samples_come_as_often_as_their_distribution_says(self):
-        # All networks of four banks with small totals, each weighed by its claims: there with the probability 0.3, of a
-        # geometric size with the mean that the totals ask for.
-        owes, owed = [3, 2, 2, 1], [2, 2, 2, 2]
-        totals = from_totals.Totals(list("ABCD"), owes, owed)
-        cells = [(a, b) for a in range(4) for b in range(4) if a != b]
-        mean = max(sum(owes) / (0.3 * 12), 1.0)
+    def check_frequencies(self, owes, owed, rounds, steps):
+        """Compares how often networks come with their weights: each claim is there with the probability 0.3, and of a geometric
+        size with the mean that the totals ask for."""
+        size = len(owes)
+        cells = [(a, b) for a in range(size) for b in range(size) if a != b]
+        mean = max(sum(owes) / (0.3 * len(cells)), 1.0)
         more = 1 - 1 / mean
         weights = {}
 
@@ -128,33 +127,55 @@ class Totals(Case):
             for claim in range(min(out[a], in_[b]) + 1):
                 out[a] -= claim
                 in_[b] -= claim
-                visit(at + 1, claims + [claim], out, in_)
+                if b < size - 1 - (a == size - 1) or out[a] == 0:
+                    visit(at + 1, claims + [claim], out, in_)
                 out[a] += claim
                 in_[b] += claim
 
         visit(0, [], owes[:], owed[:])
-        self.assertGreater(len(weights), 20)
-        draw = random.Random(11)
         start = max(weights, key=weights.get)
-        chain = from_totals.Chain(totals, 0.3, draw, {pair: claim for pair, claim in zip(cells, start) if claim})
-        counts, rounds = dict.fromkeys(weights, 0), 30_000
+        totals = from_totals.Totals([str(n) for n in range(size)], owes, owed)
+        chain = from_totals.Chain(totals, 0.3, random.Random(11), {pair: claim for pair, claim in zip(cells, start) if claim})
+        counts, whole = dict.fromkeys(weights, 0), sum(weights.values())
         for _ in range(rounds):
-            for _ in range(6):
+            for _ in range(steps):
                 chain.step()
             counts[tuple(chain.cells[a][b] for a, b in cells)] += 1
-        whole = sum(weights.values())
         for network, weight in weights.items():
             want = weight / whole
-            self.assertAlmostEqual(counts[network] / rounds, want, delta=6 * (want / rounds) ** 0.5 * 2 + 0.001, msg=network)
+            self.assertAlmostEqual(counts[network] / rounds, want, delta=6 * (want / rounds) ** 0.5, msg=network)
+        return len(weights)
+
+    def test_samples_come_as_often_as_their_distribution_says(self):
+        # Of three banks there is one cycle, and each move is a new draw; of four there are many.
+        self.assertEqual(self.check_frequencies([12, 9, 10], [11, 10, 10], 6000, 60), 9)
+        self.assertEqual(self.check_frequencies([2, 1, 1], [1, 2, 1], 6000, 60), 2)
+        self.assertGreater(self.check_frequencies([3, 2, 2, 1], [2, 2, 2, 2], 10_000, 25), 20)
+
+    def test_entropy_is_rounded_down_or_up(self):
+        draw = random.Random(9)
+        claims = {(a, b): draw.choice([0, 0, 0, 1, 1, 2, 3]) for a in range(25) for b in range(25) if a != b}
+        owes, owed = ([sum(claim for pair, claim in claims.items() if pair[place] == n) for n in range(25)] for place in (0, 1))
+        real = {pair: float(owes[pair[0]] * owed[pair[1]]) for pair in claims}
+        for _ in range(200):
+            for place, want in ((0, owes), (1, owed)):
+                have = [0.0] * 25
+                for pair, claim in real.items():
+                    have[pair[place]] += claim
+                real = {pair: claim * want[pair[place]] / have[pair[place]] for pair, claim in real.items()}
+        self.made_of("bank,assets,liabilities,cash\n" + "".join(f"{n},{owed[n]},{owes[n]},{n % 3}\n" for n in range(25)))
+        debts = self.debts()
+        for (a, b), claim in real.items():
+            self.assertLess(abs(debts.get((str(a), str(b)), 0) - claim), 1, (a, b))
 
     def test_samples_forget_where_the_chain_began(self):
         draw = random.Random(2)
         claims = {(a, b): draw.randrange(1, 900) for a in range(20) for b in range(20) if a != b and draw.random() < 0.5}
         owes, owed = ([sum(claim for pair, claim in claims.items() if pair[place] == n) for n in range(20)] for place in (0, 1))
         table = "bank,assets,liabilities,cash\n" + "".join(f"N{n},{owed[n]},{owes[n]},1\n" for n in range(20))
-        for density in (0.2, 0.6):
-            self.made_of(table, "--method", "sample", "--samples", 20, "--density", density, "--steps", 40000)
-            count = sum(len(self.debts(f"out/{n}")) for n in range(1, 21)) / 20
+        for density, steps in ((0.6, 3000), (0.2, 40_000)):
+            self.made_of(table, "--method", "sample", "--samples", 5, "--density", density, "--steps", steps)
+            count = sum(len(self.debts(f"out/{n}")) for n in range(1, 6)) / 5
             # Of 380 pairs: the totals were not drawn with this density, so that it is met roughly.
             self.assertAlmostEqual(count / 380, density, delta=0.1)
 
