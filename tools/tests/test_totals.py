@@ -12,7 +12,9 @@ TABLE = "bank,assets,liabilities,cash\nA,100,60,20\nB,50,90,10\nC,70,40,30\nD,30
 
 class Words(Case):
     def test_without_numpy_it_is_said_which_python_was_asked(self):
-        script = self.file("python", f'#!/bin/sh\nexec "{sys.executable}" -S "$@"\n')
+        # A folder that a package has left behind is no module.
+        (self.folder / "left/numpy").mkdir(parents=True)
+        script = self.file("python", f'#!/bin/sh\nPYTHONPATH="{self.folder}/left" exec "{sys.executable}" -S "$@"\n')
         script.chmod(0o755)
         done = tool("from_totals.py", self.file("t.csv", TABLE), "--out", self.folder / "out", python=str(script))
         self.assertEqual((done.returncode, done.stdout), (2, ""))
