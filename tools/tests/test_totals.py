@@ -154,6 +154,27 @@ class Totals(Case):
         self.assertEqual(self.check_frequencies([2, 1, 1], [1, 2, 1], 6000, 60), 2)
         self.assertGreater(self.check_frequencies([3, 2, 2, 1], [2, 2, 2, 2], 10_000, 25), 20)
 
+    def test_a_move_is_drawn_by_the_weights_of_its_places(self):
+        class Grid:
+            """Draws the middles of so many equal parts, one after another."""
+
+            def __init__(self, parts):
+                self.numbers = ((part + 0.5) / parts for part in range(parts))
+
+            def random(self):
+                return next(self.numbers)
+
+        for up, down in [([3, 5], [4, 4]), ([0, 2], [1, 7]), ([2, 2, 9], [3, 3, 3]), ([1, 0], [1, 1])]:
+            least, most = -min(up), min(down)
+            chain = from_totals.Chain(from_totals.Totals(list("ABC"), [4, 4, 4], [4, 4, 4]), 0.3, Grid(20_000), {})
+            odds = chain.none / chain.there
+            weights = {at: odds ** sum(cell == 0 for cell in [*(cell + at for cell in up), *(cell - at for cell in down)]) for at in range(least, most + 1)}
+            counts = dict.fromkeys(weights, 0)
+            for _ in range(20_000):
+                counts[chain.drawn(least, most, up, down)] += 1
+            for at, weight in weights.items():
+                self.assertAlmostEqual(counts[at] / 20_000, weight / sum(weights.values()), 3, (up, down, at))
+
     def test_entropy_is_rounded_down_or_up(self):
         draw = random.Random(9)
         claims = {(a, b): draw.choice([0, 0, 0, 1, 1, 2, 3]) for a in range(25) for b in range(25) if a != b}
