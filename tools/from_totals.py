@@ -464,7 +464,9 @@ def in_units(table, banks, owes, owed, unit, words, faults):
 def numpy_or_end():
     try:
         import numpy
-    except ImportError:
+
+        numpy.ndarray
+    except (ImportError, AttributeError):
         print(f"from_totals: {sys.executable} has no numpy (Debian's package python3-numpy is for /usr/bin/python3)", file=sys.stderr)
         sys.exit(2)
     return numpy

@@ -151,7 +151,9 @@ def main():
         add_accounts(words.banks, banks)
     try:
         import networkx
-    except ImportError:
+
+        networkx.MultiDiGraph
+    except (ImportError, AttributeError):
         print(f"to_graphml: {sys.executable} has no networkx (Debian's package python3-networkx is for /usr/bin/python3)", file=sys.stderr)
         sys.exit(2)
     text = io.BytesIO()

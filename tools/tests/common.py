@@ -57,7 +57,8 @@ def all_names(first=0xA0, last=0x10FFFF, step=1):
 def python_with(*modules):
     """A Python that can import some modules: the one that runs the tests, else the system's, else none."""
     for python in (sys.executable, "/usr/bin/python3"):
-        run = [python, "-c", "import " + ", ".join(modules)]
+        # A folder that a package has left behind is no module.
+        run = [python, "-c", "".join(f"import {module}; assert {module}.__file__\n" for module in modules)]
         if shutil.which(python) and subprocess.run(run, capture_output=True).returncode == 0:
             return python
     return None

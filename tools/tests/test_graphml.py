@@ -10,7 +10,9 @@ SPACE = "{http://graphml.graphdrawing.org/xmlns}"
 
 class Texts(Case):
     def test_without_networkx_it_is_said_which_python_was_asked(self):
-        script = self.file("python", f'#!/bin/sh\nexec "{sys.executable}" -S "$@"\n')
+        # A folder that a package has left behind is no module.
+        (self.folder / "left/networkx").mkdir(parents=True)
+        script = self.file("python", f'#!/bin/sh\nPYTHONPATH="{self.folder}/left" exec "{sys.executable}" -S "$@"\n')
         script.chmod(0o755)
         texts = [self.file(task, clearing(task, *TWELVE).stdout) for task in ("clear", "defaults")]
         done = tool("to_graphml.py", *texts, "--out", self.folder / "out", python=str(script))

@@ -148,7 +148,8 @@ class MadeScenarios:
                 parts.append(f"{self.key('cut')} = {self.value(WHOLE[:4])}")
             pick.shuffle(parts)
             lines += parts[: len(parts) if pick.random() < 0.97 else 1]
-            for bank in pick.sample(TEXTS[1:4] + ['"D 1"'], pick.choice([0, 0, 1, 2, 3])):
+            banks = pick.sample(TEXTS[1:4] + ['"D 1"'], pick.choice([0, 0, 1, 2, 3]))
+            for bank in banks + (banks[:1] if pick.random() < 0.1 else []):
                 parts = [f"{self.key('bank')} = {self.value([bank])}", f"{self.key('amount')} = {self.value(WHOLE[:3] + ['1000000000000'])}"]
                 lines += ["[[scenario.loss]]"] + parts[: 2 if pick.random() < 0.97 else 1]
         for _ in range(pick.choice([0, 0, 0, 1, 2])):

@@ -104,7 +104,7 @@ class Matrix(Case):
             ("US$ 7", 7), ("$7", 7), ("\u00a07\u00a0", 7), ("12345678901234567890", 12345678901234567890),
         ]:
             self.assertEqual(read().read(text), Fraction(want), text)
-        for text in ("x", "n/a", "NAN", "1-2", "-7", "(7)", "7-", "−7", "7%", "1.00.000", "1,00,000", "1 00", "12 34 567", "1.234,567.8", "1,,000", "--7", "#####",
+        for text in ("x", "n/a", "NAN", "1-2", "-7", "(7)", "7-", "−7", "7%", "1.00.000", "1,00,000", "1 00", "1 234'567", "12 34 567", "1.234,567.8", "1,,000", "--7", "#####",
                      "=3+4", "٣", "²", "1e999", "EUR", "€", "9" * 41, "0x10", "1_000", "1;2", "."):
             with self.assertRaises(sheets.Unread, msg=text):
                 read().read(text)
@@ -180,6 +180,10 @@ class Matrix(Case):
             self.printed("check", *self.files)
             self.refused("from_matrix.py", 1, "more than the most", sheet, "--unit", smaller, "--round", *self.files)
 
+    def test_amounts_at_the_limits_are_taken(self):
+        self.made("from_matrix.py", self.file("m.csv", ",A,B,cash,outside\nA,0,1000000,1000000000000,100000000000\nB,7,0,1,0\n"), *self.files)
+        self.check("name,cash,rule,outside\nA,1000000000000,webster,100000000000\nB,1,webster,0\n", "debtor,creditor,class,claim\nA,B,1,1000000\nB,A,1,7\n")
+
     def test_what_is_rounded_is_told(self):
         sheet = self.file("m.csv", ",A,B,cash\nA,0,2.5,1.5\nB,0.4,0,3.5\n")
         self.assertEqual(self.made("from_matrix.py", sheet, "--round", *self.files),
@@ -202,7 +206,7 @@ class Matrix(Case):
         self.check(*want)
 
     def test_names_of_every_character_come_through(self):
-        for names in [ODD_NAMES, list(all_names(last=0xFFFF))[:900]]:
+        for names in [ODD_NAMES, list(all_names(last=0xFFFF, step=13))]:
             names = [name for name in dict.fromkeys(name.strip(" ") for name in names) if name not in ("cash", "rule", "outside")]
             names = [name for name in names if not sheets.is_called_total(name)]
             rows = [[name] + ["1" if at in ((n + 1) % len(names), (n + 7) % len(names)) else "" for at in range(len(names))] for n, name in enumerate(names)]

@@ -130,6 +130,8 @@ class Why(Case):
             done = tool("why.py", *line.split(" "))
             self.assertEqual((done.stdout.splitlines(), done.stderr), (lines, ""))
             self.assertEqual(done.returncode, 0 if lines[-1].startswith("understood") else 1)
+        self.assertEqual(why.faults_of(["clear", "\udcff"])[0], (2, "it is not UTF-8"))
+        self.assertEqual(why.faults_of(["check", "--banks", "a\udc80", "--debts", "d"]), [(3, "the value of --banks is not UTF-8")])
         self.assertEqual(tool("why.py").returncode, 2)
         self.assertTrue(tool("why.py", "--help").stdout.startswith("usage: why.py WORDS..\n\nSays which word"))
 
