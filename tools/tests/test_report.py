@@ -387,6 +387,7 @@ class InTheBrowser(Report):
     def test_scenarios_have_the_numbers_of_the_program(self):
         files = files_of(TWELVE)
         self.open(files, "--scenarios", TWELVE / "scenarios.toml")
+        self.js("document.querySelectorAll('.scroll').forEach(e => { e.style.contentVisibility = 'visible'; })")
         first, *maps = self.js("return [...document.querySelectorAll('#scenarios table')].map("
                                "t => [...t.rows].map(r => [...r.cells].map(c => c.innerText.trim())))")
         text = clearing("stress", *files, "--scenarios", TWELVE / "scenarios.toml").stdout.decode()
