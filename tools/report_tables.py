@@ -323,6 +323,7 @@ def scenarios(matter):
                     "Share of all it owes that a bank leaves unpaid",
                     ["Scenario", *(linked(matter, name) for name in part)],
                     lines,
+                    classes="map",
                 ),
                 "Banks by scenarios",
             )
@@ -357,7 +358,7 @@ def evidence(matter):
             f"<tr><td class=text><code>{escape(line)}</code><td>{status}<td class=text><code class=hash>{digest}</code></tr>"
             for line, status, digest in commands
         ]
-        return scrolled(table(caption, ["=Command", "Status", "=SHA-256 of what it printed"], rows), caption)
+        return scrolled(table(caption, ["=Command", "Status", "=SHA-256 of what it printed"], rows, classes="runs"), caption)
 
     rescues = (
         f"<details><summary>{count(len(known.rescues), 'command')} for the least rescues</summary>{runs(known.rescues, 'Least rescues')}</details>"
@@ -368,6 +369,6 @@ def evidence(matter):
         f'<section id="evidence"><h2>The evidence</h2><p{kind}>Verdict of <code>replay</code> on the journal: {words}</p>'
         f"<p>Made {known.made} by <code>{escape(known.words)}</code>.<br>Repository: <code>{escape(known.commit)}</code>."
         f"<br>Toolchain: <code>{escape(known.toolchain)}</code>.</p>"
-        f'{scrolled(table("Files", ["=What", "=Name", "Bytes", "=SHA-256"], inputs), "Files")}'
+        f'{scrolled(table("Files", ["=What", "=Name", "Bytes", "=SHA-256"], inputs, classes="files"), "Files")}'
         f'{runs(known.commands, "Commands, word by word")}{rescues}</section>'
     )

@@ -12,6 +12,7 @@ import shlex
 import shutil
 import subprocess
 import sys
+import time
 import unittest
 from decimal import Decimal
 
@@ -283,6 +284,13 @@ class InTheBrowser(Report):
     def js(self, script, *words):
         return self.driver.execute_script(script, *words)
 
+    def until(self, holds):
+        """Waits for something to hold; the machine may be busy with something else."""
+        ends = time.monotonic() + 120
+        while not holds():
+            self.assertLess(time.monotonic(), ends, "it never came to be")
+            time.sleep(0.05)
+
     def click(self, key):
         self.js("document.getElementById(arguments[0]).click()", key)
 
@@ -387,6 +395,7 @@ class InTheBrowser(Report):
     def test_scenarios_have_the_numbers_of_the_program(self):
         files = files_of(TWELVE)
         self.open(files, "--scenarios", TWELVE / "scenarios.toml")
+        self.js("document.querySelectorAll('.scroll').forEach(e => { e.style.contentVisibility = 'visible'; })")
         first, *maps = self.js("return [...document.querySelectorAll('#scenarios table')].map("
                                "t => [...t.rows].map(r => [...r.cells].map(c => c.innerText.trim())))")
         text = clearing("stress", *files, "--scenarios", TWELVE / "scenarios.toml").stdout.decode()
@@ -481,9 +490,8 @@ class InTheBrowser(Report):
         self.js("document.getElementById('step').value = 46; document.getElementById('step').dispatchEvent(new Event('input'))")
         self.click("play")
         self.assertEqual(self.js("return document.getElementById('play').textContent"), "Pause")
-        self.driver.set_script_timeout(20)
-        self.driver.execute_async_script("const done = arguments[0]; const look = () => document.getElementById('play').textContent === 'Play'"
-                                         " ? setTimeout(done, 1200) : setTimeout(look, 50); look();")
+        self.until(lambda: self.js("return document.getElementById('play').textContent") == "Play")
+        self.until(lambda: not self.js("return [...document.querySelectorAll('*')].some(e => d3.active(e) || e.__transition)"))
         self.assertEqual(self.js("return +document.getElementById('step').value"), 49)
         self.assert_flows(self.expected_flows([(debt[:4], int(debt[4])) for debt in rows_of("clear", files_of(TWELVE))], None, {}))
 
@@ -648,8 +656,7 @@ class InTheBrowser(Report):
         self.assertEqual(self.shown_rows(), [row[0] for row in rows[50:100]])
         debts = rows_of("clear", files)
         self.js("location.hash = '#bank-700'")
-        self.driver.set_script_timeout(5)
-        self.driver.execute_async_script("setTimeout(arguments[0], 300)")
+        self.until(lambda: self.js("return document.querySelector('#bank-700')"))
         shown = self.js("return [...document.querySelectorAll('#bank-700 table')].map("
                         "t => [...t.tBodies[0].rows].map(r => [...r.cells].map(c => c.textContent)))")
         name = rows[700][0]
