@@ -103,6 +103,8 @@ CLEARING=$program "$here/install.sh" "$stage" >/dev/null || fail "the program ca
 for name in architecture install man pictures quick release test; do
     rm -f "$stage/bin/clearing-$name" "$stage/share/man/man1/clearing-$name.1" "$stage/share/clearing/tools/$name".*
 done
+# Debian keeps packages' completions for zsh apart.
+rm -rf "$stage/share/zsh"
 mkdir -p "$stage/share/zsh/vendor-completions" "$stage/share/fish/vendor_completions.d"
 cp "$here/clearing.zsh" "$stage/share/zsh/vendor-completions/_clearing" || exit 1
 cp "$here/clearing.fish" "$stage/share/fish/vendor_completions.d/clearing.fish" || exit 1
