@@ -3,7 +3,7 @@
 #
 #   tools/release.sh [--draft] [--gate LOG] FOLDER
 #
-# In:   a checkout without changes, its built program, and LOG, what `.ci/run` printed of it: its last line is `N passed, 0 failed`,
+# In:   a checkout without changes, its built program, and LOG, what `.ci/run` printed of it: its parts end with `N passed, 0 failed`,
 #       and no source is newer. FOLDER is made where it is not there. With --draft changes and a missing log are let through, and
 #       the environment variable CLEARING may name another program; the record says then that it is a draft.
 # Out:  FOLDER/clearing-VERSION-x86_64.tar.gz, FOLDER/clearing_VERSION_amd64.deb and FOLDER/SHA256SUMS; their names on standard output. They have the
@@ -64,8 +64,11 @@ if [ -n "$(git -C "$root" status --porcelain)" ]; then
 fi
 if [ -n "$gate" ]; then
     [ -r "$gate" ] || fail "$gate cannot be read"
-    last=$(tail -n 1 "$gate")
-    echo "$last" | grep -Eqx '[0-9]+ passed, 0 failed' || fail "the last line of $gate is not 'N passed, 0 failed'"
+    tail -n 1 "$gate" | grep -Eqx '[0-9]+ passed, 0 failed' || fail "the last line of $gate is not 'N passed, 0 failed'"
+    # The gate's parts each end with such a line.
+    parts=$(grep -Ex '[0-9]+ passed, [0-9]+ failed' "$gate")
+    echo "$parts" | grep -Eqvx '[0-9]+ passed, 0 failed' && fail "a part of the gate failed, by $gate"
+    last=$(echo "$parts" | sed ':a;N;$!ba;s/\n/; /g')
     newer=$(find "$root/crates.txt" "$root"/crates/*/src "$root"/crates/*/specs "$root"/crates/*/proofs -type f -newer "$gate" | head -n 1)
     [ -z "$newer" ] || fail "$newer is newer than $gate"
 elif [ -n "$draft" ]; then
@@ -100,6 +103,8 @@ CLEARING=$program "$here/install.sh" "$stage" >/dev/null || fail "the program ca
 for name in architecture install man pictures quick release test; do
     rm -f "$stage/bin/clearing-$name" "$stage/share/man/man1/clearing-$name.1" "$stage/share/clearing/tools/$name".*
 done
+# Debian keeps packages' completions for zsh apart.
+rm -rf "$stage/share/zsh"
 mkdir -p "$stage/share/zsh/vendor-completions" "$stage/share/fish/vendor_completions.d"
 cp "$here/clearing.zsh" "$stage/share/zsh/vendor-completions/_clearing" || exit 1
 cp "$here/clearing.fish" "$stage/share/fish/vendor_completions.d/clearing.fish" || exit 1

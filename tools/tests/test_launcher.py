@@ -149,22 +149,38 @@ class Launcher(Case):
         self.assertEqual(done.returncode, 8)
         self.assertIn("the build failed", done.stderr)
 
-    def test_an_interrupt_ends_the_build(self):
+    def going(self):
+        """A build that goes on for long, in a session of its own."""
         environment = {"PATH": f"{self.folder}/bin:/usr/bin:/bin", "CALLS": str(self.calls), "REPOSITORY": str(self.root),
                        "CLEARING_JOBS": "2", "SLOW": "30"}
-        going = subprocess.Popen([str(self.root / "clearing")], env=environment, stderr=subprocess.PIPE, encoding="utf-8")
+        going = subprocess.Popen([str(self.root / "clearing")], env=environment, stderr=subprocess.PIPE, encoding="utf-8",
+                                 start_new_session=True)
         deadline = time.monotonic() + 20
         while not self.calls.read_text() and time.monotonic() < deadline:
             time.sleep(0.1)
         time.sleep(0.5)
-        going.send_signal(signal.SIGTERM)
-        message = going.communicate(timeout=20)[1]
-        self.assertEqual(going.returncode, 8, message)
-        self.assertIn("the build was interrupted", message)
+        return going
+
+    def ends(self):
         deadline = time.monotonic() + 10
         while self.is_running() and time.monotonic() < deadline:
             time.sleep(0.1)
         self.assertFalse(self.is_running())
+
+    def test_an_interrupt_ends_the_build(self):
+        going = self.going()
+        going.send_signal(signal.SIGTERM)
+        message = going.communicate(timeout=20)[1]
+        self.assertEqual(going.returncode, 8, message)
+        self.assertIn("the build was interrupted", message)
+        self.ends()
+
+    def test_it_ends_also_where_nobody_reads_what_is_said(self):
+        going = self.going()
+        going.stderr.close()
+        os.killpg(going.pid, signal.SIGTERM)
+        going.wait(timeout=20)
+        self.ends()
 
     def is_running(self):
         return any(str(self.rt).encode() in self.text_of(path) for path in pathlib.Path("/proc").glob("[0-9]*/cmdline"))

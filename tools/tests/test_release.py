@@ -94,7 +94,7 @@ class Release(Case):
         shutil.copy(built if pathlib.Path(PROGRAM) == ROOT / "clearing" else PROGRAM, out / "clear_main")
         os.utime(out / "clear_main")
         cls.log = cls.shared / "gate.log"
-        cls.log.write_text("..\n12 passed, 0 failed\n")
+        cls.log.write_text("..\n12 passed, 0 failed\ntools\n7 passed, 0 failed\n")
         cls.one = cls.made(cls.shared / "one")
 
     @classmethod
@@ -132,7 +132,7 @@ class Release(Case):
             self.assertTrue((prefix / "share" / name).is_file(), name)
         record = (prefix / "share/doc/clearing/RECORD").read_text()
         head = ran("git", "-C", self.checkout, "rev-parse", "HEAD").stdout.strip()
-        for line in ("clearing 7.8.9", f"commit {head}", "gate 12 passed, 0 failed", "It was built and proved from this commit."):
+        for line in ("clearing 7.8.9", f"commit {head}", "gate 12 passed, 0 failed; 7 passed, 0 failed", "It was built and proved from this commit."):
             self.assertIn(line + "\n", record)
         edits = len(list((ROOT / "crates").glob("*/must-fail/*.edit")))
         self.assertIn(f"edits that must be refused {edits}\n", record)
@@ -181,6 +181,7 @@ class Release(Case):
     def test_what_is_no_release_is_refused(self):
         self.refused("the gate's record is wanted")
         self.refused("the last line", "--gate", self.file("bad.log", "12 passed, 1 failed\n"))
+        self.refused("a part of the gate failed", "--gate", self.file("bad.log", "12 passed, 1 failed\n3 passed, 0 failed\n"))
         self.refused("CLEARING is for drafts", "--gate", self.log, CLEARING="/bin/true")
         self.refused("no option", "--fast", status=2)
         source = self.checkout / "crates/stress/src/lib.rt"
