@@ -77,24 +77,34 @@ put_link() { # what it names, its place under the prefix
 put "$program" bin/clearing 755
 put "$root/docs/clearing.1" share/man/man1/clearing.1 644
 put "$here/clearing.bash" share/bash-completion/completions/clearing 644
+put "$here/clearing.zsh" share/zsh/site-functions/_clearing 644
+put "$here/clearing.fish" share/fish/vendor_completions.d/clearing.fish 644
 if command -v python3 >/dev/null 2>&1; then
     PYTHONDONTWRITEBYTECODE=1 python3 "$here/man.py" --out "$list/man" || fail "the manual pages of the tools cannot be made"
     for page in "$list"/man/*.1; do
         name=${page##*/clearing-}
         # These belong to the repository.
         case $name in
-        install.1 | man.1 | test.1) continue ;;
+        architecture.1 | install.1 | man.1 | pictures.1 | quick.1 | release.1 | test.1) continue ;;
         esac
-        for tool in "$here/${name%.1}.py" "$here/${name%.1}.sh"; do
-            [ ! -f "$tool" ] || put_link "../share/clearing/tools/${tool##*/}" "bin/clearing-${name%.1}"
-        done
+        # Where a script stands before a program of its name, the script is the tool.
+        tool=${name%.1}.sh
+        [ -f "$here/$tool" ] || tool=${name%.1}.py
+        put_link "../share/clearing/tools/$tool" "bin/clearing-${name%.1}"
         put "$page" "share/man/man1/${page##*/}" 644
     done
     for tool in "$here"/*.py "$here"/*.sh; do
         case ${tool##*/} in
-        install.sh | man.py | test.sh) continue ;;
+        architecture.py | install.sh | man.py | pictures.sh | quick.sh | release.sh | test.sh) continue ;;
         esac
         put "$tool" "share/clearing/tools/${tool##*/}" "$([ -x "$tool" ] && echo 755 || echo 644)"
+    done
+    for part in "$here"/report/*; do
+        [ ! -f "$part" ] || put "$part" "share/clearing/tools/report/${part##*/}" 644
+    done
+    # The package by which the tools read the program's texts.
+    for part in "$root"/python/src/clearing_client/*.py "$root"/python/src/clearing_client/py.typed; do
+        [ ! -f "$part" ] || put "$part" "share/clearing/python/src/clearing_client/${part##*/}" 644
     done
     # What a tool takes for the repository's program.
     put_link ../../bin/clearing share/clearing/clearing

@@ -22,8 +22,10 @@ ITEM = re.compile(r"  (?P<words>\S.*?)(?:  +(?P<text>\S.*))?")
 
 
 def tools_beside():
-    """The tools in this folder; a file that tools share has no first line for the system."""
-    paths = [*HERE.glob("*.py"), *HERE.glob("*.sh")]
+    """The tools in this folder; a file that tools share has no first line for the system, and a program before which a script
+    of its name stands has the script's page."""
+    scripts = list(HERE.glob("*.sh"))
+    paths = [path for path in HERE.glob("*.py") if path.with_suffix(".sh") not in scripts] + scripts
     return sorted(path for path in paths if path.read_bytes().startswith(b"#!"))
 
 
