@@ -175,7 +175,7 @@ Maintainer: The authors of clearing <root@localhost>
 Installed-Size: $size
 Depends: libc6 (>= $glibc)
 Recommends: python3
-Suggests: graphviz, python3-matplotlib, parallel
+Suggests: node-d3, chromium, python3-matplotlib
 Section: science
 Priority: optional
 Description: proved settlement simulator for networks of banks
