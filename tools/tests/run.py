@@ -7,6 +7,7 @@ import concurrent.futures
 import os
 import pathlib
 import re
+import signal
 import subprocess
 import sys
 import unittest
@@ -92,6 +93,8 @@ def run_beside(module):
 
 
 def main(words):
+    # Started in the background a shell leaves interrupts ignored, and each program below would ignore them too.
+    signal.signal(signal.SIGINT, signal.default_int_handler)
     if words[:1] == ["--here"]:
         return run_here(words[1])
     modules = [word.removesuffix(".py") for word in words] or sorted(path.stem for path in HERE.glob("test_*.py"))
