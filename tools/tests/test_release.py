@@ -82,7 +82,7 @@ class Release(Case):
         cls.addClassCleanup(folder.cleanup)
         cls.shared = pathlib.Path(folder.name)
         cls.checkout = cls.shared / "checkout"
-        shutil.copytree(ROOT, cls.checkout, ignore=shutil.ignore_patterns(".git", "out", "__pycache__", "python"), symlinks=True)
+        shutil.copytree(ROOT, cls.checkout, ignore=shutil.ignore_patterns(".git", "out", "__pycache__"), symlinks=True)
         (cls.checkout / "VERSION").write_text("7.8.9\n")
         cls.git("init", "-q")
         cls.git("add", "-A")
