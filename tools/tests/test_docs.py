@@ -1,7 +1,7 @@
 """The commands in the guide and beside the examples print what stands there.
 
 In a block of the language `console` a line that begins with `$ ` is a command of the shell, and what follows is what it
-prints, both streams together. The blocks of a page are run in order in a copy of the repository's examples and tools,
+prints, both streams together. The blocks of a page are run in order in a copy of its examples, tools and package,
 where `./clearing` is the program.
 
 `python3 test_docs.py PAGE` runs a page and writes anew what its commands print.
@@ -46,7 +46,7 @@ def page_run(text):
     """The text of a page, with what its commands print now."""
     with tempfile.TemporaryDirectory() as name:
         folder = pathlib.Path(name)
-        for part in ("examples", "tools"):
+        for part in ("examples", "python", "tools"):
             shutil.copytree(ROOT / part, folder / part)
         script = folder / "clearing"
         script.write_text(f"#!/bin/sh\nexec {shlex.quote(PROGRAM)} \"$@\"\n")

@@ -12,6 +12,8 @@ class Man(Case):
 
     def test_each_tool_has_a_page_with_the_words_of_its_help(self):
         tools = [path for path in (ROOT / "tools").iterdir() if path.suffix in (".py", ".sh") and path.read_bytes().startswith(b"#!")]
+        # A script that starts a program of its name is the tool.
+        tools = [path for path in tools if path.suffix == ".sh" or not path.with_suffix(".sh").exists()]
         pages = self.pages()
         self.assertEqual([page.name for page in pages], sorted(f"clearing-{path.stem}.1" for path in tools))
         for path in tools:
@@ -52,7 +54,7 @@ class Man(Case):
         for status, message in statuses + [("8", "")]:
             self.assertIn(f".TP\n.B {status}\n", page)
             self.assertIn(message, page)
-        tasks = re.findall(r"^\| `([a-z]+)` \| ", formats, re.MULTILINE)
+        tasks = re.findall(r"^\| `([a-z]+)` \| ", formats.partition("| task | what it does |")[2].partition("\n\n")[0], re.MULTILINE)
         options = set(re.findall(r"`(--[a-z]+)`", formats)) - {"--help", "--version"}
         self.assertEqual((len(tasks), len(options)), (12, 12))
         for word in [*(f".B {task}\n" for task in tasks), *options, *(f"[[{table}]]" for table in ("scenario", "scenario.loss")),
