@@ -85,8 +85,8 @@ impl Desk {
         self.debts_in.as_slice()
     }
 
-    /// Writes what the bank's rule gives each of its debts where the bank receives so many units: of
-    /// its cash and receipts, less what it owes outside the network.
+    /// Writes what the bank's rule gives each of its debts where the bank receives so many units:
+    /// of its cash and receipts, less what it owes outside the network.
     ///
     /// `into` has a place for each debt that the bank owes, in file order, in units. Takes no
     /// memory.

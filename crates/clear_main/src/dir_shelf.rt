@@ -1,5 +1,5 @@
 ghost use Rattle.clear_main.specs.Front.{IsFront};
-ghost use Rattle.clr_edge.specs.Faults.{HasRisen, NoneFalls, one_more};
+ghost use Rattle.clr_edge.specs.Faults.{HasRisen, NoneFalls, counted};
 ghost use Rattle.clr_edge.specs.Shelf.{IsFetched};
 ghost use Rattle.clr_edge.specs.declared.shelf.FetchFault.{FetchFault};
 ghost use Rattle.std.specs.Prelude.{◌≡◌, ◌<◌, ◌^◌, None, IfOk, OnOk, IsErrOf};
@@ -44,7 +44,7 @@ impl<'a, R: Files> Shelf for DirShelf<'a, R> {
         ensures front { IfOk result (λ bytes.
             (file : R.File) × IsFront (R.File.remaining file) limit bytes.items) }
         ensures one { IsErrOf result FetchFault.Failed
-            → self.new.faults ≡ one_more self.old.faults }
+            → self.new.faults ≡ counted self.old.faults }
         ensures ok { OnOk result (self.new.faults ≡ self.old.faults) }
         ensures mem { IsErrOf result FetchFault.Mem → self.new.faults ≡ self.old.faults }
     {

@@ -1,4 +1,4 @@
-ghost use Rattle.clr_edge.specs.Faults.{HasRisen, one_more};
+ghost use Rattle.clr_edge.specs.Faults.{HasRisen, counted};
 ghost use Rattle.std.specs.Io.KnownBytes.{Appends};
 ghost use Rattle.std.specs.Prelude.{◌≡◌, ◌<◌, ◌≤◌, None, length, take, IfOk, OnOk, OnErr};
 
@@ -35,7 +35,7 @@ impl<W: Write> Sink for StdSink<W> {
         ensures failed { OnErr result (HasRisen self.old.faults self.new.faults) }
 
         // The count rises at a failure alone, and the stream holds what the answer says.
-        ensures one { OnErr result (self.new.faults ≡ one_more self.old.faults) }
+        ensures one { OnErr result (self.new.faults ≡ counted self.old.faults) }
         ensures ok { OnOk result (self.new.faults ≡ self.old.faults) }
         ensures taken { IfOk result (λ n.
             Appends (W.contents self.old.stream) (W.contents self.new.stream) (take n piece.now)) }

@@ -1,7 +1,8 @@
 -- Counts of faults.
 use Rattle.std.specs.Prelude.{◌≡◌, ◌⊎◌, ℕ, ◌+◌, ◌-◌, ◌^◌, ◌<◌, ◌≤◌, min, List}
 
--- the count rose in a call: it is greater after it, or stands at the last value that a count can have
+-- the count rose in a call: it is greater after it, or stands at the last value that a count can
+-- have
 abbrev pub HasRisen : ℕ → ℕ → Type 0
 HasRisen before after = (before < after) ⊎ (after ≡ 2 ^ 64 - 1)
 
@@ -9,6 +10,6 @@ HasRisen before after = (before < after) ⊎ (after ≡ 2 ^ 64 - 1)
 abbrev pub NoneFalls : (List ℕ → ℕ) → (List ℕ → ℕ) → Type 0
 NoneFalls before after = (name : List ℕ) → before name ≤ after name
 
--- one more, or the last value of a u64, at which a count stands still
-abbrev pub one_more : ℕ → ℕ
-one_more count = min (count + 1) (2 ^ 64 - 1)
+-- a count after one thing more: at the last value of a u64 it stands still
+abbrev pub counted : ℕ → ℕ
+counted count = min (count + 1) (2 ^ 64 - 1)

@@ -1,6 +1,7 @@
 /// What a worker passes at the start of each visit.
 pub trait Gate {
-    /// Called at the start of a visit with the worker's number, from 0, and the number of its visit, from 1. It returns.
+    /// Called at the start of a visit with the worker's number, from 0, and the number of its
+    /// visit, from 1. It returns.
     fn at(&self, worker: u32, visit: u64);
 }
 

@@ -25,9 +25,9 @@ impl Model for StoredFile {
     ghost view = { λ f. (string_bytes f.name, f.bytes.items) };
 }
 
-/// Files in memory, which it tells. A fetch fails where there is no file of the name, and where its number was given to
-/// [`MemShelf::fail_at`]. The shelf notes the name of each fetch that failed; where there is no room for the note, the
-/// fetch answers `Mem`.
+/// Files in memory, which it tells. A fetch fails where there is no file of the name, and where its
+/// number was given to [`MemShelf::fail_at`]. The shelf notes the name of each fetch that failed;
+/// where there is no room for the note, the fetch answers `Mem`.
 #[derive(Drop)]
 pub struct MemShelf {
     alloc: Global,
@@ -65,7 +65,8 @@ impl MemShelf {
         }
     }
 
-    /// Puts a file on the shelf, in place of one of the same name. After `Mem` the shelf is as before.
+    /// Puts a file on the shelf, in place of one of the same name. After `Mem` the shelf is as
+    /// before.
     pub fn add(&mut self, name: &str, bytes: &[u8]) -> Result<(), Mem>
         ensures files { OnOk result
             (file_at self.new ≡ with_file (file_at self.old) name.now bytes.now) }
@@ -110,7 +111,8 @@ impl Shelf for MemShelf {
 
         // Where there is memory, it fails exactly where it finds nothing.
         ensures answers { IfOk result
-            (λ bytes. option_map (take (limit + 1)) (next_file self.old name.now) ≡ Some bytes.items) }
+            (λ bytes. option_map (take (limit + 1)) (next_file self.old name.now)
+            ≡ Some bytes.items) }
         ensures fails { IsErrOf result FetchFault.Failed → next_file self.old name.now ≡ None }
 
         // What it leaves: only the name that failed is noted.

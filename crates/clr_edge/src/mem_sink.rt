@@ -1,5 +1,5 @@
 ghost use Rattle.clr_edge.specs.Faults.{HasRisen};
-ghost use Rattle.clr_edge.specs.MemSink.{empty_sink, is_refused, share_of, with_put, with_fault};
+ghost use Rattle.clr_edge.specs.MemSink.{empty_sink, is_refused, taken_of, with_put, with_fault};
 ghost use Rattle.clr_edge.specs.Sink.{with_bytes};
 ghost use Rattle.std.specs.Prelude.{◌≡◌, ◌<◌, ◌≤◌, Some, length, take, is_err, IfOk, OnErr};
 
@@ -8,8 +8,8 @@ use clr_net::Mem;
 use std::alloc::Global;
 use std::marker::Model;
 
-/// Bytes in memory, which it tells, up to a room that is reserved when it is made. A put fails where the room is full,
-/// and where its number is the one that is to fail; it is counted.
+/// Bytes in memory, which it tells, up to a room that is reserved when it is made. A put fails
+/// where the room is full, and where its number is the one that is to fail; it is counted.
 #[derive(Drop)]
 pub struct MemSink {
     bytes: Vec<u8>,
@@ -39,8 +39,8 @@ impl Model for MemSink {
 }
 
 impl MemSink {
-    /// A sink that holds at most `room` bytes and takes at most `most` at a put. Put number `fail_at` fails, counted
-    /// from 1; 0 is none. The room is reserved here.
+    /// A sink that holds at most `room` bytes and takes at most `most` at a put. Put number
+    /// `fail_at` fails, counted from 1; 0 is none. The room is reserved here.
     pub fn with_room(alloc: Global, room: usize, most: usize, fail_at: u64) -> Result<MemSink, Mem>
         requires { 1 ≤ most }
         ensures { IfOk result (λ sink. sink ≡ empty_sink room most fail_at) }
@@ -80,7 +80,7 @@ impl Sink for MemSink {
 
         // It fails exactly where it is to, and else takes as much as it may.
         ensures refused { is_err result ≡ is_refused self.old }
-        ensures share { IfOk result (λ n. n ≡ share_of self.old (length piece.now)) }
+        ensures share { IfOk result (λ n. n ≡ taken_of self.old (length piece.now)) }
         ensures ok { IfOk result (λ n. self.new ≡ with_put self.old piece.now n) }
         ensures err { OnErr result (self.new ≡ with_fault self.old) }
     {

@@ -38,8 +38,8 @@ pub trait Shelf {
     /// How often the shelf has failed at each name.
     ghost faults: { Self → List ℕ → ℕ };
 
-    /// The whole file of this name if it has at most `limit` bytes, else its first `limit + 1` bytes. At `Failed` the
-    /// count of this name rose. No fetch changes the files.
+    /// The whole file of this name if it has at most `limit` bytes, else its first `limit + 1`
+    /// bytes. At `Failed` the count of this name rose. No fetch changes the files.
     fn fetch(&mut self, alloc: Global, name: &str, limit: u64) -> Result<Vec<u8>, FetchFault>
         requires { limit < 2 ^ 32 }
         ensures files { files self.new ≡ files self.old }

@@ -14,8 +14,8 @@ pub trait Sink {
     /// How often it has failed.
     ghost faults: { Self → ℕ };
 
-    /// Takes bytes from the front of the piece, and answers how many: from one to all. At a fault it took none, and the
-    /// count rose. It takes no memory.
+    /// Takes bytes from the front of the piece, and answers how many: from one to all. At a fault
+    /// it took none, and the count rose. It takes no memory.
     fn put(&mut self, piece: &[u8]) -> Result<usize, SinkFault>
         requires { 0 < length piece.now }
         ensures some { IfOk result (λ n. 1 ≤ n) }
@@ -27,8 +27,8 @@ pub trait Sink {
         ensures failed { OnErr result (HasRisen (faults self.old) (faults self.new)) };
 }
 
-/// Writes all bytes. At a fault some from their front have been written, but not all, and the count rose. It takes no
-/// memory.
+/// Writes all bytes. At a fault some from their front have been written, but not all, and the count
+/// rose. It takes no memory.
 pub fn put_all<S: Sink>(sink: &mut S, bytes: &[u8]) -> Result<(), SinkFault>
     ensures written { OnOk result
         (S.written sink.new ≡ with_bytes (S.written sink.old) bytes.now) }

@@ -14,15 +14,20 @@ pub record Shown : Type 0 where
   pub owed : ℕ
 
 abbrev pub shown : Account → Shown
-shown c = record { bank = c.bank; row = numbers c.row.items; column = numbers c.column.items; owed = c.owed }
+shown c = record {
+  bank = c.bank;
+  row = numbers c.row.items;
+  column = numbers c.column.items;
+  owed = c.owed;
+}
 
 -- the account that owes one debt more
 abbrev pub owing : ℕ → ℕ → Shown → Shown
-owing id claim s = record { bank = s.bank; row = s.row ++ id ∷ []; column = s.column; owed = s.owed + claim }
+owing id claim s = record s { row = s.row ++ id ∷ []; owed = s.owed + claim }
 
 -- the account that is owed one debt more
 abbrev pub owed_one_more : ℕ → Shown → Shown
-owed_one_more id s = record { bank = s.bank; row = s.row; column = s.column ++ id ∷ []; owed = s.owed }
+owed_one_more id s = record s { column = s.column ++ id ∷ [] }
 
 -- the accounts with one debt more
 abbrev pub entered : List Shown → ℕ → ℕ → ℕ → ℕ → List Shown

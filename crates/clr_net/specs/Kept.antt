@@ -31,11 +31,14 @@ pub record AreKept (all : List Account) (owing : List Debt) (index : List (List 
     (total money senior : ℕ) : Type 0 where
   pub network : IsNetwork (net_of all owing)
   pub names : index ≡ map (λ b. b.name) (net_of all owing).banks
-  pub accounts : (i : ℕ) (c : Account) → slice_get all i ≡ Some c → IsAccountOf (net_of all owing) i c
+  pub accounts : (i : ℕ) (c : Account) → slice_get all i ≡ Some c
+      → IsAccountOf (net_of all owing) i c
   pub owed : total ≡ units_owed (net_of all owing)
   pub cash : money ≡ all_cash (net_of all owing)
   pub outside : senior ≡ all_outside (net_of all owing)
 
 -- what always holds of the fields
 abbrev pub IsKept : Inside → Type 0
-IsKept a = AreKept a.accounts.items a.debts.items (map (λ v. v.items) a.names.keys) a.owed a.cash a.outside
+IsKept a =
+    AreKept a.accounts.items a.debts.items (map (λ v. v.items) a.names.keys)
+    a.owed a.cash a.outside

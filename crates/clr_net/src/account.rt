@@ -76,7 +76,8 @@ fn reserve_one(ids: &mut Vec<DebtId>) -> Result<(), Mem>
     Ok(())
 }
 
-/// Room in the accounts of a debtor and a creditor for one more debt. `Mem` for want of memory alone.
+/// Room in the accounts of a debtor and a creditor for one more debt. `Mem` for want of memory
+/// alone.
 pub fn make_room(accounts: &mut Vec<Account>, debtor: BankId, creditor: BankId) -> Result<(), Mem>
     requires debtor { debtor.0 < vec_len accounts.old }
     requires creditor { creditor.0 < vec_len accounts.old }
@@ -94,7 +95,8 @@ pub fn enter(accounts: &mut Vec<Account>, debtor: BankId, creditor: BankId, id: 
     requires creditor { creditor.0 < vec_len accounts.old }
     requires two { debtor.0 ≢ creditor.0 }
     requires room { HaveRoom accounts.old.items debtor.0 creditor.0 }
-    requires fits { (c : Account) → slice_get accounts.old.items debtor.0 ≡ Some c → c.owed + claim < 2 ^ 64 }
+    requires fits { (c : Account) → slice_get accounts.old.items debtor.0 ≡ Some c
+        → c.owed + claim < 2 ^ 64 }
     ensures { map shown accounts.new.items
         ≡ entered (map shown accounts.old.items) debtor.0 creditor.0 id.0 claim }
 {

@@ -19,7 +19,8 @@ pub fn copies(alloc: Global, accounts: &[Account]) -> Result<Vec<Account>, Mem>
     Ok(all)
 }
 
-/// The index of the names of the banks of some accounts, which differ. `Mem` for want of memory alone.
+/// The index of the names of the banks of some accounts, which differ. `Mem` for want of memory
+/// alone.
 pub fn index_of(alloc: Global, accounts: &[Account]) -> Result<IndexSet<Vec<u8>>, Mem>
     requires { HaveOwnNames (net_of accounts.now []) }
     ensures { let banks = map (λ c. c.bank) accounts.now in

@@ -1,4 +1,5 @@
-//! The laws of the division: what holds of every rule. A law has nothing to run; its `ensures` is proved.
+//! The laws of the division: what holds of every rule. A law has nothing to run; its `ensures` is
+//! proved.
 ghost use Rattle.clr_net.specs.Amounts.{IsAtMost};
 ghost use Rattle.clr_net.specs.Division.{AreClasses, award, next_of, share};
 ghost use Rattle.rule_unit.specs.Awards.{IsWithin};
@@ -15,7 +16,8 @@ pub fn next_is_none_where_all_is_met()
         → (next_of rule claims awards ≡ None) ↔ (awards ≡ claims) }
 {}
 
-/// A place whose claim is met can be left out of both lists: of the other places the same one is next.
+/// A place whose claim is met can be left out of both lists: of the other places the same one is
+/// next.
 pub fn met_place_can_be_left_out()
     ensures { (rule : RuleKind) (claims awards : List ℕ) (i : ℕ) → i < length claims
         → length awards ≡ length claims
@@ -39,7 +41,8 @@ pub fn award_never_falls()
 /// An award hands out all there is, up to all that is claimed.
 #[tactic(auto, using(crate::proofs::Award::sum_award))]
 pub fn award_gives_all()
-    ensures { (rule : RuleKind) (claims : List ℕ) (e : ℕ) → sum (award rule claims e) ≡ min e (sum claims) }
+    ensures { (rule : RuleKind) (claims : List ℕ) (e : ℕ)
+        → sum (award rule claims e) ≡ min e (sum claims) }
 {}
 
 /// A share over classes hands out all there is, up to all that is claimed.

@@ -17,9 +17,11 @@ use indexmap::IndexSet;
 use std::alloc::Global;
 use std::marker::Model;
 
-/// Banks and their debts, each known by its number in file order, with rows, columns and an index by name.
+/// Banks and their debts, each known by its number in file order, with rows, columns and an index
+/// by name.
 ///
-/// Contracts see the two lists. What is in a network always meets its limits and rules (`IsNetwork`).
+/// Contracts see the two lists. What is in a network always meets its limits and rules
+/// (`IsNetwork`).
 #[derive(Drop)]
 pub struct Network {
     accounts: Vec<Account>,
@@ -57,8 +59,8 @@ impl Network {
         }
     }
 
-    /// Adds a bank at the end. `Err` is want of memory alone: it hands the bank back, and the network
-    /// stays as it was.
+    /// Adds a bank at the end. `Err` is want of memory alone: it hands the bank back, and the
+    /// network stays as it was.
     pub fn add_bank(&mut self, bank: Bank) -> Result<BankId, Bank>
         requires room { length self.old.banks < MAX_BANKS }
         requires cash { bank.cash ≤ MAX_CASH }
@@ -123,8 +125,8 @@ impl Network {
         self.accounts[bank.0 as usize].bank.cash = cash;
     }
 
-    /// The same banks and debts in a network of its own, with rows, columns and index. `Mem` for want
-    /// of memory alone.
+    /// The same banks and debts in a network of its own, with rows, columns and index. `Mem` for
+    /// want of memory alone.
     pub fn copy(&self, alloc: Global) -> Result<Network, Mem>
         ensures { IfOk result (λ net. net ≡ self.now) }
     {
@@ -215,10 +217,11 @@ impl Network {
         self.outside
     }
 
-    /// The bank that has this name, byte for byte, found by the index of names; `None` exactly where no
-    /// bank has it.
+    /// The bank that has this name, byte for byte, found by the index of names; `None` exactly
+    /// where no bank has it.
     pub fn bank_named(&self, name: &[u8]) -> Option<BankId>
-        ensures place { option_map (λ id. id.0) result ≡ position (has_name name.now) self.now.banks }
+        ensures place { option_map (λ id. id.0) result
+            ≡ position (has_name name.now) self.now.banks }
         ensures none { IsNone result ↔ IsNewName self.now name.now }
         ensures found { IfSome result (λ id.
             (id.0 < length self.now.banks) × (name_of self.now id.0 ≡ name.now)) }
@@ -229,8 +232,8 @@ impl Network {
         }
     }
 
-    /// Whether there is a debt of this debtor, creditor and class. Costs a walk of the debtor's row or of the
-    /// creditor's column, whichever is shorter.
+    /// Whether there is a debt of this debtor, creditor and class. Costs a walk of the debtor's row
+    /// or of the creditor's column, whichever is shorter.
     pub fn has_debt(&self, debtor: BankId, creditor: BankId, class: u8) -> bool
         requires debtor { debtor.0 < length self.now.banks }
         requires creditor { creditor.0 < length self.now.banks }
@@ -249,7 +252,8 @@ impl Network {
     // Whether one of some debts is of this debtor, creditor and class.
     fn is_one_of_kind(&self, ids: &[DebtId], debtor: BankId, creditor: BankId, class: u8) -> bool
         requires { All (λ x. x < length self.now.debts) (numbers ids.now) }
-        ensures { result ≡ list_any (is_of_kind self.now debtor.0 creditor.0 class) (numbers ids.now) }
+        ensures { result
+            ≡ list_any (is_of_kind self.now debtor.0 creditor.0 class) (numbers ids.now) }
     {
         for id in ids {
             if self.debt(*id).is_of(debtor, creditor, class) {

@@ -7,9 +7,9 @@
 //! each bank what it has, loses, pays and keeps. The [`laws`] say how both compare with the same
 //! network where default costs nothing.
 //!
-//! Payments rise from nothing, in the sweeps of `clear_least`. A bank pays anew only where a payment
-//! to it has risen since it last paid; so its row is divided at most once more than payments to it
-//! rise, and all payments together rise at most as often as units are owed.
+//! Payments rise from nothing, in the sweeps of `clear_least`. A bank pays anew only where a
+//! payment to it has risen since it last paid; so its row is divided at most once more than
+//! payments to it rise, and all payments together rise at most as often as units are owed.
 #![tactic(auto)]
 
 mod kept;

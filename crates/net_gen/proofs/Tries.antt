@@ -13,10 +13,10 @@ unfolding after_tries
 at_start seed size = refl
 
 -- one try more
-pub one_more : (seed size t : ℕ)
+pub after_one_try_more : (seed size t : ℕ)
     → after_tries seed size (t + 1) ≡ tried (after_tries seed size t) (debt_at seed size t)
 unfolding after_tries
-one_more seed size t = let e : t + 1 ≡ suc t = omega arith in ap (after_tries seed size) e
+after_one_try_more seed size t = let e : t + 1 ≡ suc t = omega arith in ap (after_tries seed size) e
 
 -- so many banks, and at most a debt of 500 units for each try
 pub record IsSmall (net : Net) (size tries : ℕ) : Type 0 where

@@ -21,4 +21,7 @@ classed debtor creditor class claim = record {
 
 -- A and B owe each other 5; A has 1
 abbrev pub ring : Net
-ring = record { banks = bank (codes "A") 1 ∷ bank (codes "B") 0 ∷ []; debts = debt 0 1 5 ∷ debt 1 0 5 ∷ [] }
+ring = record {
+  banks = bank (codes "A") 1 ∷ bank (codes "B") 0 ∷ [];
+  debts = debt 0 1 5 ∷ debt 1 0 5 ∷ [];
+}

@@ -82,9 +82,9 @@ pub fn twelve_banks(alloc: Global) -> Result<Network, Mem> {
     Ok(net)
 }
 
-/// So many banks, from eight on, that owe round a circle: to the next, to the seventh after it and to the
-/// third before it. Their cash, rules, outside claims, classes and claims go by their numbers.
-/// `Mem` also where there are too few or too many.
+/// So many banks, from eight on, that owe round a circle: to the next, to the seventh after it and
+/// to the third before it. Their cash, rules, outside claims, classes and claims go by their
+/// numbers. `Mem` also where there are too few or too many.
 pub fn woven(alloc: Global, banks: u32) -> Result<Network, Mem> {
     let mut net = Network::empty(alloc);
     if banks < 8 || banks > MAX_BANKS {

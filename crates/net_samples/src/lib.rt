@@ -18,7 +18,8 @@ use clr_net::{
 pub use large::{digest, twelve_banks, woven};
 use std::alloc::Global;
 
-/// Adds a bank that divides by the order rule and owes nothing outside. `Mem` also where it may not be added.
+/// Adds a bank that divides by the order rule and owes nothing outside. `Mem` also where it may not
+/// be added.
 pub fn add_bank(alloc: Global, net: &mut Network, name: &[u8], cash: u64) -> Result<(), Mem>
     ensures { OnOk result (net.new ≡ with_bank net.old (bank name.now cash)) }
 {

@@ -16,5 +16,6 @@ pub fn each_divisor_is_a_unit_choice()
 
 /// A divisor chooses the next debt of its kind.
 pub fn divisor_chooses_by_its_kind()
-    ensures { (divisor : Divisor) → ⟦<Divisor as UnitRule>⟧.choice divisor ≡ next_of (kind_of divisor) }
+    ensures { (divisor : Divisor)
+        → ⟦<Divisor as UnitRule>⟧.choice divisor ≡ next_of (kind_of divisor) }
 {}

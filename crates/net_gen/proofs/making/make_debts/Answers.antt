@@ -2,7 +2,7 @@ use Rattle.std.proofs.Common.{◌≡◌, ◌+◌, ◌*◌, length, ap, ◌∙◌
 use Rattle.std.proofs.lemmas.Nat.{mod_below}
 use Rattle.clr_net.specs.Net.{units_owed}
 use Rattle.net_gen.specs.Generated.{after_tries, after_words, tried, word}
-use Rattle.net_gen.proofs.Tries.{claim_small, one_more, small_after}
+use Rattle.net_gen.proofs.Tries.{claim_small, after_one_try_more, small_after}
 use Rattle.net_gen.proofs.making.make_debts.Goals as goal
 
 pub try_debt-requires-clause-debtor : goal.try_debt-requires-clause-debtor
@@ -65,5 +65,5 @@ loop-preserved c =
           c.in_ok-try_debt.ensures
           ∙ ap (λ net. tried net c.draw_debt-debt.result) c.loop.invariant.net
           ∙ ap (tried (after_tries c.args.seed c.args.size c.loop.counter)) drawn.0
-          ∙ sym (one_more c.args.seed c.args.size c.loop.counter);
+          ∙ sym (after_one_try_more c.args.seed c.args.size c.loop.counter);
     }
