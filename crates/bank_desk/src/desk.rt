@@ -40,7 +40,7 @@ impl Model for Desk {
 
 impl Desk {
     /// The desk of a bank of a network: copies of what the bank knows. Its costs grow with the
-    /// bank's own debts.
+    /// bank's own debts. `Mem` is want of memory.
     pub fn of(alloc: Global, net: &Network, bank: BankId) -> Result<Desk, Mem>
         requires bank { bank.0 < length net.now.banks }
         ensures { IfOk result (λ desk. desk ≡ desk_of net.now bank.0) }

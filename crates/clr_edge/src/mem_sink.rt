@@ -40,7 +40,8 @@ impl Model for MemSink {
 
 impl MemSink {
     /// A sink that holds at most `room` bytes and takes at most `most` at a put. Put number
-    /// `fail_at` fails, counted from 1; 0 is none. The room is reserved here.
+    /// `fail_at` fails, counted from 1; 0 is none. The room, in bytes, is reserved here; `Mem` is want
+    /// of memory for it.
     pub fn with_room(alloc: Global, room: usize, most: usize, fail_at: u64) -> Result<MemSink, Mem>
         requires { 1 ≤ most }
         ensures { IfOk result (λ sink. sink ≡ empty_sink room most fail_at) }

@@ -10,8 +10,8 @@ use crate::fault::{Fault, FaultKind, FileKind};
 use crate::field::{class, number_up_to, trimmed};
 use clr_net::{BankId, Debt, MAX_CLAIM, MAX_OWED, Name, Network};
 
-/// The debt of a record with these fields, which may then be added to the network, or the first
-/// fault of the record.
+/// The debt of a record with these fields, which may then be added to the network; `Fault` is the
+/// first fault of the record, with its row. The claim is in units.
 ///
 /// Spaces and tabs at the ends of the fields are dropped. Takes no memory.
 pub fn check_debt(

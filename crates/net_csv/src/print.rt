@@ -8,7 +8,8 @@ use clr_net::{Bank, BankId, Debt, DebtId, Mem, Network, RuleKind};
 use std::alloc::Global;
 
 /// The banks file of a network: its header, and a line for each bank, in file order. It is of
-/// version 1 where no bank owes anything outside the network, and otherwise of version 2.
+/// version 1 where no bank owes anything outside the network, and otherwise of version 2. Amounts
+/// are in units. `Mem` is want of memory.
 pub fn print_banks(alloc: Global, net: &Network) -> Result<Vec<u8>, Mem>
     ensures { IfOk result (λ text. text.items ≡ banks_text net.now) }
 {
@@ -19,7 +20,8 @@ pub fn print_banks(alloc: Global, net: &Network) -> Result<Vec<u8>, Mem>
     }
 }
 
-/// The banks file of a network in version 2, whatever its banks owe outside the network.
+/// The banks file of a network in version 2, whatever its banks owe outside the network. `Mem` is
+/// want of memory.
 pub fn print_banks_2(alloc: Global, net: &Network) -> Result<Vec<u8>, Mem>
     ensures text { IfOk result (λ text. text.items ≡ banks_text_2 net.now) }
 
@@ -44,7 +46,8 @@ fn banks_file(alloc: Global, net: &Network, version: Version) -> Result<Vec<u8>,
     Ok(text)
 }
 
-/// The debts file of a network: its header, and a line for each debt, in file order.
+/// The debts file of a network: its header, and a line for each debt, in file order. Claims are in
+/// units. `Mem` is want of memory.
 pub fn print_debts(alloc: Global, net: &Network) -> Result<Vec<u8>, Mem>
     ensures { IfOk result (λ text. text.items ≡ debts_text net.now) }
 {
