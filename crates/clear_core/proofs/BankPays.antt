@@ -6,30 +6,54 @@ use Rattle.clr_net.specs.Limits.{IsNetwork}
 use Rattle.clr_net.specs.Net.{Net, place_in_row, row, claims_of, classes_of, rule_of}
 use Rattle.clr_net.proofs.RowsAndColumns.{StandsInRow, row_place, length-claims_of, length-classes_of, classes_of_are}
 use Rattle.clr_net.proofs.Share.{length-share, sum_share}
-use Rattle.clear_core.specs.Clearing.{receipts, spend, division, part, pay, Clears}
-use Rattle.clear_core.specs.Process.{Progress, allowed}
-use Rattle.clear_core.proofs.Pay.{pay_at}
+use Rattle.clear_core.specs.Clearing.{receipts, spend, division_of, division, pay_by, pay, Clears}
+use Rattle.clear_core.proofs.Pay.{pay_by_at}
+
+pub length-division_of : (net : Net) (i units : ℕ) → length (division_of net i units) ≡ length (row net i)
+length-division_of net i units =
+    length-share (rule_of net i) (claims_of net i) (classes_of net i) units ∙ length-claims_of net i
 
 pub length-division : (net : Net) (i r : ℕ) → length (division net i r) ≡ length (row net i)
-length-division net i r = length-share (rule_of net i) (claims_of net i) (classes_of net i) (spend net i r) ∙ length-claims_of net i
+length-division net i r = length-division_of net i (spend net i r)
 
--- the debt in the place k of a row is paid what the division has there
-pay_at_place : (net : Net) (P : List ℕ) (i k x : ℕ) → StandsInRow net i k x
-    → get_or (pay net P) x 0 ≡ get_or (division net i (receipts net P i)) k 0
-pay_at_place net P i k x stands =
-    pay_at net P x stands.in_range
-    ∙ ap (λ j. get_or (division net j (receipts net P j)) (place_in_row net x) 0) stands.owed
-    ∙ ap (λ m. get_or (division net i (receipts net P i)) m 0) stands.in_place
+module _ (net : Net) (f : ℕ → ℕ → ℕ) (P : List ℕ) (i : ℕ) where
+  -- the debt in the place k of a row is paid what the division has there
+  pay_by_at_place : (k x : ℕ) → StandsInRow net i k x
+      → get_or (pay_by net f P) x 0 ≡ get_or (division_of net i (f i (receipts net P i))) k 0
+  pay_by_at_place k x stands =
+      pay_by_at net f P x stands.in_range
+      ∙ ap (λ j. get_or (division_of net j (f j (receipts net P j))) (place_in_row net x) 0) stands.owed
+      ∙ ap (λ m. get_or (division_of net i (f i (receipts net P i))) m 0) stands.in_place
 
--- the payments on the debts of a row, in its order, are the bank's division
+  -- the division of a bank, read in a place of its row, is what the debt there is paid
+  pub award_by_at : (k x : ℕ) → k < length (row net i) → get_or (row net i) k 0 ≡ x
+      → get_or (division_of net i (f i (receipts net P i))) k 0 ≡ get_or (pay_by net f P) x 0
+  award_by_at k x l at =
+      sym (pay_by_at_place k (get_or (row net i) k 0) (row_place net i k l))
+      ∙ ap (λ y. get_or (pay_by net f P) y 0) at
+
+  -- the payments on the debts of a row, in its order, are the bank's division
+  pub pay_by_row : map (λ x. get_or (pay_by net f P) x 0) (row net i)
+      ≡ division_of net i (f i (receipts net P i))
+  pay_by_row =
+      let paid = λ (x : ℕ). get_or (pay_by net f P) x 0 in
+      let awards = division_of net i (f i (receipts net P i)) in
+      ext_get_or 0 (map paid (row net i)) awards
+      (length-map (row net i) paid ∙ sym (length-division_of net i (f i (receipts net P i)))) (λ k l.
+      let in_row : k < length (row net i) = omega (arith, length-map (row net i) paid) in
+      get_or-map paid (row net i) k 0 0 in_row
+      ∙ pay_by_at_place k (get_or (row net i) k 0) (row_place net i k in_row))
+
+-- so where a bank divides all that it has, less what it owes outside
+pub award_at : (net : Net) (P : List ℕ) (i k x : ℕ) → k < length (row net i) → get_or (row net i) k 0 ≡ x
+    → get_or (division net i (receipts net P i)) k 0 ≡ get_or (pay net P) x 0
+unfolding pay
+award_at net = award_by_at net (spend net)
+
 pub pay_row : (net : Net) (P : List ℕ) (i : ℕ)
     → map (λ x. get_or (pay net P) x 0) (row net i) ≡ division net i (receipts net P i)
-pay_row net P i =
-    let paid = λ (x : ℕ). get_or (pay net P) x 0 in
-    ext_get_or 0 (map paid (row net i)) (division net i (receipts net P i))
-    (length-map (row net i) paid ∙ sym (length-division net i (receipts net P i))) (λ k l.
-    let in_row : k < length (row net i) = omega (arith, length-map (row net i) paid) in
-    get_or-map paid (row net i) k 0 0 in_row ∙ pay_at_place net P i k (get_or (row net i) k 0) (row_place net i k in_row))
+unfolding pay
+pay_row net = pay_by_row net (spend net)
 
 -- a bank pays out what it divides, up to what it owes
 pub sum-pay_row : (net : Net) (P : List ℕ) (i : ℕ) → IsNetwork net

@@ -1,80 +1,88 @@
--- `least_rounds`: the payments after as many rounds as units owed clear, and are at most all that clear.
-use Rattle.std.proofs.Common.{◌≡◌, ◌⊎◌, ℕ, zero, suc, ◌<◌, ◌≤◌, List, length, sum, sym, ap, ◌∙◌, subst, inl, inr, ⊎_elim, arith, zero-le}
-use Rattle.std.proofs.lemmas.Bool.{cases_lt}
+-- Rounds from nothing paid end at the least payments that clear, by whatever banks divide, where it
+-- never falls.
+use Rattle.std.proofs.Common.{◌≡◌, ℕ, List, length, get_or, sym, ap, ◌∙◌, subst, arith}
 use Rattle.std.proofs.lemmas.List.{length-replicate}
 use Rattle.clr_net.specs.Amounts.{IsAtMost}
 use Rattle.clr_net.specs.Net.{Net, units_owed}
-use Rattle.clr_net.proofs.Lists.{IsAtMost_antisym, same_from_sum, zeros_at}
-use Rattle.clear_core.specs.Clearing.{pay, Clears, IsLeast, zeros, rounds, least}
-use Rattle.clear_core.proofs.Pay.{length-pay, pay_mono, sum-pay_le}
+use Rattle.clr_net.proofs.Lists.{IsAtMost_antisym, zeros_at}
+use Rattle.clear_core.specs.Clearing.{spend, RisesTo, NeverFalls, pay_by, IsLeastBy, least_by, IsOnWayBy, pay, Clears, IsLeast, zeros, rounds, least}
+use Rattle.clear_core.proofs.Pay.{length-pay_by, pay_by_mono, spend_mono}
+use Rattle.clear_core.proofs.Settling.{pay_by_is_paying, rounds_below, rising_settles}
 
 pub zeros_le : (net : Net) (P : List ℕ) → IsAtMost (zeros net) P
 zeros_le net P x = omega (arith, zeros_at (length net.debts) x)
 
-length-rounds : (net : Net) (n : ℕ) → length (rounds net n) ≡ length net.debts
-unfolding rounds
-length-rounds net zero = length-replicate (length net.debts) 0
-length-rounds net (suc n) = length-pay net (rounds net n)
+module _ (net : Net) (f : ℕ → ℕ → ℕ) (never : NeverFalls f) where
+  -- rounds never pass payments on which no more would be paid
+  least_by_below : (Q : List ℕ) → IsAtMost (pay_by net f Q) Q → IsAtMost (least_by net f) Q
+  least_by_below Q covers =
+      rounds_below (pay_by net f) (length net.debts) (units_owed net) (pay_by_is_paying net f never)
+      (zeros net) Q (zeros_le net Q) covers (units_owed net)
 
-pub rounds_rise : (net : Net) (n : ℕ) → IsAtMost (rounds net n) (pay net (rounds net n))
-unfolding rounds
-rounds_rise net zero = zeros_le net (pay net (zeros net))
-rounds_rise net (suc n) = pay_mono net (rounds net n) (pay net (rounds net n)) (rounds_rise net n)
+  -- the rounds from nothing paid end at the least payments that clear
+  pub least_by_is : IsLeastBy net f (least_by net f)
+  least_by_is = record {
+    clears = rising_settles (pay_by net f) (length net.debts) (units_owed net)
+        (pay_by_is_paying net f never) (zeros net) (length-replicate (length net.debts) 0)
+        (zeros_le net (pay_by net f (zeros net))) (units_owed net) (omega arith);
+    least = λ Q c. least_by_below Q (subst (λ R. IsAtMost R Q) (sym c) (λ x. omega arith));
+  }
 
-pub rounds_le_clearing : (net : Net) (n : ℕ) (Q : List ℕ) → Clears net Q → IsAtMost (rounds net n) Q
-unfolding rounds
-rounds_le_clearing net zero Q c = zeros_le net Q
-rounds_le_clearing net (suc n) Q c =
-    subst (λ R. IsAtMost (pay net (rounds net n)) R) c (pay_mono net (rounds net n) Q (rounds_le_clearing net n Q c))
+  -- they pay on all debts
+  length-least_by : length (least_by net f) ≡ length net.debts
+  length-least_by = sym (ap length least_by_is.clears) ∙ length-pay_by net f (least_by net f)
 
--- a list below what it pays, whose sum does not rise, clears
-clears_from_sum : (net : Net) (P : List ℕ) → length P ≡ length net.debts → IsAtMost P (pay net P) → sum (pay net P) ≤ sum P
-    → Clears net P
-clears_from_sum net P l h s = sym (same_from_sum P (pay net P) (l ∙ sym (length-pay net P)) h s)
+  -- payments on all debts, at or below the least, that no bank would pay more on are the least
+  pub nothing_left_to_raise_by : (P : List ℕ) → length P ≡ length net.debts
+      → IsAtMost P (least_by net f) → IsAtMost (pay_by net f P) P → P ≡ least_by net f
+  nothing_left_to_raise_by P l below covered =
+      IsAtMost_antisym P (least_by net f) (l ∙ sym length-least_by) below (least_by_below P covered)
 
--- n rounds pay n units, or the payments have settled
-rounds_settle : (net : Net) (n : ℕ) → (n ≤ sum (rounds net n)) ⊎ Clears net (rounds net n)
-unfolding rounds
-rounds_settle net zero = inl zero-le
-rounds_settle net (suc n) = ⊎_elim
-    (λ (h : n ≤ sum (rounds net n)). ⊎_elim
-    (λ (l : sum (rounds net n) < sum (pay net (rounds net n))). inl (omega arith))
-    (λ (g : sum (pay net (rounds net n)) ≤ sum (rounds net n)). inr
-    (ap (pay net) (clears_from_sum net (rounds net n) (length-rounds net n) (rounds_rise net n) g)))
-    (cases_lt (sum (rounds net n)) (sum (pay net (rounds net n)))))
-    (λ (c : Clears net (rounds net n)). inr (ap (pay net) c))
-    (rounds_settle net n)
+  -- what clears at or below them are they
+  pub clears_only_at_least_by : (P : List ℕ) → IsAtMost P (least_by net f) → pay_by net f P ≡ P
+      → P ≡ least_by net f
+  clears_only_at_least_by P h c =
+      nothing_left_to_raise_by P (sym (ap length c) ∙ length-pay_by net f P) h
+      (λ x. omega (arith, ap (λ (Q : List ℕ). get_or Q x 0) c))
+
+  -- so there is one least
+  pub least_by_only : (P : List ℕ) → IsLeastBy net f P → P ≡ least_by net f
+  least_by_only P p = clears_only_at_least_by P (p.least (least_by net f) least_by_is.clears) p.clears
+
+-- where less is divided the least are nowhere greater
+pub least_by_mono : (net : Net) (f g : ℕ → ℕ → ℕ) → NeverFalls f → NeverFalls g → RisesTo f g
+    → IsAtMost (least_by net f) (least_by net g)
+least_by_mono net f g n m rise =
+    let most = least_by net g in
+    least_by_below net f n most
+    (subst (λ R. IsAtMost (pay_by net f most) R) (least_by_is net g m).clears
+    (pay_by_mono net f g most most rise (λ x. omega arith)))
+
+-- nothing paid is on the way
+pub begins_by : (net : Net) (f : ℕ → ℕ → ℕ) (P : List ℕ) → P ≡ zeros net → IsOnWayBy net f P
+begins_by net f P e = subst (IsOnWayBy net f) (sym e) record {
+  as_many = length-replicate (length net.debts) 0;
+  rises = zeros_le net (pay_by net f (zeros net));
+  below = zeros_le net (least_by net f);
+}
+
+-- so it is where banks divide all that they have, less what they owe outside
+pub least_rounds : (net : Net) → IsLeast net (least net)
+unfolding pay rounds
+least_rounds net = least_by_is net (spend net) (spend_mono net)
 
 pub least_clears : (net : Net) → Clears net (least net)
-least_clears net = ⊎_elim
-    (λ (h : units_owed net ≤ sum (least net)). clears_from_sum net (least net) (length-rounds net (units_owed net))
-    (rounds_rise net (units_owed net)) (omega (arith, sum-pay_le net (least net))))
-    (λ (c : Clears net (least net)). c)
-    (rounds_settle net (units_owed net))
+least_clears net = (least_rounds net).clears
 
-pub least_rounds : (net : Net) → IsLeast net (least net)
-least_rounds net = record { clears = least_clears net; least = rounds_le_clearing net (units_owed net) }
-
--- what clears, at or below the least that clears, is the least
 pub clears_only_at_least : (net : Net) (P : List ℕ) → IsAtMost P (least net) → Clears net P → P ≡ least net
-clears_only_at_least net P h c =
-    IsAtMost_antisym P (least net) (sym (ap length c) ∙ length-pay net P ∙ sym (length-pay net (least net)) ∙ ap length
-    (least_clears net)) h ((least_rounds net).least P c)
+unfolding pay rounds
+clears_only_at_least net = clears_only_at_least_by net (spend net) (spend_mono net)
 
--- so there is one least
 pub least_only : (net : Net) (P : List ℕ) → IsLeast net P → P ≡ least net
-least_only net P p = clears_only_at_least net P (p.least (least net) (least_clears net)) p.clears
+unfolding pay rounds
+least_only net = least_by_only net (spend net) (spend_mono net)
 
--- payments at or above what all banks would pay on them are at or above every round
-rounds_le_covered : (net : Net) (n : ℕ) (P : List ℕ) → IsAtMost (pay net P) P → IsAtMost (rounds net n) P
-unfolding rounds
-rounds_le_covered net zero P h = zeros_le net P
-rounds_le_covered net (suc n) P h =
-    λ x. omega (arith, pay_mono net (rounds net n) P (rounds_le_covered net n P h) x, h x)
-
--- so payments on all debts, at or below the least, that no bank would pay more on are the least
 pub nothing_left_to_raise : (net : Net) (P : List ℕ) → length P ≡ length net.debts → IsAtMost P (least net)
     → IsAtMost (pay net P) P → P ≡ least net
-nothing_left_to_raise net P l below covered =
-    IsAtMost_antisym P (least net) (l ∙ sym (length-rounds net (units_owed net))) below
-    (rounds_le_covered net (units_owed net) P covered)
+unfolding pay rounds
+nothing_left_to_raise net = nothing_left_to_raise_by net (spend net) (spend_mono net)

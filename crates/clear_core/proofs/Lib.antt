@@ -3,8 +3,8 @@ pub mod Pay
 pub mod BankPays
 pub mod WrittenRows
 pub mod Raising
-pub mod Least
 pub mod Settling
+pub mod Least
 pub mod Richer
 pub mod Legal
 pub mod Journals

@@ -4,8 +4,9 @@ use Rattle.std.proofs.lemmas.Bool.{cases_eq, cases_lt, cases_Bool, true≢false}
 use Rattle.std.proofs.lemmas.List.{get_or-set_same, get_or-set_other, length-set}
 use Rattle.std.proofs.lemmas.List.Sums.{sum_by-set}
 use Rattle.clr_net.specs.Net.{Net, debtor_of, creditor_of, place_in_row, row}
-use Rattle.clr_net.proofs.RowsAndColumns.{debt_in_row, row_place}
+use Rattle.clr_net.proofs.RowsAndColumns.{row_place}
 use Rattle.clear_core.specs.Raised.{is_marked, IsRaised}
+use Rattle.clear_core.proofs.Rows.{debt_of_bank}
 
 -- what the bank i has paid by Q on the debt in the place m of its row
 abbrev paid_at : Net → ℕ → List ℕ → ℕ → ℕ
@@ -145,12 +146,9 @@ pub row_raised : (net : Net) (i : ℕ) (awards P Q : List ℕ) (marks after : Li
 row_raised net i awards P Q marks after j any g raised = record {
   as_many = raised.as_many;
   in_row = λ x l owed.
-      let stands = debt_in_row net x l in
-      let m = place_in_row net x in
-      let at : get_or (row net i) m 0 ≡ x =
-      ap (λ i. get_or (row net i) m 0) (sym owed) ∙ stands.at in
-      ap (λ y. get_or Q y 0) (sym at)
-      ∙ raised.done m (omega (arith, stands.within, ap (λ i. length (row net i)) owed));
+      let stands = debt_of_bank net i x l owed in
+      ap (λ y. get_or Q y 0) (sym stands.at)
+      ∙ raised.done (place_in_row net x) (omega (arith, stands.within));
   others = raised.others;
   marks_as_many = raised.marks_as_many;
   marks_stay = raised.marks_stay;

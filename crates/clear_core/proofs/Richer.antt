@@ -1,5 +1,5 @@
 -- A network with the same debts, in which banks pay no less: its least payments are no less, and what was lawful stays so.
-use Rattle.std.proofs.Common.{◌≡◌, ℕ, zero, suc, List, [], ◌∷◌, length, set, replicate, refl, sym, ap, subst, arith}
+use Rattle.std.proofs.Common.{◌≡◌, ℕ, List, [], ◌∷◌, length, set, replicate, sym, ap, subst, arith}
 use Rattle.clr_net.specs.declared.debt.Debt.{Debt}
 use Rattle.clr_net.specs.Amounts.{IsAtMost}
 use Rattle.clr_net.specs.Net.{Net, units_owed}
@@ -7,22 +7,17 @@ use Rattle.clear_core.specs.declared.event.Raise.{Raise}
 use Rattle.clear_core.specs.Clearing.{pay, zeros, rounds, least}
 use Rattle.clear_core.specs.History.{StandsFrom, Stands, paid_before, IsTraced}
 use Rattle.clear_core.proofs.Least.{least_clears, zeros_le}
-use Rattle.clear_core.specs.Rounds.{rounds_of}
 use Rattle.clear_core.specs.Richer.{IsRicher}
 use Rattle.clear_core.proofs.Settling.{pay_is_paying, rounds_below}
 
--- the rounds of `least` are those of `rounds_of`
-pub rounds_are : (net : Net) (n : ℕ) → rounds net n ≡ rounds_of (pay net) (zeros net) n
-unfolding rounds rounds_of
-rounds_are net zero = refl
-rounds_are net (suc n) = ap (pay net) (rounds_are net n)
-
 -- its least payments are no less
 pub least_le_richer : (net more : Net) → IsRicher net more → IsAtMost (least net) (least more)
+unfolding rounds
 least_le_richer net more richer =
-    rw (rounds_are net (units_owed net))
-    (rounds_below (pay net) (length net.debts) (units_owed net) (pay_is_paying net) (zeros net) (least more) (zeros_le net (least more))
-    (subst (λ R. IsAtMost (pay net (least more)) R) (least_clears more) (richer.pays (least more))) (units_owed net))
+    rounds_below (pay net) (length net.debts) (units_owed net) (pay_is_paying net) (zeros net) (least more)
+    (zeros_le net (least more))
+    (subst (λ R. IsAtMost (pay net (least more)) R) (least_clears more) (richer.pays (least more)))
+    (units_owed net)
 
 -- a journal that stands in a network stands in a richer one
 stands_from : (net more : Net) → IsRicher net more → (stamp : ℕ) (P : List ℕ) (rs : List Raise) → StandsFrom net stamp P rs

@@ -28,6 +28,12 @@ debt_of_row net i ids k d e l =
     subst (λ x. StandsInRow net i k x) (number_at ids (row net i) k d e l)
     (row_place net i k (omega (arith, as_many_numbers ids (row net i) e)))
 
+-- each debt that a bank owes stands in its row
+pub debt_of_bank : (net : Net) (i x : ℕ) → x < length net.debts → debtor_of net x ≡ i
+    → StandsInRow net i (place_in_row net x) x
+debt_of_bank net i x l owed =
+    subst (λ i. StandsInRow net i (place_in_row net x) x) owed (debt_in_row net x l)
+
 -- the debt in the place k of a column
 pub debt_of_column : (net : Net) (i : ℕ) (ids : List DebtId) (k : ℕ) (d : DebtId) → numbers ids ≡ column net i → k < length ids
     → (get_or ids k d).0 < length net.debts
@@ -55,7 +61,7 @@ place_found net i ids k d x e l same = sym (debt_of_row net i ids k d e l).in_pl
 pub never_missing : (net : Net) (i x n : ℕ) → i ≡ debtor_of net x → x < length net.debts → length (row net i) ≤ n
     → ((k : ℕ) → k < n → get_or (row net i) k 0 ≢ x) → ⊥
 never_missing net i x n e l g h =
-    let stands = subst (λ i. StandsInRow net i (place_in_row net x) x) (sym e) (debt_in_row net x l) in
+    let stands = debt_of_bank net i x l (sym e) in
     h (place_in_row net x) (omega (arith, stands.within)) stands.at
 
 pub claim_read : (net : Net) (x : ℕ) (d : Debt) → slice_get net.debts x ≡ Some d → claim_of net x ≡ d.claim

@@ -5,9 +5,9 @@ use Rattle.std.proofs.lemmas.Bool.{cases_lt}
 use Rattle.clr_net.specs.Amounts.{IsAtMost}
 use Rattle.clr_net.specs.Net.{Net, units_owed}
 use Rattle.clr_net.proofs.Lists.{IsAtMost_antisym, same_from_sum}
-use Rattle.clear_core.specs.Clearing.{pay}
+use Rattle.clear_core.specs.Clearing.{spend, NeverFalls, pay_by, pay}
 use Rattle.clear_core.specs.Rounds.{rounds_of}
-use Rattle.clear_core.proofs.Pay.{length-pay, pay_mono, sum-pay_le}
+use Rattle.clear_core.proofs.Pay.{length-pay_by, pay_by_mono, sum-pay_by_le, spend_mono}
 
 -- a way in which all banks pay at once: it gives one payment for each debt, no payment falls as what was paid grows, and all
 -- payments together are at most a bound
@@ -112,5 +112,14 @@ module _ (f : List ℕ → List ℕ) (debts most : ℕ) (paying : IsPaying f deb
       (least (rounds_of f P n) (rising_settles P l h n enough))
 
 -- what all banks of a network pay at once is such a way of paying
+pub pay_by_is_paying : (net : Net) (f : ℕ → ℕ → ℕ) → NeverFalls f
+    → IsPaying (pay_by net f) (length net.debts) (units_owed net)
+pay_by_is_paying net f never = record {
+  as_many = length-pay_by net f;
+  rises = λ P Q. pay_by_mono net f f P Q never;
+  within = sum-pay_by_le net f;
+}
+
 pub pay_is_paying : (net : Net) → IsPaying (pay net) (length net.debts) (units_owed net)
-pay_is_paying net = record { as_many = length-pay net; rises = pay_mono net; within = sum-pay_le net }
+unfolding pay
+pay_is_paying net = pay_by_is_paying net (spend net) (spend_mono net)

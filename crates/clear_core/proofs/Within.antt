@@ -1,13 +1,10 @@
 -- What is paid is within the claims, and in all within what is owed.
-use Rattle.std.proofs.Common.{ℕ, ◌<◌, ◌≤◌, ◌==◌, List, length, get_or, sum, ap, arith}
-use Rattle.std.proofs.lemmas.List.Sums.{sum_by-le-sum_by}
+use Rattle.std.proofs.Common.{ℕ, ◌<◌, ◌≤◌, List, length, get_or, sum, ap, arith}
 use Rattle.clr_net.specs.Amounts.{IsAtMost}
 use Rattle.clr_net.specs.Limits.{IsNetwork}
-use Rattle.clr_net.specs.Net.{Net, debtor_of, creditor_of, claim_of, column, debt_numbers, units_owed}
+use Rattle.clr_net.specs.Net.{Net, debtor_of, units_owed}
 use Rattle.clr_net.specs.declared.TheConstants.{MAX_CLAIM}
-use Rattle.clr_net.proofs.Filters.{sum_by-filter_le}
 use Rattle.clr_net.proofs.Lists.{sum-le}
-use Rattle.clr_net.proofs.RowsAndColumns.{units_owed_is}
 use Rattle.clear_core.specs.Clearing.{receipts, part, least}
 use Rattle.clear_core.specs.Quiet.{IsWithinClaims}
 use Rattle.clear_core.proofs.Journals.{pay_le_least}

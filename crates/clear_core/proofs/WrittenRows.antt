@@ -1,20 +1,9 @@
 -- What one bank pays is written into a list of payments, place by place of its row.
 use Rattle.std.proofs.Common.{◌≡◌, ◌≢◌, ℕ, ◌+◌, ◌<◌, ◌≤◌, List, length, get_or, set, sym, ap, ◌∙◌, subst, ⊎_elim, arith}
 use Rattle.std.proofs.lemmas.Bool.{cases_eq, cases_lt}
-use Rattle.std.proofs.lemmas.List.{get_or-map, get_or-set_same, get_or-set_other}
+use Rattle.std.proofs.lemmas.List.{get_or-set_same, get_or-set_other}
 use Rattle.clr_net.specs.Net.{Net, debtor_of, place_in_row, row}
-use Rattle.clr_net.proofs.RowsAndColumns.{debt_in_row}
-use Rattle.clear_core.specs.Clearing.{division, receipts, pay}
-use Rattle.clear_core.proofs.BankPays.{pay_row}
-
--- the division of a bank, read in a place of its row, is what the debt there is paid
-pub award_at : (net : Net) (P : List ℕ) (i k x : ℕ) → k < length (row net i)
-    → get_or (row net i) k 0 ≡ x
-    → get_or (division net i (receipts net P i)) k 0 ≡ get_or (pay net P) x 0
-award_at net P i k x l at =
-    ap (λ xs. get_or xs k 0) (sym (pay_row net P i))
-    ∙ get_or-map (λ y. get_or (pay net P) y 0) (row net i) k 0 0 l
-    ∙ ap (λ y. get_or (pay net P) y 0) at
+use Rattle.clear_core.proofs.Rows.{debt_of_bank}
 
 -- the first j debts of a row are paid so in a list, and no other bank's debt is changed from what it
 -- was at the start
@@ -56,9 +45,7 @@ pub row_written : (net : Net) (i j : ℕ) (wanted start next : List ℕ) → len
     → IsWritten net i wanted start next j
     → (x : ℕ) → x < length net.debts → debtor_of net x ≡ i → get_or next x 0 ≡ get_or wanted x 0
 row_written net i j wanted start next g written x l owed =
-    let stands = debt_in_row net x l in
-    let k = place_in_row net x in
-    let at : get_or (row net i) k 0 ≡ x = ap (λ i. get_or (row net i) k 0) (sym owed) ∙ stands.at in
-    ap (λ y. get_or next y 0) (sym at)
-    ∙ written.done k (omega (arith, stands.within, ap (λ i. length (row net i)) owed))
-    ∙ ap (λ y. get_or wanted y 0) at
+    let stands = debt_of_bank net i x l owed in
+    ap (λ y. get_or next y 0) (sym stands.at)
+    ∙ written.done (place_in_row net x) (omega (arith, stands.within))
+    ∙ ap (λ y. get_or wanted y 0) stands.at

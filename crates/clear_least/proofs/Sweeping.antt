@@ -1,21 +1,19 @@
 -- What a visit of a bank does on the way to the least payments, and where sweeps end.
-use Rattle.std.proofs.Common.{◌≡◌, ◌≢◌, ℕ, suc, ◌<◌, ◌≤◌, Bool, true, false, List, [], ◌∷◌, length, get_or, set, replicate, sum, sum_by, refl, sym, ap, ◌∙◌, subst, ⊎_elim, arith}
+use Rattle.std.proofs.Common.{◌≡◌, ◌≢◌, ℕ, suc, ◌<◌, ◌≤◌, Bool, true, false, List, [], ◌∷◌, length, get_or, set, sum, sum_by, refl, sym, ap, ◌∙◌, subst, ⊎_elim, arith}
 use Rattle.std.proofs.lemmas.Bool.{cases_eq, cases_lt, cases_Bool, true≢false}
-use Rattle.std.proofs.lemmas.List.{ext_get_or, get_or-replicate, get_or-set_other, get_or_past, length-replicate, length-set}
+use Rattle.std.proofs.lemmas.List.{get_or-set_other, get_or_past, length-set}
 use Rattle.std.proofs.lemmas.List.Sums.{sum_by-cons}
-use Rattle.clr_net.specs.Amounts.{IsAtMost}
 use Rattle.clr_net.specs.Limits.{IsNetwork}
-use Rattle.clr_net.specs.Net.{Net, debtor_of, creditor_of, place_in_row, row, column, units_owed}
-use Rattle.clr_net.proofs.Lists.{sum-le}
-use Rattle.clr_net.proofs.RowsAndColumns.{debt_in_row, column_place}
-use Rattle.clear_core.specs.Buffers.{AreInLimit}
-use Rattle.clear_core.specs.Clearing.{division_of, receipts}
+use Rattle.clr_net.specs.Net.{Net, debtor_of, creditor_of, place_in_row, row, column}
+use Rattle.clr_net.proofs.RowsAndColumns.{column_place}
+use Rattle.clear_core.specs.Clearing.{division_of, receipts, NeverFalls, part_by, pay_by, least_by}
 use Rattle.clear_core.specs.Raised.{is_marked, IsRaised}
-use Rattle.clear_core.proofs.Rows.{claim_in_limit}
-use Rattle.clear_least.specs.Paying.{NeverFalls, part_by, pay_by, least_by, IsOnWayBy}
+use Rattle.clear_core.proofs.BankPays.{award_by_at}
+use Rattle.clear_core.proofs.Least.{clears_only_at_least_by}
+use Rattle.clear_core.proofs.Pay.{pay_by_at}
+use Rattle.clear_core.proofs.Rows.{debt_of_bank}
 use Rattle.clear_least.specs.Sweeps.{IsQuietBy, IsSwept}
-use Rattle.clear_least.proofs.Paying.{pay_by_at, pay_by_mono, pay_by_within, sum-pay_by_le, length-pay_by, award_by_at}
-use Rattle.clear_least.proofs.LeastBy.{least_by_is, clears_only_at_least_by}
+use Rattle.clear_least.proofs.Way.{all_paid, way_on}
 
 -- terms that are the same at each element of a list add up to the same
 same_sum : (f g : ℕ → ℕ) (xs : List ℕ)
@@ -46,15 +44,6 @@ same_pay net f P Q x l e =
 
 module _ (net : Net) (f : ℕ → ℕ → ℕ) (P : List ℕ) (marks : List Bool)
     (swept : IsSwept net f P marks) where
-  -- no payment on the way is above the limit of a claim
-  pub swept_in_limit : IsNetwork net → AreInLimit P
-  swept_in_limit network x =
-      omega (arith, swept.way.rises x, pay_by_within net f P x, claim_in_limit net x network)
-
-  -- and all together are no more than is owed
-  pub swept_within_owed : sum P ≤ units_owed net
-  swept_within_owed = omega (arith, sum-le P (pay_by net f P) swept.way.rises, sum-pay_by_le net f P)
-
   -- a bank's awards are no less than what it has paid
   pub awards_rise : (i : ℕ) (awards : List ℕ) → awards ≡ division_of net i (f i (receipts net P i))
       → (m : ℕ) → m < length (row net i) → get_or P (get_or (row net i) m 0) 0 ≤ get_or awards m 0
@@ -69,11 +58,8 @@ module _ (net : Net) (f : ℕ → ℕ → ℕ) (P : List ℕ) (marks : List Bool
   pub quiet_at_least : IsNetwork net → NeverFalls f
       → ((i : ℕ) → i < length net.banks → IsQuietBy net f P i) → P ≡ least_by net f
   quiet_at_least network never quiet =
-      let clears : P ≡ pay_by net f P =
-      ext_get_or 0 P (pay_by net f P) (swept.way.as_many ∙ sym (length-pay_by net f P)) (λ x l.
-      let in_range : x < length net.debts = omega (arith, swept.way.as_many) in
-      quiet (debtor_of net x) (network.each_debt x in_range).debtor_known x in_range refl) in
-      clears_only_at_least_by net f P never swept.way.below (sym clears)
+      clears_only_at_least_by net f never P swept.way.below
+      (sym (all_paid net f P P network swept.way.as_many quiet))
 
   -- a bank pays what its rule gives it to pay, and loses its mark
   module _ (i : ℕ) (awards Q : List ℕ) (after : List Bool) (never : NeverFalls f)
@@ -83,35 +69,25 @@ module _ (net : Net) (f : ℕ → ℕ → ℕ) (P : List ℕ) (marks : List Bool
     pays : (x : ℕ) → x < length net.debts → debtor_of net x ≡ i
         → get_or Q x 0 ≡ get_or (pay_by net f P) x 0
     pays x l owed =
-        let stands = debt_in_row net x l in
-        let m = place_in_row net x in
-        let in_row : m < length (row net i) =
-        omega (arith, stands.within, ap (λ i. length (row net i)) owed) in
-        let at : get_or (row net i) m 0 ≡ x =
-        ap (λ i. get_or (row net i) m 0) (sym owed) ∙ stands.at in
+        let stands = debt_of_bank net i x l owed in
         raised.in_row x l owed
-        ∙ ap (λ (xs : List ℕ). get_or xs m 0) given
-        ∙ award_by_at net f P i m x in_row at
+        ∙ ap (λ (xs : List ℕ). get_or xs (place_in_row net x) 0) given
+        ∙ award_by_at net f P i (place_in_row net x) x stands.within stands.at
 
     -- no debt is paid less than before, or more than all banks would pay at once
-    no_less : IsAtMost P Q
-    no_less x = ⊎_elim
+    between : (x : ℕ) → (get_or P x 0 ≤ get_or Q x 0) × (get_or Q x 0 ≤ get_or (pay_by net f P) x 0)
+    between x = ⊎_elim
         (λ (l : x < length net.debts). ⊎_elim
-        (λ (e : debtor_of net x ≡ i). omega (arith, pays x l e, swept.way.rises x))
-        (λ (ne : debtor_of net x ≢ i). omega (arith, raised.others x ne))
+        (λ (e : debtor_of net x ≡ i).
+        (omega (arith, pays x l e, swept.way.rises x), omega (arith, pays x l e)))
+        (λ (ne : debtor_of net x ≢ i).
+        let same = raised.others x ne in
+        (omega (arith, same), omega (arith, same, swept.way.rises x)))
         (cases_eq (debtor_of net x) i))
         (λ (g : length net.debts ≤ x).
-        omega (arith, get_or_past P x 0 (omega (arith, swept.way.as_many))))
-        (cases_lt x (length net.debts))
-
-    no_more : IsAtMost Q (pay_by net f P)
-    no_more x = ⊎_elim
-        (λ (l : x < length net.debts). ⊎_elim
-        (λ (e : debtor_of net x ≡ i). omega (arith, pays x l e))
-        (λ (ne : debtor_of net x ≢ i). omega (arith, raised.others x ne, swept.way.rises x))
-        (cases_eq (debtor_of net x) i))
-        (λ (g : length net.debts ≤ x).
-        omega (arith, get_or_past Q x 0 (omega (arith, swept.way.as_many, raised.as_many))))
+        let before = get_or_past P x 0 (omega (arith, swept.way.as_many)) in
+        let now = get_or_past Q x 0 (omega (arith, swept.way.as_many, raised.as_many)) in
+        (omega (arith, before), omega (arith, now)))
         (cases_lt x (length net.debts))
 
     -- a bank without a mark is paid what it was
@@ -148,16 +124,7 @@ module _ (net : Net) (f : ℕ → ℕ → ℕ) (P : List ℕ) (marks : List Bool
     -- the way goes on
     pub sweep_on : IsSwept net f Q after
     sweep_on = record {
-      way = record {
-        as_many = raised.as_many ∙ swept.way.as_many;
-        rises = λ x. omega (arith, no_more x, pay_by_mono net f f P Q never no_less x);
-        below = λ x. omega (
-          arith,
-          no_more x,
-          pay_by_mono net f f P (least_by net f) never swept.way.below x,
-          ap (λ (R : List ℕ). get_or R x 0) (least_by_is net f never).clears,
-        );
-      };
+      way = way_on net f P swept.way Q never raised.as_many (λ x. (between x).0) (λ x. (between x).1);
       for_each_bank = raised.marks_as_many ∙ length-set marks i false ∙ swept.for_each_bank;
       unmarked = still_quiet;
     }

@@ -1,3 +1,2 @@
-pub mod Way
 pub mod Paying
 pub mod Sweeps

@@ -2,8 +2,8 @@
 -- did: they are marked.
 use Rattle.std.specs.Prelude.{◌≡◌, ℕ, ◌<◌, Bool, false, List, length, slice_index}
 use Rattle.clr_net.specs.Net.{Net, debtor_of}
+use Rattle.clear_core.specs.Clearing.{pay_by, IsOnWayBy}
 use Rattle.clear_core.specs.Raised.{is_marked}
-use Rattle.clear_least.specs.Paying.{pay_by, IsOnWayBy}
 
 -- the bank i would pay on its debts just what it has paid
 abbrev pub IsQuietBy : Net → (ℕ → ℕ → ℕ) → List ℕ → ℕ → Type 0

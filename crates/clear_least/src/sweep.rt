@@ -1,6 +1,5 @@
 ghost use Rattle.clear_core.specs.Buffers.{HasRoom};
-ghost use Rattle.clear_core.specs.Clearing.{IsLeast, least, pay};
-ghost use Rattle.clear_least.specs.Paying.{IsLeastBy, IsOnWayBy, NeverFalls, least_by as least_payments};
+ghost use Rattle.clear_core.specs.Clearing.{IsLeast, IsLeastBy, IsOnWayBy, NeverFalls, least, least_by as least_payments, pay};
 ghost use Rattle.clear_least.specs.Sweeps.{IsQuietBy, IsSwept};
 ghost use Rattle.clr_net.specs.Amounts.{IsAtMost};
 ghost use Rattle.clr_net.specs.Limits.{IsNetwork};

@@ -1,13 +1,12 @@
 -- With costs too there are least payments that clear: they are no more where less is kept, and the
 -- old least where all is.
-use Rattle.std.proofs.Common.{◌≡◌, ℕ, zero, suc, ◌≤◌, List, refl, sym, ap, ◌∙◌, subst, arith}
+use Rattle.std.proofs.Common.{◌≡◌, ℕ, ◌≤◌, List, sym, ap, subst, arith}
 use Rattle.clr_net.specs.Amounts.{IsAtMost}
-use Rattle.clr_net.specs.Net.{Net, units_owed}
-use Rattle.clear_core.specs.Clearing.{zeros, rounds, least}
-use Rattle.clear_core.specs.Rounds.{rounds_of}
-use Rattle.clear_least.proofs.LeastBy.{least_by_is, least_by_mono, least_by_only}
-use Rattle.costs.specs.Costs.{cost_spend, cost_pay, IsCostLeast, cost_least}
-use Rattle.costs.proofs.CostPay.{cost_spend_mono, cost_spend_never_falls, cost_pay_all}
+use Rattle.clr_net.specs.Net.{Net}
+use Rattle.clear_core.specs.Clearing.{least_by, pay, rounds, least}
+use Rattle.clear_core.proofs.Least.{least_by_is, least_by_mono, least_by_only}
+use Rattle.costs.specs.Costs.{cost_spend, IsCostLeast, cost_least}
+use Rattle.costs.proofs.CostPay.{cost_spend_mono, cost_spend_never_falls, cost_spend_all}
 
 -- the rounds from nothing paid end at the least payments that clear with costs
 pub cost_least_is : (net : Net) (k : ℕ) → k ≤ 1000 → IsCostLeast net k (cost_least net k)
@@ -16,7 +15,7 @@ cost_least_is net k l = least_by_is net (cost_spend net k) (cost_spend_never_fal
 -- there is one least
 pub cost_least_only : (net : Net) (k : ℕ) (P : List ℕ) → k ≤ 1000 → IsCostLeast net k P
     → P ≡ cost_least net k
-cost_least_only net k P l = least_by_only net (cost_spend net k) P (cost_spend_never_falls net k l)
+cost_least_only net k P l = least_by_only net (cost_spend net k) (cost_spend_never_falls net k l) P
 
 -- where less is kept the least are nowhere greater
 pub cost_least_mono : (net : Net) (j k : ℕ) → j ≤ k → k ≤ 1000
@@ -26,17 +25,10 @@ cost_least_mono net j k m l =
     (cost_spend_never_falls net j (omega arith)) (cost_spend_never_falls net k l)
     (cost_spend_mono net j k m l)
 
--- where all is kept the rounds are the old ones
-cost_rounds_all : (net : Net) (n : ℕ)
-    → rounds_of (cost_pay net 1000) (zeros net) n ≡ rounds net n
-unfolding rounds_of rounds
-cost_rounds_all net zero = refl
-cost_rounds_all net (suc n) =
-    ap (cost_pay net 1000) (cost_rounds_all net n) ∙ cost_pay_all net (rounds net n)
-
--- and so is the least
+-- where all is kept they are the old ones
 pub cost_least_all : (net : Net) → cost_least net 1000 ≡ least net
-cost_least_all net = cost_rounds_all net (units_owed net)
+unfolding pay rounds
+cost_least_all net = ap (least_by net) (cost_spend_all net)
 
 -- so the least with costs are nowhere greater than the least without
 pub no_more_than_least : (net : Net) (k : ℕ) (P : List ℕ) → k ≤ 1000 → P ≡ cost_least net k

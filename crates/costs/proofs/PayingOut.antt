@@ -9,10 +9,10 @@ use Rattle.clr_net.proofs.RowsAndColumns.{length-claims_of, length-classes_of, c
 use Rattle.clr_net.proofs.Share.{sum_share}
 use Rattle.clear_core.specs.Buffers.{AreInLimit}
 use Rattle.clear_core.specs.Clearing.{receipts, estate}
+use Rattle.clear_core.proofs.Pay.{pay_by_within}
 use Rattle.clear_core.proofs.Rows.{claim_in_limit}
 use Rattle.cascade.specs.Standings.{due, owed_by, paid_by}
 use Rattle.cascade.proofs.PayingOut.{all_kept}
-use Rattle.clear_least.proofs.Paying.{pay_by_within}
 use Rattle.costs.specs.Costs.{cost_spend, cost_pay, CostClears}
 use Rattle.costs.specs.CostStandings.{lost_by, cost_outside_paid, cost_equity, PaysFromKept, CostAddsUp}
 use Rattle.costs.proofs.Keeping.{kept_le}

@@ -10,8 +10,7 @@ use Rattle.clr_net.proofs.Award.{award_full, kind_is_unit_choice}
 use Rattle.clr_net.proofs.Classes.{class_claims_here}
 use Rattle.rule_unit.specs.Awards.{IsWithin}
 use Rattle.rule_unit.specs.Units.{awards_after, award}
-use Rattle.rule_unit.proofs.UnitByUnit.{awards_within}
-use Rattle.rule_class.proofs.Turn.{cleared_within, turn_after}
+use Rattle.rule_class.proofs.Turn.{turn_after}
 use Rattle.rule_class.specs.ClassSet.{IsClassSet}
 use Rattle.rule_level.specs.Levels.{level_awards, awards_above}
 use Rattle.rule_level.proofs.Above.{award_by_level}
@@ -30,11 +29,6 @@ module _ (kind : RuleKind) (claims classes : List ℕ) (c : ℕ) (positive : 0 <
   -- what had is with d units given out in the class
   abbrev turned : ℕ → List ℕ
   turned d = awards_after (next_of kind) claims (cleared_class c had classes) d
-
-  pub turned_within : (d : ℕ) → IsWithin claims (turned d)
-  turned_within d =
-      awards_within (next_of kind) (kind_is_unit_choice kind) claims (cleared_class c had classes) d
-      (cleared_within c claims had classes positive w)
 
   set_is_turned : (own now : List ℕ) (d : ℕ) → d ≤ left → own ≡ award (next_of kind) mine d → IsClassSet c classes own had now
       → now ≡ turned d

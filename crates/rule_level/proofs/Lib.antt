@@ -4,6 +4,7 @@ pub mod Levels
 pub mod Ties
 pub mod Steps
 pub mod Above
-pub mod LevelUnits
 pub mod Limits
 pub mod ClassTurns
+pub mod Gathering
+pub mod Ends

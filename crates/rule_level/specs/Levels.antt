@@ -1,11 +1,11 @@
 -- What a claim gets at a level, from 0 to MAX_LEVEL. Awards at one level are given
 -- in turn. One level more is at most one unit more for each claim, and of such units none goes
 -- before another.
-use Rattle.std.specs.Prelude.{ℕ, ◌+◌, ◌-◌, ◌*◌, ◌/◌, min, sum, List, map}
+use Rattle.std.specs.Prelude.{ℕ, ◌+◌, ◌-◌, ◌*◌, ◌/◌, min, List, map}
 use Rattle.rule_class.specs.ByOrder.{fill}
 use Rattle.rule_level.specs.declared.TheConstants.{MAX_LEVEL}
 use Rattle.rule_unit.specs.declared.TheConstants.{MAX_CLAIM}
-use Rattle.clr_net.specs.Division.{class_claims, place_sums}
+use Rattle.clr_net.specs.Division.{place_sums}
 use Rattle.clr_net.specs.declared.rule.RuleKind.{RuleKind}
 use Rattle.clr_net.specs.declared.rule.RuleKind.TheVariants as kind
 
@@ -23,10 +23,6 @@ at_level kind.Adams t c = min c ((t * c + (MAX_LEVEL - 1)) / MAX_LEVEL)
 -- the awards of all claims at a level
 abbrev pub level_awards : RuleKind → ℕ → List ℕ → List ℕ
 level_awards kind t claims = map (at_level kind t) claims
-
--- what the debts of the class c get together at a level
-abbrev pub class_units : RuleKind → ℕ → ℕ → List ℕ → List ℕ → ℕ
-class_units kind t c claims classes = sum (level_awards kind t (class_claims c claims classes))
 
 -- what a claim gets at the next level and not yet at the level t
 abbrev pub step_at : RuleKind → ℕ → ℕ → ℕ

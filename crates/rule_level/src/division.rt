@@ -1,12 +1,13 @@
 ghost use Rattle.clr_net.specs.Division.{AreClasses, class_claims, next_of, share};
 ghost use Rattle.rule_class.specs.Sharing.{cleared_class};
+ghost use Rattle.rule_level.specs.Gathered.{IsClearedAbove};
 ghost use Rattle.clr_net.specs.declared.TheConstants.{MAX_CLASS, MAX_OWED};
 ghost use Rattle.clr_net.specs.declared.rule.RuleKind.TheVariants.{Order};
-ghost use Rattle.rule_unit.specs.Awards.{IsWithin};
 ghost use Rattle.rule_unit.specs.Units.{awards_after};
 ghost use Rattle.rule_unit.specs.declared.TheConstants.{MAX_CLAIM};
-ghost use Rattle.std.specs.Prelude.{◌≡◌, ◌≢◌, ◌-◌, ◌<◌, ◌≤◌, All, length, min, sum};
+ghost use Rattle.std.specs.Prelude.{◌≡◌, ◌≢◌, ◌≤◌, All, length, sum};
 
+use crate::gathered::gather;
 use crate::level::set_awards;
 use crate::search::level_for;
 use clr_net::RuleKind;
@@ -31,7 +32,8 @@ pub fn share_by_level(kind: RuleKind, claims: &[u64], classes: &[u8], estate: u6
     }
 }
 
-// Every debt has its claim at first, and each class has its turn.
+// Each class gets what it claims up to the one at which the estate ends: that gets what is left, and
+// those above it nothing.
 fn by_levels(kind: RuleKind, claims: &[u64], classes: &[u8], estate: u64, into: &mut [u64])
     requires has_levels { kind ≢ Order }
     requires a_class_each { length claims.now ≡ length classes.now }
@@ -41,41 +43,57 @@ fn by_levels(kind: RuleKind, claims: &[u64], classes: &[u8], estate: u64, into: 
     requires classed { AreClasses classes.now 1 MAX_CLASS }
     ensures { into.new ≡ share kind claims.now classes.now estate }
 {
-    into.copy_from_slice(claims);
     let mut left = estate;
     for class in 1..last_class(classes) + 1 {
-        left -= one_class(kind, claims, classes, class, left, into);
+        let total = class_total(claims, classes, class);
+        if left < total {
+            end_in_class(kind, claims, classes, class, total, left, into);
+            clear_above(classes, class, into);
+            return;
+        }
+        left -= total;
     }
+    into.copy_from_slice(claims);
 }
 
-// The turn of one class, whose debts have their claims where a unit is left: they are given as much
-// of `left` as they claim. Answers how much.
-fn one_class(
+// Every debt gets its claim, but those of one class, which claim `total`, get `left` together.
+//
+// The claims of the class are gathered in `into` while the level is looked for, so that a look goes
+// over them alone.
+fn end_in_class(
     kind: RuleKind,
     claims: &[u64],
     classes: &[u8],
     class: u8,
+    total: u64,
     left: u64,
     into: &mut [u64],
-) -> u64
+)
     requires has_levels { kind ≢ Order }
     requires a_class_each { length claims.now ≡ length classes.now }
-    requires within { IsWithin claims.now into.old }
+    requires a_place_each { length into.old ≡ length claims.now }
     requires limit { All (λ c. c ≤ MAX_CLAIM) claims.now }
-    requires total { sum claims.now ≤ MAX_OWED }
+    requires in_all { sum claims.now ≤ MAX_OWED }
     requires first { 1 ≤ class }
-    requires met { 0 < left → into.old ≡ claims.now }
-    ensures given_out { into.new ≡ awards_after (next_of kind) claims.now
-        (cleared_class class into.old classes.now) result }
-    ensures given { result ≡ min (sum (class_claims class claims.now classes.now)) left }
-    ensures still_within { IsWithin claims.now into.new }
-    ensures still_met { 0 < left - result → into.new ≡ claims.now }
+    requires claimed { total ≡ sum (class_claims class claims.now classes.now) }
+    requires short { left ≤ total }
+    ensures { into.new ≡ awards_after (next_of kind) claims.now
+        (cleared_class class claims.now classes.now) left }
 {
-    let total = class_total(claims, classes, class);
-    if total <= left {
-        return total;
-    }
-    let (level, units) = level_for(kind, claims, classes, class, total, left);
+    let many = gather(claims, classes, class, into);
+    let (level, units) = level_for(kind, &into[..many], total, left);
+    into.copy_from_slice(claims);
     set_awards(kind, claims, classes, class, level, left - units, into);
-    left
+}
+
+// The debts of all classes above one get nothing.
+fn clear_above(classes: &[u8], class: u8, into: &mut [u64])
+    requires { length into.old ≡ length classes.now }
+    ensures { IsClearedAbove class classes.now into.old into.new }
+{
+    for debt in 0..classes.len() {
+        if classes[debt] > class {
+            into[debt] = 0;
+        }
+    }
 }

@@ -1,7 +1,7 @@
 ghost use Rattle.clr_net.specs.Division.{class_claims};
 ghost use Rattle.clr_net.specs.declared.TheConstants.{MAX_OWED};
 ghost use Rattle.rule_class.specs.ClassSet.{IsClassSet};
-ghost use Rattle.rule_level.specs.Levels.{at_level, awards_above, class_units, step_at};
+ghost use Rattle.rule_level.specs.Levels.{at_level, awards_above, level_awards, step_at};
 ghost use Rattle.rule_level.specs.declared.TheConstants.{MAX_LEVEL};
 ghost use Rattle.rule_unit.specs.declared.TheConstants.{MAX_CLAIM};
 ghost use Rattle.std.specs.Prelude.{◌≡◌, ◌+◌, ◌<◌, ◌≤◌, All, length, min, sum};
@@ -50,19 +50,16 @@ fn more_at(kind: RuleKind, level: u64, claim: u64, left: u64) -> u64
     left.min(step_of(kind, level, claim))
 }
 
-// What the debts of one class get together at a level.
-pub fn units_at(kind: RuleKind, claims: &[u64], classes: &[u8], class: u8, level: u64) -> u64
-    requires a_class_each { length claims.now ≡ length classes.now }
+// What these claims get together at a level.
+pub fn units_at(kind: RuleKind, claims: &[u64], level: u64) -> u64
     requires limit { All (λ c. c ≤ MAX_CLAIM) claims.now }
     requires total { sum claims.now ≤ MAX_OWED }
     requires level { level ≤ MAX_LEVEL }
-    ensures { result ≡ class_units kind level class claims.now classes.now }
+    ensures { result ≡ sum (level_awards kind level claims.now) }
 {
     let mut units = 0;
-    for debt in 0..claims.len() {
-        if classes[debt] == class {
-            units += award_at(kind, level, claims[debt]);
-        }
+    for place in 0..claims.len() {
+        units += award_at(kind, level, claims[place]);
     }
     units
 }

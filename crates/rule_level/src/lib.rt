@@ -6,12 +6,14 @@
 //! a level and the next none goes before another, so that what is left goes to the earliest debts,
 //! in one walk.
 //!
-//! A division goes over its row some six times, and at most twice for each binary digit of a level:
-//! of the greatest claim by `Equal` and `Losses`, of [`MAX_LEVEL`] by the divisors. It takes no
-//! memory.
+//! A division goes over its row once for each class up to the one at which the estate ends, and some
+//! six times besides; and over the claims of that class, gathered next to one another, at most twice
+//! for each binary digit of a level: of the greatest claim by `Equal` and `Losses`, of [`MAX_LEVEL`]
+//! by the divisors. It takes no memory.
 #![tactic(auto)]
 
 mod division;
+mod gathered;
 pub mod laws;
 mod level;
 mod search;

@@ -1,8 +1,7 @@
-// The search for the level at which the units for the debts of one class end.
-ghost use Rattle.clr_net.specs.Division.{class_claims};
+// The search for the level at which the units for some claims end.
 ghost use Rattle.clr_net.specs.declared.rule.RuleKind.TheVariants.{Order};
 ghost use Rattle.clr_net.specs.declared.TheConstants.{MAX_OWED};
-ghost use Rattle.rule_level.specs.Levels.{at_level, class_units};
+ghost use Rattle.rule_level.specs.Levels.{at_level, level_awards};
 ghost use Rattle.rule_level.specs.declared.TheConstants.{MAX_LEVEL};
 ghost use Rattle.rule_unit.specs.declared.TheConstants.{MAX_CLAIM};
 ghost use Rattle.std.specs.Prelude.{◌≡◌, ◌≢◌, ◌+◌, ◌<◌, ◌≤◌, ℕ, All, length, slice_index, sum};
@@ -12,19 +11,16 @@ use crate::level::units_at;
 use clr_net::RuleKind;
 use rule_unit::MAX_CLAIM;
 
-// The greatest claim of the debts of one class, or 0.
-fn greatest_claim(claims: &[u64], classes: &[u8], class: u8) -> u64
-    requires a_class_each { length claims.now ≡ length classes.now }
+// The greatest claim, or 0.
+fn greatest_claim(claims: &[u64]) -> u64
     requires limit { All (λ c. c ≤ MAX_CLAIM) claims.now }
-    requires first { 1 ≤ class }
-    ensures greatest { (k : ℕ)
-        → slice_index (class_claims class claims.now classes.now) k ≤ result }
+    ensures greatest { (k : ℕ) → slice_index claims.now k ≤ result }
     ensures limit { result ≤ MAX_CLAIM }
 {
     let mut greatest = 0;
-    for debt in 0..claims.len() {
-        if classes[debt] == class && claims[debt] > greatest {
-            greatest = claims[debt];
+    for place in 0..claims.len() {
+        if claims[place] > greatest {
+            greatest = claims[place];
         }
     }
     greatest
@@ -56,33 +52,24 @@ fn level_between(low: u64, high: u64, part: u64, whole: u64) -> u64
     low + far.min(u128::from(width - 1)).max(1) as u64
 }
 
-// The level at which the units for one class end: at it the debts get no more than these, and at
+// The level at which the units for these claims end: at it the debts get no more than these, and at
 // the next no less. `total` is what they claim. Answers too what they get at it.
 //
 // Of the levels that are left, every other one that is looked at is as far from the first as the
 // units are between what is given at the first and at the last; the others halve what is left.
 // Where the debts get just these units at a level, the search ends there.
-pub fn level_for(
-    kind: RuleKind,
-    claims: &[u64],
-    classes: &[u8],
-    class: u8,
-    total: u64,
-    units: u64,
-) -> (u64, u64)
+pub fn level_for(kind: RuleKind, claims: &[u64], total: u64, units: u64) -> (u64, u64)
     requires has_levels { kind ≢ Order }
-    requires a_class_each { length claims.now ≡ length classes.now }
     requires limit { All (λ c. c ≤ MAX_CLAIM) claims.now }
     requires total { sum claims.now ≤ MAX_OWED }
-    requires first { 1 ≤ class }
-    requires claimed { total ≡ sum (class_claims class claims.now classes.now) }
+    requires claimed { total ≡ sum claims.now }
     requires short { units ≤ total }
     ensures level { result.0 < MAX_LEVEL }
-    ensures given { result.1 ≡ class_units kind result.0 class claims.now classes.now }
+    ensures given { result.1 ≡ sum (level_awards kind result.0 claims.now) }
     ensures low { result.1 ≤ units }
-    ensures high { units ≤ class_units kind (result.0 + 1) class claims.now classes.now }
+    ensures high { units ≤ sum (level_awards kind (result.0 + 1) claims.now) }
 {
-    let (mut low, top) = levels_around(kind, greatest_claim(claims, classes, class));
+    let (mut low, top) = levels_around(kind, greatest_claim(claims));
     let mut high = if units == 0 { low } else { top };
     let mut at_low = 0;
     let mut at_high = total;
@@ -94,7 +81,7 @@ pub fn level_for(
             level_between(low, high, units - at_low, at_high - at_low)
         };
         halve = !halve;
-        let given = units_at(kind, claims, classes, class, middle);
+        let given = units_at(kind, claims, middle);
         if given <= units {
             low = middle;
             at_low = given;

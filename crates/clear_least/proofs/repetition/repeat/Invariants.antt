@@ -1,11 +1,11 @@
 use Rattle.std.proofs.Common.{◌≡◌, ◌-◌, sum}
 use Rattle.clr_net.specs.Net.{units_owed}
-use Rattle.clear_least.specs.Way.{IsOnTheWay}
+use Rattle.clear_core.specs.Clearing.{spend, IsOnWayBy}
 use Rattle.clear_least.proofs.repetition.repeat.Given as goal
 
 abbrev pub invariant-loop-paid : goal.invariant-loop-paid
 invariant-loop-paid l = record {
-  way : IsOnTheWay l.net l.paid;
+  way : IsOnWayBy l.net (spend l.net) l.paid;
   room : l.scratch ≡ l.fn.scratch;
 }
 

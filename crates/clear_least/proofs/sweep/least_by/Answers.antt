@@ -1,7 +1,7 @@
 use Rattle.std.proofs.Common.{sym, subst, arith}
 use Rattle.std.proofs.lemmas.Grind.{common_steps}
-use Rattle.clear_least.specs.Paying.{IsLeastBy}
-use Rattle.clear_least.proofs.LeastBy.{least_by_is}
+use Rattle.clear_core.specs.Clearing.{IsLeastBy}
+use Rattle.clear_core.proofs.Least.{least_by_is}
 use Rattle.clear_least.proofs.sweep.least_by.Goals as goal
 
 pub returns-clause-payments : goal.returns-clause-payments

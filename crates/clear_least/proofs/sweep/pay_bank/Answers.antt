@@ -2,15 +2,16 @@ use Rattle.std.proofs.Common.{◌≡◌, false, ap, ◌∙◌}
 use Rattle.std.proofs.lemmas.Bool.{OnFalse_at, OnFalse_from}
 use Rattle.clear_core.specs.Clearing.{division_of}
 use Rattle.clear_least.specs.Sweeps.{IsQuietBy}
-use Rattle.clear_least.proofs.Sweeping.{awards_rise, quiet_where_same, swept_in_limit, sweep_on}
+use Rattle.clear_least.proofs.Sweeping.{awards_rise, quiet_where_same, sweep_on}
+use Rattle.clear_least.proofs.Way.{way_in_limit}
 use Rattle.clear_least.proofs.sweep.pay_bank.Goals as goal
 
 pub receipts_of-receipts-requires-clause-paid_in_limit
     : goal.receipts_of-receipts-requires-clause-paid_in_limit
 receipts_of-receipts-requires-clause-paid_in_limit g c =
     let net = c.args.net.now in
-    swept_in_limit net (g.S.Spending.spends c.args.spending.now net) c.args.paid.now
-    c.args.marks.now c.requires.swept c.requires.network
+    way_in_limit net (g.S.Spending.spends c.args.spending.now net) c.args.paid.now c.requires.swept.way
+    c.requires.network
 
 pub raise_row-requires-clause-rises : goal.raise_row-requires-clause-rises
 raise_row-requires-clause-rises g c =

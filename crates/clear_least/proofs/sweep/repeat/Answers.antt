@@ -1,6 +1,6 @@
 use Rattle.std.proofs.Common.{arith}
 use Rattle.std.proofs.lemmas.Bool.{OnTrue_at}
-use Rattle.clear_least.proofs.Sweeping.{swept_within_owed}
+use Rattle.clear_least.proofs.Way.{way_within_owed}
 use Rattle.clear_least.proofs.sweep.repeat.Goals as goal
 
 pub loop-smaller : goal.loop-smaller
@@ -10,6 +10,6 @@ loop-smaller g c =
     omega (
       arith,
       OnTrue_at c.loop-test.true c.sweep.ensures.more,
-      swept_within_owed net (g.S.Spending.spends c.args.spending.now net) after.paid after.marks
-          c.sweep.ensures.swept,
+      way_within_owed net (g.S.Spending.spends c.args.spending.now net) after.paid
+          c.sweep.ensures.swept.way,
     )

@@ -1,6 +1,6 @@
 use Rattle.std.proofs.Common.{◌≡◌, false, arith}
 use Rattle.std.proofs.lemmas.Bool.{OnFalse_from}
-use Rattle.clear_least.specs.Paying.{least_by}
+use Rattle.clear_core.specs.Clearing.{least_by}
 use Rattle.clear_least.proofs.Sweeping.{quiet_at_least}
 use Rattle.clear_least.proofs.sweep.sweep.Goals as goal
 

@@ -2,7 +2,7 @@ use Rattle.std.proofs.Common.{◌≡◌, replicate, ap, ◌∙◌}
 use Rattle.std.proofs.lemmas.Result.{IfOk-weaker}
 use Rattle.clr_net.specs.Amounts.{IsAtMost}
 use Rattle.clear_core.specs.Clearing.{least}
-use Rattle.clear_least.proofs.LeastBy.{begins_by}
+use Rattle.clear_core.proofs.Least.{begins_by}
 use Rattle.costs.specs.Costs.{cost_least, cost_spend}
 use Rattle.costs.proofs.CostPay.{cost_spend_never_falls}
 use Rattle.costs.proofs.CostLeast.{no_more_than_least}

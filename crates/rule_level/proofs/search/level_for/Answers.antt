@@ -1,6 +1,5 @@
 use Rattle.std.proofs.Common.{◌≡◌, ◌+◌, ◌<◌, ◌≤◌, ℕ, sum, subst, ⊎_elim, arith}
 use Rattle.std.proofs.lemmas.Bool.{cases_lt}
-use Rattle.clr_net.specs.Division.{class_claims}
 use Rattle.rule_level.specs.Levels.{level_awards}
 use Rattle.rule_level.proofs.Steps.{sum_met, sum_next_level, sum_none}
 use Rattle.rule_level.proofs.search.level_for.Goals.{then-units-eq0, else-units-eq0}
@@ -9,7 +8,7 @@ use Rattle.rule_level.proofs.search.level_for.Goals as goal
 pub loop-low-init : goal.loop-low-init
 loop-low-init c =
     let kind = c.args.kind in
-    let mine = class_claims c.args.class c.args.claims.now c.args.classes.now in
+    let mine = c.args.claims.now in
     let around = c.levels_around-low.ensures in
     let greatest = c.greatest_claim.result in
     let none = sum_none kind c.levels_around-low.result.0 greatest around.none mine c.greatest_claim.ensures.greatest in
@@ -37,7 +36,7 @@ loop-low-init c =
 
 pub returns-clause-high : goal.returns-clause-high
 returns-clause-high c =
-    let mine = class_claims c.args.class c.args.claims.now c.args.classes.now in
+    let mine = c.args.claims.now in
     let units_at = λ (t : ℕ). sum (level_awards c.args.kind t mine) in
     let found = c.loop-low.invariant in
     ⊎_elim

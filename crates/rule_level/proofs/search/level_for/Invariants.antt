@@ -1,5 +1,4 @@
 use Rattle.std.proofs.Common.{◌≡◌, ◌-◌, ◌<◌, ◌≤◌, sum}
-use Rattle.clr_net.specs.Division.{class_claims}
 use Rattle.rule_level.specs.Levels.{level_awards}
 use Rattle.rule_level.specs.declared.TheConstants.{MAX_LEVEL}
 use Rattle.rule_level.proofs.search.level_for.Given as goal
@@ -9,8 +8,8 @@ invariant-loop-low l = record {
   between : l.low ≤ l.high;
   below_top : l.low < MAX_LEVEL;
   top : l.high ≤ MAX_LEVEL;
-  low : l.at_low ≡ sum (level_awards l.kind l.low (class_claims l.class l.claims l.classes));
-  high : l.units ≤ sum (level_awards l.kind l.high (class_claims l.class l.claims l.classes));
+  low : l.at_low ≡ sum (level_awards l.kind l.low l.claims);
+  high : l.units ≤ sum (level_awards l.kind l.high l.claims);
   part : l.at_low ≤ l.units;
   whole : l.units ≤ l.at_high;
 }

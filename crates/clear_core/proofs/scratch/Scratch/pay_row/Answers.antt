@@ -2,7 +2,8 @@ use Rattle.std.proofs.Common.{ℕ, ◌<◌, List, length, get_or, refl, ap, ◌�
 use Rattle.clr_net.specs.Net.{row}
 use Rattle.clear_core.specs.Clearing.{division, division_of, pay}
 use Rattle.clear_core.proofs.Rows.{as_many_numbers, number_at, debt_of_row}
-use Rattle.clear_core.proofs.WrittenRows.{award_at, row_written, written_more}
+use Rattle.clear_core.proofs.BankPays.{award_at}
+use Rattle.clear_core.proofs.WrittenRows.{row_written, written_more}
 use Rattle.clear_core.proofs.scratch.Scratch.pay_row.Goals as goal
 
 pub bounds-next-id : goal.bounds-next-id
