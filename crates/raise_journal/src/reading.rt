@@ -1,4 +1,5 @@
-ghost use Rattle.clr_net.specs.Net.{is_debt_of};
+ghost use Rattle.clr_net.specs.Limits.{IsOfKind};
+ghost use Rattle.clr_net.specs.Net.{is_debt_of, is_of_kind, numbers};
 ghost use Rattle.csv.specs.Records.{fields_of};
 ghost use Rattle.net_check.specs.Field.{trimmed_field};
 ghost use Rattle.net_check.specs.declared.fault.Fault.{Fault};
@@ -8,10 +9,10 @@ ghost use Rattle.raise_journal.specs.ReadJournal.{added, closed_early_at};
 ghost use Rattle.raise_journal.specs.ReadJournal.{is_closing as are_closing, journal_of};
 ghost use Rattle.raise_journal.specs.ReadJournal.{raise_from, raise_in_row, raises_in_file};
 ghost use Rattle.net_check.specs.declared.TheConstants.{MAX_JOURNAL_BYTES};
-ghost use Rattle.std.specs.List.{list_all};
+ghost use Rattle.std.specs.List.{list_all, list_any};
 ghost use Rattle.std.specs.Option.{option_map};
-ghost use Rattle.std.specs.Prelude.{◌≡◌, ◌≢◌, ◌<◌, ◌≤◌, ◌∷◌, [], false, length, position, All};
-ghost use Rattle.std.specs.Prelude.{Ok, Err, IfErr, IfOk, IfSome, OnOk, IsErrOf, MatchOption};
+ghost use Rattle.std.specs.Prelude.{◌≡◌, ◌≢◌, ◌<◌, ◌≤◌, ◌∷◌, [], false, length, position, All, Ok, Err};
+ghost use Rattle.std.specs.Prelude.{IfErr, IfNone, IfOk, IfSome, OnOk, IsErrOf, MatchOption};
 
 use crate::{MAX_RAISES, MAX_STAMP};
 use clear_core::{Journal, Raise};
@@ -30,7 +31,8 @@ use std::alloc::Global;
 /// header that is another, a record of another number of fields, a raise too many, or a field that
 /// is no stamp, no bank of the network, no class, no debt or no amount. `Mem` is want of memory.
 /// The last record that is not blank may be the word `rounds` and a number, and carries no raise
-/// then. Costs one pass over the file, and for each raise a walk of its debtor's row.
+/// then. Costs one pass over the file, and for each raise a walk of its debtor's row or of its
+/// creditor's column, whichever is shorter.
 pub fn read_journal(alloc: Global, net: &Network, bytes: &[u8]) -> Result<Journal, ReadNet>
     ensures journal { IfOk result (λ journal. journal_of net.now bytes.now ≡ Ok journal.raises) }
     ensures refused { (f : Fault) → IsErrOf result (ReadNet.Refused f)
@@ -186,16 +188,40 @@ fn raise_from_fields(
     Ok(Raise { stamp, debt, to })
 }
 
-// The debt of this debtor, creditor and class. Costs a walk of the debtor's row.
+// The debt of this debtor, creditor and class. Costs a walk of the debtor's row or of the
+// creditor's column, whichever is shorter.
 fn debt_named(net: &Network, debtor: BankId, creditor: BankId, class: u8) -> Option<DebtId>
     requires debtor { debtor.0 < length net.now.banks }
+    requires creditor { creditor.0 < length net.now.banks }
     ensures place { option_map (λ id. id.0) result
         ≡ position (is_debt_of debtor.0 creditor.0 class) net.now.debts }
     ensures found { IfSome result (λ id. id.0 < length net.now.debts) }
 {
     prove!(net.banks() <= clr_net::MAX_BANKS);
     let row = net.row(debtor);
-    for id in row {
+    let column = net.column(creditor);
+    if row.len() <= column.len() {
+        one_of_kind(net, row, debtor, creditor, class)
+    } else {
+        one_of_kind(net, column, debtor, creditor, class)
+    }
+}
+
+// The first of some debts that is of this debtor, creditor and class.
+fn one_of_kind(
+    net: &Network,
+    ids: &[DebtId],
+    debtor: BankId,
+    creditor: BankId,
+    class: u8,
+) -> Option<DebtId>
+    requires { All (λ x. x < length net.now.debts) (numbers ids.now) }
+    ensures some { IfSome result (λ id.
+        IsOfKind net.now id.0 debtor.0 creditor.0 class × (id.0 < length net.now.debts)) }
+    ensures none { IfNone result
+        (list_any (is_of_kind net.now debtor.0 creditor.0 class) (numbers ids.now) ≡ false) }
+{
+    for id in ids {
         if net.debt(*id).is_of(debtor, creditor, class) {
             return Some(*id);
         }
