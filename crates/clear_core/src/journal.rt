@@ -42,7 +42,8 @@ impl Journal {
         Journal { raises }
     }
 
-    /// Makes room for so many raises more. `Mem` is want of memory, and the list stays as it is in any case.
+    /// Makes room for so many raises more. `Mem` is want of memory, and the list stays as it is in
+    /// any case.
     pub fn reserve(&mut self, more: usize) -> Result<(), Mem>
         ensures kept { self.new.raises ≡ self.old.raises }
         ensures room { OnOk result (more ≤ self.new.spare) }
@@ -61,6 +62,13 @@ impl Journal {
     {
         self.raises.push(raise)?;
         Ok(())
+    }
+
+    /// The list itself, and the journal is gone. Takes no memory.
+    pub fn into_raises(self) -> Vec<Raise>
+        ensures { result.items ≡ self.raises }
+    {
+        self.raises
     }
 
     /// The raises, in the order in which they were added.

@@ -1,14 +1,17 @@
 -- The debt of a debtor, a creditor and a class, by its number.
 use Rattle.std.proofs.Common.{◌≡◌, ℕ, ◌<◌, ◌==◌, ◌&&◌, true, List, [], ◌∷◌, length, get_or, slice_get, Some, None, refl, sym, ap, ◌∙◌, arith, eq-eqb}
-use Rattle.std.specs.Prelude.{position}
-use Rattle.std.specs.Option.{option_map_or}
+use Rattle.std.specs.Prelude.{position, Option, IfNone, IfSome, false}
+use Rattle.std.specs.List.{list_any}
+use Rattle.std.specs.Option.{option_map, option_map_or}
 use Rattle.std.proofs.lemmas.Bool.{lt-ltb, le-ltb, false_from_ne_true, eqb-true, and_from, and_parts}
 use Rattle.std.proofs.lemmas.List.Sums.{position_or_len_is}
 use Rattle.std.proofs.lemmas.Option.{get_or_from_slice_get, slice_get-get_or}
 use Rattle.csv.specs.Records.{field_at}
 use Rattle.clr_net.specs.Limits.{IsNetwork, IsOfKind, IsNewKind}
-use Rattle.clr_net.specs.Net.{Net, is_debt_of}
+use Rattle.clr_net.specs.Net.{Net, is_debt_of, is_of_kind}
 use Rattle.clr_net.specs.declared.debt.Debt.{Debt}
+use Rattle.clr_net.specs.declared.debt.DebtId.{DebtId}
+use Rattle.clr_net.proofs.OfKind.{new_kind}
 
 -- a debt of a kind passes the test of the kind, and back
 kind-passes : (a b c : ℕ) (d : Debt) → d.debtor.0 ≡ a → d.creditor.0 ≡ b → d.class ≡ c → is_debt_of a b c d ≡ true
@@ -42,7 +45,7 @@ kind_found net a b c x d network below at kind =
     rw (first, lt-ltb x (length net.debts) below) refl
 
 -- and where no debt is of the kind, none is found
-pub kind_not_found : (net : Net) (a b c : ℕ) → IsNewKind net a b c → position (is_debt_of a b c) net.debts ≡ None
+kind_not_found : (net : Net) (a b c : ℕ) → IsNewKind net a b c → position (is_debt_of a b c) net.debts ≡ None
 kind_not_found net a b c none =
     let p = is_debt_of a b c in
     let d : Debt = record { debtor = record { 0 = 0 }; creditor = record { 0 = 0 }; class = 0; claim = 0 } in
@@ -52,6 +55,18 @@ kind_not_found net a b c none =
     none k l (passes-kind net a b c k (get_or net.debts k d) (slice_get-get_or net.debts k d l) h)))
     (λ l. absurd (omega arith)) in
     rw (last, le-ltb n n (omega arith)) refl
+
+-- what is found among debts that tell of all, or that none is, is the place of the kind
+pub place_is : (net : Net) (a b c : ℕ) (ns : List ℕ) (o : Option DebtId) → IsNetwork net
+    → list_any (is_of_kind net a b c) ns ≡ list_any (is_debt_of a b c) net.debts
+    → IfSome o (λ id. IsOfKind net id.0 a b c × (id.0 < length net.debts))
+    → IfNone o (list_any (is_of_kind net a b c) ns ≡ false)
+    → option_map (λ id. id.0) o ≡ position (is_debt_of a b c) net.debts
+place_is net a b c ns None network tell some none =
+    sym (kind_not_found net a b c (new_kind net a b c false (sym (sym tell ∙ none))))
+place_is net a b c ns (Some id) network tell some none =
+    let d : Debt = record { debtor = record { 0 = 0 }; creditor = record { 0 = 0 }; class = 0; claim = 0 } in
+    sym (kind_found net a b c id.0 (get_or net.debts id.0 d) network some.1 (slice_get-get_or net.debts id.0 d some.1) some.0)
 
 -- a record of two fields, and of five, by its fields
 pub two_are : (fields : List (List ℕ)) (a b : List ℕ) → length fields ≡ 2 → field_at fields 0 ≡ Some a → field_at fields 1 ≡ Some b

@@ -1,5 +1,6 @@
 -- What a journal file means beside a network: its raises, or the first fault.
-use Rattle.std.specs.Prelude.{ℕ, ◌==◌, ◌&&◌, nat_le, nat_lt, Bool, false, List, [], ◌∷◌, ◌++◌, length, codes, position, Result, Ok, Err, if◌then◌else◌}
+use Rattle.std.specs.Prelude.{ℕ, ◌==◌, ◌&&◌, nat_le, nat_lt, Bool, false, if◌then◌else◌}
+use Rattle.std.specs.Prelude.{List, [], ◌∷◌, ◌++◌, length, codes, position, Result, Ok, Err}
 use Rattle.std.specs.Option.{ok_or, is_some}
 use Rattle.std.specs.Str.{bytes_eq}
 use Rattle.clr_net.specs.Net.{Net, is_debt_of}
@@ -31,7 +32,9 @@ raise_from net fields = Err fault.Fields
 
 -- the raise of a row, after so many raises, or the fault of the row
 abbrev pub raise_in_row : Net → ℕ → ℕ × Fields → Result Raise Fault
-raise_in_row net raises r = in_row file.Journal r.0 (fault_unless (nat_lt raises MAX_RAISES) fault.TooMany (raise_from net r.1))
+raise_in_row net raises r =
+    in_row file.Journal r.0
+    (fault_unless (nat_lt raises MAX_RAISES) fault.TooMany (raise_from net r.1))
 
 -- a record that closes a journal, where it is the last: the word rounds, and a number
 abbrev pub is_closing : Fields → Bool
@@ -53,13 +56,16 @@ added net done row fields =
 
 -- the fault of a closing record that is not the last, after so many raises
 abbrev pub closed_early_at : ℕ → ℕ → Fault
-closed_early_at raises row = fault_at file.Journal row (if nat_lt raises MAX_RAISES then fault.Fields else fault.TooMany)
+closed_early_at raises row =
+    fault_at file.Journal row (if nat_lt raises MAX_RAISES then fault.Fields else fault.TooMany)
 
 -- the raises in a journal file of the allowed size, or the first fault
 abbrev pub raises_in_file : Net → List ℕ → Result (List Raise) Fault
-raises_in_file net bytes = and_then (rows_in_file file.Journal journal_header bytes) (λ rows. read_raises net [] rows)
+raises_in_file net bytes =
+    and_then (rows_in_file file.Journal journal_header bytes) (λ rows. read_raises net [] rows)
 
 -- the raises of a journal file, or its first fault
 abbrev pub journal_of : Net → List ℕ → Result (List Raise) Fault
 journal_of net bytes =
-    fault_unless (nat_le (length bytes) MAX_JOURNAL_BYTES) (fault_at file.Journal 0 fault.FileSize) (raises_in_file net bytes)
+    fault_unless (nat_le (length bytes) MAX_JOURNAL_BYTES) (fault_at file.Journal 0 fault.FileSize)
+    (raises_in_file net bytes)

@@ -12,26 +12,32 @@ ghost use Rattle.raise_journal.specs.Verdicts.{judged};
 ghost use Rattle.raise_journal.specs.declared.verdict.Verdict.TheVariants as verdict;
 ghost use Rattle.std.specs.Prelude.{◌≡◌, ◌<◌, ◌^◌, ◌↔◌, ℕ, Ok, ◌++◌, List};
 
-/// A journal is lawful exactly where it stands and the payments that it replays to clear the network.
+/// A journal is lawful exactly where it stands and the payments that it replays to clear the
+/// network.
 #[tactic(auto, using(crate::proofs::Lawful::lawful_is))]
 pub fn lawful_journals_stand_and_clear()
     ensures { (net : Net) (rs : List Raise) → IsNetwork net
-        → ((judged net rs).verdict ≡ verdict.Lawful) ↔ (Stands net rs × Clears net (replayed net rs)) }
+        → ((judged net rs).verdict ≡ verdict.Lawful)
+        ↔ (Stands net rs × Clears net (replayed net rs)) }
 {}
 
 /// A lawful journal pays the least clearing payments, whoever made it.
 #[tactic(auto, using(crate::proofs::Lawful::lawful_pays_least))]
 pub fn lawful_journals_pay_the_least()
-    ensures { (net : Net) (rs : List Raise) → IsNetwork net → (judged net rs).verdict ≡ verdict.Lawful → (judged net rs).paid ≡ least net }
+    ensures { (net : Net) (rs : List Raise) → IsNetwork net
+        → (judged net rs).verdict ≡ verdict.Lawful → (judged net rs).paid ≡ least net }
 {}
 
-/// What is printed of a journal is read back as that journal, where no name begins or ends with a space.
+/// What is printed of a journal is read back as that journal, where no name begins or ends with a
+/// space.
 pub fn printed_journals_are_read_back()
-    ensures { (net : Net) (rs : List Raise) → IsNetwork net → KeepsNames net → IsInLimits net rs → journal_of net (journal_text net rs) ≡ Ok rs }
+    ensures { (net : Net) (rs : List Raise) → IsNetwork net → KeepsNames net → IsInLimits net rs
+        → journal_of net (journal_text net rs) ≡ Ok rs }
 {}
 
 /// So it is with a line of how many rounds there were after it.
 pub fn closed_journals_are_read_back()
-    ensures { (net : Net) (rs : List Raise) (rounds : ℕ) → IsNetwork net → KeepsNames net → IsInLimits net rs → rounds < 2 ^ 63
+    ensures { (net : Net) (rs : List Raise) (rounds : ℕ) → IsNetwork net → KeepsNames net
+        → IsInLimits net rs → rounds < 2 ^ 63
         → journal_of net (journal_text net rs ++ rounds_line rounds) ≡ Ok rs }
 {}

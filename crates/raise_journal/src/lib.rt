@@ -1,7 +1,7 @@
 //! Journals of raises: gathered, printed, read, and replayed on a network.
 //!
-//! A [`Verdict`] says whether a journal is a lawful and complete history of payments, whoever made it. What is lawful
-//! and leaves every bank quiet pays the least clearing payments.
+//! A [`Verdict`] says whether a journal is a lawful and complete history of payments, whoever made
+//! it. What is lawful and leaves every bank quiet pays the least clearing payments.
 #![tactic(auto)]
 
 mod gathering;
@@ -11,7 +11,7 @@ mod reading;
 mod replaying;
 mod verdict;
 
-pub use gathering::gather;
+pub use gathering::{gather, in_order};
 pub use printing::print_journal;
 pub use reading::read_journal;
 pub use replaying::replay;

@@ -1,14 +1,18 @@
-ghost use Rattle.clr_net.specs.Net.{is_debt_of};
+ghost use Rattle.clr_net.specs.Limits.{IsOfKind};
+ghost use Rattle.clr_net.specs.Net.{is_debt_of, is_of_kind, numbers};
 ghost use Rattle.csv.specs.Records.{fields_of};
 ghost use Rattle.net_check.specs.Field.{trimmed_field};
 ghost use Rattle.net_check.specs.declared.fault.Fault.{Fault};
 ghost use Rattle.net_csv.specs.Left.{IsReading, trimmed_left};
 ghost use Rattle.net_csv.specs.Reading.{is_blank as are_blank, trimmed_fields};
-ghost use Rattle.raise_journal.specs.ReadJournal.{added, closed_early_at, is_closing as are_closing, journal_of, raise_from, raise_in_row, raises_in_file};
+ghost use Rattle.raise_journal.specs.ReadJournal.{added, closed_early_at};
+ghost use Rattle.raise_journal.specs.ReadJournal.{is_closing as are_closing, journal_of};
+ghost use Rattle.raise_journal.specs.ReadJournal.{raise_from, raise_in_row, raises_in_file};
 ghost use Rattle.net_check.specs.declared.TheConstants.{MAX_JOURNAL_BYTES};
-ghost use Rattle.std.specs.List.{list_all};
+ghost use Rattle.std.specs.List.{list_all, list_any};
 ghost use Rattle.std.specs.Option.{option_map};
-ghost use Rattle.std.specs.Prelude.{◌≡◌, ◌≢◌, ◌<◌, ◌≤◌, ◌∷◌, [], false, length, position, All, Ok, Err, IfErr, IfOk, IfSome, OnOk, IsErrOf, MatchOption};
+ghost use Rattle.std.specs.Prelude.{◌≡◌, ◌≢◌, ◌<◌, ◌≤◌, ◌∷◌, [], false, length, position, All, Ok, Err};
+ghost use Rattle.std.specs.Prelude.{IfErr, IfNone, IfOk, IfSome, OnOk, IsErrOf, MatchOption};
 
 use crate::{MAX_RAISES, MAX_STAMP};
 use clear_core::{Journal, Raise};
@@ -20,14 +24,21 @@ use net_check::{
 use net_csv::records::{fault, field, is_blank, read_header, read_next, reader_of};
 use std::alloc::Global;
 
-/// Reads a journal of raises on the debts of a network.
+/// Reads a journal of raises on the debts of a network: amounts in units, and each debt by the
+/// names of its banks and its class.
 ///
-/// `Refused` names the first fault. The last record that is not blank may be the word `rounds` and a number, and
-/// carries no raise then. Costs one pass over the file, and for each raise a walk of its debtor's row.
+/// `Refused` names the first fault of the file, in the order of its records: a file too long, a
+/// header that is another, a record of another number of fields, a raise too many, or a field that
+/// is no stamp, no bank of the network, no class, no debt or no amount. `Mem` is want of memory.
+/// The last record that is not blank may be the word `rounds` and a number, and carries no raise
+/// then. Costs one pass over the file, and for each raise a walk of its debtor's row or of its
+/// creditor's column, whichever is shorter.
 pub fn read_journal(alloc: Global, net: &Network, bytes: &[u8]) -> Result<Journal, ReadNet>
     ensures journal { IfOk result (λ journal. journal_of net.now bytes.now ≡ Ok journal.raises) }
-    ensures refused { (f : Fault) → IsErrOf result (ReadNet.Refused f) → journal_of net.now bytes.now ≡ Err f }
-    ensures debts { IfOk result (λ journal. All (λ r. r.debt.0 < length net.now.debts) journal.raises) }
+    ensures refused { (f : Fault) → IsErrOf result (ReadNet.Refused f)
+        → journal_of net.now bytes.now ≡ Err f }
+    ensures debts { IfOk result
+        (λ journal. All (λ r. r.debt.0 < length net.now.debts) journal.raises) }
 {
     if bytes.len() as u64 > FileKind::Journal.limit() {
         return Err(ReadNet::Refused(fault(FileKind::Journal, 0, FaultKind::FileSize)));
@@ -38,9 +49,12 @@ pub fn read_journal(alloc: Global, net: &Network, bytes: &[u8]) -> Result<Journa
 // Reads a journal file of the allowed size, or names its first fault.
 fn read_rows(alloc: Global, net: &Network, bytes: &[u8]) -> Result<Journal, ReadNet>
     requires { length bytes.now ≤ MAX_JOURNAL_BYTES }
-    ensures journal { IfOk result (λ journal. raises_in_file net.now bytes.now ≡ Ok journal.raises) }
-    ensures refused { (f : Fault) → IsErrOf result (ReadNet.Refused f) → raises_in_file net.now bytes.now ≡ Err f }
-    ensures debts { IfOk result (λ journal. All (λ r. r.debt.0 < length net.now.debts) journal.raises) }
+    ensures journal { IfOk result
+        (λ journal. raises_in_file net.now bytes.now ≡ Ok journal.raises) }
+    ensures refused { (f : Fault) → IsErrOf result (ReadNet.Refused f)
+        → raises_in_file net.now bytes.now ≡ Err f }
+    ensures debts { IfOk result
+        (λ journal. All (λ r. r.debt.0 < length net.now.debts) journal.raises) }
 {
     let mut reader = reader_of(alloc, bytes);
     let mut fields = ByteRecord::new(alloc);
@@ -105,9 +119,13 @@ fn add_raise(
     fields: &ByteRecord,
     journal: &mut Journal,
 ) -> Result<(), ReadNet>
-    ensures read { OnOk result (added net.now journal.old.raises row (trimmed_fields (fields_of fields.now)) ≡ Ok journal.new.raises) }
-    ensures refused { (f : Fault) → IsErrOf result (ReadNet.Refused f) → added net.now journal.old.raises row (trimmed_fields (fields_of fields.now)) ≡ Err f }
-    ensures debts { All (λ r. r.debt.0 < length net.now.debts) journal.old.raises → OnOk result (All (λ r. r.debt.0 < length net.now.debts) journal.new.raises) }
+    ensures read { OnOk result
+        (added net.now journal.old.raises row (trimmed_fields (fields_of fields.now))
+        ≡ Ok journal.new.raises) }
+    ensures refused { (f : Fault) → IsErrOf result (ReadNet.Refused f)
+        → added net.now journal.old.raises row (trimmed_fields (fields_of fields.now)) ≡ Err f }
+    ensures debts { All (λ r. r.debt.0 < length net.now.debts) journal.old.raises
+        → OnOk result (All (λ r. r.debt.0 < length net.now.debts) journal.new.raises) }
 {
     if is_blank(fields) {
         return Ok(());
@@ -123,7 +141,8 @@ fn add_raise(
 
 // The raise of a record that is not blank, after so many raises.
 fn raise_of(net: &Network, raises: usize, row: u32, fields: &ByteRecord) -> Result<Raise, Fault>
-    ensures raise { result ≡ raise_in_row net.now raises (row, trimmed_fields (fields_of fields.now)) }
+    ensures raise { result
+        ≡ raise_in_row net.now raises (row, trimmed_fields (fields_of fields.now)) }
     ensures debt { IfOk result (λ r. r.debt.0 < length net.now.debts) }
 {
     if raises >= MAX_RAISES {
@@ -156,7 +175,8 @@ fn raise_from_fields(
     class_digit: &[u8],
     to: &[u8],
 ) -> Result<Raise, FaultKind>
-    ensures raise { result ≡ raise_from net.now (stamp.now ∷ debtor.now ∷ creditor.now ∷ class_digit.now ∷ to.now ∷ []) }
+    ensures raise { result ≡ raise_from net.now
+        (stamp.now ∷ debtor.now ∷ creditor.now ∷ class_digit.now ∷ to.now ∷ []) }
     ensures debt { IfOk result (λ r. r.debt.0 < length net.now.debts) }
 {
     let stamp = number_up_to(MAX_STAMP, stamp)?;
@@ -168,15 +188,40 @@ fn raise_from_fields(
     Ok(Raise { stamp, debt, to })
 }
 
-// The debt of this debtor, creditor and class. Costs a walk of the debtor's row.
+// The debt of this debtor, creditor and class. Costs a walk of the debtor's row or of the
+// creditor's column, whichever is shorter.
 fn debt_named(net: &Network, debtor: BankId, creditor: BankId, class: u8) -> Option<DebtId>
     requires debtor { debtor.0 < length net.now.banks }
-    ensures place { option_map (λ id. id.0) result ≡ position (is_debt_of debtor.0 creditor.0 class) net.now.debts }
+    requires creditor { creditor.0 < length net.now.banks }
+    ensures place { option_map (λ id. id.0) result
+        ≡ position (is_debt_of debtor.0 creditor.0 class) net.now.debts }
     ensures found { IfSome result (λ id. id.0 < length net.now.debts) }
 {
     prove!(net.banks() <= clr_net::MAX_BANKS);
     let row = net.row(debtor);
-    for id in row {
+    let column = net.column(creditor);
+    if row.len() <= column.len() {
+        one_of_kind(net, row, debtor, creditor, class)
+    } else {
+        one_of_kind(net, column, debtor, creditor, class)
+    }
+}
+
+// The first of some debts that is of this debtor, creditor and class.
+fn one_of_kind(
+    net: &Network,
+    ids: &[DebtId],
+    debtor: BankId,
+    creditor: BankId,
+    class: u8,
+) -> Option<DebtId>
+    requires { All (λ x. x < length net.now.debts) (numbers ids.now) }
+    ensures some { IfSome result (λ id.
+        IsOfKind net.now id.0 debtor.0 creditor.0 class × (id.0 < length net.now.debts)) }
+    ensures none { IfNone result
+        (list_any (is_of_kind net.now debtor.0 creditor.0 class) (numbers ids.now) ≡ false) }
+{
+    for id in ids {
         if net.debt(*id).is_of(debtor, creditor, class) {
             return Some(*id);
         }
