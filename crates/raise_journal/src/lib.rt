@@ -4,6 +4,7 @@
 //! it. What is lawful and leaves every bank quiet pays the least clearing payments.
 #![tactic(auto)]
 
+mod awarded;
 mod gathering;
 pub mod laws;
 mod printing;
@@ -11,6 +12,7 @@ mod reading;
 mod replaying;
 mod verdict;
 
+pub use awarded::replay_with;
 pub use gathering::{gather, in_order};
 pub use printing::print_journal;
 pub use reading::read_journal;
