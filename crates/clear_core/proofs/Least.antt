@@ -1,12 +1,12 @@
 -- Rounds from nothing paid end at the least payments that clear, by whatever banks divide, where it
 -- never falls.
-use Rattle.std.proofs.Common.{◌≡◌, ℕ, List, length, get_or, sym, ap, ◌∙◌, subst, arith}
+use Rattle.std.proofs.Common.{◌≡◌, ℕ, ◌<◌, ◌≤◌, List, length, get_or, sym, ap, ◌∙◌, subst, arith}
 use Rattle.std.proofs.lemmas.List.{length-replicate}
 use Rattle.clr_net.specs.Amounts.{IsAtMost}
-use Rattle.clr_net.specs.Net.{Net, units_owed}
+use Rattle.clr_net.specs.Net.{Net, debtor_of, units_owed}
 use Rattle.clr_net.proofs.Lists.{IsAtMost_antisym, zeros_at}
-use Rattle.clear_core.specs.Clearing.{spend, RisesTo, NeverFalls, pay_by, IsLeastBy, least_by, IsOnWayBy, pay, Clears, IsLeast, zeros, rounds, least}
-use Rattle.clear_core.proofs.Pay.{length-pay_by, pay_by_mono, spend_mono}
+use Rattle.clear_core.specs.Clearing.{receipts, part, spend, RisesTo, NeverFalls, pay_by, IsLeastBy, least_by, IsOnWayBy, pay, Clears, IsLeast, zeros, rounds, least}
+use Rattle.clear_core.proofs.Pay.{length-pay_by, pay_by_mono, spend_mono, pay_at, pay_mono}
 use Rattle.clear_core.proofs.Settling.{pay_by_is_paying, rounds_below, rising_settles}
 
 pub zeros_le : (net : Net) (P : List ℕ) → IsAtMost (zeros net) P
@@ -73,6 +73,14 @@ least_rounds net = least_by_is net (spend net) (spend_mono net)
 
 pub least_clears : (net : Net) → Clears net (least net)
 least_clears net = (least_rounds net).clears
+
+-- what is paid on payments at or below the least is at or below the least, and so is each part
+pub pay_le_least : (net : Net) (P : List ℕ) → IsAtMost P (least net) → IsAtMost (pay net P) (least net)
+pay_le_least net P h = subst (λ Q. IsAtMost (pay net P) Q) (least_clears net) (pay_mono net P (least net) h)
+
+pub part_le_least : (net : Net) (P : List ℕ) (x : ℕ) → x < length net.debts → IsAtMost P (least net)
+    → part net x (receipts net P (debtor_of net x)) ≤ get_or (least net) x 0
+part_le_least net P x lt h = omega (arith, pay_at net P x lt, pay_le_least net P h x)
 
 pub clears_only_at_least : (net : Net) (P : List ℕ) → IsAtMost P (least net) → Clears net P → P ≡ least net
 unfolding pay rounds

@@ -1,24 +1,19 @@
 -- Single loads and raises never pass the least clearing payments.
-use Rattle.std.proofs.Common.{ℕ, ◌<◌, ◌≤◌, List, [], ◌∷◌, length, get_or, set, ap, arith}
+use Rattle.std.proofs.Common.{ℕ, ◌<◌, ◌≤◌, List, [], ◌∷◌, length, get_or, set, arith}
 use Rattle.std.proofs.lemmas.Grind.{common_steps}
 use Rattle.clr_net.specs.Amounts.{IsAtMost}
-use Rattle.clr_net.specs.Net.{Net, debtor_of}
+use Rattle.clr_net.specs.Net.{Net}
 use Rattle.clear_core.specs.declared.event.Event.{Event}
 use Rattle.clear_core.specs.declared.event.Event.TheVariants.{Load, Raise}
-use Rattle.clear_core.specs.Clearing.{receipts, part, least}
+use Rattle.clear_core.specs.Clearing.{least}
 use Rattle.clear_core.specs.Process.{Progress, opening, allowed, IsLegal, step, after, AreLegal, IsBelowLeast, NeverPassesLeast}
-use Rattle.clear_core.proofs.Pay.{pay_at, part_mono, receipts_mono}
-use Rattle.clear_core.proofs.Least.{zeros_le, least_clears, clears_only_at_least}
+use Rattle.clear_core.proofs.Least.{zeros_le, part_le_least, clears_only_at_least}
 
 -- what may be paid on a debt, by payments seen below the least, is at most what the least pay on it
 allowed_le_least : (net : Net) (s : Progress) (x : ℕ) → IsBelowLeast net s → x < length net.debts
     → allowed net s x ≤ get_or (least net) x 0
 allowed_le_least net s x b l =
-    let i = debtor_of net x in
-    let seen_le : IsAtMost s.seen (least net) = λ y. omega (arith, b.seen y, b.paid y) in
-    let more : allowed net s x ≤ part net x (receipts net (least net) i) = part_mono net x (receipts net s.seen i)
-    (receipts net (least net) i) (receipts_mono net s.seen (least net) i seen_le) in
-    omega (arith, more, pay_at net (least net) x l, ap (λ P. get_or P x 0) (least_clears net))
+    part_le_least net s.seen x l (λ y. omega (arith, b.seen y, b.paid y))
 
 raised_above : (seen paid : List ℕ) (x v : ℕ) → IsAtMost seen paid → get_or paid x 0 < v → IsAtMost seen (set paid x v)
 raised_above seen paid x v h l k = grind (arith, common_steps, h k)

@@ -6,7 +6,7 @@ use Rattle.clr_net.specs.Net.{Net, debtor_of, place_in_row, row}
 use Rattle.clr_net.proofs.RowsAndColumns.{debt_in_row}
 use Rattle.clear_core.specs.Clearing.{receipts, division, pay, Clears}
 use Rattle.clear_core.specs.Quiet.{IsQuiet}
-use Rattle.clear_core.proofs.BankPays.{pay_row}
+use Rattle.clear_core.proofs.BankPays.{award_at, pay_row}
 use Rattle.clear_core.proofs.Pay.{length-pay}
 
 -- payments on the debts ns that are the awards, place by place
@@ -27,20 +27,13 @@ pub quiet_from_clears : (net : Net) (P : List ℕ) → Clears net P → IsQuiet 
 quiet_from_clears net P c i l =
     subst (λ Q. map (λ x. get_or Q x 0) (row net i) ≡ division net i (receipts net P i)) c (pay_row net P i)
 
--- the same lists of payments on a row are the same on each debt of it
-same_on_debt : (P Q ns : List ℕ) (k x : ℕ) → k < length ns → get_or ns k 0 ≡ x
-    → map (λ x. get_or P x 0) ns ≡ map (λ x. get_or Q x 0) ns → get_or P x 0 ≡ get_or Q x 0
-same_on_debt P Q ns k x l at same =
-    ap (λ y. get_or P y 0) (sym at)
-    ∙ sym (get_or-map (λ x. get_or P x 0) ns k 0 0 l)
-    ∙ ap (λ xs. get_or xs k 0) same
-    ∙ get_or-map (λ x. get_or Q x 0) ns k 0 0 l
-    ∙ ap (λ y. get_or Q y 0) at
-
 pub clears_from_quiet : (net : Net) (P : List ℕ) → IsNetwork net → length P ≡ length net.debts → IsQuiet net P → Clears net P
 clears_from_quiet net P network e h = ext_get_or 0 (pay net P) P (length-pay net P ∙ sym e) (λ x l.
     let in_range : x < length net.debts = omega (arith, length-pay net P) in
     let i = debtor_of net x in
+    let k = place_in_row net x in
     let stands = debt_in_row net x in_range in
-    same_on_debt (pay net P) P (row net i) (place_in_row net x) x stands.within stands.at
-    (pay_row net P i ∙ sym (h i (network.each_debt x in_range).debtor_known)))
+    sym (award_at net P i k x stands.within stands.at)
+    ∙ ap (λ xs. get_or xs k 0) (sym (h i (network.each_debt x in_range).debtor_known))
+    ∙ get_or-map (λ y. get_or P y 0) (row net i) k 0 0 stands.within
+    ∙ ap (λ y. get_or P y 0) stands.at)

@@ -1,15 +1,14 @@
 -- What is paid is within the claims, and in all within what is owed.
-use Rattle.std.proofs.Common.{ℕ, ◌<◌, ◌≤◌, List, length, get_or, sum, ap, arith}
+use Rattle.std.proofs.Common.{ℕ, ◌≤◌, List, get_or, sum, ap, arith}
 use Rattle.clr_net.specs.Amounts.{IsAtMost}
 use Rattle.clr_net.specs.Limits.{IsNetwork}
-use Rattle.clr_net.specs.Net.{Net, debtor_of, units_owed}
+use Rattle.clr_net.specs.Net.{Net, units_owed}
 use Rattle.clr_net.specs.declared.TheConstants.{MAX_CLAIM}
 use Rattle.clr_net.proofs.Lists.{sum-le}
-use Rattle.clear_core.specs.Clearing.{receipts, part, least}
+use Rattle.clear_core.specs.Clearing.{least}
 use Rattle.clear_core.specs.Quiet.{IsWithinClaims}
-use Rattle.clear_core.proofs.Journals.{pay_le_least}
 use Rattle.clear_core.proofs.Least.{least_clears}
-use Rattle.clear_core.proofs.Pay.{pay_at, pay_within, sum-pay_le}
+use Rattle.clear_core.proofs.Pay.{pay_within, sum-pay_le}
 use Rattle.clear_core.proofs.Rows.{claim_in_limit}
 
 -- no debt is paid more than its claim in the least clearing payments
@@ -23,8 +22,3 @@ least_in_limit net x network = omega (arith, least_within net x, claim_in_limit 
 -- payments at or below the least are in all at most what is owed
 pub sum_low : (net : Net) (P : List ℕ) → IsAtMost P (least net) → sum P ≤ units_owed net
 sum_low net P low = omega (arith, sum-le P (least net) low, ap sum (least_clears net), sum-pay_le net (least net))
-
--- what a bank's rule gives from what is at most the least clearing payments is at most the least clearing payment
-pub part_le_least : (net : Net) (P : List ℕ) (x : ℕ) → x < length net.debts → IsAtMost P (least net)
-    → part net x (receipts net P (debtor_of net x)) ≤ get_or (least net) x 0
-part_le_least net P x lt h = omega (arith, pay_at net P x lt, pay_le_least net P h x)

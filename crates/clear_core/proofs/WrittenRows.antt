@@ -20,7 +20,11 @@ pub written_more : (net : Net) (i : ℕ) (wanted start next after : List ℕ) (j
 written_more net i wanted start next after j x v e l owed at value before =
     subst (λ ns. IsWritten net i wanted start ns (j + 1)) (sym e) record {
       done = λ k m. ⊎_elim
-          (λ (s : get_or (row net i) k 0 ≡ x). same (get_or (row net i) k 0) s)
+          (λ (s : get_or (row net i) k 0 ≡ x).
+          ap (λ y. get_or (set next x v) y 0) s
+          ∙ get_or-set_same next x v 0 l
+          ∙ value
+          ∙ ap (λ y. get_or wanted y 0) (sym s))
           (λ (ne : get_or (row net i) k 0 ≢ x).
           get_or-set_other next x (get_or (row net i) k 0) v 0 ne ∙ before.done k (earlier k m ne))
           (cases_eq (get_or (row net i) k 0) x);
@@ -29,10 +33,6 @@ written_more net i wanted start next after j x v e l owed at value before =
           ∙ before.others y other;
     }
   where
-    same : (y : ℕ) → y ≡ x → get_or (set next x v) y 0 ≡ get_or wanted y 0
-    same y s = subst (λ y. get_or (set next x v) y 0 ≡ get_or wanted y 0) (sym s)
-        (get_or-set_same next x v 0 l ∙ value)
-
     earlier : (k : ℕ) → k < j + 1 → get_or (row net i) k 0 ≢ x → k < j
     earlier k m ne = ⊎_elim
         (λ (b : k < j). b)

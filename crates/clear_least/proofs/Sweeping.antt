@@ -6,7 +6,7 @@ use Rattle.std.proofs.lemmas.List.Sums.{sum_by-cons}
 use Rattle.clr_net.specs.Limits.{IsNetwork}
 use Rattle.clr_net.specs.Net.{Net, debtor_of, creditor_of, place_in_row, row, column}
 use Rattle.clr_net.proofs.RowsAndColumns.{column_place}
-use Rattle.clear_core.specs.Clearing.{division_of, receipts, NeverFalls, part_by, pay_by, least_by}
+use Rattle.clear_core.specs.Clearing.{division_of, receipts, part_by, pay_by, least_by}
 use Rattle.clear_core.specs.Raised.{is_marked, IsRaised}
 use Rattle.clear_core.proofs.BankPays.{award_by_at}
 use Rattle.clear_core.proofs.Least.{clears_only_at_least_by}
@@ -55,14 +55,14 @@ module _ (net : Net) (f : ℕ → ℕ → ℕ) (P : List ℕ) (marks : List Bool
   )
 
   -- where all banks are quiet, payments are the least
-  pub quiet_at_least : IsNetwork net → NeverFalls f
+  pub quiet_at_least : IsNetwork net
       → ((i : ℕ) → i < length net.banks → IsQuietBy net f P i) → P ≡ least_by net f
-  quiet_at_least network never quiet =
-      clears_only_at_least_by net f never P swept.way.below
+  quiet_at_least network quiet =
+      clears_only_at_least_by net f swept.never P swept.way.below
       (sym (all_paid net f P P network swept.way.as_many quiet))
 
   -- a bank pays what its rule gives it to pay, and loses its mark
-  module _ (i : ℕ) (awards Q : List ℕ) (after : List Bool) (never : NeverFalls f)
+  module _ (i : ℕ) (awards Q : List ℕ) (after : List Bool)
       (given : awards ≡ division_of net i (f i (receipts net P i)))
       (raised : IsRaised net i awards P Q (set marks i false) after) where
     -- on its debts just as in a round of all banks
@@ -124,7 +124,8 @@ module _ (net : Net) (f : ℕ → ℕ → ℕ) (P : List ℕ) (marks : List Bool
     -- the way goes on
     pub sweep_on : IsSwept net f Q after
     sweep_on = record {
-      way = way_on net f P swept.way Q never raised.as_many (λ x. (between x).0) (λ x. (between x).1);
+      never = swept.never;
+      way = way_on net f P swept.way Q swept.never raised.as_many (λ x. (between x).0) (λ x. (between x).1);
       for_each_bank = raised.marks_as_many ∙ length-set marks i false ∙ swept.for_each_bank;
       unmarked = still_quiet;
     }

@@ -68,7 +68,6 @@ fn repeat<S: Spending>(
     scratch: &mut Scratch,
 )
     requires network { IsNetwork net.now }
-    requires never_falls { NeverFalls (S.spends spending.now net.now) }
     requires swept { IsSwept net.now (S.spends spending.now net.now) paid.old marks.old }
     requires room { HasRoom net.now scratch.old }
     ensures { paid.new ≡ least_payments net.now (S.spends spending.now net.now) }
@@ -85,7 +84,6 @@ fn sweep<S: Spending>(
     marks: &mut [bool],
     scratch: &mut Scratch,
 ) -> bool
-    requires never_falls { NeverFalls (S.spends spending.now net.now) }
     requires swept { IsSwept net.now (S.spends spending.now net.now) paid.old marks.old }
     requires room { HasRoom net.now scratch.old }
     ensures swept { IsSwept net.now (S.spends spending.now net.now) paid.new marks.new }
@@ -114,7 +112,6 @@ fn pay_bank<S: Spending>(
 ) -> bool
     requires network { IsNetwork net.now }
     requires bank { bank.0 < length net.now.banks }
-    requires never_falls { NeverFalls (S.spends spending.now net.now) }
     requires swept { IsSwept net.now (S.spends spending.now net.now) paid.old marks.old }
     requires room { HasRoom net.now scratch.old }
     ensures swept { IsSwept net.now (S.spends spending.now net.now) paid.new marks.new }

@@ -29,7 +29,7 @@ returns-clause-swept g c =
     let after = c.raise_row.new in
     let given = ap (division_of net i) (c.spend-units.ensures ∙ ap (f i) c.receipts_of-receipts.ensures.receipts) in
     sweep_on net f c.args.paid.now c.args.marks.now c.requires.swept i _ after.paid after.marks
-    c.requires.never_falls given c.raise_row.ensures.raised
+    given c.raise_row.ensures.raised
 
 pub returns-clause-quiet : goal.returns-clause-quiet
 returns-clause-quiet g c =
@@ -41,5 +41,5 @@ returns-clause-quiet g c =
     let given = ap (division_of net i) (c.spend-units.ensures ∙ ap (f i) c.receipts_of-receipts.ensures.receipts) in
     OnFalse_from c.raise_row.result (IsQuietBy net f before i) (λ (e : c.raise_row.result ≡ false).
     quiet_where_same net f before c.args.marks.now c.requires.swept i _ after.paid after.marks
-    c.requires.never_falls given c.raise_row.ensures.raised
+    given c.raise_row.ensures.raised
     (OnFalse_at e c.raise_row.ensures.same))

@@ -11,5 +11,4 @@ returns-clause-done g c =
     let now = c.loop-number in
     OnFalse_from now.any (now.paid ≡ least_by net f) (λ (e : now.any ≡ false).
     quiet_at_least net f now.paid now.marks now.invariant.swept c.banks-number-end.ensures.network
-    c.requires.never_falls
     (λ i l. now.invariant.so_far.quiet e i (omega arith)))
