@@ -30,6 +30,27 @@ fn a_shelf_gives_its_files_and_no_others(rt: HostRuntime) -> Result<(), Fail> {
     Ok(())
 }
 
+// The name and the text of each are the same 0 to 69 bytes.
+#[test]
+fn a_shelf_has_many_files(rt: HostRuntime) -> Result<(), Fail> {
+    let alloc = rt.alloc();
+    let mut shelf = MemShelf::make(alloc);
+    let mut name = String::new(alloc);
+    for _ in 0..70 {
+        shelf.add(name.as_str(), name.as_bytes())?;
+        name.push('n')?;
+    }
+    let mut name = String::new(alloc);
+    for _ in 0..70 {
+        assert_eq!(rt;
+            fetched(alloc, &mut shelf, name.as_str())?.as_slice(),
+            name.as_bytes()
+        );
+        name.push('n')?;
+    }
+    Ok(())
+}
+
 #[test]
 fn a_file_past_the_limit_is_cut_one_byte_behind_it(rt: HostRuntime) -> Result<(), Fail> {
     let alloc = rt.alloc();
@@ -68,6 +89,8 @@ fn a_full_room_takes_no_more(rt: HostRuntime) -> Result<(), Fail> {
     let mut sink = MemSink::with_room(rt.alloc(), 15, 10, 0)?;
     assert_eq!(rt; put_all(&mut sink, PAYMENTS), Err(SinkFault));
     assert_eq!(rt; sink.written(), b"debtor,creditor".as_slice());
+    let mut none = MemSink::with_room(rt.alloc(), 0, 10, 0)?;
+    assert_eq!(rt; put_all(&mut none, PAYMENTS), Err(SinkFault));
     Ok(())
 }
 

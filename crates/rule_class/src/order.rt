@@ -3,7 +3,8 @@ ghost use Rattle.clr_net.specs.declared.TheConstants.{MAX_CLASS};
 ghost use Rattle.clr_net.specs.declared.rule.RuleKind.TheVariants as kind;
 ghost use Rattle.rule_class.specs.ByOrder.{AreUpTo, fill};
 ghost use Rattle.rule_class.specs.ClassSet.{IsClassSet};
-ghost use Rattle.std.specs.Prelude.{◌≡◌, ◌-◌, ◌≤◌, length, sum};
+ghost use Rattle.std.specs.List.{fold};
+ghost use Rattle.std.specs.Prelude.{◌≡◌, ◌-◌, ◌≤◌, length, max, sum};
 
 /// Divides an estate by the rule `order`: pays the debts class by class and one after another, each
 /// up to its claim, as long as there are units left.
@@ -42,8 +43,10 @@ fn fill_class(claims: &[u64], classes: &[u8], class: u8, estate: u64, into: &mut
 }
 
 /// The greatest of the classes of a bank's debts, and 1 where there is none.
+#[tactic(auto, using(std::proofs::lemmas::List::Sums::fold_more))]
 pub fn last_class(classes: &[u8]) -> u8
     requires { AreClasses classes.now 1 MAX_CLASS }
+    ensures greatest { result ≡ fold max 1 classes.now }
     ensures last { AreUpTo result classes.now }
     ensures limit { result ≤ MAX_CLASS }
 {
