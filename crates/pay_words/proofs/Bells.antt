@@ -93,8 +93,8 @@ sum_of_ones n f h = omega (arith, sum-le (tabled n f) (tabled n (λ _. 1)) (tabl
 pub sum_of_zeros : (n : ℕ) (f : ℕ → ℕ) → ((x : ℕ) → x < n → f x ≤ 0) → sum (tabled n f) ≤ 0
 sum_of_zeros n f h = omega (arith, sum-le (tabled n f) (tabled n (λ _. 0)) (tabled_most n f (λ _. 0) h), zeros (range_with_len 0 n))
 
-pub one_more : (n : ℕ) (marks : ℕ → Bool) (x : ℕ) → x < n → how_many n (changed x true marks) ≤ how_many n marks + 1
-one_more n marks x lt =
+pub marks_grow_by_one : (n : ℕ) (marks : ℕ → Bool) (x : ℕ) → x < n → how_many n (changed x true marks) ≤ how_many n marks + 1
+marks_grow_by_one n marks x lt =
     let f : ℕ → ℕ = λ y. if marks y then 1 else 0 in
     let g : ℕ → ℕ = λ y. if changed x true marks y then 1 else 0 in
     let here : g x ≡ 1 = ap (λ (b : Bool). if b then 1 else 0) (changed_here x true marks x refl) in

@@ -16,7 +16,7 @@ use Rattle.pay_words.specs.Kept.{Tower, HasBells, IsCalled, IsRung, bell, bells_
 use Rattle.pay_words.proofs.Marks.{chooses}
 use Rattle.pay_words.proofs.Tables.{tabled_agree}
 use Rattle.pay_words.proofs.Traces.{pushed, pushed_else}
-use Rattle.pay_words.proofs.Bells.{changed, changed_here, changed_else, sum_views, has_set, one_more}
+use Rattle.pay_words.proofs.Bells.{changed, changed_here, changed_else, sum_views, has_set, marks_grow_by_one}
 
 -- views of other seats that do not hold a bank
 abbrev pub NoOther : List View → ℕ → ℕ → Type 0
@@ -168,6 +168,6 @@ module _ (d : Deed) (t : Traces) (words : List ℕ) (views : List View) (id : �
           let b = sum_views made_of views id v u at in
           let c : bells_up net now ≡ bells_up net words = ap sum (tabled_agree 0 (length net.banks) (bell net now) (bell net words) (λ y _. same_bell y)) in
           let g : length u.shown.raises ≡ length v.shown.raises + 1 = length-append v.shown.raises _ in
-          omega (arith, h.few, a, b, c, g, one_more n w.owed x lt, chooses v.live (length v.shown.raises) 0 on, chooses v.live (length u.shown.raises) 0 on);
+          omega (arith, h.few, a, b, c, g, marks_grow_by_one n w.owed x lt, chooses v.live (length v.shown.raises) 0 on, chooses v.live (length u.shown.raises) 0 on);
       has = has_set d owing views id (showing v (raised v.shown x to)) (λ j u ne e o. others_owe u (alone j u ne e o) (h.has j u e o)) (λ _. raised_has (h.has id v at on));
     }

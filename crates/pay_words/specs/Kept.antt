@@ -1,6 +1,7 @@
 -- The rule of a board, which holds between any two atomic steps, and what the steps tell.
 -- Word 0 is the roll word, the words of the debts follow, and then the bells of the banks.
-use Rattle.std.specs.Prelude.{◌≡◌, ◌⊎◌, ℕ, ◌+◌, ◌<◌, ◌≤◌, ◌==◌, ◌++◌, if◌then◌else◌, Bool, true, false, List, [], length, slice_index, sum, sum_by}
+use Rattle.std.specs.Prelude.{◌≡◌, ◌⊎◌, ℕ, ◌+◌, ◌<◌, ◌≤◌, ◌==◌, ◌++◌, if◌then◌else◌, Bool, true}
+use Rattle.std.specs.Prelude.{false, List, [], length, slice_index, sum, sum_by}
 use mathlib.Core.Option.{some}
 use lib.ListN.{get_elem?}
 use Rattle.atomic_table.specs.Table.{Me, Step}
@@ -14,7 +15,9 @@ use Rattle.pay_words.specs.declared.view.Shown.{Shown}
 use Rattle.pay_words.specs.declared.view.View.{View}
 use Rattle.pay_words.specs.Words.{word_of, payment_of}
 use Rattle.pay_words.specs.Traces.{Traces, IsLawful, In, Stood, raises_of, ending, start_of, total}
-use Rattle.pay_words.specs.Views.{IsSound, IsCalm, HasSeenFloor, HasSeenAll, HoldsAll, OwesNoRing, tabled, is_marked, holds, opening, looked, raised, rung, took, handed, without, rejoined}
+use Rattle.pay_words.specs.Views.{IsSound, IsCalm, HasSeenFloor, HasSeenAll, HoldsAll, OwesNoRing}
+use Rattle.pay_words.specs.Views.{tabled, is_marked, holds, opening, looked, raised, rung, took}
+use Rattle.pay_words.specs.Views.{handed, without, rejoined}
 
 -- what no single seat knows: which seat holds each bank, which one is the master, the raises of the
 -- past and of the master, and those of each debt
@@ -118,7 +121,8 @@ pub record IsRung (d : Deed) (t : Traces) (words : List ℕ) (views : List View)
   -- what is paid on a debt is what its creditor last saw, or the creditor is called, or the debt
   -- owes it a ring
   pub answered : (x : ℕ) → x < length d.net.debts
-      → (tower.seen x ≡ (ending (t x)).value) ⊎ (IsCalled d.net words tower x ⊎ (tower.owed x ≡ true))
+      → (tower.seen x ≡ (ending (t x)).value)
+      ⊎ (IsCalled d.net words tower x ⊎ (tower.owed x ≡ true))
   -- the creditor has seen at least every floor, or it is called; no floor is above what is paid
   pub lifted : (x : ℕ) → x < length d.net.debts
       → (tower.level x ≤ tower.seen x) ⊎ IsCalled d.net words tower x
@@ -184,10 +188,10 @@ module _ {S : Type 0} where
   abbrev pub Rolls : Step S → Me S View → ℕ → Me S View → Type 0
   Rolls s v n w = w ≡ (record v.0 { rolled = n }, v.1)
 
--- What a take tells, or a load, where it found n at the bell of the bank b: n is 1 or 0, and 1 where
--- the bell was never taken. Where it found 0 and none of the debts to the bank is pending, the bank
--- has seen at least the floor of each; and all that is paid, where besides the seat holds all banks
--- and owes no ring.
+-- What a take tells, or a load, where it found n at the bell of the bank b: n is 1 or 0, and 1
+-- where the bell was never taken. Where it found 0 and none of the debts to the bank is pending,
+-- the bank has seen at least the floor of each; and all that is paid, where besides the seat holds
+-- all banks and owes no ring.
 pub record TakeTells (s : Shown) (b n : ℕ) : Type 0 where
   pub up_or_down : n ≤ 1
   pub up_if_fresh : is_marked s.fresh b ≡ true → n ≡ 1

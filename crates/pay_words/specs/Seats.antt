@@ -1,5 +1,6 @@
 -- How a seat and a board keep what contracts see of them.
-use Rattle.std.specs.Prelude.{◌≡◌, ℕ, ◌+◌, ◌%◌, ◌<◌, Bool, true, false, List, [], length, map, slice_index, slice_index_or}
+use Rattle.std.specs.Prelude.{◌≡◌, ℕ, ◌+◌, ◌%◌, ◌<◌, Bool, true, false, List, [], length, map}
+use Rattle.std.specs.Prelude.{slice_index, slice_index_or}
 use Rattle.clr_net.specs.Limits.{IsNetwork}
 use Rattle.clr_net.specs.Net.{Net, debtor_of, debt_numbers}
 use Rattle.pay_words.specs.declared.view.View.{View}

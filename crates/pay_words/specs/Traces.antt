@@ -1,6 +1,7 @@
 -- The raises of each debt, in the order in which they were made, and what makes them a lawful
 -- history.
-use Rattle.std.specs.Prelude.{◌≡◌, ◌⊎◌, ℕ, ◌<◌, ◌≤◌, ◌==◌, List, [], ◌∷◌, length, filter, sum, sum_by, slice_index}
+use Rattle.std.specs.Prelude.{◌≡◌, ◌⊎◌, ℕ, ◌<◌, ◌≤◌, ◌==◌, List, [], ◌∷◌, length, filter, sum}
+use Rattle.std.specs.Prelude.{sum_by, slice_index}
 use Rattle.clr_net.specs.Net.{Net, debtor_of, column}
 use Rattle.clear_core.specs.Clearing.{part, least}
 use Rattle.clear_core.specs.History.{raised_before}
@@ -54,8 +55,8 @@ abbrev pub paid_to : Net → Traces → ℕ → ℕ → ℕ
 paid_to net t stamp x = sum_by (λ y. raised_before stamp (t y) y) (column net (debtor_of net x))
 
 -- of each debt the stamps and amounts rise, and each raise is within what its debtor's rule gives
--- from its cash and from what raises of smaller stamp pay to it, less what it owes outside; no stamp
--- is above the sum of what is paid
+-- from its cash and from what raises of smaller stamp pay to it, less what it owes outside; no
+-- stamp is above the sum of what is paid
 pub record IsLawful (net : Net) (t : Traces) : Type 0 where
   pub rise : (x : ℕ) → x < length net.debts → Rise (t x)
   pub each : (x : ℕ) → x < length net.debts → (r : Raise) → In r (t x) → (0 < r.to) × (r.debt.0 ≡ x)

@@ -1,5 +1,7 @@
 -- What boards and seats are to a caller, and what each call changes of what a seat shows.
-use Rattle.std.specs.Prelude.{◌≡◌, ℕ, ◌+◌, ◌%◌, ◌<◌, ◌≤◌, ◌==◌, ◌&&◌, ◌||◌, not, max, if◌then◌else◌, map, replicate, ◌++◌, Bool, true, false, List, [], ◌∷◌, length, slice_index, slice_index_or, slice_set}
+use Rattle.std.specs.Prelude.{◌≡◌, ℕ, ◌+◌, ◌%◌, ◌<◌, ◌≤◌, ◌==◌, ◌&&◌, ◌||◌, not, max, if◌then◌else◌}
+use Rattle.std.specs.Prelude.{map, replicate, ◌++◌, Bool, true, false, List, [], ◌∷◌, length}
+use Rattle.std.specs.Prelude.{slice_index, slice_index_or, slice_set}
 use Rattle.std.specs.List.{range_with_len}
 use Rattle.atomic_table.specs.Seated.{TableId}
 use Rattle.clr_net.specs.Amounts.{IsAtMost}
@@ -113,8 +115,8 @@ opening net start = record {
   acts = [];
 }
 
--- what is done with a seat: a look at the debt x, a raise of it, a ring of the bell of the bank b, and
--- a take that found it up
+-- what is done with a seat: a look at the debt x, a raise of it, a ring of the bell of the bank b,
+-- and a take that found it up
 abbrev pub look_at : ℕ → Act
 look_at x = act.Look (record { 0 = x })
 

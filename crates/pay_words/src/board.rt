@@ -3,10 +3,14 @@ ghost use Rattle.clear_core.specs.History.{ordered};
 ghost use Rattle.clr_net.specs.Net.{creditor_of, debtor_of};
 ghost use Rattle.clr_net.specs.Amounts.{IsAtMost};
 ghost use Rattle.pay_words.specs.Belongs.{Belongs};
-ghost use Rattle.pay_words.specs.Ends.{AreAfter, AreLawful, HaveLowStamps, Replay, payments_of, values};
+ghost use Rattle.pay_words.specs.Ends.{AreAfter, AreLawful, HaveLowStamps, Replay, payments_of};
+ghost use Rattle.pay_words.specs.Ends.{values};
 ghost use Rattle.pay_words.specs.Kept.{TakeTells, after_take};
-ghost use Rattle.pay_words.specs.Views.{HasSeenAll, HasSeenFloor, HoldsAll, HoldsAllOf, IsAt, IsCalm, OwesNoRing, OwesRing, handed, holds, is_marked, looked, opening, raised, rejoined, rung, took, without};
-ghost use Rattle.std.specs.Prelude.{◌≡◌, ℕ, ◌+◌, ◌<◌, ◌≤◌, ◌++◌, IfOk, OnErr, OnOk, if◌then◌else◌, false, length, slice_index, true};
+ghost use Rattle.pay_words.specs.Views.{HasSeenAll, HasSeenFloor, HoldsAll, HoldsAllOf, IsAt};
+ghost use Rattle.pay_words.specs.Views.{IsCalm, OwesNoRing, OwesRing, handed, holds, is_marked};
+ghost use Rattle.pay_words.specs.Views.{looked, opening, raised, rejoined, rung, took, without};
+ghost use Rattle.std.specs.Prelude.{◌≡◌, ℕ, ◌+◌, ◌<◌, ◌≤◌, ◌++◌, IfOk, OnErr, OnOk, if◌then◌else◌};
+ghost use Rattle.std.specs.Prelude.{false, length, slice_index, true};
 
 use crate::deed::{Deed, Founding, deed_of};
 use crate::opening::{debtors_of, greatest_stamp, opening_words};

@@ -7,11 +7,14 @@ ghost use Rattle.clr_net.specs.Net.{Net, creditor_of, debtor_of};
 ghost use Rattle.pay_words.specs.Belongs.{Belongs};
 ghost use Rattle.pay_words.specs.Ends.{HaveLowStamps, payments_of, values};
 ghost use Rattle.pay_words.specs.Traces.{start_of};
-ghost use Rattle.pay_words.specs.Views.{HoldsAll, HoldsAllOf, IsOver, handed, holds, is_marked, is_of_worker, rejoined, rung, took, without};
+ghost use Rattle.pay_words.specs.Views.{HoldsAll, HoldsAllOf, IsOver, handed, holds, is_marked};
+ghost use Rattle.pay_words.specs.Views.{is_of_worker, rejoined, rung, took, without};
 ghost use Rattle.pay_words.specs.Words.{unpaid};
 ghost use Rattle.pay_words.specs.declared.payment.Payment.{Payment};
 ghost use Rattle.pay_words.specs.declared.view.Shown.{Shown};
-ghost use Rattle.std.specs.Prelude.{◌≡◌, ◌≢◌, ◌<◌, ◌==◌, ◌&&◌, ◌||◌, ◌++◌, ◌∷◌, not, if◌then◌else◌, ℕ, List, [], false, length, replicate, slice_index, slice_set, true};
+ghost use Rattle.std.specs.Prelude.{◌≡◌, ◌≢◌, ◌<◌, ◌==◌, ◌&&◌, ◌||◌, ◌++◌, ◌∷◌, not, if◌then◌else◌};
+ghost use Rattle.std.specs.Prelude.{ℕ, List, [], false, length, replicate, slice_index, slice_set};
+ghost use Rattle.std.specs.Prelude.{true};
 
 /// What a journal replays to are the values of what its raises leave on the debts.
 #[tactic(auto, using(crate::proofs::Histories::replayed_is))]

@@ -3,13 +3,15 @@ ghost use Rattle.clr_net.specs.Net.{debt_numbers, debtor_of};
 ghost use Rattle.clr_net.specs.declared.TheConstants.{MAX_BANKS, MAX_DEBTS};
 ghost use Rattle.pay_words.specs.Views.{greatest};
 ghost use Rattle.pay_words.specs.Words.{word_of};
-ghost use Rattle.std.specs.Prelude.{◌≡◌, ◌+◌, ◌^◌, ◌<◌, ◌≤◌, ◌∷◌, ◌++◌, All, IfOk, length, map, replicate};
+ghost use Rattle.std.specs.Prelude.{◌≡◌, ◌+◌, ◌^◌, ◌<◌, ◌≤◌, ◌∷◌, ◌++◌, All, IfOk, length, map};
+ghost use Rattle.std.specs.Prelude.{replicate};
 
 use crate::payment::Payment;
 use clr_net::{DebtId, Network};
 use std::alloc::{AllocError, Global};
 
-/// The words of a new board: the roll word, at 1, those of the payments, and the bells, which are all up.
+/// The words of a new board: the roll word, at 1, those of the payments, and the bells, which are
+/// all up.
 pub(crate) fn opening_words(
     alloc: Global,
     start: &[Payment],
@@ -18,7 +20,8 @@ pub(crate) fn opening_words(
     requires debts { length start.now ≤ MAX_DEBTS }
     requires banks { banks ≤ MAX_BANKS }
     requires fit { All (λ p. word_of p < 2 ^ 64) start.now }
-    ensures { IfOk result (λ words. words.items ≡ 1 ∷ (map word_of start.now ++ replicate banks 1)) }
+    ensures { IfOk result
+        (λ words. words.items ≡ 1 ∷ (map word_of start.now ++ replicate banks 1)) }
 {
     let mut words = Vec::new(alloc);
     words.push(1)?;
@@ -42,7 +45,8 @@ pub(crate) fn greatest_stamp(start: &[Payment]) -> u64
 
 /// The number of the debtor of each debt.
 pub(crate) fn debtors_of(alloc: Global, net: &Network) -> Result<Vec<u32>, AllocError>
-    ensures { IfOk result (λ debtors. debtors.items ≡ map (debtor_of net.now) (debt_numbers net.now)) }
+    ensures { IfOk result
+        (λ debtors. debtors.items ≡ map (debtor_of net.now) (debt_numbers net.now)) }
 {
     let mut debtors = Vec::new(alloc);
     for number in 0..net.debts() {

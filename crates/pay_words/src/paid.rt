@@ -1,5 +1,6 @@
 //! What is paid, as the seats keep it in memory: a list for each worker.
-ghost use Rattle.std.specs.Prelude.{◌≡◌, ◌<◌, [], IfOk, length, map, replicate, slice_index, slice_set};
+ghost use Rattle.std.specs.Prelude.{◌≡◌, ◌<◌, [], IfOk, length, map, replicate, slice_index};
+ghost use Rattle.std.specs.Prelude.{slice_set};
 
 use crate::payment::Payment;
 use std::alloc::{AllocError, Global};

@@ -4,7 +4,8 @@ ghost use Rattle.std.specs.Prelude.{◌≡◌, ◌<◌, ◌^◌};
 // What a stamp counts for in a payment word: every value is below it.
 const STAMP: u64 = 4294967296;
 
-/// What has been paid on a debt so far, in units, and the stamp of the debt's last raise, or 0 where there is none.
+/// What has been paid on a debt so far, in units, and the stamp of the debt's last raise, or 0
+/// where there is none.
 #[derive(Clone, Copy, Debug, PartialEq, Eq)]
 pub struct Payment {
     pub value: u64,

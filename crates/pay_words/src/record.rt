@@ -21,7 +21,13 @@ impl Model for Record {
 
     ghost Value = { Sealed };
 
-    ghost view = { λ r. record { net = r.net; journal = r.journal.raises; made = r.made; workers = r.workers; seats = r.seats } };
+    ghost view = { λ r. record {
+      net = r.net;
+      journal = r.journal.raises;
+      made = r.made;
+      workers = r.workers;
+      seats = r.seats;
+    } };
 }
 
 impl Record {
@@ -40,7 +46,8 @@ impl Record {
         net
     }
 
-    /// The raises of the past and those that were made on the board, in order of stamp, debt number and amount.
+    /// The raises of the past and those that were made on the board, in order of stamp, debt number
+    /// and amount.
     pub fn journal(&self) -> &[Raise]
         ensures { result.now ≡ self.now.journal }
     {

@@ -1,12 +1,17 @@
 ghost use Rattle.clear_core.specs.Clearing.{part, receipts};
 ghost use Rattle.clr_net.specs.Net.{creditor_of, debtor_of};
-ghost use Rattle.pay_words.specs.Views.{IsAt, holds, looked, raised};
-ghost use Rattle.std.specs.Prelude.{◌≡◌, ◌<◌, ◌≤◌, false, length, slice_index, true};
+ghost use Rattle.clr_net.specs.Samples.{chain as chain_net};
+ghost use Rattle.net_samples.specs.Networks.{ring as ring_net};
+ghost use Rattle.pay_words.specs.Views.{HoldsAll, HoldsAllOf, IsAt, OwesNoRing, handed, holds, looked};
+ghost use Rattle.pay_words.specs.Views.{opening, raised, rejoined};
+ghost use Rattle.pay_words.specs.Words.{unpaid};
+ghost use Rattle.std.specs.Prelude.{◌≡◌, ◌<◌, ◌≤◌, ◌∷◌, [], IfOk, false, length, slice_index, true};
 
 use crate::{Board, PaySeat, Payment};
 use clear_core::Journal;
-use clr_net::{BankId, DebtId};
+use clr_net::{BankId, DebtId, Mem, Network};
 use net_samples::{chain, ring};
+use std::alloc::Global;
 use std::test::Fail;
 use std::thread::{Threads, join_mut};
 
@@ -95,23 +100,66 @@ fn raise_beside_look<R: Threads + Sync>(
     )
 }
 
+// A board for two workers on which nothing is paid, its master, and the seats of both workers.
+fn two_seats(alloc: Global, net: &Network) -> Result<(Board, PaySeat, PaySeat, PaySeat), Mem>
+    requires debts { length net.now.debts ≡ 2 }
+    ensures board { IfOk result (λ r. (r.0.net ≡ net.now) × (r.0.past ≡ [])
+        × (r.0.workers ≡ 2)) }
+    ensures master { IfOk result (λ r. IsAt r.0 r.1 × (r.1.shows.master ≡ true)
+        × (r.1.shows.seats ≡ 2) × (r.1.shows.raises ≡ [])) }
+    ensures first { IfOk result (λ r. (r.2.table ≡ r.0.table)
+        × (r.2.shows ≡ handed 2 0 (opening net.now (unpaid ∷ unpaid ∷ [])))) }
+    ensures second { IfOk result (λ r. (r.3.table ≡ r.0.table)
+        × (r.3.shows ≡ handed 2 1 (opening net.now (unpaid ∷ unpaid ∷ [])))) }
+{
+    let (board, mut master) = Board::make(alloc, net, 2, &[UNPAID, UNPAID], &[])?;
+    let first = board.hand(alloc, &mut master, 0)?;
+    let second = board.hand(alloc, &mut master, 1)?;
+    Ok((board, master, first, second))
+}
+
+// The master takes the seats of both workers back, and holds all banks then.
+fn take_both(board: &Board, master: &mut PaySeat, first: PaySeat, second: PaySeat)
+    requires master { IsAt board.now master.old × (master.old.shows.master ≡ true) }
+    requires first { IsAt board.now first × (first.shows.master ≡ false) }
+    requires second { IsAt board.now second × (second.shows.master ≡ false) }
+    requires first_rings { OwesNoRing first.shows }
+    requires second_rings { OwesNoRing second.shows }
+    requires first_banks { HoldsAllOf 2 0 first.shows }
+    requires second_banks { HoldsAllOf 2 1 second.shows }
+    ensures master { IsAt board.now master.new × (master.new.shows.master ≡ true) }
+    ensures all { HoldsAll master.new.shows }
+    ensures rejoined { master.new.shows
+        ≡ rejoined (rejoined master.old.shows first.shows) second.shows }
+{
+    board.take_back(master, first);
+    board.take_back(master, second);
+}
+
+// Closes a board of two debts: what is paid.
+fn closed(board: Board, master: PaySeat) -> [Payment; 2]
+    requires debts { length board.net.debts ≡ 2 }
+    requires master { IsAt board master × (master.shows.master ≡ true) }
+    requires all { HoldsAll master.shows }
+{
+    let mut into = [UNPAID, UNPAID];
+    board.close(master, &mut into);
+    into
+}
+
 #[test]
 fn a_debt_is_raised_while_it_is_looked_at(rt: HostRuntime) -> Result<(), Fail> {
     let alloc = rt.alloc();
     let net = ring(alloc)?;
-    let (board, mut master) = Board::make(alloc, &net, 2, &[UNPAID, UNPAID], &[])?;
-    let mut first = board.hand(alloc, &mut master, 0)?;
-    let mut second = board.hand(alloc, &mut master, 1)?;
+    let (board, mut master, mut first, mut second) = two_seats(alloc, &net)?;
     let debt = DebtId(0);
     let (stamp, seen) = raise_beside_look(&rt, &board, &mut first, &mut second, debt, 1, debt);
     let paid = Payment { value: 1, stamp: 1 };
     assert_eq!(rt; stamp, 1);
     assert!(rt; seen == UNPAID || seen == paid);
     board.ring(&mut first, BankId(1));
-    board.take_back(&mut master, first);
-    board.take_back(&mut master, second);
-    let mut into = [UNPAID, UNPAID];
-    board.close(master, &mut into);
+    take_both(&board, &mut master, first, second);
+    let into = closed(board, master);
     assert_eq!(rt; into, [paid, UNPAID]);
     Ok(())
 }
@@ -120,40 +168,67 @@ fn a_debt_is_raised_while_it_is_looked_at(rt: HostRuntime) -> Result<(), Fail> {
 fn two_threads_work_on_one_board(rt: HostRuntime) -> Result<(), Fail> {
     let alloc = rt.alloc();
     let net = ring(alloc)?;
-    let (board, mut master) = Board::make(alloc, &net, 2, &[UNPAID, UNPAID], &[])?;
-    let mut first = board.hand(alloc, &mut master, 0)?;
-    let mut second = board.hand(alloc, &mut master, 1)?;
+    let (board, mut master, mut first, mut second) = two_seats(alloc, &net)?;
     let seen = look_at_once(&rt, &board, &mut first, &mut second, DebtId(1), DebtId(0));
     assert_eq!(rt; seen, (UNPAID, UNPAID));
-    board.take_back(&mut master, first);
-    board.take_back(&mut master, second);
+    take_both(&board, &mut master, first, second);
     let mut into = [UNPAID, UNPAID];
     let sealed = board.seal(master, &mut into, net, Journal::empty(alloc));
-    assert_eq!(rt; sealed.seats(), 2);
-    assert_eq!(rt; sealed.made(), 0);
-    assert_eq!(rt; sealed.workers(), 2);
-    assert_eq!(rt; sealed.journal().len(), 0);
-    assert_eq!(rt; sealed.net().debts(), 2);
+    let told = (
+        sealed.seats(),
+        sealed.made(),
+        sealed.workers(),
+        sealed.journal().len(),
+        sealed.net().debts(),
+    );
+    assert_eq!(rt; told, (2, 0, 2, 0, 2));
     Ok(())
+}
+
+// A pays B 7 and rings it. The stamp of the raise.
+fn first_pays(board: &Board, seat: &mut PaySeat) -> u64
+    requires board { board.now.net ≡ chain_net }
+    requires seat { (seat.old.table ≡ board.now.table)
+        × (seat.old.shows ≡ handed 2 0 (opening chain_net (unpaid ∷ unpaid ∷ []))) }
+    ensures seat { IsAt board.now seat.new × (seat.new.shows.master ≡ false) }
+    ensures rings { OwesNoRing seat.new.shows }
+    ensures banks { HoldsAllOf 2 0 seat.new.shows }
+{
+    let stamp = board.raise(seat, DebtId(0), 7);
+    board.ring(seat, BankId(1));
+    stamp
+}
+
+// B looks at what A pays. Where that is 7 it pays C 8, and rings it. The stamps of what B saw and
+// of its raise.
+fn second_pays(board: &Board, seat: &mut PaySeat) -> Option<(u64, u64)>
+    requires board { board.now.net ≡ chain_net }
+    requires seat { (seat.old.table ≡ board.now.table)
+        × (seat.old.shows ≡ handed 2 1 (opening chain_net (unpaid ∷ unpaid ∷ []))) }
+    ensures seat { IsAt board.now seat.new × (seat.new.shows.master ≡ false) }
+    ensures rings { OwesNoRing seat.new.shows }
+    ensures banks { HoldsAllOf 2 1 seat.new.shows }
+{
+    let seen = board.look(seat, DebtId(0));
+    let value = seen.value;
+    if value != 7 {
+        return None;
+    }
+    let stamp = board.raise(seat, DebtId(1), 8);
+    board.ring(seat, BankId(2));
+    Some((seen.stamp, stamp))
 }
 
 #[test]
 fn payments_flow_down_a_chain(rt: HostRuntime) -> Result<(), Fail> {
     let alloc = rt.alloc();
     let net = chain(alloc)?;
-    let (board, mut master) = Board::make(alloc, &net, 2, &[UNPAID, UNPAID], &[])?;
-    let mut first = board.hand(alloc, &mut master, 0)?;
-    let mut second = board.hand(alloc, &mut master, 1)?;
-    assert_eq!(rt; board.raise(&mut first, DebtId(0), 7), 1);
-    let seen = board.look(&mut second, DebtId(0));
-    assert_eq!(rt; seen, Payment { value: 7, stamp: 1 });
-    assert_eq!(rt; board.raise(&mut second, DebtId(1), 8), 2);
-    board.ring(&mut first, BankId(1));
-    board.ring(&mut second, BankId(2));
-    board.take_back(&mut master, first);
-    board.take_back(&mut master, second);
-    let mut into = [UNPAID, UNPAID];
-    board.close(master, &mut into);
+    let (board, mut master, mut first, mut second) = two_seats(alloc, &net)?;
+    let stamp = first_pays(&board, &mut first);
+    let told = second_pays(&board, &mut second);
+    assert_eq!(rt; (stamp, told), (1, Some((1, 2))));
+    take_both(&board, &mut master, first, second);
+    let into = closed(board, master);
     assert_eq!(rt;
         into,
         [
@@ -164,26 +239,54 @@ fn payments_flow_down_a_chain(rt: HostRuntime) -> Result<(), Fail> {
     Ok(())
 }
 
+// A board of the ring on which A has paid one unit and rung B, and its master, who has the seats of
+// both workers back.
+fn after_one_raise(alloc: Global, net: &Network) -> Result<(Board, PaySeat), Mem>
+    requires net { net.now ≡ ring_net }
+    ensures board { IfOk result (λ r. (r.0.net ≡ net.now) × (r.0.workers ≡ 2)) }
+    ensures master { IfOk result (λ r. IsAt r.0 r.1 × (r.1.shows.master ≡ true)
+        × (r.1.shows.seats ≡ 2)) }
+    ensures banks { IfOk result (λ r. HoldsAll r.1.shows) }
+    ensures paid { IfOk result (λ r. slice_index r.1.shows.paid 1 ≡ 0) }
+{
+    let (board, mut master, mut first, second) = two_seats(alloc, net)?;
+    board.raise(&mut first, DebtId(0), 1);
+    board.ring(&mut first, BankId(1));
+    take_both(&board, &mut master, first, second);
+    Ok((board, master))
+}
+
+// Whether a bank's bell is up, whether it is taken, and both once more.
+fn bells_of(board: &Board, seat: &mut PaySeat, bank: BankId) -> (bool, bool, bool, bool)
+    requires seat { IsAt board.now seat.old }
+    requires bank { bank.0 < length board.now.net.banks }
+    requires held { holds seat.old.shows bank.0 ≡ true }
+    ensures table { seat.new.table ≡ seat.old.table }
+    ensures same { (seat.new.shows.net ≡ seat.old.shows.net)
+        × (seat.new.shows.master ≡ seat.old.shows.master)
+        × (seat.new.shows.banks ≡ seat.old.shows.banks)
+        × (seat.new.shows.sights ≡ seat.old.shows.sights)
+        × (seat.new.shows.paid ≡ seat.old.shows.paid) }
+{
+    let up = board.is_up(bank);
+    let taken = board.take(seat, bank);
+    let still = board.is_up(bank);
+    let again = board.take(seat, bank);
+    (up, taken, still, again)
+}
+
 #[test]
 fn a_seat_is_handed_out_again(rt: HostRuntime) -> Result<(), Fail> {
     let alloc = rt.alloc();
     let net = ring(alloc)?;
-    let (board, mut master) = Board::make(alloc, &net, 2, &[UNPAID, UNPAID], &[])?;
-    let mut first = board.hand(alloc, &mut master, 0)?;
-    let second = board.hand(alloc, &mut master, 1)?;
-    assert_eq!(rt; board.raise(&mut first, DebtId(0), 1), 1);
-    board.ring(&mut first, BankId(1));
-    board.take_back(&mut master, first);
-    board.take_back(&mut master, second);
+    let (board, mut master) = after_one_raise(alloc, &net)?;
     let mut again = board.hand(alloc, &mut master, 1)?;
-    assert_eq!(rt; again.clock(), 1);
-    assert!(rt; board.is_up(BankId(1)));
-    assert!(rt; board.take(&mut again, BankId(1)));
-    assert!(rt; !board.is_up(BankId(1)));
-    assert!(rt; !board.take(&mut again, BankId(1)));
+    let clock = again.clock();
+    let bells = bells_of(&board, &mut again, BankId(1));
+    assert_eq!(rt; (clock, bells), (1, (true, true, false, false)));
     let seen = board.look(&mut again, DebtId(0));
-    assert_eq!(rt; seen, Payment { value: 1, stamp: 1 });
-    assert_eq!(rt; board.raise(&mut again, DebtId(1), 1), 2);
-    assert_eq!(rt; again.paid(DebtId(1)), 1);
+    assert_eq!(rt; seen.value, 1);
+    let stamp = board.raise(&mut again, DebtId(1), 1);
+    assert_eq!(rt; (seen.stamp, stamp, again.paid(DebtId(1))), (1, 2, 1));
     Ok(())
 }

@@ -1,20 +1,17 @@
-use Rattle.std.proofs.Common.{◌≡◌, ◌∙◌, ◌≤◌, le_of_eq, [], ap, sym, subst, rules}
+use Rattle.std.proofs.Common.{◌≡◌, ◌∙◌, ◌≤◌, le_of_eq, ap, sym, subst, rules}
 use Rattle.std.specs.Prelude.{slice_index}
 use Rattle.clr_net.specs.Net.{Net, debtor_of}
 use Rattle.clear_core.specs.Clearing.{part, receipts}
-use Rattle.pay_words.specs.Traces.{start_of}
+use Rattle.pay_words.specs.declared.view.Shown.{Shown}
 use Rattle.pay_words.proofs.Worked.{first_of_ring}
-use Rattle.pay_words.proofs.Pasts.{belongs_at_first}
 use Rattle.pay_words.proofs.tests.a_debt_is_raised_while_it_is_looked_at.Goals as goal
-
-pub make-requires-clause-belongs : goal.make-requires-clause-belongs
-make-requires-clause-belongs g c = belongs_at_first _ _ (ap (λ (n : Net). start_of n []) (sym c.in_ok-net.ensures))
 
 pub raise_beside_look-stamp-requires-clause-within : goal.raise_beside_look-stamp-requires-clause-within
 raise_beside_look-stamp-requires-clause-within g c lifetimes =
     let net = c.in_ok-board.ensures.board.0 ∙ c.in_ok-net.ensures in
-    let blank : slice_index c.in_ok-first.first.shows.sights 1 ≡ 0 = search rules in
-    subst (λ (n : Net). 1 ≤ part n 0 (receipts n c.in_ok-first.first.shows.sights (debtor_of n 0))) (sym net) (le_of_eq (sym (first_of_ring c.in_ok-first.first.shows.sights blank)))
+    let seen = c.in_ok-board.first.shows.sights in
+    let blank : slice_index seen 1 ≡ 0 = ap (λ (s : Shown). slice_index s.sights 1) c.in_ok-board.ensures.first.1 in
+    subst (λ (n : Net). 1 ≤ part n 0 (receipts n seen (debtor_of n 0))) (sym net) (le_of_eq (sym (first_of_ring seen blank)))
 
 pub ring-requires-2-clause-owes : goal.ring-requires-2-clause-owes
 ring-requires-2-clause-owes g c = (0, search rules, search rules, search rules)
