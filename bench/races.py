@@ -27,6 +27,7 @@ _spec.loader.exec_module(audit)
 WORKERS = [2, 3, 4, 8, 64]
 SIZES = [2, 2, 3, 4, 5, 8, 8, 13, 20, 30, 50, 100, 200, 500, 1000]
 FILES = ["--banks", "banks.csv", "--debts", "debts.csv"]
+LIMIT = 600  # seconds of a run; on a busy machine one of the least priority waits long
 PROCESSORS = sorted(os.sched_getaffinity(0))
 
 
@@ -92,6 +93,11 @@ def of_class(policy):
     return before
 
 
+def least_priority(rng):
+    os.sched_setaffinity(0, PROCESSORS[:1])
+    os.nice(19)
+
+
 def nothing(rng):
     pass
 
@@ -113,7 +119,7 @@ SHAKES = [
     ("one processor", on_processors(1), False, False),
     ("two processors", on_processors(2), False, False),
     ("batch, one processor", of_class(os.SCHED_BATCH), False, False),
-    ("idle, one processor", of_class(os.SCHED_IDLE), False, False),
+    ("least priority, one processor", least_priority, False, False),
     ("stopped and let go", nothing, True, False),
     ("threads interrupted", nothing, False, True),
     ("threads interrupted, one processor", on_processors(1), False, True),
@@ -127,7 +133,7 @@ class Load:
 
     CODE = """if True:
         import os, random, time
-        os.nice(4)
+        os.nice(2)
         parent = os.getppid()
         while os.getppid() == parent:
             end = time.perf_counter() + random.random() * 0.004
@@ -152,11 +158,15 @@ class Races:
     def __init__(self, program, library, seed):
         self.program, self.library, self.seed = program, library, seed
         self.runs = self.wrong = self.several = self.networks = 0
-        self.shaken = collections.Counter()
+        self.shaken, self.ended = collections.Counter(), False
+
+    def end(self, *_):
+        """Ends after the network that is being tried, with the counts so far."""
+        self.ended = True
 
     def plain(self, *words):
         """What an undisturbed run prints."""
-        done = subprocess.run([self.program, *words], stdin=subprocess.DEVNULL, capture_output=True, timeout=120)
+        done = subprocess.run([self.program, *words], stdin=subprocess.DEVNULL, capture_output=True, timeout=LIMIT)
         if done.returncode or done.stderr:
             raise Wrong(f"{' '.join(words)}: status {done.returncode}: {done.stderr.decode()}")
         return done.stdout
@@ -177,10 +187,10 @@ class Races:
         if stopper:
             stopper.start()
         try:
-            out, err = process.communicate(timeout=120)
+            out, err = process.communicate(timeout=LIMIT)
         except subprocess.TimeoutExpired:
             process.kill()
-            raise Wrong("it does not end in two minutes") from None
+            raise Wrong(f"it does not end in {LIMIT} seconds") from None
         finally:
             ended.set()
             if stopper:
@@ -259,7 +269,7 @@ class Races:
         self.several += len(journals) > 1
 
     def all(self, runs):
-        while self.runs < runs:
+        while self.runs < runs and not self.ended:
             shutil.rmtree("network", ignore_errors=True)
             os.mkdir("network")
             os.chdir("network")
@@ -274,6 +284,8 @@ class Races:
 
 def main(program, library, runs, seed):
     races = Races(program, library, seed)
+    for number in (signal.SIGINT, signal.SIGTERM):
+        signal.signal(number, races.end)
     with Load():
         told = races.all(int(runs))
     print("\n".join(told[:-1]), flush=True)
