@@ -22,7 +22,7 @@ from common import ODD_NAMES, PROGRAM, ROOT, Case, clearing, python_with
 sys.path.insert(0, str(ROOT / "python" / "src"))
 import clearing_client as cc  # noqa: E402
 
-SEED, ROUNDS = os.environ.get("HOSTILE_SEED", "1"), int(os.environ.get("HOSTILE_ROUNDS", "2"))
+SEED, ROUNDS = os.environ.get("HOSTILE_SEED", "1"), int(os.environ.get("HOSTILE_ROUNDS", "1"))
 RULES = ["order", "equal", "losses", "jefferson", "webster", "adams"]
 
 # Names that an option, a formula, HTML, a shell, JSON, TOML, LaTeX, a path or a table of the program may be.
@@ -444,13 +444,14 @@ class Failures(Place):
     def test_an_output_that_cannot_be_written_is_a_failure(self):
         stop, device = self.given("stop", ""), self.out / "device"
         device.symlink_to("/dev/full")
-        for name, words, _, how in self.each():
+        for number, (name, words, _, how) in enumerate(self.each()):
             if any(str(word).startswith("OUT") for word in words):
                 # Below a file, in the place of a file that is read, and where nothing has room.
                 self.fails(name, self.placed(words, stop / "x"), how, "below a file")
-                for path in [word for word in words if isinstance(word, pathlib.Path) and self.inputs in word.parents]:
-                    if "OUT.svg" not in words:
-                        self.fails(name, self.placed(words, path), how, f"over {path.name}")
+                read = [word for word in words if isinstance(word, pathlib.Path) and self.inputs in word.parents]
+                if read and "OUT.svg" not in words:
+                    path = read[number % len(read)]
+                    self.fails(name, self.placed(words, path), how, f"over {path.name}")
                 if "OUT.svg" not in words:
                     # By a link, so that a tool that puts a file in the place of a device harms the link alone.
                     self.fails(name, self.placed(words, device), how, "a full device")
@@ -465,8 +466,8 @@ class Failures(Place):
             self.fails(name, self.placed(words, self.out / f"closed-{number}"), {**how, "stdout": -1}, "a closed standard output")
 
     def test_a_program_that_fails_is_a_failure(self):
-        for about, body in [("it is refused", "exit 4"), ("want of memory", "echo 'clearing: out of memory' >&2; exit 6"), ("killed", "kill -9 $$"),
-                            ("its output is not written", 'echo "bank,estate,paid,owed,equity,state"; exit 5'), ("it says nothing", "exit 0"),
+        for about, body in [("want of memory", "echo 'clearing: out of memory' >&2; exit 6"), ("killed", "kill -9 $$"),
+                            ("its output is not written", 'echo "bank,estate,paid,owed,equity,state"; exit 5'),
                             ("it says something else", "echo lawful; exit 0")]:
             script = self.given("program", f"#!/bin/sh\n{body}\n")
             script.chmod(0o755)
