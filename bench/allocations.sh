@@ -1,18 +1,39 @@
 #!/bin/sh
-# Refuses each allocation of the program in turn, in every task, on the first example, and says how each run ended.
+# Refuses each allocation of the program in turn, in every task, and says how each run ended.
 #
-#   bench/allocations.sh [TASK ..]    every task where none is named
+#   bench/allocations.sh [BANKS] [TASK ..]    on the first example, or on a network of so many banks (10 to 1,000); every task where
+#                                             none is named
 #
 # A run with a refused allocation ends with status 6 and an empty output, or with 0 and the whole text where the program can do
 # without. Each allocation is refused twice: alone, and with all that come after it. Any other ending is printed, and the last line
 # is `N cases, 0 wrong`; the script ends with 1 where some case is wrong. Wants a C compiler.
+banks=
+case ${1:-} in
+    [1-9]*) banks=$1; shift ;;
+esac
 tasks=${*:-check clear central convert defaults bounds compress rescue costs stress replay gen}
 . "$(dirname "$0")/lib.sh"
 "${CC:-cc}" -O2 -shared -fPIC -o refuse.so "$root/bench/refuse.c" -ldl || exit 1
 
 # The program reads names in the current folder.
-cp "$root/examples/chain/banks.csv" "$root/examples/chain/debts.csv" .
-cat >scenarios.toml <<'END'
+if [ -z "$banks" ]; then
+    cp "$root/examples/chain/banks.csv" "$root/examples/chain/debts.csv" .
+    first=A bank=B size=10 tries=30
+else
+    # A ring short of cash, by all rules, in which each bank owes another one too; a tenth owe outside.
+    awk -v banks="$banks" 'BEGIN {
+        split("order equal losses jefferson webster adams", rules, " ")
+        print "name,cash,rule,outside" >"banks.csv"
+        print "debtor,creditor,class,claim" >"debts.csv"
+        for (i = 0; i < banks; i++) {
+            print "N" i "," (i * 7919) % 5 "," rules[i % 6 + 1] "," (i % 10 ? 0 : 2) >"banks.csv"
+            print "N" i ",N" (i + 1) % banks ",1," 1 + (i * 104729) % 9 >"debts.csv"
+            print "N" i ",N" (i + 7) % banks ",2," 1 + (i * 31) % 5 >"debts.csv"
+        }
+    }'
+    first=N0 bank=N1 size=$banks tries=$((3 * banks))
+fi
+cat >scenarios.toml <<END
 [[scenario]]
 name = "as it is"
 
@@ -21,9 +42,9 @@ name = "half"
 cut = 500
 
 [[scenario]]
-name = "A loses all"
+name = "the first loses all"
 [[scenario.loss]]
-bank = "A"
+bank = "$first"
 amount = 7
 END
 files="--banks banks.csv --debts debts.csv"
@@ -41,11 +62,11 @@ jobs_of() {
             echo "$1 $files --workers 1"
             echo "$1 $files --workers 2"
             ;;
-        rescue) echo "rescue $files --bank B" ;;
+        rescue) echo "rescue $files --bank=$bank" ;;
         costs) echo "costs $files --keep 500" ;;
         stress) echo "stress $files --scenarios scenarios.toml" ;;
         replay) echo "replay $files --journal journal.csv" ;;
-        gen) echo "gen --seed 7 --size 10 --tries 30" ;;
+        gen) echo "gen --seed 7 --size $size --tries $tries" ;;
         *) echo "$1 $files" ;;
     esac
 }

@@ -6,6 +6,7 @@ at once, and the tool ends with 130.
 """
 import argparse
 import concurrent.futures
+import contextlib
 import json
 import os
 import pathlib
@@ -15,6 +16,8 @@ import sys
 import tempfile
 import threading
 from collections import namedtuple
+
+import files
 
 ROOT = pathlib.Path(__file__).resolve().parents[1]
 TOOL = pathlib.Path(sys.argv[0]).name
@@ -169,18 +172,21 @@ def words_of(asked):
     return [f"--banks={asked.banks}", f"--debts={asked.debts}"]
 
 
-def network_of(asking, files):
+def network_of(asking, words):
     """The network as `clearing check` prints it."""
-    _, banks, debts = asking.answer(["check", *files]).decode().removesuffix("\n").split("\n\n")
-    banks = [line.split(",") for line in banks.split("\n")[1:]]
-    debts = [line.split(",") for line in debts.split("\n")[1:]]
-    return Network(
-        [bank[0] for bank in banks],
-        [int(bank[1]) for bank in banks],
-        [bank[2] for bank in banks],
-        [int(bank[3]) if len(bank) == 4 else 0 for bank in banks],
-        [(debtor, creditor, int(rank), int(claim)) for debtor, creditor, rank, claim in debts],
-    )
+    try:
+        _, banks, debts = asking.answer(["check", *words]).decode().removesuffix("\n").split("\n\n")
+        banks = [line.split(",") for line in banks.split("\n")[1:]]
+        debts = [line.split(",") for line in debts.split("\n")[1:]]
+        return Network(
+            [bank[0] for bank in banks],
+            [int(bank[1]) for bank in banks],
+            [bank[2] for bank in banks],
+            [int(bank[3]) if len(bank) == 4 else 0 for bank in banks],
+            [(debtor, creditor, int(rank), int(claim)) for debtor, creditor, rank, claim in debts],
+        )
+    except (ValueError, IndexError) as fault:
+        raise Failed(f"{program()} did not print what `clearing check` does") from fault
 
 
 def scenario_text(cut, losses):
@@ -204,7 +210,7 @@ def scenario_groups(texts):
         yield part
 
 
-def stress(asking, folder, files, texts, take, what):
+def stress(asking, folder, words, texts, take, what):
     """What `take` makes of the table of defaults of each scenario, in their order; it gets the lines of the banks."""
     groups = list(scenario_groups(texts))
 
@@ -212,7 +218,7 @@ def stress(asking, folder, files, texts, take, what):
         handle, name = tempfile.mkstemp(suffix=".toml", dir=folder)
         with open(handle, "wb") as file:
             file.writelines(texts[number] for number in group)
-        output = asking.answer(["stress", *files, "--scenarios", name, "--workers", "1"])
+        output = asking.answer(["stress", *words, "--scenarios", name, "--workers", "1"])
         os.unlink(name)
         made = [take(lines) for lines in tables_of(output)]
         if len(made) != len(group):
@@ -242,10 +248,13 @@ def standing_of(line):
     return Standing(int(fields[1]), outside, *map(int, fields[-4:-1]), fields[-1].decode())
 
 
-def defaults_of(asking, files):
+def defaults_of(asking, words):
     """How the banks stand, by `clearing defaults`."""
-    output = asking.answer(["defaults", *files, "--workers", "1"])
-    return next(tables_of(output))
+    output = asking.answer(["defaults", *words, "--workers", "1"])
+    table = next(tables_of(output), None)
+    if table is None:
+        raise Failed(f"{program()} did not print what `clearing defaults` does")
+    return table
 
 
 # Files.
@@ -271,24 +280,39 @@ def same_file(one, other):
 
 
 def write_whole(name, write):
-    """A file that is there whole or not at all: `write` gets the name of another file beside it, which then takes its place."""
-    folder, base = os.path.split(os.path.abspath(name))
-    try:
+    """A file that is there whole or not at all: `write` gets the name of another file beside it, which then takes its place. A stream or
+    a device, such as /dev/stdout, stays in its place and takes the content."""
+    if files.is_stream(name):
+        with tempfile.TemporaryDirectory() as folder, told(name):
+            part = os.path.join(folder, os.path.basename(name))
+            write(part)
+            with open(name, "ab") as file:
+                file.write(pathlib.Path(part).read_bytes())
+        return
+    place = os.path.realpath(name)
+    folder, base = os.path.split(place)
+    with told(name):
         handle, part = tempfile.mkstemp(prefix=".part-", suffix=os.path.splitext(base)[1], dir=folder)
-    except OSError as fault:
-        raise Failed(f"cannot write {name}: {fault.strerror}") from fault
     os.close(handle)
     try:
-        write(part)
-        mask = os.umask(0)
-        os.umask(mask)
-        os.chmod(part, 0o666 & ~mask)
-        os.replace(part, name)
-    except BaseException as fault:
+        with told(name):
+            write(part)
+            mask = os.umask(0)
+            os.umask(mask)
+            os.chmod(part, 0o666 & ~mask)
+            os.replace(part, place)
+    except BaseException:
         os.unlink(part)
-        if isinstance(fault, (OSError, ValueError)):
-            raise Failed(f"cannot write {name}: {getattr(fault, 'strerror', None) or fault}") from fault
         raise
+
+
+@contextlib.contextmanager
+def told(name):
+    """A fault becomes a message with the name of the file."""
+    try:
+        yield
+    except (OSError, ValueError) as fault:
+        raise Failed(f"cannot write {name}: {getattr(fault, 'strerror', None) or fault}") from fault
 
 
 def write_bytes(name, content):

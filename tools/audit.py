@@ -9,8 +9,8 @@ Out:  a line for each thing looked at: `49 raises lawful`, `nobody can pay more`
       not checked. Where something is wrong the line says where, and the lines that would follow from it are left out.
 
 Ends with 0 where all holds; 1 where payments or defaults are not those of the journal; 2 where the words are not understood; 3 where
-a file cannot be read; 4 where a file is not of its format (its first fault is named as `clearing` names it); 7 where the journal
-is not lawful, or somebody can still pay; 130 at an interrupt.
+a file cannot be read; 4 where a file is not of its format (its first fault is named as `clearing` names it); 5 where the output
+cannot be written; 7 where the journal is not lawful, or somebody can still pay; 130 at an interrupt.
 
 It shares no code with the program or with other tools. What follows is all that it stands on. All numbers are whole units.
 
@@ -43,6 +43,7 @@ import argparse
 import heapq
 import io
 import itertools
+import os
 import re
 import sys
 from collections import namedtuple
@@ -416,8 +417,13 @@ def main():
     if status == 4:
         print(f"audit.py: {lines[0]}", file=sys.stderr)
     else:
-        sys.stdout.buffer.write("".join(each + "\n" for each in lines).encode())
-        sys.stdout.flush()
+        try:
+            sys.stdout.buffer.write("".join(each + "\n" for each in lines).encode())
+            sys.stdout.flush()
+        except OSError as fault:
+            print(f"audit.py: cannot write the output: {fault.strerror}", file=sys.stderr)
+            os.dup2(os.open(os.devnull, os.O_WRONLY), sys.stdout.fileno())
+            return 5
     return status
 
 

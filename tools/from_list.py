@@ -28,21 +28,14 @@ import sheets
 from sheets import Cells, Debt, Faults, Network, Table, Units
 
 
-def parsed():
-    parser = sheets.parser_of(__doc__)
-    parser.add_argument("list", metavar="LIST", help="the list of exposures")
-    parser.add_argument("--table", required=True, metavar="FILE", help="the table of banks")
-    parser.add_argument("--banks", required=True, metavar="FILE", help="the banks file to write")
-    parser.add_argument("--debts", required=True, metavar="FILE", help="the debts file to write")
-    parser.add_argument("--debtor", default="debtor", metavar="NAME", help="the column of who owes")
-    parser.add_argument("--creditor", default="creditor", metavar="NAME", help="the column of who is owed")
-    parser.add_argument("--amount", default="amount", metavar="NAME", help="the column of amounts")
-    parser.add_argument("--class-column", default="class", metavar="NAME", help="the column of classes")
-    parser.add_argument("--sum", action="store_true", help="several lines of one debtor, creditor and class are one debt of their sum")
-    sheets.add_words(parser)
-    words = parser.parse_args()
-    sheets.check_words(parser, words)
-    return words
+def add_own(add):
+    add("list", metavar="LIST", help="the list of exposures")
+    add("--table", required=True, metavar="FILE", help="the table of banks")
+    add("--debtor", default="debtor", metavar="NAME", help="the column of who owes")
+    add("--creditor", default="creditor", metavar="NAME", help="the column of who is owed")
+    add("--amount", default="amount", metavar="NAME", help="the column of amounts")
+    add("--class-column", default="class", metavar="NAME", help="the column of classes")
+    add("--sum", action="store_true", help="several lines of one debtor, creditor and class are one debt of their sum")
 
 
 def check_columns(exposures, table, words, faults):
@@ -141,7 +134,7 @@ def dropped_from(exposures, table, words, faults):
 
 
 def main():
-    words = parsed()
+    words = sheets.words_of(__doc__, add_own)
     faults = Faults("from_list")
     exposures, table = Table(words.list, words, faults, is_list=True), Table(words.table, words, faults)
     check_columns(exposures, table, words, faults)

@@ -28,17 +28,10 @@ import sheets
 from sheets import Cells, Debt, Faults, Network, Table, Units
 
 
-def parsed():
-    parser = sheets.parser_of(__doc__)
-    parser.add_argument("matrix", metavar="MATRIX", help="the matrix of liabilities")
-    parser.add_argument("--banks", required=True, metavar="FILE", help="the banks file to write")
-    parser.add_argument("--debts", required=True, metavar="FILE", help="the debts file to write")
-    parser.add_argument("--table", metavar="FILE", help="a file with the columns that are not banks")
-    parser.add_argument("--columns-owe", action="store_true", help="the bank of a column owes the bank of a row")
-    sheets.add_words(parser)
-    words = parser.parse_args()
-    sheets.check_words(parser, words)
-    return words
+def add_own(add):
+    add("matrix", metavar="MATRIX", help="the matrix of liabilities")
+    add("--table", metavar="FILE", help="a file with the columns that are not banks")
+    add("--columns-owe", action="store_true", help="the bank of a column owes the bank of a row")
 
 
 def check_totals(matrix, table, words, faults):
@@ -91,7 +84,7 @@ def debts_of(matrix, words, cells):
 
 
 def main():
-    words = parsed()
+    words = sheets.words_of(__doc__, add_own)
     faults = Faults("from_matrix")
     matrix = Table(words.matrix, words, faults)
     table = Table(words.table, words, faults) if words.table else matrix

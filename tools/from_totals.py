@@ -73,9 +73,7 @@ def parsed():
     parser.add_argument("--steps", type=number_in(1, 10**9), help="steps of sample before the first network")
     parser.add_argument("--assets", default="assets", metavar="NAME", help="the column of what a bank is owed by banks")
     parser.add_argument("--liabilities", default="liabilities", metavar="NAME", help="the column of what a bank owes to banks")
-    sheets.add_words(parser)
-    words = parser.parse_args()
-    sheets.check_words(parser, words)
+    words = sheets.parsed_by(parser)
     if words.samples and words.method == "entropy":
         parser.error("there is one network of maximum entropy; --samples is for sparse and sample")
     return words

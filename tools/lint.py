@@ -14,8 +14,8 @@ below a header that says something else altogether nothing is looked at.
 
 --scenarios needs Python 3.11 or later.
 
-Ends with 0 where there is no fault, with 1 where there are some, with 2 where the words are not understood, and
-with 3 where a file cannot be read.
+Ends with 0 where there is no fault, with 1 where there are some, with 2 where the words are not understood, with 3
+where a file cannot be read, and with 5 where the output cannot be written.
 """
 import argparse
 import difflib
@@ -625,11 +625,16 @@ def main():
     faults = faults_of(**contents)
     count = {0: "no fault", 1: "1 fault"}.get(len(faults), f"{len(faults):,} faults")
     sys.stdout.reconfigure(encoding="utf-8", errors="backslashreplace")
+    status = 1 if faults else 0
     try:
         print("\n".join([line_of(fault, names) for fault in faults] + [count]), flush=True)
-    except BrokenPipeError:
+    except OSError as error:
+        # A reader who has seen enough is no fault.
+        if not isinstance(error, BrokenPipeError):
+            print(f"lint: cannot write the output: {error.strerror}", file=sys.stderr)
+            status = 5
         os.dup2(os.open(os.devnull, os.O_WRONLY), sys.stdout.fileno())
-    sys.exit(1 if faults else 0)
+    sys.exit(status)
 
 
 if __name__ == "__main__":

@@ -155,5 +155,5 @@ done=0 failed=0
 for name in $(all_jobs | cut -f 1); do
     if [ -f "$folder/$name.out" ] && [ -f "$folder/$name.job" ]; then done=$((done + 1)); else failed=$((failed + 1)); fi
 done
-echo "$done done, $failed failed"
+echo "$done done, $failed failed" || exit 1
 [ "$failed" -eq 0 ]

@@ -4,6 +4,7 @@ import argparse
 import codecs
 import csv
 import io
+import os
 import re
 import sys
 import unicodedata
@@ -527,7 +528,11 @@ def write(tool, outputs, inputs, told):
         sys.exit(f"{tool}: {refused}")
     stream = sys.stderr if any(files.is_stream(name) for name, _ in outputs) else sys.stdout
     stream.reconfigure(encoding="utf-8", errors="backslashreplace")
-    print(told, end="", file=stream, flush=True)
+    try:
+        print(told, end="", file=stream, flush=True)
+    except OSError as fault:
+        os.dup2(os.open(os.devnull, os.O_WRONLY), stream.fileno())
+        sys.exit(f"{tool}: cannot write the output: {fault.strerror}")
 
 
 # Words
@@ -590,9 +595,22 @@ def add_words(parser):
     add("--skip", type=count_in, default=0, metavar="N", help="lines above the header that are passed over (0)")
 
 
-def check_words(parser, words):
+def words_of(doc, add_own):
+    """The words of a tool that makes the two files of a sheet: its own, the files to write, and what all tools for sheets take."""
+    parser = parser_of(doc)
+    add_own(parser.add_argument)
+    parser.add_argument("--banks", required=True, metavar="FILE", help="the banks file to write")
+    parser.add_argument("--debts", required=True, metavar="FILE", help="the debts file to write")
+    return parsed_by(parser)
+
+
+def parsed_by(parser):
+    """The words, among them those that all tools for sheets take."""
+    add_words(parser)
+    words = parser.parse_args()
     if words.decimal and words.decimal == words.thousands:
         parser.error("--decimal and --thousands are one sign")
+    return words
 
 
 def banks_of(table, names, words, cells):

@@ -23,9 +23,9 @@ import argparse
 import os
 import pathlib
 import sys
-from decimal import Context, Decimal, Inexact, InvalidOperation, localcontext
 
 import files
+import units
 from texts import Refused, parsed, read_result
 
 AMOUNTS = set(
@@ -58,41 +58,27 @@ def csv_of(table, as_amount):
     return "".join(",".join(row) + "\n" for row in [table.columns, *zip(*columns)])
 
 
-def unit_in(word):
-    try:
-        unit = Decimal(word)
-    except InvalidOperation:
-        unit = Decimal(0)
-    if not (unit.is_finite() and unit > 0):
-        raise argparse.ArgumentTypeError(f"{word!r} is not a number above 0")
-    return unit
-
-
 def main():
     summary, _, rest = __doc__.partition("\n\n")
     parser = argparse.ArgumentParser(
         description=summary, epilog=rest, formatter_class=argparse.RawDescriptionHelpFormatter, allow_abbrev=False
     )
     parser.add_argument("output", metavar="OUTPUT", help="what `clearing` printed; `-` is standard input")
-    parser.add_argument("--unit", type=unit_in, help="what a unit of account is worth")
+    units.add_unit(parser)
     parser.add_argument("--folder", help="the folder of the tables, which is made where it is not there")
     words = parser.parse_args()
     is_input = words.output == "-"
     path = pathlib.Path("output" if is_input else words.output)
     folder = path.parent if words.folder is None else pathlib.Path(words.folder)
-    as_amount = (lambda units: f"{units * words.unit:f}") if words.unit else str
+    as_amount = units.amount_by(words.unit)
     try:
-        with localcontext(Context(prec=100, traps=[Inexact, InvalidOperation])):
-            tables = {
-                folder / f"{path.stem}-{name}.csv": csv_of(table, as_amount)
-                for name, table in result_of(words.output).tables().items()
-            }
+        tables = {
+            folder / f"{path.stem}-{name}.csv": csv_of(table, as_amount) for name, table in result_of(words.output).tables().items()
+        }
         files.write_all(tables, [] if is_input else [words.output])
         sys.stdout.buffer.write(b"".join(os.fsencode(name) + b"\n" for name in tables))
         sys.stdout.flush()
-    except Inexact:
-        sys.exit(f"tidy: amounts of the unit {words.unit} have more digits than are kept")
-    except (Refused, files.Refused) as fault:
+    except (Refused, files.Refused, units.TooLong) as fault:
         sys.exit(f"tidy: {fault}")
     except OSError as fault:
         sys.exit(f"tidy: cannot write the output: {fault.strerror}")

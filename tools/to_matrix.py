@@ -15,9 +15,9 @@ Ends with 0, or with 1 and a message where a file is not as it should be, or wit
 import argparse
 import csv
 import sys
-from decimal import Decimal, InvalidOperation
 
 import files
+import units
 
 BANKS = (["name", "cash", "rule"], ["name", "cash", "rule", "outside"])
 DEBTS = (["debtor", "creditor", "class", "claim"],)
@@ -102,16 +102,6 @@ def matrix_of(words, as_amount):
         yield [debtor, *(as_amount(cells.get((debtor, creditor), 0)) for creditor in banks), *columns]
 
 
-def unit_in(word):
-    try:
-        unit = Decimal(word)
-    except InvalidOperation:
-        unit = Decimal(0)
-    if not (unit.is_finite() and unit > 0):
-        raise argparse.ArgumentTypeError(f"{word!r} is not a number above 0")
-    return unit
-
-
 def main():
     summary, _, rest = __doc__.partition("\n\n")
     parser = argparse.ArgumentParser(
@@ -121,19 +111,18 @@ def main():
     parser.add_argument("--debts", required=True, metavar="FILE", help="the debts file")
     parser.add_argument("--payments", metavar="FILE", help="what `clear` or `central` printed")
     parser.add_argument("--class", dest="class_", type=int, choices=range(1, 10), help="one class alone")
-    parser.add_argument("--unit", type=unit_in, help="what a unit of account is worth")
+    units.add_unit(parser)
     parser.add_argument("--out", metavar="FILE", help="the file to write, in place of standard output")
     words = parser.parse_args()
-    as_amount = (lambda units: f"{units * words.unit:f}") if words.unit else str
-    text = "".join(",".join(record) + "\n" for record in matrix_of(words, as_amount))
     try:
+        text = "".join(",".join(record) + "\n" for record in matrix_of(words, units.amount_by(words.unit)))
         if words.out:
             files.write_all({words.out: text}, [words.banks, words.debts, words.payments])
         else:
             sys.stdout.buffer.write(text.encode())
             sys.stdout.flush()
-    except files.Refused as refused:
-        fail(refused)
+    except (files.Refused, units.TooLong) as fault:
+        fail(fault)
     except OSError as error:
         fail(f"cannot write the output: {error.strerror}")
 

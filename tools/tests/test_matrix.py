@@ -158,6 +158,15 @@ class Matrix(Case):
         self.refused("from_matrix.py", 1, "also read", self.file("m.csv", ",A,B,C\nA,0,6,4\nB,2,0,8\nC,3,1,0\n"), "--table", table,
                      *names, "--banks", table, "--debts", self.debts)
 
+    def test_amounts_of_a_matrix_in_the_currency_are_exact(self):
+        banks, debts = self.file("b.csv", "name,cash,rule\nA,7,order\nB,0,order\n"), self.file("d.csv", "debtor,creditor,class,claim\nA,B,1,7\n")
+        words = ["--banks", banks, "--debts", debts]
+        self.assertEqual(self.made("to_matrix.py", *words, "--unit", "1000000000000000.000000000000001"),
+                         ",A,B,cash,rule\nA,0.000000000000000,7000000000000000.000000000000007,7000000000000000.000000000000007,order\n"
+                         "B,0.000000000000000,0.000000000000000,0.000000000000000,order\n")
+        for unit, status in (("1." + "1" * 120, 1), ("0", 2), ("inf", 2), ("", 2)):
+            self.refused("to_matrix.py", status, "more digits than are kept" if status == 1 else "not a number above 0", *words, "--unit", unit)
+
     def test_the_smallest_unit_that_keeps_all_limits_is_taken(self):
         sheet = self.file("m.csv", ",A,B,cash\nA,0,45000020,20\nB,12,0,1000000\n")
         self.assertEqual(self.made("from_matrix.py", sheet, "--unit", "auto", *self.files),
