@@ -7,12 +7,13 @@
 # Out:  a line for each crate, lowest first: what was done, seconds, processor seconds, the most memory in MB, and lines of code and of
 #       proofs; and last a line with the sums. Crates below those that are named are built first and not told.
 #
-# Works on a copy of the sources in a temporary folder, one job at a time, and leaves the repository's own work alone. Wants GNU time
-# (Debian's package time).
+# Works on a copy of the sources in a temporary folder, one job at a time, and leaves the repository's own work alone. A check begins
+# with what checks in other checkouts on this machine kept: that is hidden from this run, where mounts of its own are allowed. Else a
+# star marks what was not measured from nothing. Wants GNU time (Debian's package time).
 # Ends with 0, with 1 where a proof fails, and with 2 where the words are not understood.
 case "${1:-}" in
 --help | -h)
-    sed -n '2,12s/^# \{0,1\}//p' "$0"
+    sed -n '2,13s/^# \{0,1\}//p' "$0"
     exit 0
     ;;
 esac
@@ -38,6 +39,17 @@ for word in "$@"; do
 done
 command -v rt >/dev/null 2>&1 || fail "the command rt of the toolchain is not on the path"
 [ -x /usr/bin/time ] || fail "/usr/bin/time is missing (Debian's package time)"
+
+# Kept work is hidden by an empty folder over it, which this run alone sees.
+kept=$(dirname -- "$(dirname -- "$(rt doc 2>/dev/null)")")/rattle-kept
+if [ -z "$BUILD_APART" ] && [ -d "$kept" ]; then
+    for way in --mount "--map-root-user --mount"; do
+        # shellcheck disable=SC2086
+        if unshare $way mount -t tmpfs none "$kept" 2>/dev/null; then
+            exec env BUILD_APART=yes unshare $way sh -c 'mount -t tmpfs none "$1" && shift && exec "$@"' sh "$kept" "$0" "$@"
+        fi
+    done
+fi
 
 # The crates that are named, or all, and those that they stand on, lowest first.
 needed() {
@@ -74,11 +86,13 @@ measured() { # the crate, what is done, whether it is told, and the words of the
         fail "$name: $what"
     }
     [ -n "$tell" ] || return 0
+    if grep -q 'begins with what a check kept' "$work/log"; then what="$what*" begun=yes; fi
     tail -n 1 "$work/time" | awk -v name="$name" -v what="$what" -v code="$(lines rt "$root/crates/$name/src")" \
         -v proofs="$(lines antt "$root/crates/$name/specs" "$root/crates/$name/proofs")" \
         '{ printf "%-14s %-8s %8.1f %9.1f %8d %6d %7d\n", name, what, $1, $2 + $3, $4 / 1024, code, proofs }' | tee -a "$work/table"
 }
 
+begun=
 printf '%-14s %-8s %8s %9s %8s %6s %7s\n' crate what seconds processor MB code proofs
 for name in $(needed); do
     tell=yes
@@ -89,4 +103,5 @@ for name in $(needed); do
     fi
     if grep -q "[: ]$name\( \|$\)" "$work/crates.txt"; then measured "$name" library "$tell" rt lib; fi
 done
+[ -z "$begun" ] || echo "*: begun with what a check in another checkout kept, so not measured from nothing"
 awk '{ seconds += $3; processor += $4 } END { printf "%-14s %-8s %8.1f %9.1f\n", "all", "", seconds, processor }' "$work/table"
