@@ -1,9 +1,10 @@
 #!/bin/sh
 # Where the time of a build goes: how long each crate takes to be proved from nothing, and its library to be made.
 #
-#   bench/build.sh [--tests] [CRATE..]
+#   bench/build.sh [--tests] [--slow N] [CRATE..]
 #
-# In:   crates of crates.txt, or none for all. With --tests the proofs of each crate's tests are measured too.
+# In:   crates of crates.txt, or none for all. With --tests the proofs of each crate's tests are measured too. With --slow N the N
+#       functions and files of lemmas of each crate that took longest are told below its line, with their seconds.
 # Out:  a line for each crate, lowest first: what was done, seconds, processor seconds, the most memory in MB, and lines of code and of
 #       proofs; and last a line with the sums. Crates below those that are named are built first and not told.
 #
@@ -13,7 +14,7 @@
 # Ends with 0, with 1 where a proof fails, and with 2 where the words are not understood.
 case "${1:-}" in
 --help | -h)
-    sed -n '2,13s/^# \{0,1\}//p' "$0"
+    sed -n '2,14s/^# \{0,1\}//p' "$0"
     exit 0
     ;;
 esac
@@ -26,10 +27,17 @@ fail() {
 }
 
 tests=
+slow=
 named=
 for word in "$@"; do
+    if [ "$slow" = next ]; then
+        case $word in '' | *[!0-9]*) fail "--slow takes a number" 2 ;; esac
+        slow=$word
+        continue
+    fi
     case $word in
     --tests) tests=yes ;;
+    --slow) slow=next ;;
     -*) fail "no option $word" 2 ;;
     *)
         grep -q "^$word\( staticlib\)\{0,1\}:" "$root/crates.txt" || fail "no crate $word in crates.txt" 2
@@ -37,6 +45,7 @@ for word in "$@"; do
         ;;
     esac
 done
+[ "$slow" != next ] || fail "--slow takes a number" 2
 command -v rt >/dev/null 2>&1 || fail "the command rt of the toolchain is not on the path"
 [ -x /usr/bin/time ] || fail "/usr/bin/time is missing (Debian's package time)"
 
@@ -92,12 +101,30 @@ measured() { # the crate, what is done, whether it is told, and the words of the
         '{ printf "%-14s %-8s %8.1f %9.1f %8d %6d %7d\n", name, what, $1, $2 + $3, $4 / 1024, code, proofs }' | tee -a "$work/table"
 }
 
+# The parts of a crate that took longest. What a check by one job keeps, a file for each part of each proof, it writes in turn.
+slowest() { # the crate
+    find "$work/crates/$1/out/incremental" -name '*.oantt' -printf '%T@ %f\n' 2>/dev/null | sort -n | awk '
+        {
+            name = $2
+            sub(/^Rattle-[^.]*\./, "", name); sub(/^contracts\./, "", name); sub(/\.oantt$/, "", name)
+            n = split(name, parts, ".")
+            key = parts[1]
+            for (i = 2; i <= n && parts[i] !~ /^(Lts|Proof|Goals|Tie|Answers|Invariants|Code|Symbol|TheLink|Statement|Met|Kinds|Given|Named|Layout|Reads|Key|decls)/; i++)
+                key = key "::" parts[i]
+            if (before) sum[key] += $1 - before
+            before = $1
+        }
+        END { for (key in sum) printf "%.1f %s\n", sum[key], key }' | sort -rn | head -n "$slow" |
+        awk '{ printf "    %-40s %8.1f\n", $2, $1 }'
+}
+
 begun=
 printf '%-14s %-8s %8s %9s %8s %6s %7s\n' crate what seconds processor MB code proofs
 for name in $(needed); do
     tell=yes
     if [ -n "$named" ]; then case "$named " in *" $name "*) ;; *) tell= ;; esac; fi
     measured "$name" proofs "$tell" rt check --jobs 1
+    if [ -n "$slow" ] && [ -n "$tell" ]; then slowest "$name"; fi
     if [ -n "$tests" ] && [ -n "$tell" ] && grep -rq '#\[test\]' "$work/crates/$name/src"; then
         measured "$name" tests "$tell" rt check --test --jobs 1
     fi

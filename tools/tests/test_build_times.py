@@ -11,6 +11,12 @@ TOOLCHAIN = """#!/bin/sh
 if [ "$*" = doc ]; then echo "$KIT/START-HERE.md"; exit; fi
 if [ "$*" = "check --jobs 1" ] && [ -e "$KIT/../rattle-kept/work" ]; then echo "rt: begins with what a check kept in /elsewhere"; fi
 echo "$(basename "$PWD"): $*" >>"$CALLS"
+if [ "$*" = "check --jobs 1" ]; then
+    mkdir -p out/incremental/kept
+    for part in Rule:10 walk.first.Lts:12 walk.first.Proof.decls:15 walk.second.Lts.decls:16 contracts.walk.second.Key:18; do
+        touch -d "@$((1000000000 + ${part#*:}))" "out/incremental/kept/Rattle-low-proofs.${part%:*}.oantt"
+    done
+fi
 echo "$PWD" >>"$CALLS.places"
 [ "$(basename "$PWD") $*" != "$FAULTY" ] || { echo "a goal is left"; exit 1; }
 """
@@ -52,6 +58,14 @@ class BuildTimes(Case):
         done, calls = self.run_with("top")
         self.assertEqual(calls, ["low: check --jobs 1", "low: lib", "top: check --jobs 1"])
         self.assertEqual([line.split()[0] for line in done.stdout.splitlines()], ["crate", "top", "all"])
+
+    def test_the_slowest_parts_are_told(self):
+        done, _ = self.run_with("--slow", "2", "low")
+        self.assertEqual((done.returncode, done.stderr), (0, ""))
+        self.assertEqual([line.split() for line in done.stdout.splitlines()[2:4]], [["walk::first", "5.0"], ["walk::second", "3.0"]])
+        self.assertEqual(len(done.stdout.splitlines()), 6)
+        for words in (["--slow"], ["--slow", "low"]):
+            self.assertEqual(self.run_with(*words)[0].returncode, 2)
 
     def test_what_is_begun_with_kept_work_is_marked(self):
         for name in ("kit", "rattle-kept/work"):
