@@ -26,6 +26,7 @@ case "$*" in
     for name in low left right top clear_main; do
         if [ "$name" = top ]; then sleep "${LONG:-0}"; fi
         echo "== $name"
+        if [ "$name" = left ]; then echo "rt: left: begins with what a check kept in /elsewhere/crates/left"; fi
         prove "$name"
     done ;;
 "lib --jobs "*) prove "$(basename "$PWD")" ;;
