@@ -8,7 +8,15 @@ import unittest
 from common import ROOT, Case
 
 TOOLCHAIN = """#!/bin/sh
+if [ "$*" = doc ]; then echo "$KIT/START-HERE.md"; exit; fi
+if [ "$*" = "check --jobs 1" ] && [ -e "$KIT/../rattle-kept/work" ]; then echo "rt: begins with what a check kept in /elsewhere"; fi
 echo "$(basename "$PWD"): $*" >>"$CALLS"
+if [ "$*" = "check --jobs 1" ]; then
+    mkdir -p out/incremental/kept
+    for part in Rule:10 walk.first.Lts:12 walk.first.Proof.decls:15 walk.second.Lts.decls:16 contracts.walk.second.Key:18; do
+        touch -d "@$((1000000000 + ${part#*:}))" "out/incremental/kept/Rattle-low-proofs.${part%:*}.oantt"
+    done
+fi
 echo "$PWD" >>"$CALLS.places"
 [ "$(basename "$PWD") $*" != "$FAULTY" ] || { echo "a goal is left"; exit 1; }
 """
@@ -29,9 +37,10 @@ class BuildTimes(Case):
             (self.root / "crates" / name / "out").mkdir()
             (self.root / "crates" / name / "src/lib.rt").write_text("#[test]\nfn shows() {}\n" if name == "top" else "\n")
 
-    def run_with(self, *words, faulty=""):
+    def run_with(self, *words, faulty="", **more):
         self.calls = self.file("calls", "")
-        environment = {**os.environ, "CALLS": str(self.calls), "FAULTY": faulty, "PATH": f"{self.folder}/bin:/usr/bin:/bin"}
+        environment = {**os.environ, "CALLS": str(self.calls), "FAULTY": faulty, "KIT": str(self.folder / "kits/kit"),
+                       "PATH": f"{self.folder}/bin:/usr/bin:/bin", **more}
         done = subprocess.run([str(self.root / "bench/build.sh"), *words], env=environment, stdin=subprocess.DEVNULL,
                               capture_output=True, encoding="utf-8")
         return done, self.calls.read_text().splitlines()
@@ -49,6 +58,31 @@ class BuildTimes(Case):
         done, calls = self.run_with("top")
         self.assertEqual(calls, ["low: check --jobs 1", "low: lib", "top: check --jobs 1"])
         self.assertEqual([line.split()[0] for line in done.stdout.splitlines()], ["crate", "top", "all"])
+
+    def test_the_slowest_parts_are_told(self):
+        done, _ = self.run_with("--slow", "2", "low")
+        self.assertEqual((done.returncode, done.stderr), (0, ""))
+        self.assertEqual([line.split() for line in done.stdout.splitlines()[2:4]], [["walk::first", "5.0"], ["walk::second", "3.0"]])
+        self.assertEqual(len(done.stdout.splitlines()), 6)
+        for words in (["--slow"], ["--slow", "low"]):
+            self.assertEqual(self.run_with(*words)[0].returncode, 2)
+
+    def test_what_is_begun_with_kept_work_is_marked(self):
+        for name in ("kit", "rattle-kept/work"):
+            (self.folder / "kits" / name).mkdir(parents=True)
+        done, _ = self.run_with("low", BUILD_APART="yes")
+        self.assertEqual(done.stdout.splitlines()[1].split()[:2], ["low", "proofs*"])
+        self.assertIn("\n*: begun with what a check in another checkout kept", done.stdout)
+
+    @unittest.skipIf(subprocess.run(["unshare", "--map-root-user", "--mount", "true"], capture_output=True).returncode,
+                     "mounts of one's own are not allowed here")
+    def test_kept_work_is_hidden(self):
+        for name in ("kit", "rattle-kept/work"):
+            (self.folder / "kits" / name).mkdir(parents=True)
+        done, _ = self.run_with("low")
+        self.assertEqual((done.returncode, done.stdout.splitlines()[1].split()[:2]), (0, ["low", "proofs"]), done.stderr)
+        self.assertNotIn("*", done.stdout)
+        self.assertTrue((self.folder / "kits/rattle-kept/work").is_dir())
 
     def test_a_proof_that_fails_ends_it(self):
         done, _ = self.run_with(faulty="low check --jobs 1")

@@ -11,23 +11,32 @@ import unittest
 from common import ROOT, Case
 
 TOOLCHAIN = """#!/bin/sh
-echo "$*" >>"$CALLS"
-root=$(cd "$(dirname "$0")/.." && pwd)
+echo "$(basename "$PWD"): $*" >>"$CALLS"
+prove() {
+    stamp=$REPOSITORY/crates/$1/out/rlib/stamp
+    if [ -f "$stamp" ]; then return; fi
+    sleep "${SLOW:-0}"
+    mkdir -p "${stamp%/*}"
+    : >"$stamp"
+    echo "crate $1: modules loaded=0 checked=1"
+    echo "logic=proved functions=1"
+}
 case "$*" in
 "all check --jobs "*)
-    for name in low clear_main; do
-        sleep "${SLOW:-0}"
-        mkdir -p "$REPOSITORY/crates/$name/out/rlib"
-        : >"$REPOSITORY/crates/$name/out/rlib/stamp"
-        echo "crate $name: modules loaded=0 checked=1"
-        echo "logic=proved functions=1"
+    for name in low left right top clear_main; do
+        if [ "$name" = top ]; then sleep "${LONG:-0}"; fi
+        echo "== $name"
+        if [ "$name" = left ]; then echo "rt: left: begins with what a check kept in /elsewhere/crates/left"; fi
+        prove "$name"
     done ;;
+"lib --jobs "*) prove "$(basename "$PWD")" ;;
 "run -- check "*)
     [ -z "$FAULTY" ] || exit 1
     { echo '#!/bin/sh'; echo 'echo "$*" here'; sed 's/^/# /' src/main.rt; } >out/clear_main
     chmod +x out/clear_main ;;
 esac
 """
+NAMES = ("low", "left", "right", "top", "clear_main")
 
 
 class Launcher(Case):
@@ -40,11 +49,11 @@ class Launcher(Case):
         self.rt.write_text(TOOLCHAIN)
         self.rt.chmod(0o755)
         self.root = self.folder / "a folder"
-        for name in ("low", "clear_main"):
+        for name in NAMES:
             for part in ("src", "specs", "proofs", "out"):
                 (self.root / "crates" / name / part).mkdir(parents=True)
             (self.root / "crates" / name / "src/main.rt").write_text(f"fn {name}() {{}}\n")
-        (self.root / "crates.txt").write_text("low:\nclear_main: low\n")
+        (self.root / "crates.txt").write_text("low:\nleft: low # and no other\nright: low\ntop: left right\nclear_main: top\n")
         shutil.copy(ROOT / "clearing", self.root / "clearing")
 
     def run_at(self, root, *words, path=True, **more):
@@ -72,10 +81,32 @@ class Launcher(Case):
 
     def test_it_is_built_once(self):
         self.built()
-        self.assertIn("all check --jobs 2", self.calls.read_text())
         # And then it needs no toolchain.
         self.quiet(self.root, path=False)
         self.assertEqual(self.builds(), 1)
+
+    def steps(self):
+        return [line.removesuffix(" -- check --banks data/banks.csv --debts data/debts.csv") for line in self.calls.read_text().splitlines()]
+
+    def test_a_crate_that_all_others_wait_for_has_all_jobs(self):
+        began = time.monotonic()
+        # Side by side the last library would be begun with one job, and take long: it is gone on with by itself.
+        done = self.run_at(self.root, LONG="60")
+        self.assertEqual(done.returncode, 0, done.stderr)
+        self.assertEqual(self.steps(), ["low: lib --jobs 2", "a folder: all check --jobs 2", "top: lib --jobs 2", "clear_main: run"])
+        self.assertLess(time.monotonic() - began, 30)
+
+    def test_one_job_is_enough_for_one_processor(self):
+        self.run_at(self.root, CLEARING_JOBS="1")
+        self.assertEqual(self.steps(), ["clear_main: run"])
+
+    def test_what_an_earlier_build_proved_is_counted(self):
+        for name in ("low", "left"):
+            (self.root / "crates" / name / "out/rlib").mkdir()
+            (self.root / "crates" / name / "out/rlib/stamp").write_text("")
+        done = self.run_at(self.root, LONG="60", SLOW="2")
+        self.assertIn("\nclearing: 3 of 5 crates are proved", done.stderr)
+        self.assertNotIn("logic=", done.stderr)
 
     def test_a_source_that_changes_is_built(self):
         source = self.built() / "crates/low/src/main.rt"

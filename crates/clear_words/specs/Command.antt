@@ -20,13 +20,17 @@ plain =
     on_top (λ s. record s { no_binary_name = true; disable_help_flag = true })
     (new_app (codes "clearing"))
 
+-- the command with the task alone
+abbrev pub of_task : App
+of_task = with_rule plain (task_argument (codes "task"))
+
 -- a command with one more option
 abbrev pub with_option : App → JobOption → App
 with_option app o = with_rule app (option_argument (name_of o))
 
 -- the task and the options
 unfoldable pub command : App
-command = fold with_option (with_rule plain (task_argument (codes "task"))) all_options
+command = fold with_option of_task all_options
 
 -- the command takes the words: it finds no fault in them
 abbrev pub is_taken : List Text → Bool

@@ -3,3 +3,4 @@ pub mod Lowering
 pub mod Walk
 pub mod Progress
 pub mod Cases
+pub mod Banks

@@ -1,6 +1,7 @@
 ghost use Rattle.clr_net.specs.Amounts.{IsAtMost};
 ghost use Rattle.clr_net.specs.Claims.{with_claims as net_with_claims};
 ghost use Rattle.clr_net.specs.Claims.{all_claims};
+ghost use Rattle.compress.specs.Banks.{banks_alone as without_debts};
 ghost use Rattle.std.specs.Prelude.{◌≡◌, IfOk, length};
 
 use clr_net::{BankId, Debt, DebtId, Mem, Network};
@@ -15,19 +16,27 @@ pub fn with_claims(alloc: Global, net: &Network, claims: &[u64]) -> Result<Netwo
     requires within { IsAtMost claims.now (all_claims net.now) }
     ensures { IfOk result (λ made. made ≡ net_with_claims net.now claims.now) }
 {
-    let mut made = Network::empty(alloc);
-    for bank in 0..net.banks() {
-        let bank = net.bank(BankId(bank)).copy(alloc)?;
-        if made.add_bank(bank).is_err() {
-            return Err(Mem);
-        }
-    }
+    let mut made = banks_alone(alloc, net)?;
     for number in 0..net.debts() {
         let claim = claims[number as usize];
         made.add_debt(Debt {
             claim,
             ..net.debt(DebtId(number))
         })?;
+    }
+    Ok(made)
+}
+
+// A network of the same banks, with no debt between them.
+fn banks_alone(alloc: Global, net: &Network) -> Result<Network, Mem>
+    ensures { IfOk result (λ made. made ≡ without_debts net.now) }
+{
+    let mut made = Network::empty(alloc);
+    for bank in 0..net.banks() {
+        let bank = net.bank(BankId(bank)).copy(alloc)?;
+        if made.add_bank(bank).is_err() {
+            return Err(Mem);
+        }
     }
     Ok(made)
 }

@@ -67,13 +67,17 @@ array_or_none (Some value) = as_array value
 abbrev pub losses_in : Members → Option Items
 losses_in table = array_or_none (get_member (codes "loss") table)
 
+-- the parts at the keys of a scenario's table
+abbrev pub parts_at : Members → Option Parts
+parts_at table = option_and_then (λ name. option_and_then (λ cut. option_and_then (λ losses.
+    if are_losses losses then Some (record { name = name; cut = cut; losses = losses }) else None)
+    (losses_in table)) (cut_in table)) (text_at (codes "name") table)
+
 -- the parts of the table of a scenario, which has no other key
 abbrev pub parts_in : Members → Option Parts
 parts_in table =
     if has_only (codes "name" ∷ codes "cut" ∷ codes "loss" ∷ []) table
-    then option_and_then (λ name. option_and_then (λ cut. option_and_then (λ losses.
-    if are_losses losses then Some (record { name = name; cut = cut; losses = losses }) else None)
-    (losses_in table)) (cut_in table)) (text_at (codes "name") table)
+    then parts_at table
     else None
 
 -- the same of a value, if it is such a table

@@ -3,6 +3,7 @@ ghost use Rattle.std.specs.List.{list_any};
 ghost use Rattle.std.specs.Str.{bytes_eq};
 ghost use Rattle.stress.specs.Shape.{are_losses as all_are_losses, as_loss, as_parts, cut_in};
 ghost use Rattle.stress.specs.Shape.{has_only as has_only_of, integer_at as integer_in, losses_in};
+ghost use Rattle.stress.specs.Shape.{parts_at};
 ghost use Rattle.stress.specs.Shape.{text_at as text_in, up_to as number_up_to};
 ghost use Rattle.stress.specs.Views.{loss_seen, parts_seen};
 ghost use Rattle.toml.specs.View.{items_view, table_view, view};
@@ -22,16 +23,25 @@ pub(crate) fn parts_of(value: &Value) -> Option<Parts<'_>>
     ensures { option_map parts_seen result ≡ as_parts (view value.now) }
 {
     let table = value.as_table()?;
-    if !has_only(table, &["name", "cut", "loss"]) {
-        return None;
+    if has_only(table, &["name", "cut", "loss"]) {
+        parts_in(table)
+    } else {
+        None
     }
+}
+
+// The parts at the keys of a scenario's table.
+fn parts_in(table: &Table) -> Option<Parts<'_>>
+    ensures { option_map parts_seen result ≡ parts_at (table_view table.now) }
+{
     let name = text_at(table, "name")?;
     let cut = cut_of(table)?;
     let losses = losses_of(table)?;
-    if !are_losses(losses) {
-        return None;
+    if are_losses(losses) {
+        Some(Parts { name, cut, losses })
+    } else {
+        None
     }
-    Some(Parts { name, cut, losses })
 }
 
 // The cut of a table, 0 where it has none.

@@ -32,25 +32,41 @@ pub fn upper(alloc: Global, net: &Network) -> Result<Upper, Mem>
 {
     let debts = net.debts() as usize;
     let mut paid = Amounts::zeros(alloc, debts)?;
-    let mut next = Amounts::zeros(alloc, debts)?;
     let mut waves = Amounts::zeros(alloc, net.banks() as usize)?;
+    descend_in_room(alloc, net, paid.as_mut_slice(), waves.as_mut_slice())?;
+    Ok(Upper {
+        greatest: paid,
+        waves,
+    })
+}
+
+// Takes the room that the rounds need beside the two lists that are written, and makes them.
+fn descend_in_room(
+    alloc: Global,
+    net: &Network,
+    paid: &mut [u64],
+    waves: &mut [u64],
+) -> Result<(), Mem>
+    requires paid { length paid.old ≡ length net.now.debts }
+    requires waves { waves.old ≡ replicate (length net.now.banks) 0 }
+    ensures paid { OnOk result (paid.new ≡ greatest net.now) }
+    ensures waves { OnOk result (waves.new ≡ waves_of net.now) }
+{
+    let mut next = Amounts::zeros(alloc, net.debts() as usize)?;
     let mut scratch = Scratch::of(alloc, net)?;
     // In the first round every bank divides.
     let mut last = Falls::of_all(alloc, net)?;
     let mut falls = Falls::none(alloc, net)?;
     descend(
         net,
-        paid.as_mut_slice(),
+        paid,
         next.as_mut_slice(),
         &mut scratch,
         &mut last,
         &mut falls,
-        waves.as_mut_slice(),
-    );
-    Ok(Upper {
-        greatest: paid,
         waves,
-    })
+    );
+    Ok(())
 }
 
 // Makes rounds from all debts paid in full, up to the first that changes nothing.

@@ -1,8 +1,7 @@
-use Rattle.std.proofs.Common.{◌≡◌, ◌∙◌, ap, ap₂, codes, drop, fold, get_or, rules, sym, true, ℕ}
+use Rattle.std.proofs.Common.{◌≡◌, ◌∙◌, ap, drop, fold, get_or, sym, ℕ}
 use Rattle.std.proofs.Common.{◌<◌, ◌+◌, length}
-use Rattle.clap.specs.Words.{App, app_of, new_app, rule_of, with_rule}
-use Rattle.clap.specs.Simple.{app_of_fields, on_top}
-use Rattle.clear_words.specs.Command.{command, option_argument, plain, task_argument, with_option}
+use Rattle.clap.specs.Words.{App, app_of, with_rule}
+use Rattle.clear_words.specs.Command.{command, of_task, option_argument, with_option}
 use Rattle.clear_words.specs.Options.{all_options, name_of}
 use Rattle.clear_words.specs.declared.option.JobOption.TheVariants as option
 use Rattle.clear_words.proofs.InTurn.{next_left}
@@ -16,25 +15,12 @@ next : (made : App) (i : ℕ) → i < length all_options
 next made i l = ap (fold with_option made) (next_left all_options i option.Banks l)
 
 -- with the task alone, every option is left
-begins : (made : App) → made ≡ with_rule plain (task_argument (codes "task"))
-    → fold with_option made all_options ≡ command
+begins : (made : App) → made ≡ of_task → fold with_option made all_options ≡ command
 unfolding command
 begins made is = ap (λ a. fold with_option a all_options) is
 
 pub loop-job_option-init : goal.loop-job_option-init
-loop-job_option-init c =
-    let unnamed : app_of c.no_binary_name.result
-    ≡ on_top (λ s. record s { no_binary_name = true }) (new_app (codes "clearing")) =
-    ap app_of_fields c.no_binary_name.ensures
-    ∙ ap (on_top (λ s. record s { no_binary_name = true })) c.new.ensures.app in
-    let plain_is : app_of c.disable_help_flag.result ≡ plain =
-    ap app_of_fields c.disable_help_flag.ensures
-    ∙ ap (on_top (λ s. record s { disable_help_flag = true })) unnamed in
-    let task_is : rule_of c.task.result ≡ task_argument (codes "task") = search rules in
-    let with_task : app_of c.in_ok-command.command
-    ≡ with_rule plain (task_argument (codes "task")) =
-    c.in_ok-command.ensures.shape c.task.ensures.local ∙ ap₂ with_rule plain_is task_is in
-    begins (app_of c.in_ok-command.command) with_task
+loop-job_option-init c = begins (app_of c.in_ok-command.command) c.in_ok-command.ensures
 
 pub loop-job_option-preserved : goal.loop-job_option-preserved
 loop-job_option-preserved c =

@@ -1,10 +1,7 @@
 use Rattle.std.proofs.Common.{◌≡◌}
-use Rattle.clr_net.proofs.Copies.{first_banks, first_debts}
+use Rattle.clr_net.proofs.Copies.{first_debts}
 use Rattle.clr_net.specs.Claims.{with_claims}
 use Rattle.compress.proofs.claims.with_claims.Given as goal
-
-abbrev pub invariant-loop-bank : goal.invariant-loop-bank
-invariant-loop-bank l = record { so_far : l.made ≡ first_banks l.net l.bank }
 
 abbrev pub invariant-loop-number : goal.invariant-loop-number
 invariant-loop-number l = record {
