@@ -30,7 +30,7 @@ IsBelowLeast net s = IsAtMost s.paid (least net) × IsAtMost s.sights (least net
 
 -- the master shows the least clearing payments: each bank pays them, and has seen them, and nothing
 -- is left to be seen
-pub record IsSettled (net : Net) (s : Shown) : Type 0 where
+pub record ShowsLeast (net : Net) (s : Shown) : Type 0 where
   pub net_is : s.net ≡ net
   pub master : s.master ≡ true
   pub holds_all : HoldsAll s
@@ -62,7 +62,7 @@ pub record EndsAtRest (net : Net) (plan : Plan) (s t : Shown) (rounds : ℕ) : T
 -- the rounds on a board, from the master that shows s to the one that shows t
 pub record IsDriven (net : Net) (past : List Raise) (plan : Plan) (s t : Shown) (d : Driven)
     : Type 0 where
-  pub settled : IsSettled net t
+  pub settled : ShowsLeast net t
   pub journal : d.journal.raises ≡ ordered (past ++ t.raises)
   pub bounds : InBounds net past d.rounds
   pub seats : t.seats ≡ d.rounds * plan.workers

@@ -54,32 +54,34 @@ returns g c =
     let opened : c.in_ok-board.master.shows ≡ opening net (start_of net past) = c.in_ok-board.ensures.master.1 ∙ ap (opening net) (c.as_slice.ensures.value ∙ c.in_ok-payments.ensures) in
     let made : c.seal-sealed.result.made ≡ length t.raises = ap (λ (r : Sealed). r.made) seal.record_of in
     record {
-      paid = least_paid;
-      verdict = lawful_at_least net journal c.banks.ensures.network belongs.stands (replays ∙ least_paid);
-      lawful = (belongs.stands, belongs.traced);
-      replays = replays;
-      in_order = belongs.in_order;
-      low_stamps = low_stamps;
-      within_limits = within_limits net journal paid c.banks.ensures.network belongs.stands replays least_paid low_stamps;
-      can_go_on = goes_on net into journal belongs;
-      record_is = record {
-        net_is = ap (λ (r : Sealed). r.net) seal.record_of ∙ panel.0;
-        raises = ordered t.raises;
-        journal_is = noted ∙ ap (λ ps. ordered (ps ++ t.raises)) panel.1
-            ∙ after_a_past past t.raises c.requires.past.in_order (subst (λ ps. AreAfter ps t.raises) panel.1 seal.after_past);
-        made = made ∙ sym (length-ordered t.raises);
-        workers = ap (λ (r : Sealed). r.workers) seal.record_of ∙ panel.2;
-        seats = ap (λ (r : Sealed). r.seats) seal.record_of ∙ d.seats;
-      };
-      bounds = record {
-        rounds_in_bounds = d.bounds;
-        visits_by_sweeps = c.in_ok-journal.ensures.few_visits;
-        visits_by_bells = omega (arith, d.visits, seal.few_bells, ap (λ (m : Net). length m.banks) panel.0, made);
-        rounds_by_raises = omega (arith, d.rounds_by_raises, made);
-      };
-      at_rest = record {
-        master = t;
-        rounds_are = subst (λ (s : Shown). EndsAtRest net c.args.plan s t c.in_ok-journal.field-0.rounds) opened d.at_rest;
-        paid_is = d.settled.paid ∙ sym least_paid;
+      settled = record {
+        paid = least_paid;
+        verdict = lawful_at_least net journal c.banks.ensures.network belongs.stands (replays ∙ least_paid);
+        lawful = (belongs.stands, belongs.traced);
+        replays = replays;
+        in_order = belongs.in_order;
+        low_stamps = low_stamps;
+        within_limits = within_limits net journal paid c.banks.ensures.network belongs.stands replays least_paid low_stamps;
+        can_go_on = goes_on net into journal belongs;
+        record_is = record {
+          net_is = ap (λ (r : Sealed). r.net) seal.record_of ∙ panel.0;
+          raises = ordered t.raises;
+          journal_is = noted ∙ ap (λ ps. ordered (ps ++ t.raises)) panel.1
+              ∙ after_a_past past t.raises c.requires.past.in_order (subst (λ ps. AreAfter ps t.raises) panel.1 seal.after_past);
+          made = made ∙ sym (length-ordered t.raises);
+          workers = ap (λ (r : Sealed). r.workers) seal.record_of ∙ panel.2;
+          seats = ap (λ (r : Sealed). r.seats) seal.record_of ∙ d.seats;
+        };
+        bounds = record {
+          rounds_in_bounds = d.bounds;
+          visits_by_sweeps = c.in_ok-journal.ensures.few_visits;
+          visits_by_bells = omega (arith, d.visits, seal.few_bells, ap (λ (m : Net). length m.banks) panel.0, made);
+          rounds_by_raises = omega (arith, d.rounds_by_raises, made);
+        };
+        at_rest = record {
+          master = t;
+          rounds_are = subst (λ (s : Shown). EndsAtRest net c.args.plan s t c.in_ok-journal.field-0.rounds) opened d.at_rest;
+          paid_is = d.settled.paid ∙ sym least_paid;
+        };
       };
     }
