@@ -11,7 +11,7 @@ mod reading;
 mod replaying;
 mod verdict;
 
-pub use gathering::gather;
+pub use gathering::{gather, in_order};
 pub use printing::print_journal;
 pub use reading::read_journal;
 pub use replaying::replay;
