@@ -8,7 +8,7 @@ use clear_core::{Journal, Raise};
 use clr_edge::Gate;
 use clr_net::{MAX_BANKS, Mem, Network};
 use pay_words::{Board, PaySeat};
-use raise_journal::gather;
+use raise_journal::in_order;
 use std::alloc::Global;
 use std::thread::Threads;
 
@@ -63,6 +63,7 @@ fn drive_on<R: Threads + Sync, G: Gate + Sync>(
         (IsDriven net.now past.now plan master.old.shows master.new.shows) }
 {
     let mut journal = Journal::empty(alloc);
+    journal.reserve(past.len())?;
     for raise in past {
         journal.push(*raise)?;
     }
@@ -93,7 +94,7 @@ fn drive_on<R: Threads + Sync, G: Gate + Sync>(
             break;
         }
     }
-    let journal = gather(alloc, &[journal])?;
+    let journal = in_order(journal)?;
     Ok(Driven {
         journal,
         rounds,

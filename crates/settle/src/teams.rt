@@ -107,6 +107,7 @@ fn close_workers(
 fn add_all(journal: &mut Journal, raises: &[Raise]) -> Result<(), Mem>
     ensures { OnOk result (journal.new.raises ≡ journal.old.raises ++ raises.now) }
 {
+    journal.reserve(raises.len())?;
     for raise in raises {
         journal.push(*raise)?;
     }

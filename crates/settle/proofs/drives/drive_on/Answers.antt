@@ -1,4 +1,4 @@
-use Rattle.std.proofs.Common.{◌≡◌, take_all, refl, sym, ap, ◌∙◌, subst, arith, append-nil}
+use Rattle.std.proofs.Common.{◌≡◌, take_all, refl, sym, ap, ◌∙◌, subst, arith}
 use Rattle.clr_net.specs.Amounts.{IsAtMost}
 use Rattle.clr_net.specs.Net.{Net}
 use Rattle.clear_core.specs.Clearing.{least}
@@ -66,7 +66,7 @@ returns-clause-driven g c =
     c.loop-rounds.rounds c.loop-rounds.visits c.in_ok-units.units c.in_ok-units.more c.in_ok-units.ensures.between c.in_ok-units.ensures.round c.in_ok-units.ensures.noted c.if-units-eq0.true c.loop-rounds.invariant.driven in
     record {
       settled = h.settled;
-      journal = c.in_ok-journal.ensures ∙ ap ordered (append-nil c.round.new.journal.raises ∙ h.journal_is);
+      journal = c.in_ok-journal.ensures ∙ ap ordered h.journal_is;
       bounds = record { some_round = h.some_round; few_rounds = h.few_rounds };
       seats = h.seats;
       visits = omega (arith, h.taken, ap (λ (u : Shown). u.taken) c.requires.ready.opened);
