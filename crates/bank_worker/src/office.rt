@@ -1,12 +1,15 @@
 ghost use Rattle.bank_worker.specs.Offices.{IsOfficeFor, banks_of_worker};
 ghost use Rattle.bank_worker.specs.Rings.{AreMarksUpTo};
-ghost use Rattle.std.specs.Prelude.{◌≡◌, ◌≤◌, IfOk, length};
+ghost use Rattle.std.specs.Prelude.{◌≡◌, ◌^◌, ◌≤◌, IfOk, length};
 
 use crate::calls::Calls;
 use bank_desk::Desk;
 use clr_net::{BankId, DebtId, Mem, Network};
 use std::alloc::Global;
 use std::marker::Model;
+
+// As many visits are counted before all marks are taken away.
+const MANY_VISITS: u64 = 1 << 62;
 
 /// What a worker has beside its seat, and keeps from round to round: a desk for each of its banks
 /// in file order, the creditor of each debt, a mark for each bank, and room for what the bank that
@@ -17,8 +20,11 @@ pub struct Office {
     pub(crate) worker: u32,
     // The creditor of each debt, in file order.
     pub(crate) creditors: Vec<u32>,
-    // For each bank the number of the last visit that rang it, or 0.
+    // For each bank the number of the last visit that rang it, or 0. Visits are counted over all
+    // seats.
     pub(crate) marks: Vec<u64>,
+    // How many visits there were: no mark is of a later one.
+    pub(crate) counted: u64,
     // What the bank that is visited should pay on each of its debts.
     pub(crate) targets: Vec<u64>,
     // The desks that are called.
@@ -27,6 +33,7 @@ pub struct Office {
 
 impl Model for Office {
     ghost use Rattle.bank_worker.specs.Offices.{OfficeView};
+    ghost use Rattle.bank_worker.specs.Rings.{AreMarksUpTo};
     ghost use Rattle.std.specs.Prelude.{vec_capacity, vec_len};
 
     ghost Value = { OfficeView };
@@ -38,6 +45,8 @@ impl Model for Office {
       marks = vec_len o.marks;
       room = vec_capacity o.targets;
     } };
+
+    ghost invariant = { λ o. AreMarksUpTo o.counted o.marks.items };
 }
 
 impl Office {
@@ -60,22 +69,48 @@ impl Office {
         for number in 0..net.debts() {
             creditors.push_reserved(net.debt(DebtId(number)).creditor.0);
         }
-        let mut marks = Vec::new(alloc);
-        marks.resize(net.banks() as usize, 0)?;
+        let marks = no_marks(alloc, net.banks() as usize)?;
         let targets = Vec::with_capacity(alloc, longest)?;
         Ok(Office {
             desks,
             worker,
             creditors,
             marks,
+            counted: 0,
             targets,
             calls: Calls::none(workers),
         })
     }
 }
 
+// As many marks of no visit.
+fn no_marks(alloc: Global, banks: usize) -> Result<Vec<u64>, Mem>
+    ensures marks { IfOk result (λ marks. AreMarksUpTo 0 marks.items) }
+    ensures as_many { IfOk result (λ marks. length marks.items ≡ banks) }
+{
+    let mut marks = Vec::new(alloc);
+    marks.resize(banks, 0)?;
+    Ok(marks)
+}
+
+// Makes marks ready for the visits of another seat, and answers the number of the last visit before
+// them. The marks of earlier visits stay, since those to come have greater numbers; only where the
+// numbers might end are all marks taken away.
+pub(crate) fn begin_again(marks: &mut [u64], counted: u64) -> u64
+    requires { AreMarksUpTo counted marks.old }
+    ensures marks { AreMarksUpTo result marks.new }
+    ensures low { result ≤ 2 ^ 62 }
+    ensures as_many { length marks.new ≡ length marks.old }
+{
+    if counted <= MANY_VISITS {
+        return counted;
+    }
+    unmark(marks);
+    0
+}
+
 // Takes all marks away.
-pub(crate) fn unmark(marks: &mut [u64])
+fn unmark(marks: &mut [u64])
     ensures marks { AreMarksUpTo 0 marks.new }
     ensures as_many { length marks.new ≡ length marks.old }
 {

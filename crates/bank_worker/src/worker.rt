@@ -17,7 +17,7 @@ ghost use Rattle.std.specs.Prelude.{vec_capacity, vec_len};
 
 use crate::calls::Calls;
 use crate::looks::look_at_all;
-use crate::office::{Office, unmark};
+use crate::office::{Office, begin_again};
 use crate::raises::raise_all;
 use crate::rings::ring_all;
 use crate::visit::Visit;
@@ -49,8 +49,11 @@ pub struct Worker {
     journal: Journal,
     // The creditor of each debt, in file order.
     creditors: Vec<u32>,
-    // For each bank the number of the last visit that rang it, or 0.
+    // For each bank the number of the last visit that rang it, or 0. Visits are counted over all
+    // seats of the office.
     marks: Vec<u64>,
+    // The number of the last visit.
+    counted: u64,
     // What the bank that is visited should pay on each of its debts.
     targets: Vec<u64>,
     // The desks that are called.
@@ -78,7 +81,7 @@ impl Model for Worker {
       worker = w.worker;
       visits = w.visits;
       journal = w.journal.raises;
-    }) w.creditors.items w.marks.items (vec_capacity w.targets) };
+    }) w.creditors.items w.marks.items w.counted (vec_capacity w.targets) };
 }
 
 impl Worker {
@@ -117,7 +120,7 @@ impl Worker {
     }
 
     /// The worker of an office, with a seat for the same banks of the same network. Takes no
-    /// memory, and costs a walk over one number for each bank.
+    /// memory, and its cost does not grow with the network.
     pub fn with(alloc: Global, office: Office, seat: PaySeat) -> Worker
         requires office { IsOfficeFor seat.shows.net (banks_held seat.shows) office }
         requires not_the_master { seat.shows.master ≡ false }
@@ -136,10 +139,11 @@ impl Worker {
             worker,
             creditors,
             mut marks,
+            counted,
             targets,
             mut calls,
         } = office;
-        unmark(&mut marks);
+        let counted = begin_again(&mut marks, counted);
         calls.clear();
         Worker {
             seat,
@@ -149,6 +153,7 @@ impl Worker {
             journal: Journal::empty(alloc),
             creditors,
             marks,
+            counted,
             targets,
             calls,
         }
@@ -191,6 +196,7 @@ impl Worker {
             × (self.new.journal ≡ self.old.journal)) }
     {
         self.visits += 1;
+        self.counted += 1;
         gate.at(self.worker, self.visits);
         let desk = &self.desks[place];
         let Ok(()) = self.journal.reserve(desk.debts_out().len()) else {
@@ -205,7 +211,7 @@ impl Worker {
             &mut self.marks,
             &mut self.targets,
             &mut self.calls,
-            self.visits,
+            self.counted,
         );
         Visit::Raised(units)
     }
@@ -271,6 +277,7 @@ impl Worker {
             journal,
             creditors,
             marks,
+            counted,
             targets,
             calls,
             ..
@@ -280,6 +287,7 @@ impl Worker {
             worker,
             creditors,
             marks,
+            counted,
             targets,
             calls,
         };

@@ -105,7 +105,6 @@ pub record IsRoundOf (net : Net) (plan : Plan) (units visits : ℕ) (s t : Shown
   pub divide : (b : ℕ) → b < length net.banks → Divides t (desk_of net b)
   pub seen : (x : ℕ) → x < length net.debts → slice_index s.paid x ≤ slice_index t.sights x
   pub visits_are : t.taken ≡ s.taken + visits
-  pub few_visits : visits ≤ 64000000
   pub visits_by_banks : visits ≤ plan.sweeps * length net.banks
   pub seats : t.seats ≡ s.seats + plan.workers
   pub raises : AddsRaises units s t

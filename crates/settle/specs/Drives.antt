@@ -1,12 +1,12 @@
 -- What the rounds on a board come to.
-use Rattle.std.specs.Prelude.{◌≡◌, ℕ, ◌+◌, ◌*◌, ◌<◌, ◌≤◌, ◌++◌, true, false, All, List, [], ◌∷◌, length, slice_index, sum}
+use Rattle.std.specs.Prelude.{◌≡◌, ℕ, ◌+◌, ◌*◌, ◌<◌, ◌≤◌, ◌++◌, true, All, List, [], ◌∷◌, length, slice_index, sum}
 use Rattle.clr_net.specs.Amounts.{IsAtMost}
 use Rattle.clr_net.specs.Net.{Net}
 use Rattle.clear_core.specs.Clearing.{Clears, least}
 use Rattle.clear_core.specs.History.{ordered, replayed}
 use Rattle.clear_core.specs.declared.event.Raise.{Raise}
 use Rattle.pay_words.specs.declared.view.Shown.{Shown}
-use Rattle.pay_words.specs.Views.{Panel, HoldsAll, OwesNoRing, is_marked}
+use Rattle.settle.specs.Bells.{IsIdle}
 use Rattle.settle.specs.Between.{IsRoundOf}
 use Rattle.settle.specs.declared.plan.Driven.{Driven}
 use Rattle.settle.specs.declared.plan.Plan.{Plan}
@@ -18,27 +18,17 @@ pub record IsPlan (plan : Plan) : Type 0 where
   pub some_sweeps : 1 ≤ plan.sweeps
   pub few_sweeps : plan.sweeps ≤ 1000
 
--- the network, the past and the workers are those of the board
-pub record IsOf (board : Panel) (net : Net) (past : List Raise) (plan : Plan) : Type 0 where
-  pub net_is : net ≡ board.net
-  pub past_is : past ≡ board.past
-  pub workers_are : plan.workers ≡ board.workers
-
 -- what the master shows as paid and as seen is nowhere above the least clearing payments
 abbrev pub IsBelowLeast : Net → Shown → Type 0
 IsBelowLeast net s = IsAtMost s.paid (least net) × IsAtMost s.sights (least net)
 
--- the master shows the least clearing payments: each bank pays them, and has seen them, and nothing
--- is left to be seen
-pub record IsSettled (net : Net) (s : Shown) : Type 0 where
-  pub net_is : s.net ≡ net
+-- the master shows the least clearing payments: each bank pays them, and has seen them
+pub record ShowsLeast (net : Net) (s : Shown) : Type 0 where
+  pub idle : IsIdle net s
   pub master : s.master ≡ true
-  pub holds_all : HoldsAll s
   pub paid : s.paid ≡ least net
   pub clears : Clears net s.paid
   pub sights : (x : ℕ) → x < length net.debts → slice_index s.sights x ≡ slice_index s.paid x
-  pub calm : (x : ℕ) → x < length net.debts → is_marked s.pending x ≡ false
-  pub no_rings : OwesNoRing s
 
 -- at least one round, and at most one for each unit that the past left unpaid, and one more
 pub record InBounds (net : Net) (past : List Raise) (rounds : ℕ) : Type 0 where
@@ -62,10 +52,11 @@ pub record EndsAtRest (net : Net) (plan : Plan) (s t : Shown) (rounds : ℕ) : T
 -- the rounds on a board, from the master that shows s to the one that shows t
 pub record IsDriven (net : Net) (past : List Raise) (plan : Plan) (s t : Shown) (d : Driven)
     : Type 0 where
-  pub settled : IsSettled net t
+  pub settled : ShowsLeast net t
   pub journal : d.journal.raises ≡ ordered (past ++ t.raises)
   pub bounds : InBounds net past d.rounds
   pub seats : t.seats ≡ d.rounds * plan.workers
   pub visits : t.taken ≡ s.taken + d.visits
+  pub visits_by_sweeps : d.visits ≤ d.rounds * (plan.sweeps * length net.banks)
   pub rounds_by_raises : d.rounds ≤ length t.raises + 1
   pub at_rest : EndsAtRest net plan s t d.rounds

@@ -5,3 +5,4 @@ pub mod Runs
 pub mod Offices
 pub mod Bells
 pub mod ByHand
+pub mod Asks

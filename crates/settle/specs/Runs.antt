@@ -1,15 +1,20 @@
 -- What a whole run comes to.
-use Rattle.std.specs.Prelude.{◌≡◌, ℕ, ◌+◌, ◌*◌, ◌≤◌, ◌++◌, List, length, sum}
+use Rattle.std.specs.Prelude.{◌≡◌, ℕ, ◌+◌, ◌*◌, ◌≤◌, ◌++◌, All, List, length, sum}
 use Rattle.clear_core.specs.declared.event.Raise.{Raise}
 use Rattle.clr_net.specs.Net.{Net}
 use Rattle.clear_core.specs.Clearing.{least}
+use Rattle.clear_core.specs.History.{IsTraced, Stands, ordered, replayed}
 use Rattle.pay_words.specs.Belongs.{Belongs}
 use Rattle.pay_words.specs.Sealed.{Sealed}
 use Rattle.pay_words.specs.Traces.{start_of}
 use Rattle.pay_words.specs.Views.{opening}
 use Rattle.pay_words.specs.declared.view.Shown.{Shown}
+use Rattle.raise_journal.specs.ReadBack.{IsInLimits}
+use Rattle.raise_journal.specs.Verdicts.{judged}
+use Rattle.raise_journal.specs.declared.verdict.Verdict.TheVariants as verdict
 use Rattle.settle.specs.Drives.{EndsAtRest, InBounds}
 use Rattle.settle.specs.declared.plan.Plan.{Plan}
+use Rattle.settle.specs.declared.runs.Settled.{Settled}
 
 -- a run on the network can go on from these raises: they belong to it, with what they leave on each
 -- debt
@@ -60,3 +65,19 @@ pub record HasComeToRest (net : Net) (past : List Raise) (plan : Plan) (paid : L
   pub master : Shown
   pub rounds_are : EndsAtRest net plan (opening net (start_of net past)) master rounds
   pub paid_is : master.paid ≡ paid
+
+-- what a run that went on from a past came to: the least list that clears is paid; its journal is a
+-- lawful history of it, in order, within the limits of a journal file and one to go on from; its
+-- record begins with the past; and it came to rest in few rounds and visits
+pub record IsSettled (net : Net) (past : List Raise) (plan : Plan) (s : Settled) : Type 0 where
+  pub paid : s.paid ≡ least net
+  pub verdict : (judged net s.sealed.journal).verdict ≡ verdict.Lawful
+  pub lawful : Stands net s.sealed.journal × IsTraced net s.sealed.journal
+  pub replays : replayed net s.sealed.journal ≡ s.paid
+  pub in_order : ordered s.sealed.journal ≡ s.sealed.journal
+  pub low_stamps : All (λ r. r.stamp ≤ sum s.paid) s.sealed.journal
+  pub within_limits : IsInLimits net s.sealed.journal
+  pub can_go_on : CanGoOn net s.sealed.journal
+  pub record_is : IsRecordAfter net past plan s.rounds s.sealed
+  pub bounds : IsWithinAfter net past plan s.rounds s.visits s.sealed.made
+  pub at_rest : HasComeToRest net past plan s.paid s.rounds

@@ -1,7 +1,7 @@
 ghost use Rattle.clear_core.specs.Clearing.{Clears, least};
+ghost use Rattle.settle.specs.Asks.{MayRound};
 ghost use Rattle.settle.specs.Bells.{IsIdle};
 ghost use Rattle.settle.specs.Between.{IsBetween};
-ghost use Rattle.settle.specs.Drives.{IsPlan};
 ghost use Rattle.settle.specs.Offices.{AreOffices};
 ghost use Rattle.std.specs.Prelude.{◌≡◌, ◌+◌, ◌<◌, IfOk, OnOk, true};
 
@@ -53,13 +53,7 @@ pub fn round_and_ask<R: Threads + Sync, G: Gate + Sync>(
     journal: &mut Journal,
     offices: &mut Vec<Office>,
 ) -> Result<bool, Mem>
-    requires offices { AreOffices net.now plan.workers plan.workers offices.old.items }
-    requires plan { IsPlan plan }
-    requires workers { plan.workers ≡ board.now.workers }
-    requires net { net.now ≡ board.now.net }
-    requires table { master.old.table ≡ board.now.table }
-    requires between { IsBetween net.now master.old.shows }
-    requires seats { master.old.shows.seats + plan.workers < 4294967295 }
+    requires ready { MayRound board.now net.now plan master.old offices.old.items }
     ensures table { master.new.table ≡ master.old.table }
     ensures between { OnOk result (IsBetween net.now master.new.shows) }
     ensures offices { OnOk result (AreOffices net.now plan.workers plan.workers offices.new.items) }

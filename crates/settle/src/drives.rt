@@ -1,8 +1,6 @@
-ghost use Rattle.pay_words.specs.Traces.{start_of};
-ghost use Rattle.pay_words.specs.Views.{opening};
-ghost use Rattle.settle.specs.Bells.{IsIdle};
-ghost use Rattle.settle.specs.Drives.{IsBelowLeast, IsDriven, IsOf, IsPlan};
-ghost use Rattle.std.specs.Prelude.{◌≡◌, ◌*◌, ◌≤◌, IfOk, length};
+ghost use Rattle.settle.specs.Asks.{MayDrive};
+ghost use Rattle.settle.specs.Drives.{IsBelowLeast, IsDriven};
+ghost use Rattle.std.specs.Prelude.{◌≡◌, IfOk};
 
 use crate::plan::{Driven, Plan};
 use crate::teams::{calls_two_workers, offices_of, round};
@@ -10,7 +8,7 @@ use clear_core::{Journal, Raise};
 use clr_edge::Gate;
 use clr_net::{MAX_BANKS, Mem, Network};
 use pay_words::{Board, PaySeat};
-use raise_journal::gather;
+use raise_journal::in_order;
 use std::alloc::Global;
 use std::thread::Threads;
 
@@ -36,17 +34,11 @@ pub fn drive<R: Threads + Sync, G: Gate + Sync>(
     master: &mut PaySeat,
     gate: &G,
 ) -> Result<Driven, Mem>
-    requires plan { IsPlan plan }
-    requires board { IsOf board.now net.now past.now plan }
-    requires table { master.old.table ≡ board.now.table }
-    requires opened { master.old.shows ≡ opening net.now (start_of net.now past.now) }
+    requires ready { MayDrive board.now net.now past.now plan master.old }
     ensures table { master.new.table ≡ master.old.table }
     ensures below_least { IsBelowLeast net.now master.new.shows }
-    ensures driven { IfOk result (λ d.
-        IsDriven net.now past.now plan master.old.shows master.new.shows d) }
-    ensures idle { IfOk result (λ _. IsIdle net.now master.new.shows) }
-    ensures few_visits { IfOk result (λ d.
-        d.visits ≤ d.rounds * (plan.sweeps * length net.now.banks)) }
+    ensures driven { IfOk result
+        (IsDriven net.now past.now plan master.old.shows master.new.shows) }
 {
     let driven = drive_on(rt, alloc, net, plan, past, board, master, gate);
     let _clock = master.clock();
@@ -64,19 +56,14 @@ fn drive_on<R: Threads + Sync, G: Gate + Sync>(
     master: &mut PaySeat,
     gate: &G,
 ) -> Result<Driven, Mem>
-    requires plan { IsPlan plan }
-    requires board { IsOf board.now net.now past.now plan }
-    requires table { master.old.table ≡ board.now.table }
-    requires opened { master.old.shows ≡ opening net.now (start_of net.now past.now) }
+    requires ready { MayDrive board.now net.now past.now plan master.old }
     ensures table { master.new.table ≡ master.old.table }
     ensures net { master.new.shows.net ≡ net.now }
-    ensures driven { IfOk result (λ d.
-        IsDriven net.now past.now plan master.old.shows master.new.shows d) }
-    ensures idle { IfOk result (λ _. IsIdle net.now master.new.shows) }
-    ensures few_visits { IfOk result (λ d.
-        d.visits ≤ d.rounds * (plan.sweeps * length net.now.banks)) }
+    ensures driven { IfOk result
+        (IsDriven net.now past.now plan master.old.shows master.new.shows) }
 {
     let mut journal = Journal::empty(alloc);
+    journal.reserve(past.len())?;
     for raise in past {
         journal.push(*raise)?;
     }
@@ -107,7 +94,7 @@ fn drive_on<R: Threads + Sync, G: Gate + Sync>(
             break;
         }
     }
-    let journal = gather(alloc, &[journal])?;
+    let journal = in_order(journal)?;
     Ok(Driven {
         journal,
         rounds,

@@ -1,14 +1,9 @@
-ghost use Rattle.clear_core.specs.Clearing.{least};
-ghost use Rattle.clear_core.specs.History.{IsTraced, Stands, ordered, replayed};
 ghost use Rattle.pay_words.specs.Ends.{values};
 ghost use Rattle.pay_words.specs.Traces.{start_of};
 ghost use Rattle.pay_words.specs.Words.{unpaid as unpaid_word};
-ghost use Rattle.raise_journal.specs.ReadBack.{IsInLimits};
-ghost use Rattle.raise_journal.specs.Verdicts.{judged};
 ghost use Rattle.settle.specs.Drives.{IsPlan};
-ghost use Rattle.settle.specs.Runs.{CanGoOn, HasComeToRest, IsRecordAfter, IsRecordOf, IsWithin};
-ghost use Rattle.settle.specs.Runs.{IsWithinAfter};
-ghost use Rattle.std.specs.Prelude.{◌≡◌, ◌<◌, ◌≤◌, [], All, IfOk, length, replicate, sum};
+ghost use Rattle.settle.specs.Runs.{CanGoOn, IsRecordOf, IsSettled, IsWithin};
+ghost use Rattle.std.specs.Prelude.{◌≡◌, ◌<◌, [], All, IfOk, length, replicate};
 
 use crate::drives::drive;
 use crate::plan::{Driven, Plan};
@@ -16,7 +11,6 @@ use clear_core::Raise;
 use clr_edge::Gate;
 use clr_net::{Amounts, MAX_BANKS, Mem, Network};
 use pay_words::{Board, Payment, Record};
-use raise_journal::Verdict;
 use std::alloc::Global;
 use std::thread::Threads;
 
@@ -40,21 +34,10 @@ pub fn settle<R: Threads + Sync, G: Gate + Sync>(
     gate: &G,
 ) -> Result<Settled, Mem>
     requires plan { IsPlan plan }
-    ensures paid { IfOk result (λ s. s.paid ≡ least net.now) }
-    ensures verdict { IfOk result (λ s.
-        (judged net.now s.sealed.journal).verdict ≡ Verdict.Lawful) }
-    ensures lawful { IfOk result (λ s. Stands net.now s.sealed.journal
-        × IsTraced net.now s.sealed.journal) }
-    ensures replays { IfOk result (λ s. replayed net.now s.sealed.journal ≡ s.paid) }
-    ensures in_order { IfOk result (λ s. ordered s.sealed.journal ≡ s.sealed.journal) }
-    ensures low_stamps { IfOk result (λ s. All (λ r. r.stamp ≤ sum s.paid) s.sealed.journal) }
-    ensures within_limits { IfOk result (λ s. IsInLimits net.now s.sealed.journal) }
-    ensures can_go_on { IfOk result (λ s. CanGoOn net.now s.sealed.journal) }
-    ensures record_is { IfOk result (λ s.
-        IsRecordOf net.now plan s.rounds s.sealed) }
+    ensures settled { IfOk result (IsSettled net.now [] plan) }
+    ensures record_is { IfOk result (λ s. IsRecordOf net.now plan s.rounds s.sealed) }
     ensures bounds { IfOk result (λ s.
         IsWithin net.now plan s.rounds s.visits (length s.sealed.journal)) }
-    ensures at_rest { IfOk result (λ s. HasComeToRest net.now [] plan s.paid s.rounds) }
 {
     settle_owned(rt, alloc, net.copy(alloc)?, plan, gate)
 }
@@ -69,21 +52,10 @@ pub fn settle_owned<R: Threads + Sync, G: Gate + Sync>(
     gate: &G,
 ) -> Result<Settled, Mem>
     requires plan { IsPlan plan }
-    ensures paid { IfOk result (λ s. s.paid ≡ least net) }
-    ensures verdict { IfOk result (λ s.
-        (judged net s.sealed.journal).verdict ≡ Verdict.Lawful) }
-    ensures lawful { IfOk result (λ s. Stands net s.sealed.journal
-        × IsTraced net s.sealed.journal) }
-    ensures replays { IfOk result (λ s. replayed net s.sealed.journal ≡ s.paid) }
-    ensures in_order { IfOk result (λ s. ordered s.sealed.journal ≡ s.sealed.journal) }
-    ensures low_stamps { IfOk result (λ s. All (λ r. r.stamp ≤ sum s.paid) s.sealed.journal) }
-    ensures within_limits { IfOk result (λ s. IsInLimits net s.sealed.journal) }
-    ensures can_go_on { IfOk result (λ s. CanGoOn net s.sealed.journal) }
-    ensures record_is { IfOk result (λ s.
-        IsRecordOf net plan s.rounds s.sealed) }
+    ensures settled { IfOk result (IsSettled net [] plan) }
+    ensures record_is { IfOk result (λ s. IsRecordOf net plan s.rounds s.sealed) }
     ensures bounds { IfOk result (λ s.
         IsWithin net plan s.rounds s.visits (length s.sealed.journal)) }
-    ensures at_rest { IfOk result (λ s. HasComeToRest net [] plan s.paid s.rounds) }
 {
     settle_owned_from(rt, alloc, net, plan, &[], gate)
 }
@@ -101,21 +73,7 @@ pub fn settle_from<R: Threads + Sync, G: Gate + Sync>(
 ) -> Result<Settled, Mem>
     requires plan { IsPlan plan }
     requires past { CanGoOn net.now past.now }
-    ensures paid { IfOk result (λ s. s.paid ≡ least net.now) }
-    ensures verdict { IfOk result (λ s.
-        (judged net.now s.sealed.journal).verdict ≡ Verdict.Lawful) }
-    ensures lawful { IfOk result (λ s. Stands net.now s.sealed.journal
-        × IsTraced net.now s.sealed.journal) }
-    ensures replays { IfOk result (λ s. replayed net.now s.sealed.journal ≡ s.paid) }
-    ensures in_order { IfOk result (λ s. ordered s.sealed.journal ≡ s.sealed.journal) }
-    ensures low_stamps { IfOk result (λ s. All (λ r. r.stamp ≤ sum s.paid) s.sealed.journal) }
-    ensures within_limits { IfOk result (λ s. IsInLimits net.now s.sealed.journal) }
-    ensures can_go_on { IfOk result (λ s. CanGoOn net.now s.sealed.journal) }
-    ensures record_is { IfOk result (λ s.
-        IsRecordAfter net.now past.now plan s.rounds s.sealed) }
-    ensures bounds { IfOk result (λ s.
-        IsWithinAfter net.now past.now plan s.rounds s.visits s.sealed.made) }
-    ensures at_rest { IfOk result (λ s. HasComeToRest net.now past.now plan s.paid s.rounds) }
+    ensures settled { IfOk result (IsSettled net.now past.now plan) }
 {
     settle_owned_from(rt, alloc, net.copy(alloc)?, plan, past, gate)
 }
@@ -132,21 +90,7 @@ pub fn settle_owned_from<R: Threads + Sync, G: Gate + Sync>(
 ) -> Result<Settled, Mem>
     requires plan { IsPlan plan }
     requires past { CanGoOn net past.now }
-    ensures paid { IfOk result (λ s. s.paid ≡ least net) }
-    ensures verdict { IfOk result (λ s.
-        (judged net s.sealed.journal).verdict ≡ Verdict.Lawful) }
-    ensures lawful { IfOk result (λ s. Stands net s.sealed.journal
-        × IsTraced net s.sealed.journal) }
-    ensures replays { IfOk result (λ s. replayed net s.sealed.journal ≡ s.paid) }
-    ensures in_order { IfOk result (λ s. ordered s.sealed.journal ≡ s.sealed.journal) }
-    ensures low_stamps { IfOk result (λ s. All (λ r. r.stamp ≤ sum s.paid) s.sealed.journal) }
-    ensures within_limits { IfOk result (λ s. IsInLimits net s.sealed.journal) }
-    ensures can_go_on { IfOk result (λ s. CanGoOn net s.sealed.journal) }
-    ensures record_is { IfOk result (λ s.
-        IsRecordAfter net past.now plan s.rounds s.sealed) }
-    ensures bounds { IfOk result (λ s.
-        IsWithinAfter net past.now plan s.rounds s.visits s.sealed.made) }
-    ensures at_rest { IfOk result (λ s. HasComeToRest net past.now plan s.paid s.rounds) }
+    ensures settled { IfOk result (IsSettled net past.now plan) }
 {
     prove!(net.banks() <= MAX_BANKS);
     let mut payments = payments_after(alloc, &net, past)?;

@@ -1,11 +1,10 @@
 ghost use Rattle.bank_worker.specs.Visits.{WhenRaised};
 ghost use Rattle.clr_net.specs.Limits.{IsNetwork};
-ghost use Rattle.clr_net.specs.declared.TheConstants.{MAX_OWED};
 ghost use Rattle.pay_words.specs.Views.{IsAt};
+ghost use Rattle.settle.specs.Asks.{MayRound};
 ghost use Rattle.settle.specs.Bells.{IsIdle};
 ghost use Rattle.settle.specs.Between.{AreOfBoard, HaveGrownAlike, IsBack, IsBetween, IsRoundOf};
 ghost use Rattle.settle.specs.Between.{crews, raises_by, without_first};
-ghost use Rattle.settle.specs.Drives.{IsPlan};
 ghost use Rattle.settle.specs.Offices.{AreOffices};
 ghost use Rattle.settle.specs.Rounds.{AreReady, AreRounded};
 ghost use Rattle.std.specs.Prelude.{◌≡◌, ◌+◌, ◌*◌, ◌++◌, ◌^◌, ◌<◌, ◌≤◌, ℕ, [], IfOk, OnOk, length, sum_by, true, vec_len};
@@ -87,7 +86,6 @@ fn close_workers(
     ensures noted { OnOk result (HaveGrownAlike journal.old.raises journal.new.raises
         master.old.shows.raises master.new.shows.raises) }
     ensures visits { IfOk result (λ n. master.new.shows.taken ≡ master.old.shows.taken + n) }
-    ensures few { IfOk result (λ n. n ≤ 64000000) }
     ensures sum { IfOk result (λ n. n ≡ sum_by (λ w. w.visits) workers.items) }
     ensures offices { OnOk result (AreOffices board.now.net board.now.workers board.now.workers
         offices.new.items) }
@@ -109,6 +107,7 @@ fn close_workers(
 fn add_all(journal: &mut Journal, raises: &[Raise]) -> Result<(), Mem>
     ensures { OnOk result (journal.new.raises ≡ journal.old.raises ++ raises.now) }
 {
+    journal.reserve(raises.len())?;
     for raise in raises {
         journal.push(*raise)?;
     }
@@ -173,13 +172,7 @@ pub fn round<R: Threads + Sync, G: Gate + Sync>(
     offices: &mut Vec<Office>,
     beside: bool,
 ) -> Result<(u64, u64), Mem>
-    requires offices { AreOffices net.now plan.workers plan.workers offices.old.items }
-    requires plan { IsPlan plan }
-    requires workers { plan.workers ≡ board.now.workers }
-    requires net { net.now ≡ board.now.net }
-    requires table { master.old.table ≡ board.now.table }
-    requires between { IsBetween net.now master.old.shows }
-    requires seats { master.old.shows.seats + plan.workers < 4294967295 }
+    requires ready { MayRound board.now net.now plan master.old offices.old.items }
     ensures table { master.new.table ≡ master.old.table }
     ensures net { master.new.shows.net ≡ master.old.shows.net }
     ensures idle { OnOk result (IsIdle net.now master.new.shows) }

@@ -1,8 +1,9 @@
-use Rattle.clear_top.proofs.Runs.{is_run}
+use Rattle.std.proofs.Common.{[]}
+use Rattle.clear_top.proofs.Runs.{is_run, pays_least}
 use Rattle.clear_top.proofs.clear.settle_own.Goals as goal
 
+pub returns-clause-paid : goal.returns-clause-paid
+returns-clause-paid g c = pays_least c.args.net [] _ _ c.settle_owned.ensures.settled
+
 pub returns-clause-run : goal.returns-clause-run
-returns-clause-run g c =
-    let settled = c.settle_owned.ensures in
-    is_run c.args.net c.banks.ensures.network _ _ settled.paid settled.verdict settled.lawful settled.in_order
-    settled.low_stamps settled.within_limits settled.can_go_on settled.bounds
+returns-clause-run g c = is_run c.args.net c.banks.ensures.network [] _ _ c.settle_owned.ensures.settled

@@ -1,4 +1,4 @@
-use Rattle.std.proofs.Common.{◌≡◌, ◌-◌, ◌*◌, ◌≤◌, length, take, sum}
+use Rattle.std.proofs.Common.{◌≡◌, ◌-◌, take, sum}
 use Rattle.clr_net.specs.Net.{units_owed}
 use Rattle.settle.proofs.Driving.{DrivenTo}
 use Rattle.settle.proofs.Resting.{RanTo}
@@ -12,9 +12,8 @@ abbrev pub invariant-loop-rounds : goal.invariant-loop-rounds
 invariant-loop-rounds g l = record {
   table : l.master.table ≡ l.fn.master.table;
   offices : AreOffices l.net l.plan.workers l.plan.workers l.offices.items;
-  driven : DrivenTo l.net l.past l.plan.workers l.master.shows l.journal.raises l.rounds l.visits;
+  driven : DrivenTo l.net l.past l.plan l.master.shows l.journal.raises l.rounds l.visits;
   ran : RanTo l.net l.plan l.fn.master.shows l.master.shows l.rounds;
-  few_visits : l.visits ≤ l.rounds * (l.plan.sweeps * length l.net.banks);
 }
 
 abbrev pub decreases-loop-rounds : goal.decreases-loop-rounds

@@ -24,9 +24,17 @@ pub make-requires-clause-belongs : goal.make-requires-clause-belongs
 make-requires-clause-belongs g c =
     subst (λ ps. Belongs c.args.net ps c.args.past.now) (sym (c.as_slice.ensures.value ∙ c.in_ok-payments.ensures)) c.requires.past
 
-pub drive-requires-clause-opened : goal.drive-requires-clause-opened
-drive-requires-clause-opened g c κs within =
-    c.in_ok-board.ensures.master.1 ∙ ap (opening c.args.net) (c.as_slice.ensures.value ∙ c.in_ok-payments.ensures)
+pub drive-requires-clause-ready : goal.drive-requires-clause-ready
+drive-requires-clause-ready g c κs within =
+    let panel = c.in_ok-board.ensures.board in
+    record {
+      limits = c.requires.plan;
+      net_is = sym panel.0;
+      past_is = sym panel.1;
+      workers_are = sym panel.2;
+      table_is = c.in_ok-board.ensures.master.0;
+      opened = c.in_ok-board.ensures.master.1 ∙ ap (opening c.args.net) (c.as_slice.ensures.value ∙ c.in_ok-payments.ensures);
+    }
 
 pub returns : goal.returns
 returns g c =
@@ -45,41 +53,43 @@ returns g c =
     let belongs : Belongs net into journal = sealed_belongs net c.in_ok-board.board.net into journal rs panel.0 noted seal.lawful in
     let written : paid ≡ values into =
     c.in_ok-paid.ensures ∙ ap values c.as_slice-2.ensures.value
-    ∙ values_written net past t p.len p.items into p.ok.0 c.in_ok-payments.ensures seal.payments d.settled.net_is in
+    ∙ values_written net past t p.len p.items into p.ok.0 c.in_ok-payments.ensures seal.payments d.settled.idle.net_is in
     let least_paid : paid ≡ least net =
-    written ∙ ap values seal.payments ∙ values_shown t (paid_over net t d.settled.net_is d.settled.paid) ∙ d.settled.paid in
+    written ∙ ap values seal.payments ∙ values_shown t (paid_over net t d.settled.idle.net_is d.settled.paid) ∙ d.settled.paid in
     let replays : replayed net journal ≡ paid = replayed_is net journal ∙ ap values (sym belongs.start_is) ∙ sym written in
     let low_stamps : All (λ r. r.stamp ≤ sum paid) journal = subst (λ js. All (λ (r : Raise). r.stamp ≤ sum paid) js) (sym noted)
     (subst (λ P. All (λ (r : Raise). r.stamp ≤ sum P) (ordered rs)) (sym written) seal.low_in_order) in
     let opened : c.in_ok-board.master.shows ≡ opening net (start_of net past) = c.in_ok-board.ensures.master.1 ∙ ap (opening net) (c.as_slice.ensures.value ∙ c.in_ok-payments.ensures) in
     let made : c.seal-sealed.result.made ≡ length t.raises = ap (λ (r : Sealed). r.made) seal.record_of in
     record {
-      paid = least_paid;
-      verdict = lawful_at_least net journal c.banks.ensures.network belongs.stands (replays ∙ least_paid);
-      lawful = (belongs.stands, belongs.traced);
-      replays = replays;
-      in_order = belongs.in_order;
-      low_stamps = low_stamps;
-      within_limits = within_limits net journal paid c.banks.ensures.network belongs.stands replays least_paid low_stamps;
-      can_go_on = goes_on net into journal belongs;
-      record_is = record {
-        net_is = ap (λ (r : Sealed). r.net) seal.record_of ∙ panel.0;
-        raises = ordered t.raises;
-        journal_is = noted ∙ ap (λ ps. ordered (ps ++ t.raises)) panel.1
-            ∙ after_a_past past t.raises c.requires.past.in_order (subst (λ ps. AreAfter ps t.raises) panel.1 seal.after_past);
-        made = made ∙ sym (length-ordered t.raises);
-        workers = ap (λ (r : Sealed). r.workers) seal.record_of ∙ panel.2;
-        seats = ap (λ (r : Sealed). r.seats) seal.record_of ∙ d.seats;
-      };
-      bounds = record {
-        rounds_in_bounds = d.bounds;
-        visits_by_sweeps = c.in_ok-journal.ensures.few_visits;
-        visits_by_bells = omega (arith, d.visits, seal.few_bells, ap (λ (m : Net). length m.banks) panel.0, made);
-        rounds_by_raises = omega (arith, d.rounds_by_raises, made);
-      };
-      at_rest = record {
-        master = t;
-        rounds_are = subst (λ (s : Shown). EndsAtRest net c.args.plan s t c.in_ok-journal.field-0.rounds) opened d.at_rest;
-        paid_is = d.settled.paid ∙ sym least_paid;
+      settled = record {
+        paid = least_paid;
+        verdict = lawful_at_least net journal c.banks.ensures.network belongs.stands (replays ∙ least_paid);
+        lawful = (belongs.stands, belongs.traced);
+        replays = replays;
+        in_order = belongs.in_order;
+        low_stamps = low_stamps;
+        within_limits = within_limits net journal paid c.banks.ensures.network belongs.stands replays least_paid low_stamps;
+        can_go_on = goes_on net into journal belongs;
+        record_is = record {
+          net_is = ap (λ (r : Sealed). r.net) seal.record_of ∙ panel.0;
+          raises = ordered t.raises;
+          journal_is = noted ∙ ap (λ ps. ordered (ps ++ t.raises)) panel.1
+              ∙ after_a_past past t.raises c.requires.past.in_order (subst (λ ps. AreAfter ps t.raises) panel.1 seal.after_past);
+          made = made ∙ sym (length-ordered t.raises);
+          workers = ap (λ (r : Sealed). r.workers) seal.record_of ∙ panel.2;
+          seats = ap (λ (r : Sealed). r.seats) seal.record_of ∙ d.seats;
+        };
+        bounds = record {
+          rounds_in_bounds = d.bounds;
+          visits_by_sweeps = d.visits_by_sweeps;
+          visits_by_bells = omega (arith, d.visits, seal.few_bells, ap (λ (m : Net). length m.banks) panel.0, made);
+          rounds_by_raises = omega (arith, d.rounds_by_raises, made);
+        };
+        at_rest = record {
+          master = t;
+          rounds_are = subst (λ (s : Shown). EndsAtRest net c.args.plan s t c.in_ok-journal.field-0.rounds) opened d.at_rest;
+          paid_is = d.settled.paid ∙ sym least_paid;
+        };
       };
     }

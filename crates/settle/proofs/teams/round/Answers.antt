@@ -18,14 +18,14 @@ work_all-requires-clause-some g c κs within =
     let s = c.args.master.now.shows in
     let board = c.args.board.now in
     let made = c.in_ok-workers.ensures.crews in
-    (omega (arith, ap length made, length-crews w board.table s w, c.requires.plan.some_workers), omega (arith, ap length made, length-crews w board.table s w, c.requires.plan.few_workers))
+    (omega (arith, ap length made, length-crews w board.table s w, c.requires.ready.limits.some_workers), omega (arith, ap length made, length-crews w board.table s w, c.requires.ready.limits.few_workers))
 
 pub work_all-requires-clause-ready : goal.work_all-requires-clause-ready
 work_all-requires-clause-ready g c κs within =
     let w = c.args.plan.workers in
     let s = c.args.master.now.shows in
     let board = c.args.board.now in
-    subst (AreReady board) (sym c.in_ok-workers.ensures.crews) (crews_ready board c.args.net.now w s w c.requires.net c.requires.between)
+    subst (AreReady board) (sym c.in_ok-workers.ensures.crews) (crews_ready board c.args.net.now w s w c.requires.ready.net_is c.requires.ready.between)
 
 pub close_workers-requires : goal.close_workers-requires
 close_workers-requires g c =
@@ -39,17 +39,17 @@ close_workers-requires g c =
     let rest = c.in_ok-workers.ensures.rest in
     record {
       workers = (
-        omega (arith, c.requires.plan.some_workers, c.requires.workers),
-        omega (arith, c.requires.plan.few_workers, c.requires.workers),
-        omega (arith, rounded.as_many, length-crews w board.table s w, c.requires.workers, c.work_all.new.workers.ok),
+        omega (arith, c.requires.ready.limits.some_workers, c.requires.ready.workers_are),
+        omega (arith, c.requires.ready.limits.few_workers, c.requires.ready.workers_are),
+        omega (arith, rounded.as_many, length-crews w board.table s w, c.requires.ready.workers_are, c.work_all.new.workers.ok),
       );
-      network = subst IsNetwork c.requires.net c.requires.between.network;
+      network = subst IsNetwork c.requires.ready.net_is c.requires.ready.between.network;
       master = (
-        (c.open_workers.ensures.table ∙ c.requires.table, ap (λ (u : Shown). u.net) rest ∙ first_net w w s ∙ c.requires.between.net_is ∙ c.requires.net),
-        ap (λ (u : Shown). u.master) rest ∙ first_master w w s ∙ c.requires.between.master,
+        (c.open_workers.ensures.table ∙ c.requires.ready.table_is, ap (λ (u : Shown). u.net) rest ∙ first_net w w s ∙ c.requires.ready.between.net_is ∙ c.requires.ready.net_is),
+        ap (λ (u : Shown). u.master) rest ∙ first_master w w s ∙ c.requires.ready.between.master,
       );
       offices = c.in_ok-workers.ensures.offices;
-      crew = of_board board net s w c.args.plan.sweeps c.in-Raised.units news c.requires.net c.requires.workers c.requires.plan.some_workers c.requires.plan.few_sweeps c.requires.between rounded;
+      crew = of_board board net s w c.args.plan.sweeps c.in-Raised.units news c.requires.ready.net_is c.requires.ready.workers_are c.requires.ready.limits.some_workers c.requires.ready.limits.few_sweeps c.requires.ready.between rounded;
     }
 
 pub returns : goal.returns
@@ -67,31 +67,30 @@ returns g c =
     let rest = c.in_ok-workers.ensures.rest in
     let back = c.in_ok-visits.ensures.back in
     let over = c.clock-clock.ensures.over in
-    let here = c.requires.net in
-    let between = c.requires.between in
-    let some = c.requires.plan.some_workers in
-    let few = c.requires.plan.few_sweeps in
+    let here = c.requires.ready.net_is in
+    let between = c.requires.ready.between in
+    let some = c.requires.ready.limits.some_workers in
+    let few = c.requires.ready.limits.few_sweeps in
     let same_net : t.net ≡ net = back.net_is ∙ sym here in
     record {
       table = c.close_workers.ensures.table ∙ c.open_workers.ensures.table;
       net = c.close_workers.ensures.net ∙ c.open_workers.ensures.net;
-      idle = idle_between net t (between_again board net s w sweeps units news here c.requires.workers some few between rounded m t over back (back.master ∙ ap (λ (u : Shown). u.master) rest ∙ first_master w w s ∙ between.master));
-      between = between_again board net s w sweeps units news here c.requires.workers some few between rounded m t over back (back.master ∙ ap (λ (u : Shown). u.master) rest ∙ first_master w w s ∙ between.master);
-      offices = subst (λ k. AreOffices net k k c.close_workers.new.offices.items) (sym c.requires.workers)
+      idle = idle_between net t (between_again board net s w sweeps units news here c.requires.ready.workers_are some few between rounded m t over back (back.master ∙ ap (λ (u : Shown). u.master) rest ∙ first_master w w s ∙ between.master));
+      between = between_again board net s w sweeps units news here c.requires.ready.workers_are some few between rounded m t over back (back.master ∙ ap (λ (u : Shown). u.master) rest ∙ first_master w w s ∙ between.master);
+      offices = subst (λ k. AreOffices net k k c.close_workers.new.offices.items) (sym c.requires.ready.workers_are)
           (subst (λ (m : Net). AreOffices m board.workers board.workers c.close_workers.new.offices.items) (sym here) c.in_ok-visits.ensures.offices);
       round = record {
-        none_fell = none_fell board net s w sweeps units news here c.requires.workers some few between rounded m t over back;
-        some_rose = some_rose board net s w sweeps units news here c.requires.workers some few between rounded m t over back;
-        none_rose = none_rose board net s w sweeps units news here c.requires.workers some few between rounded m t over back;
-        divide = all_divide board net s w sweeps units news here c.requires.workers some few between rounded m t over back;
-        seen = all_seen board net s w sweeps units news here c.requires.workers some few between rounded m t over back;
+        none_fell = none_fell board net s w sweeps units news here c.requires.ready.workers_are some few between rounded m t over back;
+        some_rose = some_rose board net s w sweeps units news here c.requires.ready.workers_are some few between rounded m t over back;
+        none_rose = none_rose board net s w sweeps units news here c.requires.ready.workers_are some few between rounded m t over back;
+        divide = all_divide board net s w sweeps units news here c.requires.ready.workers_are some few between rounded m t over back;
+        seen = all_seen board net s w sweeps units news here c.requires.ready.workers_are some few between rounded m t over back;
         visits_are = omega (arith, c.in_ok-visits.ensures.visits, ap (λ (u : Shown). u.taken) rest, first_taken w w s);
-        few_visits = c.in_ok-visits.ensures.few;
-        visits_by_banks = omega (arith, c.in_ok-visits.ensures.sum, few_in_round board net s w sweeps units news here c.requires.workers some few between rounded);
+        visits_by_banks = omega (arith, c.in_ok-visits.ensures.sum, few_in_round board net s w sweeps units news here c.requires.ready.workers_are some few between rounded);
         raises =
             let before : length m.raises ≡ length s.raises = ap (λ (u : Shown). length u.raises) rest ∙ ap length (first_raises w w s) in (
               omega (arith, c.in_ok-visits.ensures.raises, before),
-              λ some_units. omega (arith, c.in_ok-visits.ensures.raises, before, some_raise board net s w sweeps units news here c.requires.workers some few between rounded some_units),
+              λ some_units. omega (arith, c.in_ok-visits.ensures.raises, before, some_raise board net s w sweeps units news here c.requires.ready.workers_are some few between rounded some_units),
             );
         seats = omega (arith, back.seats, ap (λ (u : Shown). u.seats) rest, first_seats w w s);
         paid_low = subst (λ (n : Net). IsAtMost t.paid (least n)) same_net c.clock-clock.ensures.paid_below_least;

@@ -1,0 +1,34 @@
+-- What a round of all workers and a run ask of their board, its master and their plan.
+use Rattle.std.specs.Prelude.{◌≡◌, ◌+◌, ◌<◌, List}
+use Rattle.clr_net.specs.Net.{Net}
+use Rattle.clear_core.specs.declared.event.Raise.{Raise}
+use Rattle.bank_worker.specs.Offices.{OfficeView}
+use Rattle.pay_words.specs.Traces.{start_of}
+use Rattle.pay_words.specs.Views.{Chair, Panel, opening}
+use Rattle.settle.specs.Between.{IsBetween}
+use Rattle.settle.specs.Drives.{IsPlan}
+use Rattle.settle.specs.Offices.{AreOffices}
+use Rattle.settle.specs.declared.plan.Plan.{Plan}
+
+-- the workers of a plan may make a round: the board is of the network and of as many workers, its
+-- master stands between two rounds and may hand out a seat to each, and each worker has its office
+pub record MayRound (board : Panel) (net : Net) (plan : Plan) (master : Chair) (os : List OfficeView)
+    : Type 0 where
+  pub limits : IsPlan plan
+  pub workers_are : plan.workers ≡ board.workers
+  pub net_is : net ≡ board.net
+  pub table_is : master.table ≡ board.table
+  pub between : IsBetween net master.shows
+  pub few_seats : master.shows.seats + plan.workers < 4294967295
+  pub offices : AreOffices net plan.workers plan.workers os
+
+-- a run may be driven: the network, the past and the workers are those of the board, which its
+-- master has just opened
+pub record MayDrive (board : Panel) (net : Net) (past : List Raise) (plan : Plan) (master : Chair)
+    : Type 0 where
+  pub limits : IsPlan plan
+  pub net_is : net ≡ board.net
+  pub past_is : past ≡ board.past
+  pub workers_are : plan.workers ≡ board.workers
+  pub table_is : master.table ≡ board.table
+  pub opened : master.shows ≡ opening net (start_of net past)
