@@ -11,13 +11,13 @@ mod start;
 mod std_sink;
 
 use dir_shelf::DirShelf;
-use start::{Ending, arguments, refuse, start};
+use start::{Exit, arguments, refuse, start};
 use std_sink::StdSink;
 
 #[cfg(test)]
 mod tests;
 
-fn main(rt: HostRuntime) -> Ending {
+fn main(rt: HostRuntime) -> Exit {
     let mut files = DirShelf::new(&rt);
     let mut out = StdSink::new(rt.stdout());
     let mut err = StdSink::new(rt.stderr());

@@ -20,11 +20,11 @@ use std::{env, io};
 /// How the process ends. [`start`] and [`refuse`] alone make one, so that the process ends with the
 /// code of what they answer and with no other.
 #[derive(Drop)]
-pub struct Ending {
+pub struct Exit {
     ended: Ended,
 }
 
-impl Termination for Ending {
+impl Termination for Exit {
     fn report<R: Eprint>(self, _rt: &R) -> ExitCode
         ensures { exit_status result ≡ code_of self.ended.status }
     {
@@ -46,7 +46,7 @@ pub fn start<R: Threads + Sync + AllocGlobal, F: Shelf, O: Sink, E: Sink>(
     files: &mut F,
     out: &mut O,
     err: &mut E,
-) -> Ending
+) -> Exit
     ensures ends { RunEnds
         (shelf_call (F.files files.old) (F.faults files.old) (F.faults files.new))
         (sink_call (O.written out.old) (O.written out.new) (O.faults out.old) (O.faults out.new))
@@ -61,16 +61,16 @@ pub fn start<R: Threads + Sync + AllocGlobal, F: Shelf, O: Sink, E: Sink>(
 {
     let alloc = rt.alloc();
     match words(alloc, args) {
-        Ok(words) => Ending {
+        Ok(words) => Exit {
             ended: run(rt, alloc, words.as_slice(), files, out, err, &OpenGate),
         },
-        Err(_) => refuse(err, ErrorKind::OutOfMemory),
+        Err(_) => end(err, Status::Mem),
     }
 }
 
 /// Writes why the words of the command line cannot be collected, and answers how the program ends:
 /// for want of memory where that is the cause, and else with a command line that is not understood.
-pub fn refuse<E: Sink>(err: &mut E, cause: ErrorKind) -> Ending
+pub fn refuse<E: Sink>(err: &mut E, cause: ErrorKind) -> Exit
     ensures mem { (result.ended.status ≡ Status.Mem) ↔ (cause ≡ ErrorKind.OutOfMemory) }
     ensures usage { (result.ended.status ≡ Status.Mem) ⊎ (result.ended.status ≡ Status.Usage) }
     ensures unsealed { result.ended.sealed ≡ None }
@@ -78,12 +78,21 @@ pub fn refuse<E: Sink>(err: &mut E, cause: ErrorKind) -> Ending
         (sink_call (E.written err.old) (E.written err.new) (E.faults err.old) (E.faults err.new))
         (message result.ended.status None) }
 {
-    let status = match cause {
-        ErrorKind::OutOfMemory => Status::Mem,
-        _ => Status::Usage,
-    };
+    match cause {
+        ErrorKind::OutOfMemory => end(err, Status::Mem),
+        _ => end(err, Status::Usage),
+    }
+}
+
+// Tells of a status, and ends with it.
+fn end<E: Sink>(err: &mut E, status: Status) -> Exit
+    ensures ended { result.ended ≡ record { status = status; sealed = None } }
+    ensures told { TakesText
+        (sink_call (E.written err.old) (E.written err.new) (E.faults err.old) (E.faults err.new))
+        (message status None) }
+{
     tell(err, status, None);
-    Ending {
+    Exit {
         ended: Ended {
             status,
             sealed: None,

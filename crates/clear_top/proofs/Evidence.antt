@@ -21,22 +21,22 @@ use Rattle.raise_journal.specs.ReadJournal.{journal_of, raises_in_file}
 use Rattle.raise_journal.specs.Verdicts.{judged}
 use Rattle.raise_journal.specs.declared.verdict.Verdict.TheVariants as verdict
 use Rattle.clear_top.specs.Evidence.{IsEvidence, ReplaysText, ShowsJournal}
-use Rattle.clear_top.specs.Meaning.{ComesTo, IsRun, Means, Settles, answer_to, clear_text}
-use Rattle.clear_top.specs.Reading.{Files, Given, Read, alone, all_whole, both_whole, contents, in_size}
+use Rattle.clear_top.specs.Meaning.{ComesTo, IsRun, Means, Settles, answer_to, clear_text, plan_of}
+use Rattle.clear_top.specs.Reading.{Files, Input, Read, alone, all_whole, both_whole, contents, in_size}
 use Rattle.clear_top.specs.Reading.{net_in, reading, reading_by, then_read, whole}
 use Rattle.clear_top.specs.Sources.{source_of}
 use Rattle.clear_top.specs.declared.outcome.Outcome.{Outcome}
 use Rattle.clear_top.specs.declared.source.Source.TheVariants as source
 
 -- two files, the network that they give, and that it is all that was read
-record TwoFiles (r : Read (List ℕ × List ℕ)) (on : Given) : Type 0 where
+record TwoFiles (r : Read (List ℕ × List ℕ)) (on : Input) : Type 0 where
   both : List ℕ × List ℕ
   net : Net
   both_are : r ≡ Some (Ok both)
   net_is : net_in both ≡ Ok net
   on_is : alone net ≡ on
 
-two_files : (r : Read (List ℕ × List ℕ)) (on : Given)
+two_files : (r : Read (List ℕ × List ℕ)) (on : Input)
     → then_read r (λ both. Some (contents both)) ≡ Some (Ok on) → TwoFiles r on
 two_files None on h = absurd (cc)
 two_files (Some (Err f)) on h = absurd (cc)
@@ -123,8 +123,8 @@ module _ (files later : Files) (job again : Job) (o : Outcome) where
       subst (λ t. reading_by (source_of t) files job ≡ Some (Ok on)) clears given in
       let found = two_files (both_whole files job) on read in
       let cleared : ComesTo task.Clear job on o = subst (λ t. ComesTo t job on o) clears comes in
-      let settled : Settles on.net job (clear_text show.Journal on.net) o =
-      subst (λ s. Settles on.net job (clear_text s on.net) o) shows cleared in
+      let settled : Settles on.net (plan_of job) (clear_text show.Journal on.net) o =
+      subst (λ s. Settles on.net (plan_of job) (clear_text s on.net) o) shows cleared in
       let net_is : on.net ≡ found.net = ap (λ g. g.net) (sym found.on_is) in
       by_run found.both found.net settled.sealed settled.rounds saved found.both_are found.net_is
       (given ∙ ap (λ g. Some (Ok g)) (sym found.on_is))

@@ -1,4 +1,4 @@
-pub mod Endings
+pub mod Ending
 pub mod Pieces
 pub mod Loading
 pub mod Runs

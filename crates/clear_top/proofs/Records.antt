@@ -13,7 +13,7 @@ use Rattle.raise_journal.specs.declared.verdict.Verdict.TheVariants as verdict
 use Rattle.clear_top.specs.Ending.{AnswersRecord, IfTold, IsFoundUnlawful, JobEnds, RunEnds, ShelfCall}
 use Rattle.clear_top.specs.Ending.{SinkCall, Works, WritesText, has_record}
 use Rattle.clear_top.specs.Meaning.{ComesTo, answer_to}
-use Rattle.clear_top.specs.Reading.{Files, Given}
+use Rattle.clear_top.specs.Reading.{Files, Input}
 use Rattle.clear_top.specs.declared.outcome.Outcome.{Outcome}
 use Rattle.clear_top.specs.declared.status.Ended.{Ended}
 use Rattle.clear_top.specs.declared.status.Status.{Status}
@@ -33,7 +33,7 @@ answer_without net rs (verdict.Falls entry last stamp) = refl
 answer_without net rs (verdict.Unfinished bank) = refl
 
 -- what a task comes to has a record where the task has one
-comes_with : (t : Task) (job : Job) (on : Given) (o : Outcome) → ComesTo t job on o
+comes_with : (t : Task) (job : Job) (on : Input) (o : Outcome) → ComesTo t job on o
     → is_some o.sealed ≡ has_record t
 comes_with task.Check job on o comes = without o _ comes refl
 comes_with task.Clear job on o comes = with_one o _ comes.sealed comes.comes refl
@@ -93,7 +93,7 @@ told_of net rs v (verdict.Falls entry last stamp) is = (cc, λ lawful. cc)
 told_of net rs v (verdict.Unfinished bank) is = (cc, λ lawful. cc)
 
 -- work that comes to an unlawful journal is a replay of it
-is_replay : (t : Task) (job : Job) (on : Given) (o : Outcome) (v : Verdict) → ComesTo t job on o
+is_replay : (t : Task) (job : Job) (on : Input) (o : Outcome) (v : Verdict) → ComesTo t job on o
     → o.status ≡ status.Unlawful v
     → (t ≡ task.Replay) × ((judged on.net on.journal).verdict ≡ v) × (v ≢ verdict.Lawful)
 is_replay task.Check job on o v comes is = absurd (let both = sym (ap (λ q. q.status) comes) ∙ is in cc)

@@ -2,7 +2,6 @@
 use Rattle.std.proofs.Common.{◌≡◌, ℕ, List, Some, sym, ap, ◌∙◌, subst}
 use Rattle.clr_net.specs.Net.{Net}
 use Rattle.clear_core.specs.declared.event.Raise.{Raise}
-use Rattle.clear_words.specs.declared.job.Job.{Job}
 use Rattle.pay_words.specs.Sealed.{Sealed}
 use Rattle.rescue.proofs.MoreCash.{belongs_added}
 use Rattle.rescue.specs.Rescue.{added, rescue, short_of}
@@ -10,31 +9,31 @@ use Rattle.clear_core.specs.Clearing.{least}
 use Rattle.clear_report.specs.Rescues.{rescued_text}
 use Rattle.pay_words.specs.Traces.{start_of}
 use Rattle.settle.specs.Runs.{CanGoOn, IsRecordAfter}
-use Rattle.clear_top.specs.Meaning.{IsRun, Rescues, plan_of, rescue_report, rescued_net}
+use Rattle.settle.specs.declared.plan.Plan.{Plan}
+use Rattle.clear_top.specs.Meaning.{IsRun, Rescues, rescue_report, rescued_net}
 use Rattle.clear_top.specs.declared.outcome.Outcome.{Outcome}
 use Rattle.clear_top.specs.declared.status.Status.TheVariants as status
 
 -- what a run left may be gone on from in the network with cash added
-pub goes_on_saved : (net saved : Net) (i a : ℕ) (past journal : List Raise) → saved ≡ added net i a
-    → past ≡ journal → CanGoOn net journal → CanGoOn saved past
-goes_on_saved net saved i a past journal same past_is can =
-    let there : CanGoOn (added net i a) journal = belongs_added net i a (start_of net journal) journal can in
-    subst (λ n. CanGoOn n past) (sym same) (subst (CanGoOn (added net i a)) (sym past_is) there)
+pub goes_on_saved : (net saved : Net) (i a : ℕ) (past : List Raise) → saved ≡ added net i a
+    → CanGoOn net past → CanGoOn saved past
+goes_on_saved net saved i a past same can =
+    subst (λ n. CanGoOn n past) (sym same) (belongs_added net i a (start_of net past) past can)
 
 -- all that is said of a rescue
-pub rescues : (net : Net) (job : Job) (bank : ℕ) (saved : Net) (past : List Raise)
+pub rescues : (net : Net) (plan : Plan) (bank : ℕ) (saved : Net) (past : List Raise)
     (past_rounds rounds : ℕ) (sealed : Sealed) (text : List ℕ) (o : Outcome)
     → saved ≡ rescued_net net bank → IsRun net past past_rounds
-    → IsRecordAfter saved past (plan_of job) rounds sealed → IsRun saved sealed.journal rounds
+    → IsRecordAfter saved past plan rounds sealed → IsRun saved sealed.journal rounds
     → text ≡ rescue_report net bank
     → o ≡ record { status = status.Done; sealed = Some sealed; text = text }
-    → Rescues net job bank o
-rescues net job bank saved past past_rounds rounds sealed text o same before record_is run text_is out = record {
+    → Rescues net plan bank o
+rescues net plan bank saved past past_rounds rounds sealed text o same before record_is run text_is out = record {
   sealed = sealed;
   past = past;
   past_rounds = past_rounds;
   rounds = rounds;
-  record_is = subst (λ n. IsRecordAfter n past (plan_of job) rounds sealed) same record_is;
+  record_is = subst (λ n. IsRecordAfter n past plan rounds sealed) same record_is;
   before = before;
   run = subst (λ n. IsRun n sealed.journal rounds) same run;
   comes = out ∙ ap (λ t. record { status = status.Done; sealed = Some sealed; text = t }) text_is;

@@ -12,7 +12,7 @@ use Rattle.raise_journal.specs.declared.verdict.Verdict.{Verdict}
 use Rattle.raise_journal.specs.declared.verdict.Verdict.TheVariants as verdict
 use Rattle.clear_top.specs.Ending.{Gives, JobEnds, ShelfCall, SinkCall, SinkRose, WritesNothing}
 use Rattle.clear_top.specs.Meaning.{ComesTo, answer_to}
-use Rattle.clear_top.specs.Reading.{Given}
+use Rattle.clear_top.specs.Reading.{Input}
 use Rattle.clear_top.specs.declared.outcome.Outcome.{Outcome}
 use Rattle.clear_top.specs.declared.status.Status.{Status}
 use Rattle.clear_top.specs.declared.status.Status.TheVariants as status
@@ -30,7 +30,7 @@ answer_is_worked net rs (verdict.Unfinished bank) = inr (verdict.Unfinished bank
 by_status : (o p : Outcome) → o ≡ p → IsWorked p.status → IsWorked o.status
 by_status o p is worked = rw is worked
 
-comes_worked : (t : Task) (job : Job) (on : Given) (o : Outcome) → ComesTo t job on o → IsWorked o.status
+comes_worked : (t : Task) (job : Job) (on : Input) (o : Outcome) → ComesTo t job on o → IsWorked o.status
 comes_worked task.Check job on o comes = by_status o _ comes (inl refl)
 comes_worked task.Clear job on o comes = by_status o _ comes.comes (inl refl)
 comes_worked task.Central job on o comes = by_status o _ comes (inl refl)
@@ -56,12 +56,12 @@ worked_writes s worked nothing =
     (λ (u : (v : Verdict) × (s ≡ status.Unlawful v)). subst WritesNothing u.1 nothing) worked
 
 -- what work comes to is written
-pub work_writes : (job : Job) (on : Given) (s : Status) (sealed : Option Sealed) (text : List ℕ)
+pub work_writes : (job : Job) (on : Input) (s : Status) (sealed : Option Sealed) (text : List ℕ)
     → ComesTo job.task job on (record { status = s; sealed = sealed; text = text }) → WritesNothing s → ⊥
 work_writes job on s sealed text comes nothing =
     worked_writes s (comes_worked job.task job on (record { status = s; sealed = sealed; text = text }) comes) nothing
 
-module _ (shelf : ShelfCall) (sink : SinkCall) (job : Job) (on : Given) (gives : Gives shelf.files job (Ok on)) where
+module _ (shelf : ShelfCall) (sink : SinkCall) (job : Job) (on : Input) (gives : Gives shelf.files job (Ok on)) where
   ends_by : (s : Status) (sealed : Option Sealed) (text : List ℕ)
       → ComesTo job.task job on (record { status = s; sealed = sealed; text = text }) → IsWorked s
       → sink.new ≡ with_bytes sink.old text → JobEnds shelf sink job s sealed

@@ -18,9 +18,7 @@ use Rattle.stress.specs.Shocks.{IsScenarioOf}
 use Rattle.clear_top.specs.Sources.{name_in}
 use Rattle.pay_words.specs.Sealed.{Sealed}
 use Rattle.clear_top.specs.Meaning.{ComesTo, Means}
-use Rattle.clear_top.specs.Reading.{Files, Given, reading, whole}
-use Rattle.clear_top.specs.declared.load.Stop.{Stop}
-use Rattle.clear_top.specs.declared.load.Stop.TheVariants as stop
+use Rattle.clear_top.specs.Reading.{Files, Input, reading, whole}
 use Rattle.clear_top.specs.declared.outcome.Outcome.{Outcome}
 use Rattle.clear_top.specs.declared.source.Source.{Source}
 use Rattle.clear_top.specs.declared.source.Source.TheVariants as source
@@ -90,7 +88,7 @@ abbrev pub GivesWhole : Option Files → FileKind → List ℕ → Result (List 
 GivesWhole files k name read = IfTold files (λ told. whole told k name ≡ Some read)
 
 -- where the shelf tells its files, this is what those of the job give
-abbrev pub Gives : Option Files → Job → Result Given Fault → Type 0
+abbrev pub Gives : Option Files → Job → Result Input Fault → Type 0
 Gives files job read = IfTold files (λ told. reading told job ≡ Some read)
 
 -- where the shelf tells its files, the banks file and the debts file of the job are these
@@ -100,7 +98,7 @@ GivesBoth files job banks debts =
     × GivesWhole files file.Debts job.debts (Ok debts)
 
 -- what a job works on can be worked on: its scenarios, its journal or its bank are of its network
-abbrev pub IsUsable : Source → Given → Type 0
+abbrev pub IsUsable : Source → Input → Type 0
 IsUsable source.Files on = Unit {0}
 IsUsable source.FilesAndScenarios on = All (IsScenarioOf on.net) on.scenarios
 IsUsable source.FilesAndJournal on = All (λ r. r.debt.0 < length on.net.debts) on.journal
@@ -112,22 +110,24 @@ IsUsable source.Generated on = Unit {0}
 abbrev pub IsUnread : ShelfCall → Job → FileKind → Type 0
 IsUnread shelf job k = RoseAt shelf job k × IfTold shelf.files (λ told. AreThereBefore told job k)
 
--- why a file of a kind is not fetched
-abbrev pub StopsFetch : ShelfCall → FileKind → List ℕ → Stop → Type 0
-StopsFetch shelf k name (stop.ReadFault other) =
+-- why a file of a kind is not fetched: by the status with which the run then ends
+abbrev pub StopsFetch : ShelfCall → FileKind → List ℕ → Status → Type 0
+StopsFetch shelf k name (status.ReadFault other) =
     (other ≡ k) × HasRisen (shelf.before name) (shelf.after name)
-StopsFetch shelf k name (stop.Refused f) = GivesWhole shelf.files k name (Err f)
-StopsFetch shelf k name stop.Mem = Unit {0}
+StopsFetch shelf k name (status.Refused f) = GivesWhole shelf.files k name (Err f)
+StopsFetch shelf k name status.Mem = Unit {0}
+StopsFetch shelf k name s = ⊥
 
--- why there is nothing to work on
-abbrev pub Stops : ShelfCall → Job → Stop → Type 0
-Stops shelf job (stop.ReadFault k) = IsUnread shelf job k
-Stops shelf job (stop.Refused f) = Gives shelf.files job (Err f)
-Stops shelf job stop.Mem = Unit {0}
+-- why there is nothing to work on: by the status with which the run then ends
+abbrev pub Stops : ShelfCall → Job → Status → Type 0
+Stops shelf job (status.ReadFault k) = IsUnread shelf job k
+Stops shelf job (status.Refused f) = Gives shelf.files job (Err f)
+Stops shelf job status.Mem = Unit {0}
+Stops shelf job s = ⊥
 
 -- the work on what the job's files give came to this
 abbrev pub Works : Option Files → Job → Outcome → Type 0
-Works files job o = (on : Given) × Gives files job (Ok on) × ComesTo job.task job on o
+Works files job o = (on : Input) × Gives files job (Ok on) × ComesTo job.task job on o
 
 -- nothing was written, and there is no record
 abbrev pub IsUntouched : SinkCall → Option Sealed → Type 0
@@ -219,7 +219,7 @@ AnswersRecord (Some job) s = (has_record job.task ≡ true) × ¬ (WritesNothing
 -- the job's journal is read, and this is the verdict on it, which is not that it is lawful
 abbrev pub IsFoundUnlawful : Files → Job → Verdict → Type 0
 IsFoundUnlawful told job v =
-    (on : Given) × (job.task ≡ task.Replay) × (reading told job ≡ Some (Ok on))
+    (on : Input) × (job.task ≡ task.Replay) × (reading told job ≡ Some (Ok on))
     × ((judged on.net on.journal).verdict ≡ v) × (v ≢ verdict.Lawful)
 
 -- what the job comes to, with this status and record, was written whole

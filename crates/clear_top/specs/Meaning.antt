@@ -37,17 +37,13 @@ use Rattle.settle.specs.declared.plan.Plan.{Plan}
 use Rattle.stress.specs.Shocks.{shocked}
 use Rattle.stress.specs.declared.scenario.Scenario.{Scenario}
 use Rattle.upper.specs.Bounds.{greatest, waves}
-use Rattle.clear_top.specs.Reading.{Files, Given, reading}
+use Rattle.clear_top.specs.Reading.{Files, Input, reading}
 use Rattle.clear_top.specs.declared.outcome.Outcome.{Outcome}
 use Rattle.clear_top.specs.declared.status.Status.TheVariants as status
 
 -- done, with this text, and without a record
 abbrev pub IsPlain : List ℕ → Outcome → Type 0
 IsPlain text o = o ≡ record { status = status.Done; sealed = None; text = text }
-
--- the workers and sweeps of a job
-abbrev pub plan_of : Job → Plan
-plan_of job = record { workers = job.workers; sweeps = job.sweeps }
 
 -- a journal of raises that clears a network, each lawful where it stands, as it may be shown after
 -- so many rounds: it replays to the least list, its raises differ and stand in order, no stamp is
@@ -66,13 +62,13 @@ pub record IsRun (net : Net) (journal : List Raise) (rounds : ℕ) : Type 0 wher
   pub rounds_by_units_paid : rounds ≤ sum (least net) + 1
   pub rounds_by_raises : rounds ≤ length journal + 1
 
--- done after a run of the job's workers on one board, whose record is answered; the text may show
+-- done after a run of a plan's workers on one board, whose record is answered; the text may show
 -- the record's journal, and the rounds
-pub record Settles (net : Net) (job : Job) (shown : List Raise → ℕ → List ℕ) (o : Outcome)
+pub record Settles (net : Net) (plan : Plan) (shown : List Raise → ℕ → List ℕ) (o : Outcome)
     : Type 0 where
   pub sealed : Sealed
   pub rounds : ℕ
-  pub record_is : IsRecordOf net (plan_of job) rounds sealed
+  pub record_is : IsRecordOf net plan rounds sealed
   pub run : IsRun net sealed.journal rounds
   pub comes : o ≡ record {
     status = status.Done;
@@ -117,6 +113,13 @@ abbrev pub bounds_report : Net → List ℕ
 bounds_report net =
     bounds_tables net (least net) (greatest net) (waves net) (least_standings net)
 
+-- what is shown of a run on one board, by the task
+abbrev pub shown_of : Task → Show → Net → List Raise → ℕ → List ℕ
+shown_of task.Defaults show net journal rounds = defaults_report net
+shown_of task.Gen show net journal rounds = summary_report net
+shown_of task.Bounds show net journal rounds = bounds_report net
+shown_of t show net journal rounds = clear_text show net journal rounds
+
 -- what one scenario leaves: its name, the least payments and who defaults
 abbrev pub block_of : Net → Scenario → List ℕ
 block_of net s =
@@ -149,12 +152,12 @@ rescue_report net bank =
 -- done after a run on the network as it is, and one that goes on from it once the bank is saved: on
 -- a board whose record is answered, and whose journal begins with that of the first run, before as
 -- many raises as were made on the board
-pub record Rescues (net : Net) (job : Job) (bank : ℕ) (o : Outcome) : Type 0 where
+pub record Rescues (net : Net) (plan : Plan) (bank : ℕ) (o : Outcome) : Type 0 where
   pub sealed : Sealed
   pub past : List Raise
   pub past_rounds : ℕ
   pub rounds : ℕ
-  pub record_is : IsRecordAfter (rescued_net net bank) past (plan_of job) rounds sealed
+  pub record_is : IsRecordAfter (rescued_net net bank) past plan rounds sealed
   pub before : IsRun net past past_rounds
   pub run : IsRun (rescued_net net bank) sealed.journal rounds
   pub comes : o ≡ record {
@@ -163,24 +166,28 @@ pub record Rescues (net : Net) (job : Job) (bank : ℕ) (o : Outcome) : Type 0 w
     text = rescue_report net bank;
   }
 
+-- the workers and sweeps of a job
+abbrev pub plan_of : Job → Plan
+plan_of job = record { workers = job.workers; sweeps = job.sweeps }
+
 -- what each task comes to: a row for each
-abbrev pub ComesTo : Task → Job → Given → Outcome → Type 0
+abbrev pub ComesTo : Task → Job → Input → Outcome → Type 0
 ComesTo task.Check job on =
     IsPlain (checked_text on.net (banks_text on.net) (debts_text on.net))
-ComesTo task.Clear job on = Settles on.net job (clear_text job.show on.net)
+ComesTo task.Clear job on = Settles on.net (plan_of job) (clear_text job.show on.net)
 ComesTo task.Central job on = IsPlain (payments_text on.net (least on.net))
-ComesTo task.Defaults job on = Settles on.net job (λ journal rounds. defaults_report on.net)
+ComesTo task.Defaults job on = Settles on.net (plan_of job) (λ journal rounds. defaults_report on.net)
 ComesTo task.Stress job on = IsPlain (stress_text (map (block_of on.net) on.scenarios))
 ComesTo task.Replay job on =
     λ o. o ≡ answer_to on.net on.journal (judged on.net on.journal).verdict
-ComesTo task.Gen job on = Settles on.net job (λ journal rounds. summary_report on.net)
+ComesTo task.Gen job on = Settles on.net (plan_of job) (λ journal rounds. summary_report on.net)
 ComesTo task.Convert job on = IsPlain (banks_text_2 on.net)
-ComesTo task.Bounds job on = Settles on.net job (λ journal rounds. bounds_report on.net)
-ComesTo task.Rescue job on = Rescues on.net job on.bank
+ComesTo task.Bounds job on = Settles on.net (plan_of job) (λ journal rounds. bounds_report on.net)
+ComesTo task.Rescue job on = Rescues on.net (plan_of job) on.bank
 ComesTo task.Compress job on = IsCompressed on.net
 ComesTo task.Costs job on = IsPlain (costs_report on.net job.keep)
 
 -- with these files the job is accepted, and this is what it comes to
 abbrev pub Means : Files → Job → Outcome → Type 0
 Means files job o =
-    (on : Given) × (reading files job ≡ Some (Ok on)) × ComesTo job.task job on o
+    (on : Input) × (reading files job ≡ Some (Ok on)) × ComesTo job.task job on o

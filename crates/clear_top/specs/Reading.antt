@@ -58,14 +58,14 @@ all_whole files job k =
 
 -- what a job works on: a network, and scenarios, a journal or a bank of it, empty or 0 where the
 -- job has none
-pub record Given : Type 0 where
+pub record Input : Type 0 where
   pub net : Net
   pub scenarios : List Scenario
   pub journal : List Raise
   pub bank : ℕ
 
 -- a network alone
-abbrev pub alone : Net → Given
+abbrev pub alone : Net → Input
 alone net = record { net = net; scenarios = []; journal = []; bank = 0 }
 
 -- the network of both files, or their first fault
@@ -82,22 +82,22 @@ bank_called name net =
     ok_or (position (has_name name) net.banks) (fault_at file.Words 0 fault.UnknownBank)
 
 -- the contents of both files, and of the third file or the name of a bank, in this order
-abbrev pub contents : List ℕ × List ℕ → Result Given Fault
+abbrev pub contents : List ℕ × List ℕ → Result Input Fault
 contents both = and_then (net_in both) (λ net. Ok (alone net))
 
-abbrev pub contents_with_scenarios : List ℕ × List ℕ → List ℕ → Result Given Fault
+abbrev pub contents_with_scenarios : List ℕ × List ℕ → List ℕ → Result Input Fault
 contents_with_scenarios both third =
     and_then (net_in both) (λ net.
     and_then (scenarios_of net third) (λ scenarios.
     Ok (record (alone net) { scenarios = scenarios })))
 
-abbrev pub contents_with_journal : List ℕ × List ℕ → List ℕ → Result Given Fault
+abbrev pub contents_with_journal : List ℕ × List ℕ → List ℕ → Result Input Fault
 contents_with_journal both third =
     and_then (net_in both) (λ net.
     and_then (journal_of net third) (λ journal.
     Ok (record (alone net) { journal = journal })))
 
-abbrev pub contents_with_bank : List ℕ × List ℕ → List ℕ → Result Given Fault
+abbrev pub contents_with_bank : List ℕ × List ℕ → List ℕ → Result Input Fault
 contents_with_bank both name =
     and_then (net_in both) (λ net.
     and_then (bank_called name net) (λ bank.
@@ -105,7 +105,7 @@ contents_with_bank both name =
 
 -- what a job works on, by its source: each file whole, one after another, and then the contents in
 -- the same order
-abbrev pub reading_by : Source → Files → Job → Read Given
+abbrev pub reading_by : Source → Files → Job → Read Input
 reading_by source.Files files job =
     then_read (both_whole files job) (λ both. Some (contents both))
 reading_by source.FilesAndScenarios files job =
@@ -120,5 +120,5 @@ reading_by source.Generated files job =
     Some (Ok (alone (generated job.seed job.size job.tries)))
 
 -- what a job works on, or the first fault of its files
-abbrev pub reading : Files → Job → Read Given
+abbrev pub reading : Files → Job → Read Input
 reading files job = reading_by (source_of job.task) files job

@@ -25,11 +25,8 @@ source_of task.Costs = source.Files
 
 -- whether a source has a banks file and a debts file
 abbrev pub has_files : Source → Bool
-has_files source.Files = true
-has_files source.FilesAndScenarios = true
-has_files source.FilesAndJournal = true
-has_files source.FilesAndBank = true
 has_files source.Generated = false
+has_files s = true
 
 -- the words ask for no job, or for one that has no files
 abbrev pub HasNoFiles : Option Job → Type 0
@@ -38,29 +35,18 @@ HasNoFiles (Some job) = has_files (source_of job.task) ≡ false
 
 -- the kind of the third file, where the source has one
 abbrev pub third_kind : Source → Option FileKind
-third_kind source.Files = None
 third_kind source.FilesAndScenarios = Some file.Scenarios
 third_kind source.FilesAndJournal = Some file.Journal
-third_kind source.FilesAndBank = None
-third_kind source.Generated = None
+third_kind s = None
 
--- the name of the file of a kind, where the source has such a file: a row for each source
+-- the name of the file of a kind, where the source has such a file
 abbrev pub name_by : Source → Job → FileKind → Option (List ℕ)
-name_by source.Files job file.Banks = Some job.banks
-name_by source.Files job file.Debts = Some job.debts
-name_by source.Files job _ = None
-name_by source.FilesAndScenarios job file.Banks = Some job.banks
-name_by source.FilesAndScenarios job file.Debts = Some job.debts
+name_by source.Generated job k = None
+name_by s job file.Banks = Some job.banks
+name_by s job file.Debts = Some job.debts
 name_by source.FilesAndScenarios job file.Scenarios = Some job.third
-name_by source.FilesAndScenarios job _ = None
-name_by source.FilesAndJournal job file.Banks = Some job.banks
-name_by source.FilesAndJournal job file.Debts = Some job.debts
 name_by source.FilesAndJournal job file.Journal = Some job.third
-name_by source.FilesAndJournal job _ = None
-name_by source.FilesAndBank job file.Banks = Some job.banks
-name_by source.FilesAndBank job file.Debts = Some job.debts
-name_by source.FilesAndBank job _ = None
-name_by source.Generated job _ = None
+name_by s job k = None
 
 -- the name of the job's file of a kind: none where the job has no such file
 abbrev pub name_in : Job → FileKind → Option (List ℕ)

@@ -1,115 +1,100 @@
 //! Clearing by workers on a board.
 ghost use Rattle.clear_core.specs.Clearing.{least};
-ghost use Rattle.clear_top.specs.Meaning.{IsRun, Settles, clear_text, plan_of};
+ghost use Rattle.clear_top.specs.Meaning.{IsRun, Settles, plan_of, shown_of};
+ghost use Rattle.clear_words.specs.Limits.{IsJob};
+ghost use Rattle.clr_net.specs.Limits.{IsNetwork};
 ghost use Rattle.settle.specs.Drives.{IsPlan};
-ghost use Rattle.settle.specs.Runs.{IsRecordOf};
+ghost use Rattle.settle.specs.Runs.{CanGoOn, IsRecordAfter, IsRecordOf};
 ghost use Rattle.std.specs.Prelude.{◌≡◌, IfOk};
 
-use crate::outcome::{Outcome, Text};
+use crate::outcome::Outcome;
+use crate::reports::shown;
 use clear_core::Raise;
-use clear_report::{journal_text, pay_text};
-use clear_words::{Job, Show};
+use clear_words::Job;
 use clr_edge::Gate;
-use clr_net::{MAX_BANKS, Mem, Network};
-use settle::{Plan, Settled, settle_owned};
+use clr_net::{Mem, Network};
+use settle::{Plan, Settled, settle_owned, settle_owned_from};
 use std::alloc::Global;
 use std::thread::Threads;
 
-/// Clears a network by the workers and sweeps of a job. The network goes into the record. `Mem` is
-/// want of memory.
-pub fn settle_own<R: Threads + Sync, G: Gate + Sync>(
-    rt: &R,
-    alloc: Global,
-    net: Network,
-    job: &Job,
-    gate: &G,
-) -> Result<Settled, Mem>
-    requires plan { IsPlan (plan_of job.now) }
-    ensures paid { IfOk result (λ s. s.paid ≡ least net) }
-    ensures record_is { IfOk result (λ s. IsRecordOf net (plan_of job.now) s.rounds s.sealed) }
-    ensures run { IfOk result (λ s. IsRun net s.sealed.journal s.rounds) }
-{
-    prove!(net.banks() <= MAX_BANKS);
-    settle_owned(rt, alloc, net, plan_of(job), gate)
+/// What clears the networks of a job: its threads, its memory, its workers and sweeps, and the gate
+/// that is passed before each visit.
+#[derive(Drop)]
+pub struct Clearer<'a, R: Threads + Sync, G: Gate + Sync> {
+    pub rt: &'a R,
+    pub alloc: Global,
+    pub plan: Plan,
+    pub gate: &'a G,
+    ghost limits: { IsPlan plan },
 }
 
-/// Clears a copy of a network that is still needed.
-pub fn settle_for<R: Threads + Sync, G: Gate + Sync>(
-    rt: &R,
-    alloc: Global,
-    net: &Network,
-    job: &Job,
-    gate: &G,
-) -> Result<Settled, Mem>
-    requires plan { IsPlan (plan_of job.now) }
-    ensures paid { IfOk result (λ s. s.paid ≡ least net.now) }
-    ensures record_is { IfOk result (λ s.
-        IsRecordOf net.now (plan_of job.now) s.rounds s.sealed) }
-    ensures run { IfOk result (λ s. IsRun net.now s.sealed.journal s.rounds) }
-{
-    settle_own(rt, alloc, net.copy(alloc)?, job, gate)
-}
-
-/// The workers and sweeps of a job.
-pub fn plan_of(job: &Job) -> Plan
-    ensures { result ≡ plan_of job.now }
-{
-    Plan {
-        workers: job.workers,
-        sweeps: job.sweeps,
-    }
-}
-
-/// Clears a network, and shows what the job asks for.
-pub fn clear<R: Threads + Sync, G: Gate + Sync>(
-    rt: &R,
-    alloc: Global,
-    net: Network,
-    job: &Job,
-    gate: &G,
-) -> Result<Outcome, Mem>
-    requires plan { IsPlan (plan_of job.now) }
-    ensures { IfOk result (Settles net job.now (clear_text job.now.show net)) }
-{
-    let Settled {
-        paid,
-        sealed,
-        rounds,
-        ..
-    } = settle_own(rt, alloc, net, job, gate)?;
-    let text = shown(
-        alloc,
-        sealed.net(),
-        job.show,
-        paid.as_slice(),
-        sealed.journal(),
-        rounds,
-    )?;
-    Ok(Outcome::with_record(sealed, text))
-}
-
-// What is shown of a run.
-fn shown(
-    alloc: Global,
-    net: &Network,
-    show: Show,
-    paid: &[u64],
-    journal: &[Raise],
-    rounds: u64,
-) -> Result<Text, Mem>
-    requires paid { paid.now ≡ least net.now }
-    requires run { IsRun net.now journal.now rounds }
-    ensures { IfOk result (λ text. text ≡ clear_text show net.now journal.now rounds) }
-{
-    prove!(net.banks() <= MAX_BANKS);
-    match show {
-        Show::Payments => Text::of(alloc, pay_text(alloc, net, paid)?),
-        Show::Journal => Text::of(alloc, journal_text(alloc, net, journal, rounds)?),
-        Show::Both => {
-            let mut text = Text::of(alloc, pay_text(alloc, net, paid)?)?;
-            text.add_line(alloc)?;
-            text.add(journal_text(alloc, net, journal, rounds)?)?;
-            Ok(text)
+impl<'a, R: Threads + Sync, G: Gate + Sync> Clearer<'a, R, G> {
+    /// What clears the networks of this job. Takes no memory.
+    pub fn of(rt: &'a R, alloc: Global, job: &Job, gate: &'a G) -> Clearer<'a, R, G>
+        requires { IsJob job.now }
+        ensures alloc { result.alloc ≡ alloc }
+        ensures plan { result.plan ≡ plan_of job.now }
+    {
+        let plan = Plan {
+            workers: job.workers,
+            sweeps: job.sweeps,
+        };
+        Clearer {
+            rt,
+            alloc,
+            plan,
+            gate,
         }
     }
+
+    /// Clears a network, which goes into the record. `Mem` is want of memory.
+    pub fn settle(&self, net: Network) -> Result<Settled, Mem>
+        ensures paid { IfOk result (λ s. s.paid ≡ least net) }
+        ensures record_is { IfOk result (λ s. IsRecordOf net self.now.plan s.rounds s.sealed) }
+        ensures run { IfOk result (λ s. IsRun net s.sealed.journal s.rounds) }
+    {
+        is_network(&net);
+        settle_owned(self.rt, self.alloc, net, self.plan, self.gate)
+    }
+
+    /// Clears a network from what the raises of a past left on its debts.
+    pub fn go_on(&self, net: Network, past: &[Raise]) -> Result<Settled, Mem>
+        requires past { CanGoOn net past.now }
+        ensures paid { IfOk result (λ s. s.paid ≡ least net) }
+        ensures record_is { IfOk result (λ s.
+            IsRecordAfter net past.now self.now.plan s.rounds s.sealed) }
+        ensures run { IfOk result (λ s. IsRun net s.sealed.journal s.rounds) }
+    {
+        is_network(&net);
+        settle_owned_from(self.rt, self.alloc, net, self.plan, past, self.gate)
+    }
+
+    /// Clears a network, and shows what a job asks for: a row for each task is in [`shown`].
+    pub fn report(&self, net: Network, job: &Job) -> Result<Outcome, Mem>
+        ensures { IfOk result
+            (Settles net self.now.plan (shown_of job.now.task job.now.show net)) }
+    {
+        let Settled {
+            paid,
+            sealed,
+            rounds,
+            ..
+        } = self.settle(net)?;
+        let text = shown(
+            self.alloc,
+            sealed.net(),
+            job,
+            paid.as_slice(),
+            sealed.journal(),
+            rounds,
+        )?;
+        Ok(Outcome::with_record(sealed, text))
+    }
+}
+
+/// Nothing to run: each value of the type is a network within its limits.
+pub fn is_network(net: &Network)
+    ensures { IsNetwork net.now }
+{
+    let _ = net.banks();
 }

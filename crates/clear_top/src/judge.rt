@@ -7,11 +7,12 @@ ghost use Rattle.raise_journal.specs.Texts.{verdict_line};
 ghost use Rattle.raise_journal.specs.Verdicts.{judged};
 ghost use Rattle.std.specs.Prelude.{◌≡◌, ◌<◌, All, IfOk, None, length};
 
+use crate::clear::is_network;
 use crate::outcome::{Outcome, Text};
 use crate::status::Status;
 use clear_core::{Raise, Scratch};
 use clear_report::{lawful_text, verdict_text};
-use clr_net::{Amounts, MAX_BANKS, Mem, Network};
+use clr_net::{Amounts, Mem, Network};
 use raise_journal::{Verdict, replay};
 use std::alloc::Global;
 
@@ -40,7 +41,7 @@ fn judge_by(
     ensures { IfOk result (λ o.
         o ≡ answer_to net.now journal.now (judged net.now journal.now).verdict) }
 {
-    prove!(net.banks() <= MAX_BANKS);
+    is_network(net);
     let verdict = replay(net, journal, paid, scratch);
     let raises = journal.len() as u64;
     match verdict {

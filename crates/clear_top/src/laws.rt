@@ -7,7 +7,7 @@ ghost use Rattle.clear_top.specs.Ending.{WasPartWritten, WasWritten, WritesText}
 ghost use Rattle.clear_top.specs.Evidence.{IsEvidence};
 ghost use Rattle.clear_top.specs.Evidence.{ReplaysText, ShowsJournal};
 ghost use Rattle.clear_top.specs.Meaning.{Means};
-ghost use Rattle.clear_top.specs.Reading.{Files, Given, IsReadBack, reading};
+ghost use Rattle.clear_top.specs.Reading.{Files, Input, IsReadBack, reading};
 ghost use Rattle.clear_top.specs.declared.outcome.Outcome.{Outcome};
 ghost use Rattle.clear_top.specs.declared.status.Ended.{Ended};
 ghost use Rattle.clear_top.specs.declared.status.Status.{Status};
@@ -56,7 +56,7 @@ pub fn what_is_written_is_what_the_job_comes_to()
 /// its files' names or at the sink, what it comes to is written whole, unless memory is wanting,
 /// and then nothing is written.
 pub fn what_an_accepted_job_comes_to_is_written()
-    ensures { (shelf : ShelfCall) (sink : SinkCall) (job : Job) (e : Ended) (on : Given)
+    ensures { (shelf : ShelfCall) (sink : SinkCall) (job : Job) (e : Ended) (on : Input)
         → RunEnds shelf sink (Some job) e
         → IfTold shelf.files (λ told. reading told job ≡ Some (Ok on)
         → NoneRose shelf job → ¬ (SinkRose sink)

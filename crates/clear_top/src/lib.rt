@@ -6,7 +6,6 @@
 #![tactic(auto)]
 
 mod clear;
-mod contents;
 mod judge;
 pub mod laws;
 mod load;

@@ -1,35 +1,66 @@
-//! What a job works on, from its files.
+//! What a job works on, from its files. Each file's size is looked at before the next file is
+//! fetched, and all files are fetched before the first is read.
 ghost use Rattle.clear_top.specs.Ending.{Gives, GivesBoth, GivesWhole, IsUsable, Stops, StopsFetch};
 ghost use Rattle.clear_top.specs.Ending.{shelf_call};
+ghost use Rattle.clear_top.specs.Reading.{alone};
 ghost use Rattle.clear_top.specs.Sources.{has_files, source_of, third_kind};
 ghost use Rattle.clear_top.specs.declared.source.Source.{Source};
 ghost use Rattle.clear_words.specs.Limits.{IsJob};
 ghost use Rattle.clr_edge.specs.Faults.{NoneFalls};
 ghost use Rattle.std.specs.Prelude.{◌≡◌, IfOk, IfErr, Ok, Some, false, true};
 
-use crate::contents::{
-    Both, Input, generated, network_alone, with_bank, with_journal, with_scenarios,
-};
 use crate::source::{Source, source_of};
+use crate::status::Status;
+use clear_core::Journal;
 use clear_words::Job;
 use clr_edge::{FetchFault, Shelf};
-use net_check::{Fault, FaultKind, FileKind, ReadNet};
+use clr_net::{BankId, Network};
+use net_check::{Fault, FaultKind, FileKind};
+use net_csv::read_network;
+use net_gen::generate;
+use raise_journal::read_journal;
 use std::alloc::Global;
+use std::marker::Model;
+use stress::{Scenario, read_scenarios};
 
-/// Why the files of a job give nothing to work on.
-#[derive(Clone, Copy, Debug, PartialEq, Eq)]
-pub enum Stop {
-    /// A file cannot be read.
-    ReadFault(FileKind),
-    /// A file has a fault: the first.
-    Refused(Fault),
-    /// Want of memory.
-    Mem,
+/// What a job works on: a network, and scenarios, a journal or a bank of it; none, or bank 0, where
+/// the job has none.
+#[derive(Drop)]
+pub struct Input {
+    pub net: Network,
+    pub scenarios: Vec<Scenario>,
+    pub journal: Journal,
+    pub bank: BankId,
 }
 
-/// What a job works on. Each file's size is looked at before the next file is fetched, and all
-/// files are fetched before the first is read.
-pub fn load<F: Shelf>(alloc: Global, job: &Job, files: &mut F) -> Result<Input, Stop>
+impl Model for Input {
+    ghost use Rattle.clear_top.specs.Reading.{Input};
+
+    ghost Value = { Input };
+
+    ghost view = { λ i. record {
+      net = i.net;
+      scenarios = i.scenarios.items;
+      journal = i.journal.raises;
+      bank = i.bank.0;
+    } };
+}
+
+// A network alone. Takes no memory.
+fn of_network(alloc: Global, net: Network) -> Input
+    ensures { result ≡ alone net }
+{
+    Input {
+        net,
+        scenarios: Vec::new(alloc),
+        journal: Journal::empty(alloc),
+        bank: BankId(0),
+    }
+}
+
+/// What a job works on. An `Err` is the status with which a run ends whose files give nothing to
+/// work on: one cannot be read, one has a fault, of which the first is told, or memory is wanting.
+pub fn load<F: Shelf>(alloc: Global, job: &Job, files: &mut F) -> Result<Input, Status>
     requires job { IsJob job.now }
     ensures files { F.files files.new ≡ F.files files.old }
     ensures unasked { has_files (source_of job.now.task) ≡ false → files.new ≡ files.old }
@@ -43,31 +74,28 @@ pub fn load<F: Shelf>(alloc: Global, job: &Job, files: &mut F) -> Result<Input, 
         Source::FilesAndScenarios => load_scenarios(alloc, job, files),
         Source::FilesAndJournal => load_journal(alloc, job, files),
         Source::FilesAndBank => load_bank(alloc, job, files),
-        Source::Generated => match generated(alloc, job) {
-            Ok(input) => Ok(input),
-            Err(_) => Err(Stop::Mem),
-        },
+        Source::Generated => {
+            let net = generate(alloc, job.seed, job.size, job.tries)?;
+            Ok(of_network(alloc, net))
+        }
     }
 }
 
 // The network of both files.
-fn load_network<F: Shelf>(alloc: Global, job: &Job, files: &mut F) -> Result<Input, Stop>
+fn load_network<F: Shelf>(alloc: Global, job: &Job, files: &mut F) -> Result<Input, Status>
     requires { source_of job.now.task ≡ Source.Files }
     ensures files { F.files files.new ≡ F.files files.old }
     ensures input { IfOk result (λ input. Gives (F.files files.old) job.now (Ok input)) }
     ensures stopped { IfErr result
         (Stops (shelf_call (F.files files.old) (F.faults files.old) (F.faults files.new)) job.now) }
 {
-    let both = fetch_both(alloc, job, files)?;
-    match network_alone(alloc, &both) {
-        Ok(input) => Ok(input),
-        Err(ReadNet::Refused(fault)) => Err(Stop::Refused(fault)),
-        Err(ReadNet::Mem) => Err(Stop::Mem),
-    }
+    let (banks, debts) = fetch_both(alloc, job, files)?;
+    let net = read_network(alloc, banks.as_slice(), debts.as_slice())?;
+    Ok(of_network(alloc, net))
 }
 
 // The network of both files, and the scenarios of the third.
-fn load_scenarios<F: Shelf>(alloc: Global, job: &Job, files: &mut F) -> Result<Input, Stop>
+fn load_scenarios<F: Shelf>(alloc: Global, job: &Job, files: &mut F) -> Result<Input, Status>
     requires { source_of job.now.task ≡ Source.FilesAndScenarios }
     ensures files { F.files files.new ≡ F.files files.old }
     ensures input { IfOk result (λ input. Gives (F.files files.old) job.now (Ok input)) }
@@ -75,16 +103,17 @@ fn load_scenarios<F: Shelf>(alloc: Global, job: &Job, files: &mut F) -> Result<I
     ensures stopped { IfErr result
         (Stops (shelf_call (F.files files.old) (F.faults files.old) (F.faults files.new)) job.now) }
 {
-    let (both, third) = fetch_all(alloc, job, FileKind::Scenarios, files)?;
-    match with_scenarios(alloc, &both, third.as_slice()) {
-        Ok(input) => Ok(input),
-        Err(ReadNet::Refused(fault)) => Err(Stop::Refused(fault)),
-        Err(ReadNet::Mem) => Err(Stop::Mem),
-    }
+    let (banks, debts, third) = fetch_all(alloc, job, FileKind::Scenarios, files)?;
+    let net = read_network(alloc, banks.as_slice(), debts.as_slice())?;
+    let scenarios = read_scenarios(alloc, &net, third.as_slice())?;
+    Ok(Input {
+        scenarios,
+        ..of_network(alloc, net)
+    })
 }
 
 // The network of both files, and the journal of the third.
-fn load_journal<F: Shelf>(alloc: Global, job: &Job, files: &mut F) -> Result<Input, Stop>
+fn load_journal<F: Shelf>(alloc: Global, job: &Job, files: &mut F) -> Result<Input, Status>
     requires { source_of job.now.task ≡ Source.FilesAndJournal }
     ensures files { F.files files.new ≡ F.files files.old }
     ensures input { IfOk result (λ input. Gives (F.files files.old) job.now (Ok input)) }
@@ -92,16 +121,17 @@ fn load_journal<F: Shelf>(alloc: Global, job: &Job, files: &mut F) -> Result<Inp
     ensures stopped { IfErr result
         (Stops (shelf_call (F.files files.old) (F.faults files.old) (F.faults files.new)) job.now) }
 {
-    let (both, third) = fetch_all(alloc, job, FileKind::Journal, files)?;
-    match with_journal(alloc, &both, third.as_slice()) {
-        Ok(input) => Ok(input),
-        Err(ReadNet::Refused(fault)) => Err(Stop::Refused(fault)),
-        Err(ReadNet::Mem) => Err(Stop::Mem),
-    }
+    let (banks, debts, third) = fetch_all(alloc, job, FileKind::Journal, files)?;
+    let net = read_network(alloc, banks.as_slice(), debts.as_slice())?;
+    let journal = read_journal(alloc, &net, third.as_slice())?;
+    Ok(Input {
+        journal,
+        ..of_network(alloc, net)
+    })
 }
 
 // The network of both files, and the bank of it that the words name.
-fn load_bank<F: Shelf>(alloc: Global, job: &Job, files: &mut F) -> Result<Input, Stop>
+fn load_bank<F: Shelf>(alloc: Global, job: &Job, files: &mut F) -> Result<Input, Status>
     requires { source_of job.now.task ≡ Source.FilesAndBank }
     ensures files { F.files files.new ≡ F.files files.old }
     ensures input { IfOk result (λ input. Gives (F.files files.old) job.now (Ok input)) }
@@ -109,27 +139,38 @@ fn load_bank<F: Shelf>(alloc: Global, job: &Job, files: &mut F) -> Result<Input,
     ensures stopped { IfErr result
         (Stops (shelf_call (F.files files.old) (F.faults files.old) (F.faults files.new)) job.now) }
 {
-    let both = fetch_both(alloc, job, files)?;
-    match with_bank(alloc, &both, job.bank.as_str()) {
-        Ok(input) => Ok(input),
-        Err(ReadNet::Refused(fault)) => Err(Stop::Refused(fault)),
-        Err(ReadNet::Mem) => Err(Stop::Mem),
+    let (banks, debts) = fetch_both(alloc, job, files)?;
+    let net = read_network(alloc, banks.as_slice(), debts.as_slice())?;
+    match net.bank_named(job.bank.as_str().as_bytes()) {
+        Some(bank) => Ok(Input {
+            bank,
+            ..of_network(alloc, net)
+        }),
+        None => Err(Status::Refused(Fault {
+            file: FileKind::Words,
+            row: 0,
+            kind: FaultKind::UnknownBank,
+        })),
     }
 }
 
 // The banks file and the debts file of a job.
-fn fetch_both<F: Shelf>(alloc: Global, job: &Job, files: &mut F) -> Result<Both, Stop>
+fn fetch_both<F: Shelf>(
+    alloc: Global,
+    job: &Job,
+    files: &mut F,
+) -> Result<(Vec<u8>, Vec<u8>), Status>
     requires { has_files (source_of job.now.task) ≡ true }
     ensures files { F.files files.new ≡ F.files files.old }
     ensures faults { NoneFalls (F.faults files.old) (F.faults files.new) }
     ensures both { IfOk result (λ both.
-        GivesBoth (F.files files.old) job.now both.banks.items both.debts.items) }
+        GivesBoth (F.files files.old) job.now both.0.items both.1.items) }
     ensures stopped { IfErr result
         (Stops (shelf_call (F.files files.old) (F.faults files.old) (F.faults files.new)) job.now) }
 {
     let banks = fetch_whole(alloc, files, FileKind::Banks, job.banks.as_str())?;
     let debts = fetch_whole(alloc, files, FileKind::Debts, job.debts.as_str())?;
-    Ok(Both { banks, debts })
+    Ok((banks, debts))
 }
 
 // The banks file, the debts file and the third file of a job.
@@ -138,19 +179,19 @@ fn fetch_all<F: Shelf>(
     job: &Job,
     kind: FileKind,
     files: &mut F,
-) -> Result<(Both, Vec<u8>), Stop>
+) -> Result<(Vec<u8>, Vec<u8>, Vec<u8>), Status>
     requires { third_kind (source_of job.now.task) ≡ Some kind }
     ensures files { F.files files.new ≡ F.files files.old }
     ensures both { IfOk result (λ all.
-        GivesBoth (F.files files.old) job.now all.0.banks.items all.0.debts.items) }
+        GivesBoth (F.files files.old) job.now all.0.items all.1.items) }
     ensures third { IfOk result (λ all.
-        GivesWhole (F.files files.old) kind job.now.third (Ok all.1.items)) }
+        GivesWhole (F.files files.old) kind job.now.third (Ok all.2.items)) }
     ensures stopped { IfErr result
         (Stops (shelf_call (F.files files.old) (F.faults files.old) (F.faults files.new)) job.now) }
 {
-    let both = fetch_both(alloc, job, files)?;
+    let (banks, debts) = fetch_both(alloc, job, files)?;
     let third = fetch_whole(alloc, files, kind, job.third.as_str())?;
-    Ok((both, third))
+    Ok((banks, debts, third))
 }
 
 // The bytes of a file, which are no more than a file of its kind may have.
@@ -159,7 +200,7 @@ fn fetch_whole<F: Shelf>(
     files: &mut F,
     kind: FileKind,
     name: &str,
-) -> Result<Vec<u8>, Stop>
+) -> Result<Vec<u8>, Status>
     ensures files { F.files files.new ≡ F.files files.old }
     ensures faults { NoneFalls (F.faults files.old) (F.faults files.new) }
     ensures file { IfOk result (λ bytes.
@@ -171,12 +212,12 @@ fn fetch_whole<F: Shelf>(
     let limit = kind.limit();
     match files.fetch(alloc, name, limit) {
         Ok(bytes) if bytes.len() as u64 <= limit => Ok(bytes),
-        Ok(_) => Err(Stop::Refused(Fault {
+        Ok(_) => Err(Status::Refused(Fault {
             file: kind,
             row: 0,
             kind: FaultKind::FileSize,
         })),
-        Err(FetchFault::Failed) => Err(Stop::ReadFault(kind)),
-        Err(FetchFault::Mem) => Err(Stop::Mem),
+        Err(FetchFault::Failed) => Err(Status::ReadFault(kind)),
+        Err(FetchFault::Mem) => Err(Status::Mem),
     }
 }

@@ -1,7 +1,5 @@
 ghost use Rattle.clear_top.specs.Ending.{sink_call};
 ghost use Rattle.clear_top.specs.Message.{message, name_if, TakesText};
-ghost use Rattle.clear_top.specs.Sources.{name_by, name_in};
-ghost use Rattle.clear_top.specs.declared.source.Source.{Source};
 ghost use Rattle.std.specs.List.{concat};
 ghost use Rattle.std.specs.Option.{option_map};
 ghost use Rattle.std.specs.Prelude.{◌≡◌, ◌∷◌, [], codes, map};
@@ -45,43 +43,20 @@ fn put_text<S: Sink>(sink: &mut S, text: &str)
     let _ = put_all(sink, text.as_bytes());
 }
 
-// The name of the file of a kind, where there is a job that has one.
+// The name of the job's file of a kind; none where there is no job, or it has no such file.
 fn name_of<'a>(job: Option<&'a Job>, kind: FileKind) -> &'a str
     ensures { result.now ≡ name_if (option_map (λ job. job.now) job.entry) kind }
 {
-    match job {
-        Some(job) => file_name(job, kind).unwrap_or(""),
-        None => "",
-    }
-}
-
-// The name of the job's file of a kind.
-fn file_name(job: &Job, kind: FileKind) -> Option<&str>
-    ensures { option_map (λ name. name.now) result ≡ name_in job.now kind }
-{
-    match source_of(job.task) {
-        Source::Files => net_file(job, kind),
-        Source::FilesAndScenarios => match kind {
-            FileKind::Scenarios => Some(job.third.as_str()),
-            _ => net_file(job, kind),
-        },
-        Source::FilesAndJournal => match kind {
-            FileKind::Journal => Some(job.third.as_str()),
-            _ => net_file(job, kind),
-        },
-        Source::FilesAndBank => net_file(job, kind),
-        Source::Generated => None,
-    }
-}
-
-// The name of one of the two files of a network.
-fn net_file(job: &Job, kind: FileKind) -> Option<&str>
-    ensures { option_map (λ name. name.now) result ≡ name_by Source.Files job.now kind }
-{
-    match kind {
-        FileKind::Banks => Some(job.banks.as_str()),
-        FileKind::Debts => Some(job.debts.as_str()),
-        _ => None,
+    let Some(job) = job else {
+        return "";
+    };
+    match (source_of(job.task), kind) {
+        (Source::Generated, _) => "",
+        (_, FileKind::Banks) => job.banks.as_str(),
+        (_, FileKind::Debts) => job.debts.as_str(),
+        (Source::FilesAndScenarios, FileKind::Scenarios) => job.third.as_str(),
+        (Source::FilesAndJournal, FileKind::Journal) => job.third.as_str(),
+        _ => "",
     }
 }
 

@@ -5,10 +5,11 @@ ghost use Rattle.clear_top.specs.Meaning.{IsCompressed, IsPlain, costs_report};
 ghost use Rattle.net_csv.specs.Printing.{banks_text, banks_text_2, debts_text};
 ghost use Rattle.std.specs.Prelude.{◌≤◌, IfOk};
 
+use crate::clear::is_network;
 use crate::outcome::{Outcome, Text};
 use clear_least::central;
 use clear_report::{compress_text, cost_text, pay_text, totals_text};
-use clr_net::{MAX_BANKS, Mem, Network};
+use clr_net::{Mem, Network};
 use compress::{Compressed, compress};
 use costs::{cost_standings, least_with_costs};
 use net_csv::{print_banks, print_banks_2, print_debts};
@@ -29,7 +30,7 @@ pub fn check(alloc: Global, net: &Network) -> Result<Outcome, Mem>
 pub fn clear_centrally(alloc: Global, net: &Network) -> Result<Outcome, Mem>
     ensures { IfOk result (IsPlain (payments_text net.now (least net.now))) }
 {
-    prove!(net.banks() <= MAX_BANKS);
+    is_network(net);
     let paid = central(alloc, net)?;
     Outcome::plain(alloc, pay_text(alloc, net, paid.as_slice())?)
 }
@@ -60,7 +61,7 @@ pub fn clear_with_costs(alloc: Global, net: &Network, keep: u32) -> Result<Outco
     requires keep { keep ≤ 1000 }
     ensures { IfOk result (IsPlain (costs_report net.now keep)) }
 {
-    prove!(net.banks() <= MAX_BANKS);
+    is_network(net);
     let paid = least_with_costs(alloc, net, keep)?;
     let standings = cost_standings(alloc, net, keep, paid.as_slice())?;
     let text = cost_text(alloc, net, paid.as_slice(), standings.as_slice())?;

@@ -1,29 +1,74 @@
-//! What is reported of a network that was cleared by workers on a board.
+//! What is shown of a network that was cleared by workers on a board.
 ghost use Rattle.clear_core.specs.Clearing.{least};
-ghost use Rattle.clear_top.specs.Meaning.{Settles, bounds_report, defaults_report};
-ghost use Rattle.clear_top.specs.Meaning.{least_standings, plan_of, summary_report};
-ghost use Rattle.settle.specs.Drives.{IsPlan};
+ghost use Rattle.clear_top.specs.Meaning.{IsRun, bounds_report, clear_text, defaults_report};
+ghost use Rattle.clear_top.specs.Meaning.{least_standings, shown_of, summary_report};
 ghost use Rattle.std.specs.Prelude.{◌≡◌, IfOk, length};
 
-use crate::clear::settle_for;
-use crate::outcome::{Outcome, Text};
+use crate::clear::is_network;
+use crate::outcome::Text;
 use cascade::{Standing, defaults};
-use clear_report::{bounds_text, default_text, summary_text};
-use clear_words::Job;
-use clr_edge::Gate;
-use clr_net::{MAX_BANKS, Mem, Network};
-use settle::Settled;
+use clear_core::Raise;
+use clear_report::{bounds_text, default_text, journal_text, pay_text, summary_text};
+use clear_words::{Job, Show, Task};
+use clr_net::{Mem, Network};
 use std::alloc::Global;
-use std::thread::Threads;
 use upper::{Upper, upper};
 
-/// How the banks stand under the least payments.
-pub fn stand(alloc: Global, net: &Network, paid: &[u64]) -> Result<Vec<Standing>, Mem>
+/// What is shown of a run, by the task: a row for each that clears on one board.
+pub fn shown(
+    alloc: Global,
+    net: &Network,
+    job: &Job,
+    paid: &[u64],
+    journal: &[Raise],
+    rounds: u64,
+) -> Result<Text, Mem>
+    requires paid { paid.now ≡ least net.now }
+    requires run { IsRun net.now journal.now rounds }
+    ensures { IfOk result (λ text.
+        text ≡ shown_of job.now.task job.now.show net.now journal.now rounds) }
+{
+    match job.task {
+        Task::Defaults => Text::of(alloc, defaults_of(alloc, net, paid)?),
+        Task::Gen => Text::of(alloc, summary_of(alloc, net, paid)?),
+        Task::Bounds => Text::of(alloc, bounds_of(alloc, net, paid)?),
+        _ => cleared(alloc, net, job.show, paid, journal, rounds),
+    }
+}
+
+// What clearing shows.
+fn cleared(
+    alloc: Global,
+    net: &Network,
+    show: Show,
+    paid: &[u64],
+    journal: &[Raise],
+    rounds: u64,
+) -> Result<Text, Mem>
+    requires paid { paid.now ≡ least net.now }
+    requires run { IsRun net.now journal.now rounds }
+    ensures { IfOk result (λ text. text ≡ clear_text show net.now journal.now rounds) }
+{
+    is_network(net);
+    match show {
+        Show::Payments => Text::of(alloc, pay_text(alloc, net, paid)?),
+        Show::Journal => Text::of(alloc, journal_text(alloc, net, journal, rounds)?),
+        Show::Both => {
+            let mut text = Text::of(alloc, pay_text(alloc, net, paid)?)?;
+            text.add_line(alloc)?;
+            text.add(journal_text(alloc, net, journal, rounds)?)?;
+            Ok(text)
+        }
+    }
+}
+
+// How the banks stand under the least payments.
+fn stand(alloc: Global, net: &Network, paid: &[u64]) -> Result<Vec<Standing>, Mem>
     requires { paid.now ≡ least net.now }
     ensures standings { IfOk result (λ all. all.items ≡ least_standings net.now) }
     ensures as_many { IfOk result (λ all. length all.items ≡ length net.now.banks) }
 {
-    prove!(net.banks() <= MAX_BANKS);
+    is_network(net);
     defaults(alloc, net, paid)
 }
 
@@ -60,52 +105,4 @@ fn bounds_of(alloc: Global, net: &Network, paid: &[u64]) -> Result<Vec<u8>, Mem>
         waves.as_slice(),
         standings.as_slice(),
     )
-}
-
-/// Clears a network, and reports who defaults, and whether it is its own doing.
-pub fn report_defaults<R: Threads + Sync, G: Gate + Sync>(
-    rt: &R,
-    alloc: Global,
-    net: &Network,
-    job: &Job,
-    gate: &G,
-) -> Result<Outcome, Mem>
-    requires plan { IsPlan (plan_of job.now) }
-    ensures { IfOk result (Settles net.now job.now (λ journal rounds. defaults_report net.now)) }
-{
-    let Settled { paid, sealed, .. } = settle_for(rt, alloc, net, job, gate)?;
-    let text = defaults_of(alloc, net, paid.as_slice())?;
-    Ok(Outcome::with_record(sealed, Text::of(alloc, text)?))
-}
-
-/// Clears a network, and sums it up.
-pub fn report_summary<R: Threads + Sync, G: Gate + Sync>(
-    rt: &R,
-    alloc: Global,
-    net: &Network,
-    job: &Job,
-    gate: &G,
-) -> Result<Outcome, Mem>
-    requires plan { IsPlan (plan_of job.now) }
-    ensures { IfOk result (Settles net.now job.now (λ journal rounds. summary_report net.now)) }
-{
-    let Settled { paid, sealed, .. } = settle_for(rt, alloc, net, job, gate)?;
-    let text = summary_of(alloc, net, paid.as_slice())?;
-    Ok(Outcome::with_record(sealed, Text::of(alloc, text)?))
-}
-
-/// Clears a network, and reports the bounds of what clears.
-pub fn report_bounds<R: Threads + Sync, G: Gate + Sync>(
-    rt: &R,
-    alloc: Global,
-    net: &Network,
-    job: &Job,
-    gate: &G,
-) -> Result<Outcome, Mem>
-    requires plan { IsPlan (plan_of job.now) }
-    ensures { IfOk result (Settles net.now job.now (λ journal rounds. bounds_report net.now)) }
-{
-    let Settled { paid, sealed, .. } = settle_for(rt, alloc, net, job, gate)?;
-    let text = bounds_of(alloc, net, paid.as_slice())?;
-    Ok(Outcome::with_record(sealed, Text::of(alloc, text)?))
 }

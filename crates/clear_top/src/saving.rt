@@ -1,61 +1,56 @@
 //! A bank saved with the least sum, and its network cleared from what was paid before.
 ghost use Rattle.clear_core.specs.Clearing.{least};
-ghost use Rattle.clear_top.specs.Meaning.{IsRun, Rescues, plan_of};
-ghost use Rattle.settle.specs.Drives.{IsPlan};
-ghost use Rattle.settle.specs.Runs.{CanGoOn, IsRecordAfter};
-ghost use Rattle.std.specs.Prelude.{◌≡◌, ◌<◌, IfOk, length};
+ghost use Rattle.clear_top.specs.Meaning.{IsRun, Rescues};
+ghost use Rattle.std.specs.Prelude.{◌≡◌, ◌<◌, ℕ, IfOk, length};
 
-use crate::clear::{plan_of, settle_for};
+use crate::clear::{Clearer, is_network};
 use crate::outcome::{Outcome, Text};
 use clear_core::Raise;
 use clear_report::rescue_text;
-use clear_words::Job;
 use clr_edge::Gate;
-use clr_net::{BankId, MAX_BANKS, Mem, Network};
+use clr_net::{BankId, Mem, Network};
 use rescue::{added, rescue};
-use settle::{Settled, settle_owned_from};
-use std::alloc::Global;
+use settle::Settled;
 use std::thread::Threads;
 
 /// Finds the least sum that saves a bank, adds it to the bank's cash, and goes on from the payments
 /// that were made without it.
 pub fn save<R: Threads + Sync, G: Gate + Sync>(
-    rt: &R,
-    alloc: Global,
-    net: &Network,
+    clearer: &Clearer<'_, R, G>,
+    net: Network,
     bank: BankId,
-    job: &Job,
-    gate: &G,
 ) -> Result<Outcome, Mem>
-    requires plan { IsPlan (plan_of job.now) }
-    requires bank { bank.0 < length net.now.banks }
-    ensures { IfOk result (Rescues net.now job.now bank.0) }
+    requires { bank.0 < length net.banks }
+    ensures { IfOk result (Rescues net clearer.now.plan bank.0) }
 {
-    prove!(net.banks() <= MAX_BANKS);
-    let before = settle_for(rt, alloc, net, job, gate)?;
-    let found = rescue(alloc, net, bank, before.paid.as_slice())?;
-    let saved = added(alloc, net, bank, found.added)?;
-    let Settled { paid, sealed, .. } = go_on(rt, alloc, saved, job, before.sealed.journal(), gate)?;
-    let text = rescue_text(alloc, net, bank, &found, paid.as_slice())?;
-    Ok(Outcome::with_record(sealed, Text::of(alloc, text)?))
+    let Settled { paid, sealed, .. } = clearer.settle(net)?;
+    save_after(
+        clearer,
+        sealed.net(),
+        bank,
+        paid.as_slice(),
+        sealed.journal(),
+    )
 }
 
-// Clears a network from what the raises of a past left on its debts.
-fn go_on<R: Threads + Sync, G: Gate + Sync>(
-    rt: &R,
-    alloc: Global,
-    net: Network,
-    job: &Job,
+// So it does after a run of this journal, which made the least payments.
+fn save_after<R: Threads + Sync, G: Gate + Sync>(
+    clearer: &Clearer<'_, R, G>,
+    net: &Network,
+    bank: BankId,
+    least_paid: &[u64],
     past: &[Raise],
-    gate: &G,
-) -> Result<Settled, Mem>
-    requires plan { IsPlan (plan_of job.now) }
-    requires past { CanGoOn net past.now }
-    ensures paid { IfOk result (λ s. s.paid ≡ least net) }
-    ensures record_is { IfOk result (λ s.
-        IsRecordAfter net past.now (plan_of job.now) s.rounds s.sealed) }
-    ensures run { IfOk result (λ s. IsRun net s.sealed.journal s.rounds) }
+) -> Result<Outcome, Mem>
+    requires bank { bank.0 < length net.now.banks }
+    requires paid { least_paid.now ≡ least net.now }
+    requires run { (rounds : ℕ) × IsRun net.now past.now rounds }
+    ensures { IfOk result (Rescues net.now clearer.now.plan bank.0) }
 {
-    prove!(net.banks() <= MAX_BANKS);
-    settle_owned_from(rt, alloc, net, plan_of(job), past, gate)
+    let alloc = clearer.alloc;
+    is_network(net);
+    let found = rescue(alloc, net, bank, least_paid)?;
+    let saved = added(alloc, net, bank, found.added)?;
+    let Settled { paid, sealed, .. } = clearer.go_on(saved, past)?;
+    let text = rescue_text(alloc, net, bank, &found, paid.as_slice())?;
+    Ok(Outcome::with_record(sealed, Text::of(alloc, text)?))
 }

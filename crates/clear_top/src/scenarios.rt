@@ -2,17 +2,16 @@
 ghost use Rattle.clear_core.specs.Clearing.{least};
 ghost use Rattle.clear_report.specs.Blocks.{scenario_block, stress_text};
 ghost use Rattle.clear_report.specs.Text.{AreHeadsOf, payments_text};
-ghost use Rattle.clear_top.specs.Meaning.{IsPlain, block_of, defaults_report, plan_of};
+ghost use Rattle.clear_top.specs.Meaning.{IsPlain, block_of, defaults_report};
 ghost use Rattle.settle.specs.Drives.{IsPlan};
 ghost use Rattle.std.specs.Prelude.{◌≡◌, ◌++◌, ◌≤◌, All, IfOk, length, map};
 ghost use Rattle.std.specs.Thread.{IsSync};
 ghost use Rattle.stress.specs.Shocks.{IsOfOtherCash, IsScenarioOf};
 
-use crate::clear::settle_own;
+use crate::clear::Clearer;
 use crate::outcome::{Outcome, Text};
 use crate::reports::defaults_of;
 use clear_report::{line_heads, scenario_block};
-use clear_words::Job;
 use clr_edge::Gate;
 use clr_net::{Mem, Name, Network};
 use settle::Settled;
@@ -25,29 +24,16 @@ const THREADS: usize = 4;
 
 /// Clears the network that each scenario leaves, four at once, and reports on each in file order.
 pub fn report_scenarios<R: Threads + Sync, G: Gate + Sync>(
-    rt: &R,
-    alloc: Global,
+    clearer: &Clearer<'_, R, G>,
     net: &Network,
     scenarios: &[Scenario],
-    job: &Job,
-    gate: &G,
 ) -> Result<Outcome, Mem>
-    requires plan { IsPlan (plan_of job.now) }
     requires scenarios { All (IsScenarioOf net.now) scenarios.now }
     ensures { IfOk result (IsPlain (stress_text (map (block_of net.now) scenarios.now))) }
 {
-    let heads = line_heads(alloc, net)?;
-    let all = blocks(
-        rt,
-        alloc,
-        net,
-        heads.as_slice(),
-        scenarios,
-        THREADS,
-        job,
-        gate,
-    )?;
-    Ok(Outcome::of(stacked(alloc, all)?))
+    let heads = line_heads(clearer.alloc, net)?;
+    let all = blocks(clearer, net, heads.as_slice(), scenarios, THREADS)?;
+    Ok(Outcome::of(stacked(clearer.alloc, all)?))
 }
 
 // A text of which these blocks are the pieces, with an empty line between each two.
@@ -69,41 +55,33 @@ fn stacked(alloc: Global, all: Vec<Vec<u8>>) -> Result<Text, Mem>
 // to one thread.
 #[cycle(halves)]
 fn blocks<R: Threads + Sync, G: Gate + Sync>(
-    rt: &R,
-    alloc: Global,
+    clearer: &Clearer<'_, R, G>,
     net: &Network,
     heads: &[Vec<u8>],
     scenarios: &[Scenario],
     threads: usize,
-    job: &Job,
-    gate: &G,
 ) -> Result<Vec<Vec<u8>>, Mem>
-    requires plan { IsPlan (plan_of job.now) }
     requires heads { AreHeadsOf net.now heads.now }
     requires scenarios { All (IsScenarioOf net.now) scenarios.now }
     ensures { IfOk result (λ all. map (λ block. block.items) all.items
         ≡ map (block_of net.now) scenarios.now) }
 {
     if threads <= 1 || scenarios.len() <= 1 {
-        return blocks_in_turn(rt, alloc, net, heads, scenarios, job, gate);
+        return blocks_in_turn(clearer, net, heads, scenarios);
     }
     let (front, back) = scenarios.split_at(scenarios.len() / 2);
-    both_halves(rt, alloc, net, heads, front, back, threads / 2, job, gate)
+    both_halves(clearer, net, heads, front, back, threads / 2)
 }
 
 #[cycle(halves)]
 fn both_halves<R: Threads + Sync, G: Gate + Sync>(
-    rt: &R,
-    alloc: Global,
+    clearer: &Clearer<'_, R, G>,
     net: &Network,
     heads: &[Vec<u8>],
     front: &[Scenario],
     back: &[Scenario],
     threads: usize,
-    job: &Job,
-    gate: &G,
 ) -> Result<Vec<Vec<u8>>, Mem>
-    requires plan { IsPlan (plan_of job.now) }
     requires heads { AreHeadsOf net.now heads.now }
     requires some { (1 ≤ length front.now) × (1 ≤ length back.now) }
     requires front { All (IsScenarioOf net.now) front.now }
@@ -112,18 +90,18 @@ fn both_halves<R: Threads + Sync, G: Gate + Sync>(
         ≡ map (block_of net.now) front.now ++ map (block_of net.now) back.now) }
 {
     let low = || -> Result<Vec<Vec<u8>>, Mem>
-        requires { IsSync R.row × IsSync G.row × IsPlan (plan_of job.now)
+        requires { IsSync R.row × IsSync G.row × IsPlan clearer.now.plan
             × AreHeadsOf net.now heads.now × All (IsScenarioOf net.now) front.now }
         ensures { IfOk result (λ all. map (λ block. block.items) all.items
             ≡ map (block_of net.entry.now) front.entry.now) }
-    { blocks(rt, alloc, net, heads, front, threads, job, gate) };
+    { blocks(clearer, net, heads, front, threads) };
     let high = || -> Result<Vec<Vec<u8>>, Mem>
-        requires { IsSync R.row × IsSync G.row × IsPlan (plan_of job.now)
+        requires { IsSync R.row × IsSync G.row × IsPlan clearer.now.plan
             × AreHeadsOf net.now heads.now × All (IsScenarioOf net.now) back.now }
         ensures { IfOk result (λ all. map (λ block. block.items) all.items
             ≡ map (block_of net.entry.now) back.entry.now) }
-    { blocks(rt, alloc, net, heads, back, threads, job, gate) };
-    let (a, b) = join(rt, low, high);
+    { blocks(clearer, net, heads, back, threads) };
+    let (a, b) = join(clearer.rt, low, high);
     both(a?, b?)
 }
 
@@ -139,24 +117,20 @@ fn both(front: Vec<Vec<u8>>, back: Vec<Vec<u8>>) -> Result<Vec<Vec<u8>>, Mem>
 
 // The blocks of some scenarios, which are cleared one after another, on one copy of the network.
 fn blocks_in_turn<R: Threads + Sync, G: Gate + Sync>(
-    rt: &R,
-    alloc: Global,
+    clearer: &Clearer<'_, R, G>,
     net: &Network,
     heads: &[Vec<u8>],
     scenarios: &[Scenario],
-    job: &Job,
-    gate: &G,
 ) -> Result<Vec<Vec<u8>>, Mem>
-    requires plan { IsPlan (plan_of job.now) }
     requires heads { AreHeadsOf net.now heads.now }
     requires scenarios { All (IsScenarioOf net.now) scenarios.now }
     ensures { IfOk result (λ all. map (λ block. block.items) all.items
         ≡ map (block_of net.now) scenarios.now) }
 {
-    let mut all = Vec::with_capacity(alloc, scenarios.len())?;
-    let mut copy = net.copy(alloc)?;
+    let mut all = Vec::with_capacity(clearer.alloc, scenarios.len())?;
+    let mut copy = net.copy(clearer.alloc)?;
     for scenario in scenarios {
-        let (text, left) = block(rt, alloc, net, heads, copy, scenario, job, gate)?;
+        let (text, left) = block(clearer, net, heads, copy, scenario)?;
         all.push(text)?;
         copy = left;
     }
@@ -165,16 +139,12 @@ fn blocks_in_turn<R: Threads + Sync, G: Gate + Sync>(
 
 // The block of one scenario, and the copy of the network on which it was cleared.
 fn block<R: Threads + Sync, G: Gate + Sync>(
-    rt: &R,
-    alloc: Global,
+    clearer: &Clearer<'_, R, G>,
     net: &Network,
     heads: &[Vec<u8>],
     copy: Network,
     scenario: &Scenario,
-    job: &Job,
-    gate: &G,
 ) -> Result<(Vec<u8>, Network), Mem>
-    requires plan { IsPlan (plan_of job.now) }
     requires heads { AreHeadsOf net.now heads.now }
     requires alike { IsOfOtherCash net.now copy }
     requires scenario { IsScenarioOf net.now scenario.now }
@@ -183,8 +153,14 @@ fn block<R: Threads + Sync, G: Gate + Sync>(
 {
     let mut left = copy;
     shock_again(net, scenario, &mut left);
-    let Settled { paid, sealed, .. } = settle_own(rt, alloc, left, job, gate)?;
-    let text = block_text(alloc, sealed.net(), heads, &scenario.name, paid.as_slice())?;
+    let Settled { paid, sealed, .. } = clearer.settle(left)?;
+    let text = block_text(
+        clearer.alloc,
+        sealed.net(),
+        heads,
+        &scenario.name,
+        paid.as_slice(),
+    )?;
     Ok((text, sealed.into_net()))
 }
 

@@ -1,7 +1,9 @@
-ghost use Rattle.clear_top.specs.Status.{code_of};
+ghost use Rattle.clear_top.specs.Status.{code_of, unread};
+ghost use Rattle.clear_top.specs.declared.status.Status.{Status};
 ghost use Rattle.std.specs.Prelude.{◌≡◌};
 
-use net_check::{Fault, FileKind};
+use clr_net::Mem;
+use net_check::{Fault, FileKind, ReadNet};
 use pay_words::Record;
 use raise_journal::Verdict;
 
@@ -45,6 +47,25 @@ impl Status {
             Status::WriteFault => 5,
             Status::Mem => 6,
             Status::Unlawful(_) => 7,
+        }
+    }
+}
+
+impl From<Mem> for Status {
+    ghost from_gives = { λ _ s. s ≡ Status.Mem };
+
+    fn from(_: Mem) -> Status {
+        Status::Mem
+    }
+}
+
+impl From<ReadNet> for Status {
+    ghost from_gives = { λ why s. s ≡ unread why };
+
+    fn from(why: ReadNet) -> Status {
+        match why {
+            ReadNet::Refused(fault) => Status::Refused(fault),
+            ReadNet::Mem => Status::Mem,
         }
     }
 }

@@ -7,7 +7,7 @@ ghost use Rattle.clear_top.specs.declared.status.Status.{Status};
 ghost use Rattle.clear_words.specs.Limits.{IsJob};
 ghost use Rattle.std.specs.Prelude.{◌≡◌, false};
 
-use crate::load::{Stop, load};
+use crate::load::load;
 use crate::message::tell;
 use crate::outcome::Outcome;
 use crate::status::{Ended, Status};
@@ -94,9 +94,7 @@ fn carry_out<R: Threads + Sync, F: Shelf, O: Sink, G: Gate + Sync>(
 {
     let input = match load(alloc, job, files) {
         Ok(input) => input,
-        Err(Stop::ReadFault(kind)) => return without_record(Status::ReadFault(kind)),
-        Err(Stop::Refused(fault)) => return without_record(Status::Refused(fault)),
-        Err(Stop::Mem) => return without_record(Status::Mem),
+        Err(status) => return without_record(status),
     };
     let Ok(outcome) = work(rt, alloc, job, input, gate) else {
         return without_record(Status::Mem);

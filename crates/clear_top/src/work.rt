@@ -5,12 +5,11 @@ ghost use Rattle.clear_top.specs.Sources.{source_of};
 ghost use Rattle.clear_words.specs.Limits.{IsJob};
 ghost use Rattle.std.specs.Prelude.{IfOk};
 
-use crate::clear::clear;
-use crate::contents::Input;
+use crate::clear::Clearer;
 use crate::judge::judge;
+use crate::load::Input;
 use crate::outcome::Outcome;
 use crate::plain::{cancel_cycles, check, clear_centrally, clear_with_costs, convert};
-use crate::reports::{report_bounds, report_defaults, report_summary};
 use crate::saving::save;
 use crate::scenarios::report_scenarios;
 use clear_words::{Job, Task};
@@ -31,6 +30,7 @@ pub fn work<R: Threads + Sync, G: Gate + Sync>(
     requires usable { IsUsable (source_of job.now.task) input }
     ensures { IfOk result (ComesTo job.now.task job.now input) }
 {
+    let clearer = Clearer::of(rt, alloc, job, gate);
     let Input {
         net,
         scenarios,
@@ -39,15 +39,15 @@ pub fn work<R: Threads + Sync, G: Gate + Sync>(
     } = input;
     match job.task {
         Task::Check => check(alloc, &net),
-        Task::Clear => clear(rt, alloc, net, job, gate),
+        Task::Clear => clearer.report(net, job),
         Task::Central => clear_centrally(alloc, &net),
-        Task::Defaults => report_defaults(rt, alloc, &net, job, gate),
-        Task::Stress => { report_scenarios(rt, alloc, &net, scenarios.as_slice(), job, gate) }
+        Task::Defaults => clearer.report(net, job),
+        Task::Stress => report_scenarios(&clearer, &net, scenarios.as_slice()),
         Task::Replay => judge(alloc, &net, journal.as_slice()),
-        Task::Gen => report_summary(rt, alloc, &net, job, gate),
+        Task::Gen => clearer.report(net, job),
         Task::Convert => convert(alloc, &net),
-        Task::Bounds => report_bounds(rt, alloc, &net, job, gate),
-        Task::Rescue => save(rt, alloc, &net, bank, job, gate),
+        Task::Bounds => clearer.report(net, job),
+        Task::Rescue => save(&clearer, net, bank),
         Task::Compress => cancel_cycles(alloc, &net),
         Task::Costs => clear_with_costs(alloc, &net, job.keep),
     }

@@ -6,8 +6,8 @@ use Rattle.clear_main.proofs.start.start.Goals as goal
 
 pub returns-in-Err-clause-ends : goal.returns-in-Err-clause-ends
 returns-in-Err-clause-ends g c =
-    ends_in_mem _ _ _ c.refuse.result.ended (c.refuse.ensures.mem.1 refl) c.refuse.ensures.unsealed refl
+    ends_in_mem _ _ _ c.end.result.ended c.end.ensures.ended refl
 
 pub returns-in-Err-clause-told : goal.returns-in-Err-clause-told
 returns-in-Err-clause-told g c =
-    rw (← message_of_mem c.refuse.result.ended.status (c.refuse.ensures.mem.1 refl) _) c.refuse.ensures.told
+    rw (← message_of_mem c.end.result.ended c.end.ensures.ended _) c.end.ensures.told

@@ -1,4 +1,4 @@
-use Rattle.clear_top.proofs.Endings.{untouched_otherwise}
+use Rattle.clear_top.proofs.Ending.{untouched_otherwise}
 use Rattle.clear_top.proofs.laws.nothing_else_is_written.Goals as goal
 
 pub returns : goal.returns

@@ -1,36 +1,25 @@
-use Rattle.clear_top.specs.declared.status.Status.TheVariants as status
-use Rattle.std.proofs.Common.{rules, ◌≡◌, Some, length, sym, ap, ◌∙◌, subst}
-use Rattle.clear_report.specs.Rescues.{rescued_text}
-use Rattle.rescue.specs.Rescue.{added}
-use Rattle.clear_top.specs.Meaning.{IsRun}
-use Rattle.clear_top.proofs.Rescuing.{goes_on_saved, report_is, rescues}
-use Rattle.clear_top.proofs.Runs.{least_places}
+-- The network of the record is the network, and its journal was made in the first run.
+use Rattle.std.proofs.Common.{◌<◌, ◌≡◌, IfOk, length, sym, ◌∙◌, subst}
+use Rattle.clear_core.specs.Clearing.{least}
+use Rattle.clear_top.specs.Meaning.{IsRun, Rescues}
 use Rattle.clear_top.proofs.saving.save.Goals as goal
 
-pub go_on-requires-clause-past : goal.go_on-requires-clause-past
-go_on-requires-clause-past g c = λ κs lives.
-    goes_on_saved c.args.net.now c.in_ok-saved.saved c.args.bank.0 c.in_ok-found.found.added c.journal.result.now
-    c.in_ok-before.before.sealed.journal c.in_ok-saved.ensures c.journal.ensures c.in_ok-before.ensures.run.can_go_on
+pub save_after-requires-clause-bank : goal.save_after-requires-clause-bank
+save_after-requires-clause-bank g c = λ κs lives.
+    subst (λ n. c.args.bank.0 < length n.banks) (sym (c.net.ensures ∙ c.in_ok-paid.ensures.record_is.net_is)) c.requires
 
-pub rescue_text-requires-clause-over : goal.rescue_text-requires-clause-over
-rescue_text-requires-clause-over g c =
-    ap length (c.as_slice-2.ensures ∙ c.in_ok-paid.ensures.paid) ∙ least_places c.in_ok-saved.saved
-    ∙ ap (λ n. length n.debts) c.in_ok-saved.ensures
+pub save_after-requires-clause-paid : goal.save_after-requires-clause-paid
+save_after-requires-clause-paid g c = λ κs lives.
+    subst (λ n. c.as_slice.result.now ≡ least n) (sym (c.net.ensures ∙ c.in_ok-paid.ensures.record_is.net_is))
+    (c.as_slice.ensures ∙ c.in_ok-paid.ensures.paid)
+
+pub save_after-requires-clause-run : goal.save_after-requires-clause-run
+save_after-requires-clause-run g c = λ κs lives.
+    let rounds = c.in_ok-paid.field-0.rounds in
+    (rounds, subst (λ n. IsRun n c.journal.result.now rounds) (sym (c.net.ensures ∙ c.in_ok-paid.ensures.record_is.net_is))
+    (subst (λ j. IsRun c.args.net j rounds) (sym c.journal.ensures) c.in_ok-paid.ensures.run))
 
 pub returns : goal.returns
 returns g c =
-    let net = c.args.net.now in
-    let found = c.in_ok-found.found in
-    let out : c.with_record.result ≡ record { status = status.Done; sealed = Some c.in_ok-paid.sealed; text = c.in_ok-of.field-0 } =
-    search rules in
-    rescues net c.args.job.now c.args.bank.0 c.in_ok-saved.saved c.journal.result.now
-    c.in_ok-before.before.rounds c.in_ok-paid.field-0.rounds
-    c.in_ok-paid.field-0.sealed c.in_ok-of.field-0 c.with_record.result
-    (c.in_ok-saved.ensures ∙ ap (added net c.args.bank.0) c.in_ok-found.ensures.added)
-    (subst (λ j. IsRun net j c.in_ok-before.before.rounds) (sym c.journal.ensures) c.in_ok-before.ensures.run)
-    c.in_ok-paid.ensures.record_is c.in_ok-paid.ensures.run
-    (c.in_ok-of.ensures ∙ c.in_ok-text.ensures
-    ∙ ap (λ P. rescued_text net c.args.bank.0 found.added found.short P) (c.as_slice-2.ensures ∙ c.in_ok-paid.ensures.paid)
-    ∙ report_is net c.args.bank.0 c.in_ok-saved.saved found.added found.short c.in_ok-found.ensures.added
-    c.in_ok-found.ensures.short c.in_ok-saved.ensures)
-    (out ∙ ap (λ s. record { status = status.Done; sealed = Some s; text = c.in_ok-of.field-0 }) (sym c.in_ok-paid.sealed-is))
+    subst (λ n. IfOk c.save_after.result (Rescues n c.args.clearer.now.plan c.args.bank.0))
+    (c.net.ensures ∙ c.in_ok-paid.ensures.record_is.net_is) c.save_after.ensures

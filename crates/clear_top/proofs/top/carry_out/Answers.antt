@@ -19,7 +19,7 @@ returns-clause-ends g c =
     (shelf_call (g.F.Shelf.files c.args.files.now) (g.F.Shelf.faults c.args.files.now) (g.F.Shelf.faults c.load.new.files))
     (sink_call (g.O.Sink.written c.args.out.now) (g.O.Sink.written c.put.new.sink) (g.O.Sink.faults c.args.out.now) (g.O.Sink.faults c.put.new.sink))
     c.args.job.now c.in-Ok.input c.in-Ok.ensures.input outcome.status outcome.sealed outcome.text c.in-Ok-work.ensures
-    c.in-Err.ensures.part c.in-Err.ensures.failed
+    c.in-Err-put.ensures.part c.in-Err-put.ensures.failed
 
 -- what was to be written is a status of work
 pub returns-in-Ok-put-clause-untouched : goal.returns-in-Ok-put-clause-untouched

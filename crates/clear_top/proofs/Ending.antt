@@ -8,7 +8,7 @@ use Rattle.clear_top.specs.Ending.{IfTold, IsRefusedOrMem, IsUntouched, IsUsageO
 use Rattle.clear_top.specs.Ending.{NoneRose, RunEnds, ShelfCall, SinkCall, SinkRose}
 use Rattle.clear_top.specs.Ending.{WasPartWritten, WasWritten, Works, WritesText}
 use Rattle.clear_top.specs.Meaning.{Means}
-use Rattle.clear_top.specs.Reading.{Files, Given, reading}
+use Rattle.clear_top.specs.Reading.{Files, Input, reading}
 use Rattle.clear_top.specs.declared.outcome.Outcome.{Outcome}
 use Rattle.clear_top.specs.declared.status.Ended.{Ended}
 use Rattle.clear_top.specs.declared.status.Status.{Status}
@@ -42,7 +42,7 @@ module _ (shelf : ShelfCall) (sink : SinkCall) where
   usage_without_job job e ends = usage_by job e.status e.sealed ends
 
   -- where something else was written than a fault, the files have none
-  no_fault : (job : Job) (told : Files) (on : Given) (f : Fault) → reading told job ≡ Some (Ok on)
+  no_fault : (job : Job) (told : Files) (on : Input) (f : Fault) → reading told job ≡ Some (Ok on)
       → reading told job ≡ Some (Err f) → ⊥
   no_fault job told on f fine faulty =
       let both : Some (Ok on) ≡ Some (Err f) = sym fine ∙ faulty in absurd (cc)
@@ -103,7 +103,7 @@ module _ (shelf : ShelfCall) (sink : SinkCall) where
   written_is_meant job e ends told tells = written_by job e.status e.sealed ends told tells
 
   -- what an accepted job comes to is written where nothing outside fails, or memory is wanting
-  accepted_by : (job : Job) (s : Status) (sealed : Option Sealed) (on : Given)
+  accepted_by : (job : Job) (s : Status) (sealed : Option Sealed) (on : Input)
       → JobEnds shelf sink job s sealed
       → IfTold shelf.files (λ told. reading told job ≡ Some (Ok on) → NoneRose shelf job
       → ¬ (SinkRose sink) → WasWritten told sink job (ended s sealed)
@@ -121,7 +121,7 @@ module _ (shelf : ShelfCall) (sink : SinkCall) where
       absurd (no_rise rose)
   accepted_by job status.Mem sealed on ends told tells fine none_rose no_rise = inr (refl, ends.0)
 
-  pub accepted_is_written : (job : Job) (e : Ended) (on : Given) → RunEnds shelf sink (Some job) e
+  pub accepted_is_written : (job : Job) (e : Ended) (on : Input) → RunEnds shelf sink (Some job) e
       → IfTold shelf.files (λ told. reading told job ≡ Some (Ok on) → NoneRose shelf job
       → ¬ (SinkRose sink) → WasWritten told sink job e
       ⊎ ((e.status ≡ status.Mem) × (sink.new ≡ sink.old)))

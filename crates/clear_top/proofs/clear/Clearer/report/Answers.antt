@@ -1,7 +1,8 @@
 use Rattle.std.proofs.Common.{◌≡◌, Some, rules, sym, ap, subst, ◌∙◌}
-use Rattle.clear_top.specs.Meaning.{IsRun, clear_text}
+use Rattle.clear_core.specs.Clearing.{least}
+use Rattle.clear_top.specs.Meaning.{IsRun, shown_of}
 use Rattle.clear_top.specs.declared.status.Status.TheVariants as status
-use Rattle.clear_top.proofs.clear.clear.Goals as goal
+use Rattle.clear_top.proofs.clear.Clearer.report.Goals as goal
 
 -- the network of the record is the network
 pub shown-requires-clause-run : goal.shown-requires-clause-run
@@ -13,6 +14,7 @@ shown-requires-clause-run g c =
 pub returns : goal.returns
 returns g c =
     let net = c.args.net in
+    let task = c.args.job.now.task in
     let show = c.args.job.now.show in
     let s = c.in_ok-paid.field-0 in
     let text = c.in_ok-text.text in
@@ -24,6 +26,6 @@ returns g c =
       run = c.in_ok-paid.ensures.run;
       comes = out ∙ ap (λ r. record { status = status.Done; sealed = Some r; text = text }) (sym c.in_ok-paid.sealed-is)
           ∙ ap (λ t. record { status = status.Done; sealed = Some s.sealed; text = t })
-          (c.in_ok-text.ensures ∙ ap (λ n. clear_text show n c.journal.result.now s.rounds) (c.net.ensures ∙ c.in_ok-paid.ensures.record_is.net_is)
-          ∙ ap (λ j. clear_text show net j s.rounds) c.journal.ensures);
+          (c.in_ok-text.ensures ∙ ap (λ n. shown_of task show n c.journal.result.now s.rounds) (c.net.ensures ∙ c.in_ok-paid.ensures.record_is.net_is)
+          ∙ ap (λ j. shown_of task show net j s.rounds) c.journal.ensures);
     }
