@@ -13,7 +13,7 @@ use crate::status::Status;
 use clear_core::{Raise, Scratch};
 use clear_report::{lawful_text, verdict_text};
 use clr_net::{Amounts, Mem, Network};
-use raise_journal::{Verdict, replay};
+use raise_journal::{Verdict, replay_with};
 use std::alloc::Global;
 
 /// Replays a journal on a network: the verdict, and of a lawful and complete journal the payments.
@@ -23,8 +23,16 @@ pub fn judge(alloc: Global, net: &Network, journal: &[Raise]) -> Result<Outcome,
         o ≡ answer_to net.now journal.now (judged net.now journal.now).verdict) }
 {
     let mut paid = Amounts::zeros(alloc, net.debts() as usize)?;
+    let mut awards = Amounts::zeros(alloc, net.debts() as usize)?;
     let mut scratch = Scratch::of(alloc, net)?;
-    judge_by(alloc, net, journal, paid.as_mut_slice(), &mut scratch)
+    judge_by(
+        alloc,
+        net,
+        journal,
+        paid.as_mut_slice(),
+        awards.as_mut_slice(),
+        &mut scratch,
+    )
 }
 
 // Replays a journal by these lists.
@@ -33,16 +41,18 @@ fn judge_by(
     net: &Network,
     journal: &[Raise],
     paid: &mut [u64],
+    awards: &mut [u64],
     scratch: &mut Scratch,
 ) -> Result<Outcome, Mem>
     requires debts { All (λ r. r.debt.0 < length net.now.debts) journal.now }
     requires over { length paid.old ≡ length net.now.debts }
+    requires awards { length awards.old ≡ length net.now.debts }
     requires room { HasRoom net.now scratch.old }
     ensures { IfOk result (λ o.
         o ≡ answer_to net.now journal.now (judged net.now journal.now).verdict) }
 {
     is_network(net);
-    let verdict = replay(net, journal, paid, scratch);
+    let verdict = replay_with(net, journal, paid, awards, scratch);
     let raises = journal.len() as u64;
     match verdict {
         Verdict::Lawful => Outcome::plain(alloc, lawful_text(alloc, net, raises, paid)?),
