@@ -15,9 +15,11 @@ save_after-requires-clause-paid g c = λ κs lives.
 
 pub save_after-requires-clause-run : goal.save_after-requires-clause-run
 save_after-requires-clause-run g c = λ κs lives.
-    let rounds = c.in_ok-paid.field-0.rounds in
-    (rounds, subst (λ n. IsRun n c.journal.result.now rounds) (sym (c.net.ensures ∙ c.in_ok-paid.ensures.record_is.net_is))
-    (subst (λ j. IsRun c.args.net j rounds) (sym c.journal.ensures) c.in_ok-paid.ensures.run))
+    let rounds = c.in_ok-paid.field-0.rounds in (
+      rounds,
+      subst (λ n. IsRun n c.journal.result.now rounds) (sym (c.net.ensures ∙ c.in_ok-paid.ensures.record_is.net_is))
+          (subst (λ j. IsRun c.args.net j rounds) (sym c.journal.ensures) c.in_ok-paid.ensures.run),
+    )
 
 pub returns : goal.returns
 returns g c =
