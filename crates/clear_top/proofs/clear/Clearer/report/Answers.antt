@@ -1,5 +1,4 @@
 use Rattle.std.proofs.Common.{◌≡◌, Some, rules, sym, ap, subst, ◌∙◌}
-use Rattle.clear_core.specs.Clearing.{least}
 use Rattle.clear_top.specs.Meaning.{IsRun, shown_of}
 use Rattle.clear_top.specs.declared.status.Status.TheVariants as status
 use Rattle.clear_top.proofs.clear.Clearer.report.Goals as goal
