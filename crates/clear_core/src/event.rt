@@ -9,7 +9,8 @@ pub enum Event {
     Raise(DebtId, u64),
 }
 
-/// Why a raise is not legal: what was paid on its debt already, and the most that might be, in units.
+/// Why a raise is not legal: what was paid on its debt already, and the most that might be, in
+/// units.
 #[derive(Clone, Copy, Debug, PartialEq, Eq)]
 pub struct Illegal {
     pub had: u64,

@@ -57,7 +57,8 @@ pub fn payments_below_least_are_within_what_is_owed()
     ensures { (net : Net) (P : List ℕ) → IsAtMost P (least net) → sum P ≤ units_owed net }
 {}
 
-/// Where banks of the same debts have no less to pay from, the least payments that clear are no less.
+/// Where banks of the same debts have no less to pay from, the least payments that clear are no
+/// less.
 pub fn richer_banks_pay_no_less()
     ensures { (net more : Net) → IsRicher net more → IsAtMost (least net) (least more) }
 {}
@@ -76,10 +77,12 @@ pub fn rounds_go_on_to_the_least()
         → (n : ℕ) → units_owed net ≤ sum P + n → rounds_of (pay net) P n ≡ least net }
 {}
 
-/// A journal each raise of which is lawful where it stands pays no more than the least clearing payments.
+/// A journal each raise of which is lawful where it stands pays no more than the least clearing
+/// payments.
 #[tactic(auto, using(crate::proofs::Journals::replayed_le_least))]
 pub fn standing_journal_stays_below_least()
-    ensures { (net : Net) (rs : List Raise) → Stands net rs → IsAtMost (replayed net rs) (least net) }
+    ensures { (net : Net) (rs : List Raise) → Stands net rs
+        → IsAtMost (replayed net rs) (least net) }
 {}
 
 /// All banks would pay on it no less than it pays.
@@ -92,7 +95,8 @@ pub fn standing_journal_is_covered()
 /// With one raise more, lawful then and of no smaller stamp, it still stands.
 #[tactic(auto, using(crate::proofs::Lawful::stands_more))]
 pub fn journal_stands_with_a_lawful_raise_more()
-    ensures { (net : Net) (rs : List Raise) (s : Raise) → Stands net rs → All (λ r. r.stamp ≤ s.stamp) rs
+    ensures { (net : Net) (rs : List Raise) (s : Raise) → Stands net rs
+        → All (λ r. r.stamp ≤ s.stamp) rs
         → IsLawful net (replayed net rs) s → Stands net (rs ++ s ∷ []) }
 {}
 

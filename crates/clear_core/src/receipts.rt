@@ -47,7 +47,8 @@ pub fn spendable(cash: u64, outside: u64, receipts: u64) -> u64
     (cash + receipts).saturating_sub(outside)
 }
 
-/// What a bank of a network divides among its debts when it receives so many units. Takes no memory.
+/// What a bank of a network divides among its debts when it receives so many units. Takes no
+/// memory.
 pub fn spend(net: &Network, bank: BankId, receipts: u64) -> u64
     requires bank { bank.0 < length net.now.banks }
     requires receipts { receipts ≤ MAX_DEBTS * MAX_CLAIM }

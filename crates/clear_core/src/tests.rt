@@ -20,7 +20,8 @@ fn chain_of_three(alloc: Global) -> Result<Network, Mem>
     net_samples::chain(alloc)
 }
 
-// The answer to one event. The steps of a test need no more of it than that the next one may follow.
+// The answer to one event. The steps of a test need no more of it than that the next one may
+// follow.
 fn answer(
     net: &Network,
     state: &mut State,
@@ -68,7 +69,8 @@ fn a_bank_pays_on_what_it_has_seen(rt: HostRuntime) -> Result<(), Fail> {
     Ok(())
 }
 
-// The first bank that is not quiet where the two debts of a network are paid so, and whether none is.
+// The first bank that is not quiet where the two debts of a network are paid so, and whether none
+// is.
 fn quiet_at(net: &Network, scratch: &mut Scratch, paid: [u64; 2]) -> (Option<BankId>, bool)
     requires debts { length net.now.debts ≡ 2 }
     requires first { slice_index paid 0 ≤ claim_of net.now 0 }

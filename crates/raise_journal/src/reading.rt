@@ -11,7 +11,8 @@ ghost use Rattle.raise_journal.specs.ReadJournal.{raise_from, raise_in_row, rais
 ghost use Rattle.net_check.specs.declared.TheConstants.{MAX_JOURNAL_BYTES};
 ghost use Rattle.std.specs.List.{list_all, list_any};
 ghost use Rattle.std.specs.Option.{option_map};
-ghost use Rattle.std.specs.Prelude.{◌≡◌, ◌≢◌, ◌<◌, ◌≤◌, ◌∷◌, [], false, length, position, All, Ok, Err};
+ghost use Rattle.std.specs.Prelude.{◌≡◌, ◌≢◌, ◌<◌, ◌≤◌, ◌∷◌, [], false, length, position};
+ghost use Rattle.std.specs.Prelude.{All, Ok, Err};
 ghost use Rattle.std.specs.Prelude.{IfErr, IfNone, IfOk, IfSome, OnOk, IsErrOf, MatchOption};
 
 use crate::{MAX_RAISES, MAX_STAMP};
