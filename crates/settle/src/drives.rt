@@ -19,6 +19,7 @@ const MANY_VISITS: u64 = 512;
 /// seat to each worker, lets all workers make their rounds, and takes the seats back. The workers
 /// go side by side in the first round, and after a round of many visits where one look found bells
 /// of two of them up; else they go one after another, since threads cost more than so little work.
+/// Where it is not to start `threads`, they always do.
 ///
 /// The run ends after the first round that raised nothing; each round before it raised a unit.
 /// After Ok [`nobody_can_pay_more`](crate::nobody_can_pay_more) may be asked. After `Mem` the master
@@ -33,6 +34,7 @@ pub fn drive<R: Threads + Sync, G: Gate + Sync>(
     board: &Board,
     master: &mut PaySeat,
     gate: &G,
+    threads: bool,
 ) -> Result<Driven, Mem>
     requires ready { MayDrive board.now net.now past.now plan master.old }
     ensures table { master.new.table ≡ master.old.table }
@@ -40,7 +42,7 @@ pub fn drive<R: Threads + Sync, G: Gate + Sync>(
     ensures driven { IfOk result
         (IsDriven net.now past.now plan master.old.shows master.new.shows) }
 {
-    let driven = drive_on(rt, alloc, net, plan, past, board, master, gate);
+    let driven = drive_on(rt, alloc, net, plan, past, board, master, gate, threads);
     let _clock = master.clock();
     driven
 }
@@ -55,6 +57,7 @@ fn drive_on<R: Threads + Sync, G: Gate + Sync>(
     board: &Board,
     master: &mut PaySeat,
     gate: &G,
+    threads: bool,
 ) -> Result<Driven, Mem>
     requires ready { MayDrive board.now net.now past.now plan master.old }
     ensures table { master.new.table ≡ master.old.table }
@@ -74,7 +77,7 @@ fn drive_on<R: Threads + Sync, G: Gate + Sync>(
     let mut visits = 0;
     let mut many = false;
     loop {
-        let beside = rounds == 0 || many && calls_two_workers(net, board, plan.workers);
+        let beside = rounds == 0 && threads || many && calls_two_workers(net, board, plan.workers);
         let (units, more) = round(
             rt,
             alloc,
@@ -89,7 +92,7 @@ fn drive_on<R: Threads + Sync, G: Gate + Sync>(
         )?;
         rounds += 1;
         visits += more;
-        many = more >= MANY_VISITS;
+        many = threads && more >= MANY_VISITS;
         if units == 0 {
             break;
         }

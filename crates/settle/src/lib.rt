@@ -12,7 +12,7 @@ mod work;
 pub use bells::{nobody_can_pay_more, round_and_ask};
 pub use drives::drive;
 pub use plan::{Driven, Plan};
-pub use runs::{Settled, settle, settle_from, settle_owned, settle_owned_from};
+pub use runs::{Settled, settle, settle_alone, settle_from, settle_owned, settle_owned_from};
 pub use teams::{offices_of, round};
 
 #[cfg(test)]

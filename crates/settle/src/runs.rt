@@ -60,6 +60,25 @@ pub fn settle_owned<R: Threads + Sync, G: Gate + Sync>(
     settle_owned_from(rt, alloc, net, plan, &[], gate)
 }
 
+/// Clears a network as [`settle_owned`] does, and starts no thread: all workers go one after another
+/// in the calling thread, for a caller whose own threads are at work already. `Mem` is want of
+/// memory.
+pub fn settle_alone<R: Threads + Sync, G: Gate + Sync>(
+    rt: &R,
+    alloc: Global,
+    net: Network,
+    plan: Plan,
+    gate: &G,
+) -> Result<Settled, Mem>
+    requires plan { IsPlan plan }
+    ensures settled { IfOk result (IsSettled net [] plan) }
+    ensures record_is { IfOk result (λ s. IsRecordOf net plan s.rounds s.sealed) }
+    ensures bounds { IfOk result (λ s.
+        IsWithin net plan s.rounds s.visits (length s.sealed.journal)) }
+{
+    run_on(rt, alloc, net, plan, &[], gate, false)
+}
+
 /// Clears a network as [`settle`] does, from what the raises of a past left on its debts: those of
 /// an earlier run on this network, or on one whose banks had less. Its journal begins with the
 /// past. `Mem` is want of memory.
@@ -92,6 +111,23 @@ pub fn settle_owned_from<R: Threads + Sync, G: Gate + Sync>(
     requires past { CanGoOn net past.now }
     ensures settled { IfOk result (IsSettled net past.now plan) }
 {
+    run_on(rt, alloc, net, plan, past, gate, true)
+}
+
+// The run itself, which may start threads or not.
+fn run_on<R: Threads + Sync, G: Gate + Sync>(
+    rt: &R,
+    alloc: Global,
+    net: Network,
+    plan: Plan,
+    past: &[Raise],
+    gate: &G,
+    threads: bool,
+) -> Result<Settled, Mem>
+    requires plan { IsPlan plan }
+    requires past { CanGoOn net past.now }
+    ensures settled { IfOk result (IsSettled net past.now plan) }
+{
     prove!(net.banks() <= MAX_BANKS);
     let mut payments = payments_after(alloc, &net, past)?;
     let (board, mut master) = Board::make(alloc, &net, plan.workers, payments.as_slice(), past)?;
@@ -99,7 +135,17 @@ pub fn settle_owned_from<R: Threads + Sync, G: Gate + Sync>(
         journal,
         rounds,
         visits,
-    } = drive(rt, alloc, &net, plan, past, &board, &mut master, gate)?;
+    } = drive(
+        rt,
+        alloc,
+        &net,
+        plan,
+        past,
+        &board,
+        &mut master,
+        gate,
+        threads,
+    )?;
     let sealed = board.seal(master, payments.as_mut_slice(), net, journal);
     let paid = values_of(alloc, payments.as_slice())?;
     Ok(Settled {

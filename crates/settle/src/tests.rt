@@ -2,7 +2,10 @@ ghost use Rattle.std.specs.Prelude.{◌<◌, ◌≤◌};
 
 use crate::runs::unpaid;
 use crate::teams::calls_two_workers;
-use crate::{Plan, Settled, nobody_can_pay_more, offices_of, round_and_ask, settle, settle_from};
+use crate::{
+    Plan, Settled, nobody_can_pay_more, offices_of, round_and_ask, settle, settle_alone,
+    settle_from,
+};
 use clear_core::{Journal, Raise, Scratch};
 use clear_least::central;
 use clr_edge::{Gate, OpenGate};
@@ -194,6 +197,17 @@ impl Gate for Meeting {
     }
 }
 
+// The meeting of so many workers in a round.
+fn new_meeting(workers: u32, round: u64) -> Meeting {
+    Meeting {
+        workers: workers as u64,
+        round,
+        rounds: [AtomicU64::new(0), AtomicU64::new(0), AtomicU64::new(0)],
+        come: AtomicU64::new(0),
+        met: AtomicU64::new(0),
+    }
+}
+
 // How many of so many workers met in a round of a run.
 fn met_in<R: Threads + Sync>(
     rt: &R,
@@ -204,13 +218,7 @@ fn met_in<R: Threads + Sync>(
 ) -> Result<u64, Mem>
     requires { (1 ≤ workers) × (workers ≤ 64) }
 {
-    let gate = Meeting {
-        workers: workers as u64,
-        round,
-        rounds: [AtomicU64::new(0), AtomicU64::new(0), AtomicU64::new(0)],
-        come: AtomicU64::new(0),
-        met: AtomicU64::new(0),
-    };
+    let gate = new_meeting(workers, round);
     let _settled = settle(rt, alloc, net, Plan { workers, sweeps: 1 }, &gate)?;
     Ok(gate.met.load(Ordering::SeqCst))
 }
@@ -221,6 +229,21 @@ fn all_workers_work_at_once(rt: HostRuntime) -> Result<(), Fail> {
     let net = chain(alloc)?;
     assert_eq!(rt; met_in(&rt, alloc, &net, 2, 0)?, 2);
     assert_eq!(rt; met_in(&rt, alloc, &net, 3, 0)?, 3);
+    Ok(())
+}
+
+#[test]
+fn alone_no_worker_works_beside_another(rt: HostRuntime) -> Result<(), Fail> {
+    let alloc = rt.alloc();
+    let gate = new_meeting(2, 0);
+    let plan = Plan {
+        workers: 2,
+        sweeps: 1,
+    };
+    let settled = settle_alone(&rt, alloc, chain(alloc)?, plan, &gate)?;
+    assert_eq!(rt; settled.paid.as_slice(), [7, 8].as_slice());
+    // The first waited in vain, and the second found that both had come.
+    assert_eq!(rt; gate.met.load(Ordering::SeqCst), 1);
     Ok(())
 }
 

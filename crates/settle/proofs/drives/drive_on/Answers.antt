@@ -44,8 +44,11 @@ overflow_add-rounds g c =
 
 pub overflow_add-visits : goal.overflow_add-visits
 overflow_add-visits g c = record {
-  fits = omega (arith, visits_low c.args.net.now c.args.past.now c.args.plan c.loop-rounds.master.shows c.loop-rounds.journal.raises c.loop-rounds.rounds c.loop-rounds.visits c.in_ok-units.more
-      c.requires.ready.limits.few_sweeps c.loop-rounds.invariant.driven c.in_ok-units.ensures.round.visits_by_banks);
+  fits = omega (
+    arith,
+    visits_low c.args.net.now c.args.past.now c.args.plan c.loop-rounds.master.shows c.loop-rounds.journal.raises c.loop-rounds.rounds c.loop-rounds.visits c.in_ok-units.more
+        c.requires.ready.limits.few_sweeps c.loop-rounds.invariant.driven c.in_ok-units.ensures.round.visits_by_banks,
+  );
 }
 
 pub loop-rounds-smaller : goal.loop-rounds-smaller

@@ -15,7 +15,7 @@ use Rattle.pay_words.specs.Traces.{start_of}
 use Rattle.settle.specs.Drives.{EndsAtRest}
 use Rattle.settle.proofs.Limits.{within_limits}
 use Rattle.settle.proofs.Finished.{after_a_past, goes_on, lawful_at_least, paid_over, sealed_belongs, values_shown, values_written}
-use Rattle.settle.proofs.runs.settle_owned_from.Goals as goal
+use Rattle.settle.proofs.runs.run_on.Goals as goal
 
 pub payments_after-requires : goal.payments_after-requires
 payments_after-requires g c = stands_in_range c.args.net c.args.past.now c.requires.past.stands
