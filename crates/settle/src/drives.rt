@@ -19,13 +19,33 @@ const MANY_VISITS: u64 = 512;
 /// seat to each worker, lets all workers make their rounds, and takes the seats back. The workers
 /// go side by side in the first round, and after a round of many visits where one look found bells
 /// of two of them up; else they go one after another, since threads cost more than so little work.
-/// Where it is not to start `threads`, they always do.
 ///
 /// The run ends after the first round that raised nothing; each round before it raised a unit.
 /// After Ok [`nobody_can_pay_more`](crate::nobody_can_pay_more) may be asked. After `Mem` the master
 /// may hold fewer banks, and the caller drops the board; what the master shows is never above the
 /// least clearing payments.
 pub fn drive<R: Threads + Sync, G: Gate + Sync>(
+    rt: &R,
+    alloc: Global,
+    net: &Network,
+    plan: Plan,
+    past: &[Raise],
+    board: &Board,
+    master: &mut PaySeat,
+    gate: &G,
+) -> Result<Driven, Mem>
+    requires ready { MayDrive board.now net.now past.now plan master.old }
+    ensures table { master.new.table ≡ master.old.table }
+    ensures below_least { IsBelowLeast net.now master.new.shows }
+    ensures driven { IfOk result
+        (IsDriven net.now past.now plan master.old.shows master.new.shows) }
+{
+    drive_by(rt, alloc, net, plan, past, board, master, gate, true)
+}
+
+// Makes rounds as `drive` does. Where it is not to start `threads`, the workers always go one after
+// another.
+pub(crate) fn drive_by<R: Threads + Sync, G: Gate + Sync>(
     rt: &R,
     alloc: Global,
     net: &Network,

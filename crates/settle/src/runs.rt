@@ -5,7 +5,7 @@ ghost use Rattle.settle.specs.Drives.{IsPlan};
 ghost use Rattle.settle.specs.Runs.{CanGoOn, IsRecordOf, IsSettled, IsWithin};
 ghost use Rattle.std.specs.Prelude.{◌≡◌, ◌<◌, [], All, IfOk, length, replicate};
 
-use crate::drives::drive;
+use crate::drives::drive_by;
 use crate::plan::{Driven, Plan};
 use clear_core::Raise;
 use clr_edge::Gate;
@@ -135,7 +135,7 @@ fn run_on<R: Threads + Sync, G: Gate + Sync>(
         journal,
         rounds,
         visits,
-    } = drive(
+    } = drive_by(
         rt,
         alloc,
         &net,
