@@ -1,3 +1,5 @@
+ghost use Rattle.std.specs.Prelude.{◌≤◌};
+
 use crate::{add_classed, add_ruled};
 use clr_net::{MAX_BANKS, Mem, Network, RuleKind};
 use std::alloc::Global;
@@ -12,117 +14,141 @@ const RULES: [RuleKind; 6] = [
     RuleKind::Adams,
 ];
 
+// The banks of the twelve banks, with their cash.
+const BANKS: [(&str, u64); 12] = [
+    ("Alster", 2_000_000),
+    ("Birk", 1_500_001),
+    ("Calder", 3_000_000),
+    ("Dunmore", 1_100_001),
+    ("Elbe", 1_020_000),
+    ("Fjord", 1_000_000),
+    ("Garda", 2_500_000),
+    ("Havel", 4_000_000),
+    ("Isar", 1_000_000),
+    ("Jura", 1_000_000),
+    ("Kemi", 2_000_000),
+    ("Crédit Loire", 5_000_000),
+];
+
+// Their debts: debtor, creditor, class and claim.
+const DEBTS: [(u32, u32, u8, u64); 40] = [
+    (0, 2, 1, 40_000),
+    (0, 6, 2, 50_000),
+    (0, 11, 3, 60_000),
+    (1, 2, 1, 1_000_000),
+    (1, 10, 2, 700_000),
+    (1, 6, 2, 700_000),
+    (1, 5, 2, 500_000),
+    (2, 3, 1, 200_000),
+    (2, 7, 2, 30_000),
+    (2, 10, 3, 70_000),
+    (3, 0, 1, 200_000),
+    (3, 4, 2, 900_000),
+    (3, 6, 2, 600_000),
+    (3, 10, 2, 300_000),
+    (3, 7, 3, 100_000),
+    (4, 1, 1, 800_000),
+    (4, 6, 1, 600_000),
+    (4, 11, 1, 400_000),
+    (4, 9, 2, 100_000),
+    (5, 9, 1, 20_000),
+    (5, 0, 2, 80_000),
+    (5, 6, 3, 50_000),
+    (6, 5, 1, 60_000),
+    (6, 10, 2, 40_000),
+    (6, 0, 3, 50_000),
+    (7, 8, 1, 100_000),
+    (7, 2, 2, 30_000),
+    (7, 9, 3, 20_000),
+    (8, 1, 1, 700_000),
+    (8, 5, 1, 500_000),
+    (8, 0, 1, 300_000),
+    (9, 3, 1, 100_000),
+    (9, 5, 2, 25_000),
+    (9, 11, 3, 25_000),
+    (10, 7, 1, 90_000),
+    (10, 6, 2, 10_000),
+    (10, 11, 3, 50_000),
+    (11, 0, 1, 70_000),
+    (11, 5, 2, 30_000),
+    (11, 7, 3, 50_000),
+];
+
 /// The network of the files in `examples/twelve-banks`: all six rules and three classes. Under the
 /// least payments two banks default by their own fundamentals, and two by contagion. `Mem` for want
 /// of memory alone.
 pub fn twelve_banks(alloc: Global) -> Result<Network, Mem> {
     let mut net = Network::empty(alloc);
-    let banks = [
-        ("Alster", 2_000_000),
-        ("Birk", 1_500_001),
-        ("Calder", 3_000_000),
-        ("Dunmore", 1_100_001),
-        ("Elbe", 1_020_000),
-        ("Fjord", 1_000_000),
-        ("Garda", 2_500_000),
-        ("Havel", 4_000_000),
-        ("Isar", 1_000_000),
-        ("Jura", 1_000_000),
-        ("Kemi", 2_000_000),
-        ("Crédit Loire", 5_000_000),
-    ];
-    for (place, (name, cash)) in banks.iter().enumerate() {
-        add_ruled(alloc, &mut net, name.as_bytes(), *cash, RULES[place % 6], 0)?;
-    }
-    let debts = [
-        (0, 2, 1, 40_000),
-        (0, 6, 2, 50_000),
-        (0, 11, 3, 60_000),
-        (1, 2, 1, 1_000_000),
-        (1, 10, 2, 700_000),
-        (1, 6, 2, 700_000),
-        (1, 5, 2, 500_000),
-        (2, 3, 1, 200_000),
-        (2, 7, 2, 30_000),
-        (2, 10, 3, 70_000),
-        (3, 0, 1, 200_000),
-        (3, 4, 2, 900_000),
-        (3, 6, 2, 600_000),
-        (3, 10, 2, 300_000),
-        (3, 7, 3, 100_000),
-        (4, 1, 1, 800_000),
-        (4, 6, 1, 600_000),
-        (4, 11, 1, 400_000),
-        (4, 9, 2, 100_000),
-        (5, 9, 1, 20_000),
-        (5, 0, 2, 80_000),
-        (5, 6, 3, 50_000),
-        (6, 5, 1, 60_000),
-        (6, 10, 2, 40_000),
-        (6, 0, 3, 50_000),
-        (7, 8, 1, 100_000),
-        (7, 2, 2, 30_000),
-        (7, 9, 3, 20_000),
-        (8, 1, 1, 700_000),
-        (8, 5, 1, 500_000),
-        (8, 0, 1, 300_000),
-        (9, 3, 1, 100_000),
-        (9, 5, 2, 25_000),
-        (9, 11, 3, 25_000),
-        (10, 7, 1, 90_000),
-        (10, 6, 2, 10_000),
-        (10, 11, 3, 50_000),
-        (11, 0, 1, 70_000),
-        (11, 5, 2, 30_000),
-        (11, 7, 3, 50_000),
-    ];
-    for (debtor, creditor, class, claim) in debts {
-        add_classed(&mut net, debtor, creditor, class, claim)?;
-    }
+    add_twelve(alloc, &mut net)?;
     Ok(net)
 }
 
+<<<<<<< HEAD
 /// So many banks, from eight on, that owe round a circle: to the next, to the seventh after it and
 /// to the third before it. Their cash, rules, outside claims, classes and claims go by their
 /// numbers. `Mem` also where there are too few or too many.
+=======
+// Adds the twelve banks and their debts.
+fn add_twelve(alloc: Global, net: &mut Network) -> Result<(), Mem> {
+    for (place, (name, cash)) in BANKS.iter().enumerate() {
+        add_ruled(alloc, net, name.as_bytes(), *cash, RULES[place % 6], 0)?;
+    }
+    for (debtor, creditor, class, claim) in DEBTS {
+        add_classed(net, debtor, creditor, class, claim)?;
+    }
+    Ok(())
+}
+
+/// So many banks, from eight on, that owe round a circle: to the next, to the seventh after it and to the
+/// third before it. Their cash, rules, outside claims, classes and claims go by their numbers.
+/// `Mem` also where there are too few or too many.
+>>>>>>> 66027866c8b7291b626f2f53bdf245ee9969bb0e
 pub fn woven(alloc: Global, banks: u32) -> Result<Network, Mem> {
     let mut net = Network::empty(alloc);
     if banks < 8 || banks > MAX_BANKS {
         return Err(Mem);
     }
+    add_woven_banks(alloc, &mut net, banks)?;
+    add_woven_debts(&mut net, banks)?;
+    Ok(net)
+}
+
+// Adds the banks of such a network.
+fn add_woven_banks(alloc: Global, net: &mut Network, banks: u32) -> Result<(), Mem> {
     for number in 0..banks {
         let name = [digit(number / 100), digit(number / 10), digit(number)];
         let bank = number as u64;
         let outside = if number % 5 == 0 { bank % 13 } else { 0 };
         let rule = RULES[number as usize % 6];
-        add_ruled(alloc, &mut net, &name, bank * 7_919 % 61, rule, outside)?;
+        add_ruled(alloc, net, &name, bank * 7_919 % 61, rule, outside)?;
     }
+    Ok(())
+}
+
+// Adds the debts of such a network.
+fn add_woven_debts(net: &mut Network, banks: u32) -> Result<(), Mem>
+    requires few { banks ≤ 1000 }
+    requires enough { 8 ≤ banks }
+{
     for number in 0..banks {
         let bank = number as u64;
         let before = (number + banks - 3) % banks;
-        add_classed(
-            &mut net,
-            number,
-            (number + 1) % banks,
-            1,
+        let (first, second, third) = (
             20 + bank * 31 % 47,
-        )?;
+            15 + bank * 17 % 29,
+            10 + bank * 13 % 37,
+        );
+        add_classed(net, number, (number + 1) % banks, 1, first)?;
         add_classed(
-            &mut net,
+            net,
             number,
             (number + 7) % banks,
             1 + (number % 3) as u8,
-            15 + bank * 17 % 29,
+            second,
         )?;
-        add_classed(
-            &mut net,
-            number,
-            before,
-            1 + (number % 9) as u8,
-            10 + bank * 13 % 37,
-        )?;
+        add_classed(net, number, before, 1 + (number % 9) as u8, third)?;
     }
-    Ok(net)
+    Ok(())
 }
 
 // The last digit of a number, in ASCII.

@@ -6,7 +6,7 @@
 
 mod large;
 
-ghost use Rattle.clr_net.specs.Net.{with_bank, with_debt};
+ghost use Rattle.clr_net.specs.Net.{empty_net, with_bank, with_debt};
 ghost use Rattle.clr_net.specs.Samples.{bank, chain as chain_net, debt};
 ghost use Rattle.net_samples.specs.Networks.{classed, ring as ring_net, ruled};
 ghost use Rattle.std.specs.Prelude.{◌≡◌, IfOk, OnOk};
@@ -102,12 +102,20 @@ pub fn chain(alloc: Global) -> Result<Network, Mem>
     ensures { IfOk result (λ net. net ≡ chain_net) }
 {
     let mut net = Network::empty(alloc);
-    add_bank(alloc, &mut net, b"A", 7)?;
-    add_bank(alloc, &mut net, b"B", 1)?;
-    add_bank(alloc, &mut net, b"C", 0)?;
-    add_debt(&mut net, 0, 1, 10)?;
-    add_debt(&mut net, 1, 2, 9)?;
+    add_chain(alloc, &mut net)?;
     Ok(net)
+}
+
+// Adds the banks and debts of the chain: with the network behind a reference no step has to drop it.
+fn add_chain(alloc: Global, net: &mut Network) -> Result<(), Mem>
+    requires { net.old ≡ empty_net }
+    ensures { OnOk result (net.new ≡ chain_net) }
+{
+    add_bank(alloc, net, b"A", 7)?;
+    add_bank(alloc, net, b"B", 1)?;
+    add_bank(alloc, net, b"C", 0)?;
+    add_debt(net, 0, 1, 10)?;
+    add_debt(net, 1, 2, 9)
 }
 
 /// A and B owe each other 5; A has 1. `Mem` for want of memory alone.
@@ -115,9 +123,17 @@ pub fn ring(alloc: Global) -> Result<Network, Mem>
     ensures { IfOk result (λ net. net ≡ ring_net) }
 {
     let mut net = Network::empty(alloc);
-    add_bank(alloc, &mut net, b"A", 1)?;
-    add_bank(alloc, &mut net, b"B", 0)?;
-    add_debt(&mut net, 0, 1, 5)?;
-    add_debt(&mut net, 1, 0, 5)?;
+    add_ring(alloc, &mut net)?;
     Ok(net)
+}
+
+// Adds the banks and debts of the ring.
+fn add_ring(alloc: Global, net: &mut Network) -> Result<(), Mem>
+    requires { net.old ≡ empty_net }
+    ensures { OnOk result (net.new ≡ ring_net) }
+{
+    add_bank(alloc, net, b"A", 1)?;
+    add_bank(alloc, net, b"B", 0)?;
+    add_debt(net, 0, 1, 5)?;
+    add_debt(net, 1, 0, 5)
 }
