@@ -99,9 +99,9 @@ fn add_twelve(alloc: Global, net: &mut Network) -> Result<(), Mem> {
     Ok(())
 }
 
-/// So many banks, from eight on, that owe round a circle: to the next, to the seventh after it and to the
-/// third before it. Their cash, rules, outside claims, classes and claims go by their numbers.
-/// `Mem` also where there are too few or too many.
+/// So many banks, from eight on, that owe round a circle: to the next, to the seventh after it and
+/// to the third before it. Their cash, rules, outside claims, classes and claims go by their
+/// numbers. `Mem` also where there are too few or too many.
 >>>>>>> 66027866c8b7291b626f2f53bdf245ee9969bb0e
 pub fn woven(alloc: Global, banks: u32) -> Result<Network, Mem> {
     let mut net = Network::empty(alloc);
