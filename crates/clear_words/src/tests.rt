@@ -137,6 +137,28 @@ fn reads_the_jobs(rt: HostRuntime) {
                 ..on(Task::Costs, "b", "d")
             },
         ),
+        // all that a task takes
+        (
+            &[
+                "clear",
+                "--banks",
+                "b",
+                "--debts",
+                "d",
+                "--workers",
+                "64",
+                "--sweeps",
+                "1000",
+                "--show",
+                "both",
+            ],
+            Seen {
+                workers: 64,
+                sweeps: 1000,
+                show: Show::Both,
+                ..clear
+            },
+        ),
         // the order of the words, and the end of the options
         (&["--banks", "b", "clear", "--debts", "d"], clear),
         (&["--debts=d", "--banks=b", "--", "clear"], clear),
@@ -187,6 +209,19 @@ fn refuses_other_words(rt: HostRuntime) {
             "--size=1",
             "--tries=0",
         ],
+        &[
+            "clear",
+            "--banks",
+            "b",
+            "--debts",
+            "d",
+            "--workers",
+            "64",
+            "--sweeps",
+            "1001",
+            "--show",
+            "both",
+        ],
         &["rescue", "--banks=b", "--debts=d", "--bank=-a"],
         &["rescue", "--banks=b", "--debts=d", "--bank=a,b"],
         &["costs", "--banks=b", "--debts=d", "--keep=1001"],
@@ -204,7 +239,8 @@ fn refuses_other_words(rt: HostRuntime) {
 
 #[test]
 fn file_name_keeps_its_text(rt: HostRuntime) -> Result<(), Fail> {
-    for text in ["b.csv", "", "-", "ä d"] {
+    let long = "nnnnnnnnnnnnnnnnnnnnnnnnnnnnnnnnnnnnnnnnnnnnnnnnnnnnnnnnnnnnnnnnnnnnnn";
+    for text in ["b.csv", "", "-", "ä d", long] {
         let name = FileName::of(rt.alloc(), text).or(Err("out of memory"))?;
         assert!(rt; name.as_str() == text);
     }
