@@ -83,11 +83,6 @@ pub fn twelve_banks(alloc: Global) -> Result<Network, Mem> {
     Ok(net)
 }
 
-<<<<<<< HEAD
-/// So many banks, from eight on, that owe round a circle: to the next, to the seventh after it and
-/// to the third before it. Their cash, rules, outside claims, classes and claims go by their
-/// numbers. `Mem` also where there are too few or too many.
-=======
 // Adds the twelve banks and their debts.
 fn add_twelve(alloc: Global, net: &mut Network) -> Result<(), Mem> {
     for (place, (name, cash)) in BANKS.iter().enumerate() {
@@ -102,7 +97,6 @@ fn add_twelve(alloc: Global, net: &mut Network) -> Result<(), Mem> {
 /// So many banks, from eight on, that owe round a circle: to the next, to the seventh after it and
 /// to the third before it. Their cash, rules, outside claims, classes and claims go by their
 /// numbers. `Mem` also where there are too few or too many.
->>>>>>> 66027866c8b7291b626f2f53bdf245ee9969bb0e
 pub fn woven(alloc: Global, banks: u32) -> Result<Network, Mem> {
     let mut net = Network::empty(alloc);
     if banks < 8 || banks > MAX_BANKS {
