@@ -13,7 +13,7 @@ use clear_core::Raise;
 use clear_words::Job;
 use clr_edge::Gate;
 use clr_net::{Mem, Network};
-use settle::{Plan, Settled, settle_owned, settle_owned_from};
+use settle::{Plan, Settled, settle_alone, settle_owned, settle_owned_from};
 use std::alloc::Global;
 use std::thread::Threads;
 
@@ -55,6 +55,15 @@ impl<'a, R: Threads + Sync, G: Gate + Sync> Clearer<'a, R, G> {
     {
         is_network(&net);
         settle_owned(self.rt, self.alloc, net, self.plan, self.gate)
+    }
+
+    /// Clears a network as [`Clearer::settle`] does, and starts no thread: for a thread that works
+    /// beside others. `Mem` is want of memory.
+    pub fn settle_alone(&self, net: Network) -> Result<Settled, Mem>
+        ensures paid { IfOk result (λ s. s.paid ≡ least net) }
+        ensures record_is { IfOk result (λ s. IsRecordOf net self.now.plan s.rounds s.sealed) }
+    {
+        settle_alone(self.rt, self.alloc, net, self.plan, self.gate)
     }
 
     /// Clears a network from what the raises of a past left on its debts.

@@ -153,7 +153,7 @@ fn block<R: Threads + Sync, G: Gate + Sync>(
 {
     let mut left = copy;
     shock_again(net, scenario, &mut left);
-    let Settled { paid, sealed, .. } = clearer.settle(left)?;
+    let Settled { paid, sealed, .. } = clearer.settle_alone(left)?;
     let text = block_text(
         clearer.alloc,
         sealed.net(),
