@@ -17,8 +17,6 @@ import tempfile
 import threading
 from collections import namedtuple
 
-import files
-
 ROOT = pathlib.Path(__file__).resolve().parents[1]
 TOOL = pathlib.Path(sys.argv[0]).name
 
@@ -282,6 +280,8 @@ def same_file(one, other):
 def write_whole(name, write):
     """A file that is there whole or not at all: `write` gets the name of another file beside it, which then takes its place. A stream or
     a device, such as /dev/stdout, stays in its place and takes the content."""
+    import files  # here, since evidence is checked by a few of the tools alone, without this one
+
     if files.is_stream(name):
         with tempfile.TemporaryDirectory() as folder, told(name):
             part = os.path.join(folder, os.path.basename(name))
