@@ -19,6 +19,8 @@ ROOT = pathlib.Path(__file__).resolve().parents[1]
 
 # From the top: what the layer is for, its crates, and what it takes from the layers below.
 LAYERS = [
+    ("Tests", ["top_tests", "text_tests", "task_tests", "run_tests", "low_tests", "net_samples"],
+     "public calls"),
     ("The program", ["clear_main", "clear_top"],
      "texts, and the record of the run"),
     ("Written", ["clear_report"],
@@ -31,7 +33,7 @@ LAYERS = [
      "raises, and the verdict on them"),
     ("The clearing process", ["clear_least", "clear_core"],
      "a bank's division of what it has"),
-    ("Networks and rules", ["clr_net", "rule_level", "rule_class", "rule_divisor", "rule_kinds", "rule_unit", "net_samples"],
+    ("Networks and rules", ["clr_net", "rule_level", "rule_class", "rule_divisor", "rule_kinds", "rule_unit"],
      None),
 ]
 WIDTH, LEFT, BOX, GAP, BAND, FLOW = 1060, 210, 112, 8, 62, 34
@@ -59,7 +61,7 @@ def faults_of(below):
 
 def part_in_threads(crate):
     sources = [path.read_text(encoding="utf-8") for path in sorted((ROOT / "crates" / crate / "src").glob("*.rt"))
-               if path.stem != "tests"]
+               if path.stem != "tests" and crate not in LAYERS[0][1]]
     if any(re.search(r"use std::thread::\{[^}]*join", source) for source in sources):
         return "starts threads"
     return "words that threads share" if any("use atomic_table::" in source for source in sources) else ""
