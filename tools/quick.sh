@@ -4,7 +4,8 @@
 #   tools/quick.sh [--no-edits] [--no-above] CRATE..
 #
 # In:   the names of crates of crates.txt. For each of them, lowest first: its proofs, its tests, and its edits that must be
-#       refused, these without --no-edits. Then the proofs of each crate that stands on one of them, without --no-above.
+#       refused, these without --no-edits. Then the proofs of each crate that stands on one of them, without --no-above; of one
+#       whose name ends with _tests its tests too.
 # Out:  a line for each step, with its seconds, and last a line `N steps passed, M failed in S s`. What a step that fails
 #       printed goes to standard error; the crates that stand on it are left out then.
 #
@@ -12,7 +13,7 @@
 # Ends with 0 where no step failed, with 1 where one did, and with 2 where the words are not understood.
 case "${1:-}" in
 --help | -h)
-    sed -n '2,13s/^# \{0,1\}//p' "$0"
+    sed -n '2,14s/^# \{0,1\}//p' "$0"
     exit 0
     ;;
 esac
@@ -106,8 +107,10 @@ for name in $(in_order "$crates" "$above"); do
     fi
     cd "$root/crates/$name" || exit 1
     step "$name" "proofs" rt check --jobs 1 || { broken="$broken $name"; continue; }
-    if is_named "$name"; then
+    if is_named "$name" || [ "${name%_tests}" != "$name" ]; then
         if grep -q '#\[test\]' src/*.rt src/*/*.rt 2>/dev/null; then step "$name" "tests" rt test; fi
+    fi
+    if is_named "$name"; then
         if [ -n "$edits" ] && ls must-fail/*.edit >/dev/null 2>&1; then
             cd "$root" && step "$name" "edits" rt must-fail "$name"
         fi

@@ -9,8 +9,6 @@ pub mod laws;
 mod owing;
 mod standing;
 mod standings;
-#[cfg(test)]
-mod tests;
 
 pub use owing::{due, worth};
 pub use standing::{Health, Standing};

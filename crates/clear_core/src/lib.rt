@@ -15,8 +15,6 @@ mod quiet;
 mod receipts;
 mod scratch;
 mod state;
-#[cfg(test)]
-mod tests;
 
 pub use division::share_of;
 pub use event::{Event, Illegal, Raise};

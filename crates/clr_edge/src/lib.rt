@@ -18,6 +18,3 @@ pub use mem_shelf::MemShelf;
 pub use mem_sink::MemSink;
 pub use shelf::{FetchFault, Shelf};
 pub use sink::{Sink, SinkFault, put_all};
-
-#[cfg(test)]
-mod tests;

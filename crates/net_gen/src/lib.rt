@@ -5,7 +5,5 @@
 #![tactic(auto)]
 
 mod making;
-#[cfg(test)]
-mod tests;
 
 pub use making::generate;

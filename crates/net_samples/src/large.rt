@@ -1,4 +1,4 @@
-ghost use Rattle.std.specs.Prelude.{◌≤◌};
+ghost use Rattle.std.specs.Prelude.{◌<◌, ◌≤◌};
 
 use crate::{add_classed, add_ruled};
 use clr_net::{MAX_BANKS, Mem, Network, RuleKind};
@@ -74,75 +74,60 @@ const DEBTS: [(u32, u32, u8, u64); 40] = [
     (11, 7, 3, 50_000),
 ];
 
-/// The network of the files in `examples/twelve-banks`: all six rules and three classes. Under the
-/// least payments two banks default by their own fundamentals, and two by contagion. `Mem` for want
-/// of memory alone.
-pub fn twelve_banks(alloc: Global) -> Result<Network, Mem> {
-    let mut net = Network::empty(alloc);
-    add_twelve(alloc, &mut net)?;
-    Ok(net)
-}
-
 // Adds the twelve banks and their debts.
-fn add_twelve(alloc: Global, net: &mut Network) -> Result<(), Mem> {
+pub(crate) fn add_twelve(alloc: Global, net: &mut Network) -> Result<(), Mem> {
     for (place, (name, cash)) in BANKS.iter().enumerate() {
         add_ruled(alloc, net, name.as_bytes(), *cash, RULES[place % 6], 0)?;
     }
-    for (debtor, creditor, class, claim) in DEBTS {
-        add_classed(net, debtor, creditor, class, claim)?;
+    add_debts(net, &DEBTS)
+}
+
+// Adds debts, by debtor, creditor, class and claim.
+fn add_debts(net: &mut Network, debts: &[(u32, u32, u8, u64)]) -> Result<(), Mem> {
+    for (debtor, creditor, class, claim) in debts {
+        add_classed(net, *debtor, *creditor, *class, *claim)?;
     }
     Ok(())
 }
 
-/// So many banks, from eight on, that owe round a circle: to the next, to the seventh after it and
-/// to the third before it. Their cash, rules, outside claims, classes and claims go by their
-/// numbers. `Mem` also where there are too few or too many.
-pub fn woven(alloc: Global, banks: u32) -> Result<Network, Mem> {
-    let mut net = Network::empty(alloc);
+// Adds so many banks, which owe round a circle.
+pub(crate) fn add_woven(alloc: Global, net: &mut Network, banks: u32) -> Result<(), Mem> {
     if banks < 8 || banks > MAX_BANKS {
         return Err(Mem);
     }
-    add_woven_banks(alloc, &mut net, banks)?;
-    add_woven_debts(&mut net, banks)?;
-    Ok(net)
-}
-
-// Adds the banks of such a network.
-fn add_woven_banks(alloc: Global, net: &mut Network, banks: u32) -> Result<(), Mem> {
     for number in 0..banks {
-        let name = [digit(number / 100), digit(number / 10), digit(number)];
-        let bank = number as u64;
-        let outside = if number % 5 == 0 { bank % 13 } else { 0 };
-        let rule = RULES[number as usize % 6];
-        add_ruled(alloc, net, &name, bank * 7_919 % 61, rule, outside)?;
+        add_woven_bank(alloc, net, number)?;
+    }
+    for number in 0..banks {
+        add_debts(net, &woven_debts(number, banks))?;
     }
     Ok(())
 }
 
-// Adds the debts of such a network.
-fn add_woven_debts(net: &mut Network, banks: u32) -> Result<(), Mem>
+// Adds one of these banks.
+fn add_woven_bank(alloc: Global, net: &mut Network, number: u32) -> Result<(), Mem> {
+    let name = [digit(number / 100), digit(number / 10), digit(number)];
+    let bank = u64::from(number);
+    let outside = if number % 5 == 0 { bank % 13 } else { 0 };
+    let rule = RULES[number as usize % 6];
+    add_ruled(alloc, net, &name, bank * 7_919 % 61, rule, outside)
+}
+
+// The debts of one of these banks.
+fn woven_debts(number: u32, banks: u32) -> [(u32, u32, u8, u64); 3]
     requires few { banks ≤ 1000 }
     requires enough { 8 ≤ banks }
+    requires bank { number < banks }
 {
-    for number in 0..banks {
-        let bank = number as u64;
-        let before = (number + banks - 3) % banks;
-        let (first, second, third) = (
-            20 + bank * 31 % 47,
-            15 + bank * 17 % 29,
-            10 + bank * 13 % 37,
-        );
-        add_classed(net, number, (number + 1) % banks, 1, first)?;
-        add_classed(
-            net,
-            number,
-            (number + 7) % banks,
-            1 + (number % 3) as u8,
-            second,
-        )?;
-        add_classed(net, number, before, 1 + (number % 9) as u8, third)?;
-    }
-    Ok(())
+    let bank = u64::from(number);
+    let third = 1 + (number % 3) as u8;
+    let ninth = 1 + (number % 9) as u8;
+    let before = (number + banks - 3) % banks;
+    [
+        (number, (number + 1) % banks, 1, 20 + bank * 31 % 47),
+        (number, (number + 7) % banks, third, 15 + bank * 17 % 29),
+        (number, before, ninth, 10 + bank * 13 % 37),
+    ]
 }
 
 // The last digit of a number, in ASCII.

@@ -5,17 +5,18 @@
 #![tactic(auto)]
 
 mod large;
+mod made;
 
-ghost use Rattle.clr_net.specs.Net.{empty_net, with_bank, with_debt};
-ghost use Rattle.clr_net.specs.Samples.{bank, chain as chain_net, debt};
-ghost use Rattle.net_samples.specs.Networks.{classed, ring as ring_net, ruled};
-ghost use Rattle.std.specs.Prelude.{◌≡◌, IfOk, OnOk};
+ghost use Rattle.clr_net.specs.Net.{with_bank, with_debt};
+ghost use Rattle.clr_net.specs.Samples.{bank, classed, debt, ruled};
+ghost use Rattle.std.specs.Prelude.{◌≡◌, OnOk};
 
 use clr_net::{
     Bank, BankId, Debt, MAX_BANKS, MAX_CASH, MAX_CLAIM, MAX_CLASS, MAX_DEBTS, MAX_OUTSIDE,
     MAX_OWED, Mem, Name, Network, RuleKind,
 };
-pub use large::{digest, twelve_banks, woven};
+pub use large::digest;
+pub use made::{chain, ring, twelve_banks, woven};
 use std::alloc::Global;
 
 /// Adds a bank that divides by the order rule and owes nothing outside. `Mem` also where it may not
@@ -37,22 +38,21 @@ pub fn add_ruled(
 ) -> Result<(), Mem>
     ensures { OnOk result (net.new ≡ with_bank net.old (ruled name.now cash rule outside)) }
 {
-    let Ok(name) = Name::of(alloc, name) else {
-        return Err(Mem);
-    };
-    if net.banks() >= MAX_BANKS || net.bank_named(name.bytes()).is_some() {
+    if net.banks() >= MAX_BANKS || net.bank_named(name).is_some() {
         return Err(Mem);
     }
     if cash > MAX_CASH || outside > MAX_OUTSIDE {
         return Err(Mem);
     }
-    let bank = Bank {
+    let Ok(name) = Name::of(alloc, name) else {
+        return Err(Mem);
+    };
+    match net.add_bank(Bank {
         name,
         cash,
         rule,
         outside,
-    };
-    match net.add_bank(bank) {
+    }) {
         Ok(_) => Ok(()),
         Err(_) => Err(Mem),
     }
@@ -95,45 +95,4 @@ pub fn add_classed(
     }
     net.add_debt(debt)?;
     Ok(())
-}
-
-/// A owes B 10, and B owes C 9; A has 7 and B has 1. `Mem` for want of memory alone.
-pub fn chain(alloc: Global) -> Result<Network, Mem>
-    ensures { IfOk result (λ net. net ≡ chain_net) }
-{
-    let mut net = Network::empty(alloc);
-    add_chain(alloc, &mut net)?;
-    Ok(net)
-}
-
-// Adds the banks and debts of the chain: with the network behind a reference no step has to drop it.
-fn add_chain(alloc: Global, net: &mut Network) -> Result<(), Mem>
-    requires { net.old ≡ empty_net }
-    ensures { OnOk result (net.new ≡ chain_net) }
-{
-    add_bank(alloc, net, b"A", 7)?;
-    add_bank(alloc, net, b"B", 1)?;
-    add_bank(alloc, net, b"C", 0)?;
-    add_debt(net, 0, 1, 10)?;
-    add_debt(net, 1, 2, 9)
-}
-
-/// A and B owe each other 5; A has 1. `Mem` for want of memory alone.
-pub fn ring(alloc: Global) -> Result<Network, Mem>
-    ensures { IfOk result (λ net. net ≡ ring_net) }
-{
-    let mut net = Network::empty(alloc);
-    add_ring(alloc, &mut net)?;
-    Ok(net)
-}
-
-// Adds the banks and debts of the ring.
-fn add_ring(alloc: Global, net: &mut Network) -> Result<(), Mem>
-    requires { net.old ≡ empty_net }
-    ensures { OnOk result (net.new ≡ ring_net) }
-{
-    add_bank(alloc, net, b"A", 1)?;
-    add_bank(alloc, net, b"B", 0)?;
-    add_debt(net, 0, 1, 5)?;
-    add_debt(net, 1, 0, 5)
 }

@@ -12,6 +12,3 @@ mod order;
 pub use equal::EqualRule;
 pub use losses::LossRule;
 pub use order::OrderRule;
-
-#[cfg(test)]
-mod tests;

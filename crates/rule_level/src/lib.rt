@@ -26,6 +26,3 @@ pub use division::share_by_level;
 /// Where the quotients of two debts differ, some level tells them apart, so that only ties are
 /// left.
 pub const MAX_LEVEL: u64 = 2_000_000_000_000;
-
-#[cfg(test)]
-mod tests;

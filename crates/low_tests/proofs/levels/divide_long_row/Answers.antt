@@ -2,7 +2,7 @@ use Rattle.std.proofs.Common.{ℕ, arith, replicate}
 use Rattle.std.proofs.lemmas.Grind.{common_steps}
 use Rattle.clr_net.specs.declared.TheConstants.{MAX_CLASS}
 use Rattle.clr_net.specs.Division.{AreClasses}
-use Rattle.rule_level.proofs.tests.divide_long_row.Goals as goal
+use Rattle.low_tests.proofs.levels.divide_long_row.Goals as goal
 
 -- classes that are all 1
 all_first : (n : ℕ) → AreClasses (replicate n 1) 1 MAX_CLASS
