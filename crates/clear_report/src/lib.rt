@@ -19,8 +19,6 @@ mod rescues;
 mod scenarios;
 mod summary;
 mod sums;
-#[cfg(test)]
-mod tests;
 mod with_costs;
 
 pub use bounds::bounds_text;

@@ -19,6 +19,3 @@ pub use file_name::FileName;
 pub use job::{Job, read_words};
 pub use show::Show;
 pub use task::Task;
-
-#[cfg(test)]
-mod tests;

@@ -18,8 +18,6 @@ mod compression;
 pub mod laws;
 mod mark;
 mod search;
-#[cfg(test)]
-mod tests;
 mod walk;
 
 pub use claims::with_claims;

@@ -17,8 +17,6 @@ pub mod laws;
 mod least;
 mod standing;
 mod standings;
-#[cfg(test)]
-mod tests;
 mod with_costs;
 
 pub use least::least_with_costs;

@@ -24,6 +24,3 @@ pub const MAX_RAISES: usize = 10_000_000;
 
 /// The greatest stamp of a journal that is read.
 pub const MAX_STAMP: u64 = 4_294_967_295;
-
-#[cfg(test)]
-mod tests;

@@ -9,8 +9,6 @@
 mod adding;
 pub mod laws;
 mod search;
-#[cfg(test)]
-mod tests;
 
 pub use adding::added;
 pub use clear_least::least_from;

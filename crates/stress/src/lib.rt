@@ -12,8 +12,6 @@ mod read;
 mod scenario;
 mod shape;
 mod shock;
-#[cfg(test)]
-mod tests;
 
 pub use read::read_scenarios;
 pub use scenario::{Loss, Losses, Scenario};

@@ -106,7 +106,7 @@ fn descend(
 }
 
 // Pays every debt in full.
-pub(crate) fn pay_all(net: &Network, paid: &mut [u64])
+fn pay_all(net: &Network, paid: &mut [u64])
     requires { length paid.old ≡ length net.now.debts }
     ensures { paid.new ≡ all_claims net.now }
 {

@@ -16,12 +16,8 @@ mod bounds;
 mod descent;
 mod falls;
 pub mod laws;
-#[cfg(test)]
-mod plain;
 mod round;
 mod short;
-#[cfg(test)]
-mod tests;
 
 pub use bounds::Upper;
 pub use descent::upper;

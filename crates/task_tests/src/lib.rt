@@ -1,0 +1,18 @@
+//! Tests of the crates `upper`, `rescue`, `costs`, `compress` and `stress`, by their public calls
+//! alone.
+//!
+//! They stand in a crate of their own, since a crate with tests is proved twice.
+#![tactic(auto)]
+
+#[cfg(test)]
+mod compress_tests;
+#[cfg(test)]
+mod costs_tests;
+#[cfg(test)]
+mod networks;
+#[cfg(test)]
+mod rescue_tests;
+#[cfg(test)]
+mod stress_tests;
+#[cfg(test)]
+mod upper_tests;

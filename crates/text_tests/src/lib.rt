@@ -1,0 +1,12 @@
+//! Tests of the crates `clear_words`, `raise_journal` and `clear_report`, by their public calls
+//! alone.
+//!
+//! They stand in a crate of their own, since a crate with tests is proved twice.
+#![tactic(auto)]
+
+#[cfg(test)]
+mod clear_report_tests;
+#[cfg(test)]
+mod clear_words_tests;
+#[cfg(test)]
+mod raise_journal_tests;
