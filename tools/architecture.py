@@ -4,7 +4,8 @@
     tools/architecture.py > docs/pictures/architecture.svg
 
 In:  crates.txt of the repository, which says what each crate stands on, and the sources, which say where threads are started and
-     where atomic words are used. The layers and what flows between them stand in this script.
+     where atomic words are used. The layers and what flows between them stand in this script. Crates whose names end in "_tests"
+     have nothing but tests, and are not drawn.
 Out: the picture as SVG on standard output.
 
 Ends with 0, with 1 where a crate is in no layer or stands on one of a higher layer, and with 2 where the words are not understood.
@@ -39,10 +40,10 @@ FILLS = {"starts threads": "#f3c9a5", "words that threads share": "#f7e6b0", "":
 
 
 def stands_on():
-    """What each crate stands on, by crates.txt: of the repository's own crates alone."""
+    """What each crate stands on, by crates.txt: of the repository's own crates alone, without those that have nothing but tests."""
     lines = [line.split("#")[0] for line in (ROOT / "crates.txt").read_text(encoding="utf-8").splitlines()]
     below = {name.split()[0]: crates.split() for name, crates in (line.split(":") for line in lines if line.strip())}
-    return {name: [crate for crate in crates if crate in below] for name, crates in below.items()}
+    return {name: [crate for crate in crates if crate in below] for name, crates in below.items() if not name.endswith("_tests")}
 
 
 def faults_of(below):
