@@ -23,6 +23,3 @@ mod work;
 pub use message::tell;
 pub use status::{Ended, Status};
 pub use top::run;
-
-#[cfg(test)]
-mod tests;

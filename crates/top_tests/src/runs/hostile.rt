@@ -1,0 +1,203 @@
+//! Faults at every fetch and at every put, files that are cut off anywhere, and hostile fields and
+//! journals.
+
+use super::{
+    CHAIN_BANKS, CHAIN_BOTH, CHAIN_DEBTS, CHAIN_TEXT, CLEAR, CLEAR_BOTH, REPLAY, Refused, STRESS,
+    all_refused, check, ends, shelf, tells,
+};
+use clr_edge::MemSink;
+use std::alloc::Global;
+use std::process::Abort;
+use std::test::Fail;
+use std::thread::Threads;
+
+// Runs a line whose output takes one byte a put, and so many before it fails.
+fn puts<R: Threads + Sync + Abort>(
+    rt: &R,
+    alloc: Global,
+    line: &str,
+    text: &str,
+    before: usize,
+) -> Result<(), Fail> {
+    let mut files = shelf(alloc, CHAIN_BANKS, CHAIN_DEBTS)?;
+    let mut out = MemSink::with_room(alloc, 200, 1, before as u64 + 1)?;
+    let ending = if before == text.len() {
+        (100, 0, "")
+    } else {
+        (100, 5, "clearing: cannot write the output\n")
+    };
+    tells(rt, alloc, line, &mut files, &mut out, ending)?;
+    assert_eq!(rt; out.written(), &text.as_bytes()[..before]);
+    Ok(())
+}
+
+#[test]
+fn every_put_may_fail(rt: HostRuntime) -> Result<(), Fail> {
+    for (line, text) in [(CLEAR, CHAIN_TEXT), (CLEAR_BOTH, CHAIN_BOTH)] {
+        for before in 0..text.len() + 1 {
+            puts(&rt, rt.alloc(), line, text, before)?;
+        }
+    }
+    Ok(())
+}
+
+// Runs a line on files of which one fetch fails, and then on all. The text is compared elsewhere.
+fn fetches<R: Threads + Sync + Abort>(
+    rt: &R,
+    alloc: Global,
+    line: &str,
+    fail_at: u64,
+    (unread, (code, message)): (&str, (u8, &str)),
+) -> Result<(), Fail> {
+    let mut files = shelf(alloc, CHAIN_BANKS, CHAIN_DEBTS)?;
+    files.add(
+        "j.csv",
+        b"stamp,debtor,creditor,class,to\n1,A,B,1,7\n2,B,C,1,8\n",
+    )?;
+    files.add("s.toml", b"scenario = [{name = \"none\"}]")?;
+    files.add("bad.toml", b"scenario = [{cut = 5}]")?;
+    files.fail_at(fail_at)?;
+    if !unread.is_empty() {
+        ends(rt, alloc, line, &mut files, (3, "", unread))?;
+    }
+    let mut out = MemSink::with_room(alloc, 1000, 1000, 0)?;
+    tells(rt, alloc, line, &mut files, &mut out, (100, code, message))?;
+    Ok(())
+}
+
+// A line, what is told where its third file cannot be read, and its code and message where all can.
+const FETCHES: [(&str, &str, (u8, &str)); 6] = [
+    (CLEAR, "", (0, "")),
+    (REPLAY, "clearing: cannot read j.csv\n", (0, "")),
+    (STRESS, "clearing: cannot read s.toml\n", (0, "")),
+    (
+        "stress --banks b.csv --debts d.csv --scenarios bad.toml",
+        "clearing: cannot read bad.toml\n",
+        (4, "clearing: scenarios row 1: shape (17)\n"),
+    ),
+    ("rescue --banks b.csv --debts d.csv --bank B", "", (0, "")),
+    (
+        "rescue --banks b.csv --debts d.csv --bank X",
+        "",
+        (4, "clearing: words row 0: unknown bank (8)\n"),
+    ),
+];
+
+// Each fetch of a job fails in turn, and then a second run finds all files; beyond the last fetch
+// the first run does.
+#[test]
+fn every_fetch_may_fail(rt: HostRuntime) -> Result<(), Fail> {
+    let (no_banks, no_debts) = (
+        "clearing: cannot read b.csv\n",
+        "clearing: cannot read d.csv\n",
+    );
+    for (line, no_third, found) in FETCHES {
+        for (fail_at, unread) in [(1, no_banks), (2, no_debts), (3, no_third), (4, "")] {
+            fetches(&rt, rt.alloc(), line, fail_at, (unread, found))?;
+        }
+    }
+    Ok(())
+}
+
+// From and to how many bytes of the chain's debts file a run ends so: its code, what it writes, and
+// what it tells.
+const CUTS: [(usize, usize, (u8, &str, &str)); 9] = [
+    (0, 26, (4, "", "clearing: debts row 0: header (1)\n")),
+    (27, 28, (0, "debtor,creditor,class,claim,paid\n", "")),
+    (29, 33, (4, "", "clearing: debts row 1: fields (2)\n")),
+    (34, 34, (4, "", "clearing: debts row 1: number (4)\n")),
+    (
+        35,
+        35,
+        (0, "debtor,creditor,class,claim,paid\nA,B,1,1,1\n", ""),
+    ),
+    (
+        36,
+        37,
+        (0, "debtor,creditor,class,claim,paid\nA,B,1,10,7\n", ""),
+    ),
+    (38, 42, (4, "", "clearing: debts row 2: fields (2)\n")),
+    (43, 43, (4, "", "clearing: debts row 2: number (4)\n")),
+    (44, 45, (0, CHAIN_TEXT, "")),
+];
+
+#[test]
+fn a_debts_file_cut_anywhere(rt: HostRuntime) -> Result<(), Fail> {
+    for (from, to, ending) in CUTS {
+        for bytes in from..to + 1 {
+            let debts = CHAIN_DEBTS.get(..bytes).unwrap_or(CHAIN_DEBTS);
+            check(&rt, rt.alloc(), CLEAR, [CHAIN_BANKS, debts, ""], ending)?;
+        }
+    }
+    Ok(())
+}
+
+const FIELDS: [Refused<'static>; 3] = [
+    (
+        "name,cash,rule\n\"A,B\",7,order\n",
+        CHAIN_DEBTS,
+        "clearing: banks row 1: name (3)\n",
+    ),
+    (
+        "name,cash,rule\nA,99999999999999999999,order\n",
+        CHAIN_DEBTS,
+        "clearing: banks row 1: limit (6)\n",
+    ),
+    (
+        "name,cash,rule\nA,999999999999999999999,order\n",
+        CHAIN_DEBTS,
+        "clearing: banks row 1: number (4)\n",
+    ),
+];
+
+#[test]
+fn hostile_fields(rt: HostRuntime) -> Result<(), Fail> {
+    all_refused(&rt, rt.alloc(), &FIELDS)?;
+    // A quoted field is what stands between the quotes.
+    let quoted = "name,cash,rule\n\"A\",7,order\nB,1,order\nC,0,order\n";
+    check(
+        &rt,
+        rt.alloc(),
+        CLEAR,
+        [quoted, CHAIN_DEBTS, ""],
+        (0, CHAIN_TEXT, ""),
+    )
+}
+
+// Journals on the chain, and what is told of their first row.
+const JOURNALS: [(&str, &str); 6] = [
+    // The closing record closes where it is the last alone.
+    (
+        "stamp,debtor,creditor,class,to\nrounds,2\n1,A,B,1,7\n",
+        "clearing: journal row 1: fields (2)\n",
+    ),
+    (
+        "stamp,debtor,creditor,class,to\nrounds,2\nrounds,2\n",
+        "clearing: journal row 1: fields (2)\n",
+    ),
+    (
+        "stamp,debtor,creditor,class,to\n4294967296,A,B,1,7\n",
+        "clearing: journal row 1: limit (6)\n",
+    ),
+    (
+        "stamp,debtor,creditor,class,to\n1,A,B,1,1000001\n",
+        "clearing: journal row 1: limit (6)\n",
+    ),
+    (
+        "stamp,debtor,creditor,class,to\n1,A,B,2,7\n",
+        "clearing: journal row 1: unknown debt (15)\n",
+    ),
+    (
+        "stamp,debtor,creditor,class,to\n1,A,C,1,1\n",
+        "clearing: journal row 1: unknown debt (15)\n",
+    ),
+];
+
+#[test]
+fn hostile_journals(rt: HostRuntime) -> Result<(), Fail> {
+    for (journal, message) in JOURNALS {
+        let texts = [CHAIN_BANKS, CHAIN_DEBTS, journal];
+        check(&rt, rt.alloc(), REPLAY, texts, (4, "", message))?;
+    }
+    Ok(())
+}

@@ -1,0 +1,194 @@
+//! What a run answers beside its text: the record of the board, and the visits at the gate.
+
+use super::tasks::{RING_BANKS, RING_DEBTS, THREE_SCENARIOS};
+use super::{CHAIN_BANKS, CHAIN_DEBTS, Numbers, run_line, shelf_of_three, tells};
+use clr_edge::{Gate, MemSink};
+use std::alloc::Global;
+use std::process::Abort;
+use std::sync::atomic::{AtomicU64, Ordering};
+use std::test::Fail;
+use std::thread::Threads;
+
+// A line on the chain with a third file, for how many bytes of its text there is room, the code,
+// and the numbers of the record; nothing where it answers no record.
+type Recorded<'a> = (&'a str, &'a str, usize, Option<Numbers>);
+
+const CLEAR_BY_ONE: &str = "clear --banks b.csv --debts d.csv --workers 1";
+
+const REPLAY: &str = "replay --banks b.csv --debts d.csv --journal j.csv";
+
+const JOURNAL: &str = "stamp,debtor,creditor,class,to\n1,A,B,1,7\n2,B,C,1,8\n";
+
+const STRESS: &str = "stress --banks b.csv --debts d.csv --scenarios s.toml";
+
+// Each task once, and some also where the text is written in part.
+const RECORDED: [Recorded<'static>; 15] = [
+    (CLEAR_BY_ONE, "", 1000, Some((2, 1, 2, 2))),
+    (CLEAR_BY_ONE, "", 5, Some((2, 1, 2, 2))),
+    (
+        "defaults --banks b.csv --debts d.csv --workers 1",
+        "",
+        1000,
+        Some((2, 1, 2, 2)),
+    ),
+    (
+        "bounds --banks b.csv --debts d.csv --workers 1",
+        "",
+        1000,
+        Some((2, 1, 2, 2)),
+    ),
+    // One raise after the two of the run before.
+    (
+        "rescue --banks b.csv --debts d.csv --bank B --workers 1",
+        "",
+        1000,
+        Some((1, 1, 2, 3)),
+    ),
+    (
+        "gen --seed 1 --size 1 --tries 20 --workers 1",
+        "",
+        1000,
+        Some((0, 1, 1, 0)),
+    ),
+    ("check --banks b.csv --debts d.csv", "", 1000, None),
+    ("central --banks b.csv --debts d.csv", "", 1000, None),
+    (STRESS, THREE_SCENARIOS, 1000, None),
+    (STRESS, THREE_SCENARIOS, 5, None),
+    (REPLAY, JOURNAL, 1000, None),
+    (REPLAY, JOURNAL, 5, None),
+    ("convert --banks b.csv --debts d.csv", "", 1000, None),
+    ("compress --banks b.csv --debts d.csv", "", 1000, None),
+    (
+        "costs --banks b.csv --debts d.csv --keep 500",
+        "",
+        1000,
+        None,
+    ),
+];
+
+// Runs a line, and compares the numbers of its record.
+fn records<R: Threads + Sync + Abort>(
+    rt: &R,
+    alloc: Global,
+    (line, third, room, wanted): Recorded<'_>,
+) -> Result<(), Fail> {
+    let mut files = shelf_of_three(alloc, [CHAIN_BANKS, CHAIN_DEBTS, third])?;
+    let mut out = MemSink::with_room(alloc, room, 1000, 0)?;
+    let ending = if room < 50 {
+        (100, 5, "clearing: cannot write the output\n")
+    } else {
+        (100, 0, "")
+    };
+    let numbers = tells(rt, alloc, line, &mut files, &mut out, ending)?;
+    assert_eq!(rt; numbers, wanted);
+    Ok(())
+}
+
+#[test]
+fn tasks_on_one_board_answer_its_record(rt: HostRuntime) -> Result<(), Fail> {
+    for row in RECORDED {
+        records(&rt, rt.alloc(), row)?;
+    }
+    Ok(())
+}
+
+// Counts the visits of all workers, and keeps the greatest number of a visit in its round and of a
+// worker.
+#[derive(Drop)]
+struct Counter {
+    visits: AtomicU64,
+    last: AtomicU64,
+    worker: AtomicU64,
+}
+
+impl Gate for Counter {
+    fn at(&self, worker: u32, visit: u64) {
+        self.visits.fetch_add(1, Ordering::SeqCst);
+        self.last.fetch_max(visit, Ordering::SeqCst);
+        self.worker.fetch_max(u64::from(worker), Ordering::SeqCst);
+    }
+}
+
+impl Counter {
+    fn new() -> Counter {
+        Counter {
+            visits: AtomicU64::new(0),
+            last: AtomicU64::new(0),
+            worker: AtomicU64::new(0),
+        }
+    }
+
+    fn counts(&self) -> (u64, u64, u64) {
+        (
+            self.visits.load(Ordering::SeqCst),
+            self.last.load(Ordering::SeqCst),
+            self.worker.load(Ordering::SeqCst),
+        )
+    }
+}
+
+// Runs a line that ends well and passes a gate.
+fn passes<R: Threads + Sync + Abort>(
+    rt: &R,
+    alloc: Global,
+    line: &str,
+    texts: [&str; 3],
+    gate: &Counter,
+) -> Result<(), Fail> {
+    let mut files = shelf_of_three(alloc, texts)?;
+    let mut out = MemSink::with_room(alloc, 2000, 1000, 0)?;
+    let mut err = MemSink::with_room(alloc, 1000, 1000, 0)?;
+    let (status, _) = run_line(rt, alloc, line, &mut files, (&mut out, &mut err), gate)?;
+    assert_eq!(rt; status.code(), 0);
+    Ok(())
+}
+
+// What a gate counts in a run of a task by a plan: the visits, the greatest number of a visit in its
+// round, and the greatest number of a worker.
+fn counted<R: Threads + Sync + Abort>(
+    rt: &R,
+    alloc: Global,
+    (task, plan): (&str, &str),
+    texts: [&str; 3],
+) -> Result<(u64, u64, u64), Fail> {
+    let line = format!(in alloc; "{task} {plan}")?;
+    let gate = Counter::new();
+    passes(rt, alloc, line.as_str(), texts, &gate)?;
+    Ok(gate.counts())
+}
+
+const TASKS: [(&str, u64, u64); 6] = [
+    ("clear --banks b.csv --debts d.csv", 11, 11),
+    ("defaults --banks b.csv --debts d.csv", 11, 11),
+    ("bounds --banks b.csv --debts d.csv", 11, 11),
+    ("rescue --banks b.csv --debts d.csv --bank A", 13, 11),
+    (STRESS, 11, 11),
+    ("gen --seed 1 --size 2 --tries 0", 2, 2),
+];
+
+// On the ring one unit goes round five times: ten visits that raise, and one of A that does not.
+// One worker with sweeps enough makes them in one round. A saved bank costs a second run, from what
+// was paid: a visit of each bank.
+#[test]
+fn the_gate_of_a_job_is_passed(rt: HostRuntime) -> Result<(), Fail> {
+    let alloc = rt.alloc();
+    let ring = [RING_BANKS, RING_DEBTS, "scenario = [{name = \"as it is\"}]"];
+    for (task, visits, last) in TASKS {
+        let one = counted(&rt, alloc, (task, "--workers 1 --sweeps 7"), ring)?;
+        assert_eq!(rt; one, (visits, last, 0));
+        // The second worker visits the second bank.
+        let two = counted(&rt, alloc, (task, "--workers 2 --sweeps 1"), ring)?;
+        assert_eq!(rt; two.2, 1);
+    }
+    Ok(())
+}
+
+#[test]
+fn scenarios_are_cleared_on_boards(rt: HostRuntime) -> Result<(), Fail> {
+    // Three banks are visited once in each scenario, and C never again: nobody pays it more after
+    // its visit.
+    let texts = [CHAIN_BANKS, CHAIN_DEBTS, THREE_SCENARIOS];
+    let one = counted(&rt, rt.alloc(), (STRESS, "--workers 1 --sweeps 1"), texts)?;
+    assert_eq!(rt; one.0, 9);
+    Ok(())
+}
