@@ -1,8 +1,7 @@
 -- What the rounds of all banks come to together.
-use Rattle.std.proofs.Common.{◌≡◌, ◌≢◌, ◌<◌, ◌≤◌, List, ℕ, sum, sym, ap, ◌∙◌, subst, ⊎_elim, arith}
-use Rattle.std.proofs.lemmas.Bool.{cases_lt}
+use Rattle.std.proofs.Common.{◌≡◌, ◌≢◌, ◌<◌, ◌≤◌, List, ℕ, sum, sym, ap, ◌∙◌, subst, arith}
 use Rattle.clr_net.specs.Net.{Net, units_owed}
-use Rattle.clr_net.proofs.Lists.{same_from_sum}
+use Rattle.clr_net.proofs.Lists.{sum_rises}
 use Rattle.clear_core.specs.Clearing.{spend, pay, rounds, least, IsOnWayBy}
 use Rattle.clear_core.proofs.Least.{clears_only_at_least_by}
 use Rattle.clear_core.proofs.Pay.{length-pay, spend_mono, sum-pay_le}
@@ -19,15 +18,10 @@ module _ (net : Net) (P Q : List ℕ) (e : Q ≡ pay net P) (way : IsOnWayBy net
   -- one that changes something pays more units
   pub round_rises : P ≢ Q → (sum P < sum Q) × (sum Q ≤ units_owed net)
   unfolding pay
-  round_rises ne = (
-    ⊎_elim
-        (λ (l : sum P < sum Q). l)
-        (λ (g : sum Q ≤ sum P).
-        let over = way.as_many ∙ sym (length-pay net P) in
-        absurd (ne (same_from_sum P (pay net P) over way.rises (omega (arith, ap sum e)) ∙ sym e)))
-        (cases_lt (sum P) (sum Q)),
-    omega (arith, ap sum e, sum-pay_le net P),
-  )
+  round_rises ne =
+      let over = way.as_many ∙ sym (length-pay net P) in
+      let rises = sum_rises P (pay net P) over way.rises (λ same. ne (same ∙ sym e)) in
+      (omega (arith, rises, ap sum e), omega (arith, ap sum e, sum-pay_le net P))
 
   -- one that changes nothing is at the least
   pub round_ends : P ≡ Q → P ≡ least net

@@ -89,13 +89,19 @@ pub fn class(field: &[u8]) -> Option<u8>
 pub(crate) fn rule(field: &[u8]) -> Option<RuleKind>
     ensures { result ≡ rule_in field.now }
 {
-    match field {
-        b"order" => Some(RuleKind::Order),
-        b"equal" => Some(RuleKind::Equal),
-        b"losses" => Some(RuleKind::Losses),
-        b"jefferson" => Some(RuleKind::Jefferson),
-        b"webster" => Some(RuleKind::Webster),
-        b"adams" => Some(RuleKind::Adams),
-        _ => None,
+    if field == b"order".as_slice() {
+        Some(RuleKind::Order)
+    } else if field == b"equal".as_slice() {
+        Some(RuleKind::Equal)
+    } else if field == b"losses".as_slice() {
+        Some(RuleKind::Losses)
+    } else if field == b"jefferson".as_slice() {
+        Some(RuleKind::Jefferson)
+    } else if field == b"webster".as_slice() {
+        Some(RuleKind::Webster)
+    } else if field == b"adams".as_slice() {
+        Some(RuleKind::Adams)
+    } else {
+        None
     }
 }

@@ -1,8 +1,9 @@
 ghost use Rattle.clr_net.specs.Limits.{IsNetwork};
+ghost use Rattle.clr_net.specs.Net.{empty_net};
 ghost use Rattle.net_check.specs.declared.fault.Fault.{Fault};
 ghost use Rattle.net_csv.specs.Printing.{banks_text, debts_text};
 ghost use Rattle.net_csv.specs.Reading.{network_of};
-ghost use Rattle.std.specs.Prelude.{◌≡◌, Ok, Err, IfOk, IsErrOf};
+ghost use Rattle.std.specs.Prelude.{◌≡◌, Ok, Err, IfOk, OnOk, IsErrOf};
 
 use crate::file::{add_banks, add_debts};
 use crate::records::fault;
@@ -23,14 +24,24 @@ pub fn read_network(alloc: Global, banks: &[u8], debts: &[u8]) -> Result<Network
     // What is printed of the network is read as the same network.
     ensures prints { IfOk result (λ net. network_of (banks_text net) (debts_text net) ≡ Ok net) }
 {
+    let mut net = Network::empty(alloc);
+    read_into(alloc, banks, debts, &mut net)?;
+    Ok(net)
+}
+
+// Adds the banks and the debts of two files to a network without any.
+fn read_into(alloc: Global, banks: &[u8], debts: &[u8], net: &mut Network) -> Result<(), ReadNet>
+    requires { net.old ≡ empty_net }
+    ensures read { OnOk result (network_of banks.now debts.now ≡ Ok net.new) }
+    ensures refused { (f : Fault) → IsErrOf result (ReadNet.Refused f)
+        → network_of banks.now debts.now ≡ Err f }
+{
     if banks.len() as u64 > FileKind::Banks.limit() {
         return Err(ReadNet::Refused(fault(FileKind::Banks, 0, FaultKind::FileSize)));
     }
     if debts.len() as u64 > FileKind::Debts.limit() {
         return Err(ReadNet::Refused(fault(FileKind::Debts, 0, FaultKind::FileSize)));
     }
-    let mut net = Network::empty(alloc);
-    add_banks(alloc, banks, &mut net)?;
-    add_debts(alloc, debts, &mut net)?;
-    Ok(net)
+    add_banks(alloc, banks, net)?;
+    add_debts(alloc, debts, net)
 }

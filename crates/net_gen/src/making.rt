@@ -22,11 +22,22 @@ pub fn generate(alloc: Global, seed: u64, size: u32, tries: u32) -> Result<Netwo
     requires few_tries { tries ≤ 20000 }
     ensures { IfOk result (λ net. net ≡ generated seed size tries) }
 {
-    let mut words = Lcg64Xsh32::new(seed, 0);
     let mut net = Network::empty(alloc);
-    make_banks(alloc, seed, size, &mut words, &mut net)?;
-    make_debts(seed, size, tries, &mut words, &mut net)?;
+    fill(alloc, seed, size, tries, &mut net)?;
     Ok(net)
+}
+
+// Adds the banks and the debts to a network without any.
+fn fill(alloc: Global, seed: u64, size: u32, tries: u32, net: &mut Network) -> Result<(), Mem>
+    requires some_banks { 1 ≤ size }
+    requires few_banks { size ≤ 1000 }
+    requires few_tries { tries ≤ 20000 }
+    requires empty { net.old ≡ record { banks = []; debts = [] } }
+    ensures { OnOk result (net.new ≡ generated seed size tries) }
+{
+    let mut words = Lcg64Xsh32::new(seed, 0);
+    make_banks(alloc, seed, size, &mut words, net)?;
+    make_debts(seed, size, tries, &mut words, net)
 }
 
 // Adds the banks to a network without any.
