@@ -1,4 +1,4 @@
-use Rattle.std.proofs.Common.{◌≡◌, length, refl, sym, ap, ◌∙◌, subst, arith}
+use Rattle.std.proofs.Common.{◌≡◌, length, refl, sym, ap, ◌∙◌, subst, arith, rules}
 use Rattle.clr_net.specs.declared.debt.BankId.{BankId}
 use Rattle.clr_net.specs.Net.{debtor_of, numbers}
 use Rattle.compress.specs.Walk.{ArePassed, LeadsOn, end_of, mark_of}
@@ -75,7 +75,7 @@ pub loop-claims-preserved-else-retire : goal.loop-claims-preserved-else-retire
 loop-claims-preserved-else-retire c =
     let old = c.loop-claims.invariant in
     record {
-      under_way = c.retire.ensures.under_way c.if-retire.false;
+      under_way = search rules;
       start = c.retire.ensures.start ∙ old.start;
       kept = kept_both c.args.net.now c.args.class c.args.claims.now c.loop-claims.claims
           c.loop-claims.claims c.args.walk.now.marks.items c.loop-claims.walk.marks.items
@@ -96,7 +96,7 @@ loop-claims-preserved-in-Walked c =
 pub loop-claims-preserved : goal.loop-claims-preserved
 loop-claims-preserved c =
     let old = c.loop-claims.invariant in
-    let said = c.in_ok-grow.ensures in
+    let said = c.in_ok-grow-in_default.ensures in
     record {
       under_way = said.under_way;
       start = said.start ∙ old.start;
