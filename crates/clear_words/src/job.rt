@@ -1,6 +1,6 @@
 ghost use Rattle.clap.specs.Words.{first_of, found_of, matches_of, rows_of};
 ghost use Rattle.clear_words.specs.Command.{command as the_command, is_taken};
-ghost use Rattle.clear_words.specs.Job.{is_welcome, is_well, job_of, job_on, number_of, number_or};
+ghost use Rattle.clear_words.specs.Job.{is_welcome, is_well, job_in, job_of, job_on, number_of, number_or};
 ghost use Rattle.clear_words.specs.Job.{show_in, task_in, text_in, the_words, third_in};
 ghost use Rattle.clear_words.specs.Limits.{IsJob};
 ghost use Rattle.clear_words.specs.Options.{all_options, greatest, kind_of};
@@ -58,11 +58,20 @@ pub fn read_words(alloc: Global, words: &[&str]) -> Result<Job, WordsFault>
     ensures limits { IfOk result IsJob }
 {
     let matches = matches_in(alloc, words)?;
-    let task = task_in(&matches).ok_or(WordsFault::Usage)?;
-    if !all_well(&matches, task.uses()) {
+    Ok(job_among(alloc, &matches)?)
+}
+
+// The job in what the command found.
+fn job_among(alloc: Global, matches: &ArgMatches) -> Result<Job, WordsFault>
+    ensures job { IfOk result (λ job. job_in (rows_of (found_of matches.now)) ≡ Some job) }
+    ensures usage { IsErrOf result WordsFault.Usage
+        → job_in (rows_of (found_of matches.now)) ≡ None }
+{
+    let task = task_in(matches).ok_or(WordsFault::Usage)?;
+    if !all_well(matches, task.uses()) {
         return Err(WordsFault::Usage);
     }
-    Ok(job_from(alloc, &matches, task)?)
+    Ok(job_from(alloc, matches, task)?)
 }
 
 // What the command finds in the words.

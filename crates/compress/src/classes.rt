@@ -29,9 +29,10 @@ pub(crate) fn cancel_cycles(
     walk.cursors.fill(0);
     walk.ranks.fill(0);
     for number in 0..net.banks() {
-        if !walk.marks[number as usize].is_done() {
-            walk_from(net, class, BankId(number), claims, walk)?;
+        if walk.marks[number as usize].is_done() {
+            continue;
         }
+        walk_from(net, class, BankId(number), claims, walk)?;
     }
     Ok(())
 }

@@ -3,11 +3,11 @@ ghost use Rattle.clr_net.specs.Net.{is_debt_of, is_of_kind, numbers};
 ghost use Rattle.csv.specs.Records.{fields_of};
 ghost use Rattle.net_check.specs.Field.{trimmed_field};
 ghost use Rattle.net_check.specs.declared.fault.Fault.{Fault};
-ghost use Rattle.net_csv.specs.Left.{IsReading, trimmed_left};
-ghost use Rattle.net_csv.specs.Reading.{is_blank as are_blank, trimmed_fields};
+ghost use Rattle.net_csv.specs.Left.{IsReading, records_left, trimmed_left};
+ghost use Rattle.net_csv.specs.Reading.{is_blank as are_blank, rows_from, trimmed_fields};
 ghost use Rattle.raise_journal.specs.ReadJournal.{added, closed_early_at};
 ghost use Rattle.raise_journal.specs.ReadJournal.{is_closing as are_closing, journal_of};
-ghost use Rattle.raise_journal.specs.ReadJournal.{raise_from, raise_in_row, raises_in_file};
+ghost use Rattle.raise_journal.specs.ReadJournal.{raise_from, raise_in_row, raises_in_file, read_raises};
 ghost use Rattle.net_check.specs.declared.TheConstants.{MAX_JOURNAL_BYTES};
 ghost use Rattle.std.specs.List.{list_all, list_any};
 ghost use Rattle.std.specs.Option.{option_map};
@@ -62,19 +62,40 @@ fn read_rows(alloc: Global, net: &Network, bytes: &[u8]) -> Result<Journal, Read
     let words = ["stamp", "debtor", "creditor", "class", "to"];
     read_header(&mut reader, &mut fields, FileKind::Journal, &words)?;
     let mut journal = Journal::empty(alloc);
+    add_raises(net, &mut reader, &mut fields, &mut journal)?;
+    Ok(journal)
+}
+
+// Adds the raises that are left below the header to a journal without raises, or names the first
+// fault. What must be dropped stands behind references, so that no step has to drop it.
+fn add_raises(
+    net: &Network,
+    reader: &mut Reader<&[u8]>,
+    fields: &mut ByteRecord,
+    journal: &mut Journal,
+) -> Result<(), ReadNet>
+    requires reading { IsReading reader.old }
+    requires few { length (records_left reader.old) ≤ MAX_JOURNAL_BYTES }
+    requires empty { journal.old.raises ≡ [] }
+    ensures read { OnOk result (read_raises net.now [] (rows_from 1 (trimmed_left reader.old))
+        ≡ Ok journal.new.raises) }
+    ensures refused { (f : Fault) → IsErrOf result (ReadNet.Refused f)
+        → read_raises net.now [] (rows_from 1 (trimmed_left reader.old)) ≡ Err f }
+    ensures debts { OnOk result (All (λ r. r.debt.0 < length net.now.debts) journal.new.raises) }
+{
     let mut row = 0;
-    'rows: while read_next(&mut reader, &mut fields)? {
+    'rows: while read_next(reader, fields)? {
         row += 1;
-        if is_closing(&fields) {
-            if is_rest_blank(&mut reader, &mut fields)? {
-                return Ok(journal);
+        if is_closing(fields) {
+            if is_rest_blank(reader, fields)? {
+                return Ok(());
             }
             let early = closed_early(journal.as_slice().len(), row);
             return Err(ReadNet::Refused(early));
         }
-        add_raise(net, row, &fields, &mut journal)?;
+        add_raise(net, row, fields, journal)?;
     }
-    Ok(journal)
+    Ok(())
 }
 
 // Whether a record closes a journal, where it is the last.

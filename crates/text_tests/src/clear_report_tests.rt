@@ -56,17 +56,31 @@ fn chain_standings() -> [Standing; 3] {
     ]
 }
 
+// Whether the payments of the chain are these lines.
+fn chain_pays(alloc: Global, net: &Network, lines: &[&str]) -> bool {
+    net.debts() == 2 && is(pay_text(alloc, net, &[7, 8]), lines)
+}
+
+// Whether the standings of its banks are these lines.
+fn chain_stands(alloc: Global, net: &Network, lines: &[&str]) -> bool {
+    net.banks() == 3 && is(default_text(alloc, net, &chain_standings()), lines)
+}
+
+// Whether its summary is these lines.
+fn chain_sums(alloc: Global, net: &Network, lines: &[&str]) -> bool {
+    is(summary_text(alloc, net, &[7, 8], &chain_standings()), lines)
+}
+
 #[test]
 fn a_cleared_chain_is_told(rt: HostRuntime) -> Result<(), Fail> {
     let alloc = rt.alloc();
     let net = chain(alloc)?;
-    assert_eq!(rt; (net.banks(), net.debts()), (3, 2));
     let lines = [
         "debtor,creditor,class,claim,paid",
         "A,B,1,10,7",
         "B,C,1,9,8",
     ];
-    assert!(rt; is(pay_text(alloc, &net, &[7, 8]), &lines));
+    assert!(rt; chain_pays(alloc, &net, &lines));
     let lines = [
         "banks,3",
         "debts,2",
@@ -83,7 +97,6 @@ fn a_cleared_chain_is_told(rt: HostRuntime) -> Result<(), Fail> {
             &lines
         )
     );
-    let standings = chain_standings();
     let lines = [
         "bank,estate,paid,owed,equity,state",
         "A,7,7,10,0,fundamental",
@@ -92,7 +105,7 @@ fn a_cleared_chain_is_told(rt: HostRuntime) -> Result<(), Fail> {
         "total,23,15,19,8,2",
         "cash,8",
     ];
-    assert!(rt; is(default_text(alloc, &net, &standings), &lines));
+    assert!(rt; chain_stands(alloc, &net, &lines));
     let lines = [
         "banks,3",
         "debts,2",
@@ -102,7 +115,7 @@ fn a_cleared_chain_is_told(rt: HostRuntime) -> Result<(), Fail> {
         "defaults,2",
         "equity,8",
     ];
-    assert!(rt; is(summary_text(alloc, &net, &[7, 8], &standings), &lines));
+    assert!(rt; chain_sums(alloc, &net, &lines));
     Ok(())
 }
 
@@ -145,13 +158,15 @@ fn a_block_is_the_same_written_at_once(rt: HostRuntime) -> Result<(), Fail> {
     Ok(())
 }
 
+// Whether the standings of the ring, where each bank has this one, are these lines.
+fn ring_stands(alloc: Global, each: Standing, lines: &[&str]) -> Result<bool, Mem> {
+    let net = ring(alloc)?;
+    Ok(net.banks() == 2 && is(default_text(alloc, &net, &[each, each]), lines))
+}
+
 #[test]
 fn sums_go_beyond_64_bits(rt: HostRuntime) -> Result<(), Fail> {
-    let alloc = rt.alloc();
-    let net = ring(alloc)?;
-    assert_eq!(rt; net.banks(), 2);
     let most = u64::MAX;
-    let standings = [standing(most, most, most, most, Health::Sound); 2];
     let lines = [
         "bank,estate,paid,owed,equity,state",
         "A,18446744073709551615,18446744073709551615,\
@@ -162,8 +177,39 @@ fn sums_go_beyond_64_bits(rt: HostRuntime) -> Result<(), Fail> {
          36893488147419103230,36893488147419103230,0",
         "cash,1",
     ];
-    assert!(rt; is(default_text(alloc, &net, &standings), &lines));
+    let each = standing(most, most, most, most, Health::Sound);
+    assert!(rt; ring_stands(rt.alloc(), each, &lines)?);
     Ok(())
+}
+
+// Whether the bounds of the ring are these lines.
+fn ring_bounds(alloc: Global, net: &Network, lines: &[&str]) -> bool {
+    let stuck = standing(1, 1, 5, 0, Health::Contagion);
+    net.banks() == 2
+        && net.debts() == 2
+        && is(
+            bounds_text(alloc, net, &[1, 1], &[5, 5], &[0, 3], &[stuck, stuck]),
+            lines,
+        )
+}
+
+// Whether what is left of it is these lines.
+fn ring_left(alloc: Global, net: &Network, lines: &[&str]) -> bool {
+    let ranks = [0, 7, 0, 0, 0, 0, 0, 0, 0, 0, 0, 0, 0, 0, 0, 0, 0, 0];
+    net.banks() == 2
+        && net.debts() == 2
+        && is(compress_text(alloc, net, &[0, 3], &ranks, 10), lines)
+}
+
+// Whether what saves its second bank is these lines.
+fn ring_saved(alloc: Global, net: &Network, lines: &[&str]) -> bool {
+    let (added, short) = (4, 2);
+    net.banks() == 2
+        && net.debts() == 2
+        && is(
+            rescue_text(alloc, net, BankId(1), &Rescued { added, short }, &[5, 5]),
+            lines,
+        )
 }
 
 // How a bank stands that has 1, and loses it where default costs.
@@ -176,12 +222,15 @@ const POOR: CostStanding = CostStanding {
     health: Health::Contagion,
 };
 
+// Whether its payments where default costs, and how its banks then stand, are these lines.
+fn ring_with_costs(alloc: Global, net: &Network, lines: &[&str]) -> bool {
+    net.banks() == 2 && net.debts() == 2 && is(cost_text(alloc, net, &[0, 0], &[POOR, POOR]), lines)
+}
+
 #[test]
 fn a_ring_is_told(rt: HostRuntime) -> Result<(), Fail> {
     let alloc = rt.alloc();
     let net = ring(alloc)?;
-    assert_eq!(rt; (net.banks(), net.debts()), (2, 2));
-    let stuck = [standing(1, 1, 5, 0, Health::Contagion); 2];
     let lines = [
         "debtor,creditor,class,claim,least,greatest",
         "A,B,1,5,1,5",
@@ -191,14 +240,7 @@ fn a_ring_is_told(rt: HostRuntime) -> Result<(), Fail> {
         "A,0,yes,0",
         "B,3,no,0",
     ];
-    assert!(rt;
-        is(
-            bounds_text(alloc, &net, &[1, 1], &[5, 5], &[0, 3], &stuck),
-            &lines
-        )
-    );
-    let mut ranks = [0; 18];
-    ranks[1] = 7;
+    assert!(rt; ring_bounds(alloc, &net, &lines));
     let lines = [
         "debtor,creditor,class,claim",
         "A,B,1,0",
@@ -209,8 +251,7 @@ fn a_ring_is_told(rt: HostRuntime) -> Result<(), Fail> {
         "1,B,7",
         "cancelled,10",
     ];
-    assert!(rt; is(compress_text(alloc, &net, &[0, 3], &ranks, 10), &lines));
-    let (added, short) = (4, 2);
+    assert!(rt; ring_left(alloc, &net, &lines));
     let lines = [
         "rescue,B,4",
         "short,2",
@@ -219,12 +260,7 @@ fn a_ring_is_told(rt: HostRuntime) -> Result<(), Fail> {
         "A,B,1,5,5",
         "B,A,1,5,5",
     ];
-    assert!(rt;
-        is(
-            rescue_text(alloc, &net, BankId(1), &Rescued { added, short }, &[5, 5]),
-            &lines,
-        )
-    );
+    assert!(rt; ring_saved(alloc, &net, &lines));
     let lines = [
         "debtor,creditor,class,claim,paid",
         "A,B,1,5,0",
@@ -236,6 +272,6 @@ fn a_ring_is_told(rt: HostRuntime) -> Result<(), Fail> {
         "total,2,2,0,0,0,2",
         "cash,1",
     ];
-    assert!(rt; is(cost_text(alloc, &net, &[0, 0], &[POOR, POOR]), &lines));
+    assert!(rt; ring_with_costs(alloc, &net, &lines));
     Ok(())
 }

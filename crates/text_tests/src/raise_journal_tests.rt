@@ -1,4 +1,4 @@
-ghost use Rattle.std.specs.Prelude.{◌<◌, All, length};
+ghost use Rattle.std.specs.Prelude.{◌≡◌, ◌<◌, All, length};
 
 use clear_core::{Journal, Raise, Scratch};
 use clr_net::{Amounts, BankId, DebtId, Mem, Network};

@@ -40,7 +40,8 @@ pub fn upper(alloc: Global, net: &Network) -> Result<Upper, Mem>
     })
 }
 
-// Takes the room that the rounds need beside the two lists that are written, and makes them.
+// Takes the room that the rounds need beside the two lists that are written, and makes them. With
+// that room behind references the next step has little to drop.
 fn descend_in_room(
     alloc: Global,
     net: &Network,
@@ -54,18 +55,30 @@ fn descend_in_room(
 {
     let mut next = Amounts::zeros(alloc, net.debts() as usize)?;
     let mut scratch = Scratch::of(alloc, net)?;
+    descend_noting(alloc, net, paid, next.as_mut_slice(), &mut scratch, waves)
+}
+
+// Takes the room for what each bank loses in a round, and makes the rounds.
+fn descend_noting(
+    alloc: Global,
+    net: &Network,
+    paid: &mut [u64],
+    next: &mut [u64],
+    scratch: &mut Scratch,
+    waves: &mut [u64],
+) -> Result<(), Mem>
+    requires network { IsNetwork net.now }
+    requires paid { length paid.old ≡ length net.now.debts }
+    requires next { length next.old ≡ length net.now.debts }
+    requires room { HasRoom net.now scratch.old }
+    requires waves { waves.old ≡ replicate (length net.now.banks) 0 }
+    ensures paid { OnOk result (paid.new ≡ greatest net.now) }
+    ensures waves { OnOk result (waves.new ≡ waves_of net.now) }
+{
     // In the first round every bank divides.
     let mut last = Falls::of_all(alloc, net)?;
     let mut falls = Falls::none(alloc, net)?;
-    descend(
-        net,
-        paid,
-        next.as_mut_slice(),
-        &mut scratch,
-        &mut last,
-        &mut falls,
-        waves,
-    );
+    descend(net, paid, next, scratch, &mut last, &mut falls, waves);
     Ok(())
 }
 

@@ -1,10 +1,7 @@
-use Rattle.std.proofs.Common.{◌≡◌, ◌∙◌, None, Some, ap, rules, sym}
-use Rattle.std.specs.List.{list_all}
+use Rattle.std.proofs.Common.{◌≡◌, ◌∙◌, rules}
 use Rattle.clap.specs.Words.{found_of, rows_of}
-use Rattle.clear_words.specs.Job.{is_well, job_on, the_words}
-use Rattle.clear_words.specs.Options.{all_options}
-use Rattle.clear_words.proofs.Values.{job_in-no_task, job_in-unwell, job_in-well, job_of-refused}
-use Rattle.clear_words.proofs.Values.{job_of-taken}
+use Rattle.clear_words.specs.Job.{the_words}
+use Rattle.clear_words.proofs.Values.{job_of-refused, job_of-taken}
 use Rattle.clear_words.proofs.WithinLimits.{asked_is_job}
 use Rattle.clear_words.proofs.job.read_words.Goals as goal
 
@@ -12,37 +9,18 @@ pub returns-in_err-matches-clause-usage : goal.returns-in_err-matches-clause-usa
 returns-in_err-matches-clause-usage c = λ usage.
     job_of-refused (the_words c.args.words.now) (c.in_err-matches.ensures.refused (search rules))
 
-pub returns-in_err-task-clause-usage : goal.returns-in_err-task-clause-usage
-returns-in_err-task-clause-usage c = λ usage.
-    let rows = rows_of (found_of c.in_ok-matches.matches) in
-    let none : c.task_in.result ≡ None = search rules in
-    job_of-taken (the_words c.args.words.now) rows
+pub returns-in_err-job_among-clause-usage : goal.returns-in_err-job_among-clause-usage
+returns-in_err-job_among-clause-usage c = λ usage.
+    job_of-taken (the_words c.args.words.now) (rows_of (found_of c.in_ok-matches.matches))
     c.in_ok-matches.ensures.taken c.in_ok-matches.ensures.rows
-    ∙ job_in-no_task rows (sym c.task_in.ensures ∙ none)
-
-pub returns-then-not-all_well-clause-usage : goal.returns-then-not-all_well-clause-usage
-returns-then-not-all_well-clause-usage c = λ usage.
-    let rows = rows_of (found_of c.in_ok-matches.matches) in
-    let some : c.task_in.result ≡ Some c.in_ok-task.task = search rules in
-    job_of-taken (the_words c.args.words.now) rows
-    c.in_ok-matches.ensures.taken c.in_ok-matches.ensures.rows
-    ∙ job_in-unwell rows c.in_ok-task.task (sym c.task_in.ensures ∙ some)
-    (sym c.if-not-all_well.true ∙ c.all_well.ensures
-    ∙ ap (λ uses. list_all (is_well uses rows) all_options) c.uses.ensures)
+    ∙ c.in_err-job_among.ensures.usage (search rules)
 
 pub returns-clause-job : goal.returns-clause-job
 returns-clause-job c =
-    let rows = rows_of (found_of c.in_ok-matches.matches) in
-    let some : c.task_in.result ≡ Some c.in_ok-task.task = search rules in
-    let made : c.in_ok-job_from.field-0 ≡ job_on rows c.in_ok-task.task =
-    c.in_ok-job_from.ensures in
-    job_of-taken (the_words c.args.words.now) rows
+    job_of-taken (the_words c.args.words.now) (rows_of (found_of c.in_ok-matches.matches))
     c.in_ok-matches.ensures.taken c.in_ok-matches.ensures.rows
-    ∙ job_in-well rows c.in_ok-task.task (sym c.task_in.ensures ∙ some)
-    (sym c.if-not-all_well.false ∙ c.all_well.ensures
-    ∙ ap (λ uses. list_all (is_well uses rows) all_options) c.uses.ensures)
-    ∙ ap (λ job. Some job) (sym made)
+    ∙ c.in_ok-job_among.ensures.job
 
 pub returns-clause-limits : goal.returns-clause-limits
-returns-clause-limits c =
-    asked_is_job (the_words c.args.words.now) c.in_ok-job_from.field-0 (returns-clause-job c)
+returns-clause-limits c = asked_is_job (the_words c.args.words.now) c.in_ok-job_among.field-0
+    (returns-clause-job c)

@@ -1,9 +1,10 @@
-use Rattle.std.proofs.Common.{◌≡◌, length, refl, sym, ap, ◌∙◌, subst, arith}
+use Rattle.std.proofs.Common.{◌≡◌, length, refl, sym, ap, ◌∙◌, subst, arith, rules}
 use Rattle.clr_net.specs.declared.debt.BankId.{BankId}
 use Rattle.clr_net.specs.Net.{debtor_of, numbers}
 use Rattle.compress.specs.Walk.{ArePassed, LeadsOn, end_of, mark_of}
 use Rattle.compress.proofs.Cancelling.{debtor_read}
 use Rattle.compress.proofs.Opening.{new_from}
+use Rattle.compress.proofs.Steps.{kept_both}
 use Rattle.compress.proofs.Telling.{begun, begun_kept, looked_on, read_mark}
 use Rattle.compress.proofs.walk.walk_from.Goals as goal
 
@@ -69,3 +70,45 @@ grow-requires c =
           (λ p e. c.in_default.not-Walked p
           (sym mark ∙ ap (mark_of w.marks.items) (sym read) ∙ e));
     }
+
+pub loop-claims-preserved-else-retire : goal.loop-claims-preserved-else-retire
+loop-claims-preserved-else-retire c =
+    let old = c.loop-claims.invariant in
+    record {
+      under_way = search rules;
+      start = c.retire.ensures.start ∙ old.start;
+      kept = kept_both c.args.net.now c.args.class c.args.claims.now c.loop-claims.claims
+          c.loop-claims.claims c.args.walk.now.marks.items c.loop-claims.walk.marks.items
+          c.retire.new.walk.marks.items old.kept c.retire.ensures.kept;
+    }
+
+pub loop-claims-preserved-in-Walked : goal.loop-claims-preserved-in-Walked
+loop-claims-preserved-in-Walked c =
+    let old = c.loop-claims.invariant in
+    record {
+      under_way = c.cancel.ensures.under_way;
+      start = c.cancel.ensures.start ∙ old.start;
+      kept = kept_both c.args.net.now c.args.class c.args.claims.now c.loop-claims.claims
+          c.cancel.new.claims c.args.walk.now.marks.items c.loop-claims.walk.marks.items
+          c.cancel.new.walk.marks.items old.kept c.cancel.ensures.kept;
+    }
+
+pub loop-claims-preserved : goal.loop-claims-preserved
+loop-claims-preserved c =
+    let old = c.loop-claims.invariant in
+    let said = c.in_ok-grow-in_default.ensures in
+    record {
+      under_way = said.under_way;
+      start = said.start ∙ old.start;
+      kept = kept_both c.args.net.now c.args.class c.args.claims.now c.loop-claims.claims
+          c.loop-claims.claims c.args.walk.now.marks.items c.loop-claims.walk.marks.items
+          c.grow.new.walk.marks.items old.kept said.kept;
+    }
+
+pub cancel-requires-clause-under_way : goal.cancel-requires-clause-under_way
+cancel-requires-clause-under_way c =
+    looked_on c.args.net.now c.args.class c.loop-claims.claims c.loop-claims.walk
+    c.next_back.new.cursors c.loop-claims.invariant.under_way
+    (c.next_back.ensures.cursors ∙ ap length c.as_mut_slice.ensures.value)
+    (subst (λ m. ArePassed c.args.net.now c.args.class c.loop-claims.claims m
+    c.next_back.new.cursors) c.as_slice-marks.ensures.value c.next_back.ensures.passed)

@@ -1,0 +1,25 @@
+use Rattle.std.proofs.Common.{◌≡◌, ◌<◌, ◌≤◌, ◌∙◌, length, replicate, ap, ⊎_elim, arith}
+use Rattle.std.proofs.lemmas.Bool.{cases_lt}
+use Rattle.compress.specs.declared.mark.Mark.TheVariants.{New}
+use Rattle.compress.specs.Walk.{mark_of}
+use Rattle.compress.proofs.Steps.{kept_both}
+use Rattle.compress.proofs.classes.cancel_cycles.Goals as goal
+
+pub loop-number-preserved : goal.loop-number-preserved
+loop-number-preserved c =
+    let net = c.args.net.now in
+    let old = c.loop-number.invariant in
+    let said = c.in_ok-walk_from.ensures in
+    let marks = c.walk_from.new.walk.marks.items in
+    record {
+      rest = said.rest;
+      kept = kept_both net c.args.class c.args.claims.now c.loop-number.claims
+          c.walk_from.new.claims (replicate (length net.banks) New) c.loop-number.walk.marks.items
+          marks old.kept said.kept;
+      all = λ b l. ⊎_elim
+          (λ (g : b < c.loop-number.number). said.kept.stays b (old.all b g))
+          (λ (g : c.loop-number.number ≤ b).
+          let same : b ≡ c.loop-number.number = omega arith in
+          ap (mark_of marks) same ∙ said.start)
+          (cases_lt b c.loop-number.number);
+    }
