@@ -19,6 +19,8 @@ ROOT = pathlib.Path(__file__).resolve().parents[1]
 
 # From the top: what the layer is for, its crates, and what it takes from the layers below.
 LAYERS = [
+    ("Tests", ["run_tests"],
+     "answers of public calls"),
     ("The program", ["clear_main", "clear_top"],
      "texts, and the record of the run"),
     ("Written", ["clear_report"],
