@@ -1,4 +1,4 @@
-use Rattle.std.proofs.Common.{length, sym, ap, ◌∙◌}
+use Rattle.std.proofs.Common.{sym, ap, ◌∙◌}
 use Rattle.std.specs.Prelude.{replicate}
 use Rattle.pay_words.specs.Words.{unpaid}
 use Rattle.pay_words.proofs.Pasts.{belongs_at_first}

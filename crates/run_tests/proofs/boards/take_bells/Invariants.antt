@@ -1,4 +1,3 @@
-use Rattle.std.proofs.Common.{◌≡◌}
 use Rattle.pay_words.specs.Views.{HoldsAll, IsAt}
 use Rattle.run_tests.proofs.boards.take_bells.Given as goal
 

@@ -1,4 +1,4 @@
-use Rattle.std.proofs.Common.{◌≡◌, ◌≤◌, le_of_eq, sym, subst}
+use Rattle.std.proofs.Common.{◌≤◌, le_of_eq, sym, subst}
 use Rattle.clr_net.specs.Net.{Net, debtor_of}
 use Rattle.clear_core.specs.Clearing.{part, receipts}
 use Rattle.run_tests.proofs.Worked.{first_of_chain}

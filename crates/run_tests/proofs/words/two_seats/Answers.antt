@@ -1,11 +1,7 @@
-use Rattle.std.proofs.Common.{◌≡◌, length, true, false, sym, ap, ◌∙◌, subst, arith}
+use Rattle.std.proofs.Common.{length, true, false, sym, subst, arith}
 use Rattle.std.proofs.lemmas.List.{get_or-replicate}
-use Rattle.std.specs.Prelude.{replicate}
 use Rattle.pay_words.specs.Views.{HoldsAllOf}
-use Rattle.pay_words.specs.Words.{unpaid}
 use Rattle.pay_words.proofs.Handing.{holds_of_others}
-use Rattle.pay_words.proofs.Pasts.{belongs_at_first}
-use Rattle.pay_words.proofs.Starts.{start_none}
 use Rattle.run_tests.proofs.words.two_seats.Goals as goal
 
 pub hand-requires-2-clause-banks : goal.hand-requires-2-clause-banks
