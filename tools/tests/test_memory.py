@@ -1,6 +1,6 @@
 """A visit that finds no memory has passed the gate: tried with a toolchain that refuses one allocation.
 
-The test `a_visit_without_memory_leaves_all_as_it_was` of the crate `bank_worker` counts how often the gate is passed. Only where
+The test `a_visit_without_memory_leaves_all_as_it_was` of the crate `run_tests` counts how often the gate is passed. Only where
 an allocation of a visit fails does it meet a visit without memory, so it is run with that one refused. Up to it the refused
 allocation is one of the test's own, and the test ends for want of memory."""
 import functools
@@ -11,7 +11,7 @@ import unittest
 from common import ROOT, Case
 
 NAME = "a_visit_without_memory_leaves_all_as_it_was"
-CRATE = ROOT / "crates/bank_worker"
+CRATE = ROOT / "crates/run_tests"
 
 # The first allocation of the first visit, as the code is today. Another number is found by going on from here.
 USUAL = 43
@@ -24,9 +24,9 @@ def outcome(number):
     done = subprocess.run(["rt", "try", "--test", "--fail-alloc", str(number), "--", NAME], cwd=CRATE, stdin=subprocess.DEVNULL,
                           capture_output=True, encoding="utf-8")
     lines = done.stdout.splitlines()
-    if f"test tests::{NAME} ... ok" in lines:
+    if f"test workers::{NAME} ... ok" in lines:
         return "ok"
-    if f"test tests::{NAME} ... FAILED" not in lines:
+    if f"test workers::{NAME} ... FAILED" not in lines:
         raise AssertionError(f"rt try told nothing of {NAME}:\n{done.stdout}\n{done.stderr}")
     return "memory" if "    error: Mem" in lines else "failed"
 

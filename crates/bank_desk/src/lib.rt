@@ -7,7 +7,5 @@
 
 mod desk;
 pub mod laws;
-#[cfg(test)]
-mod tests;
 
 pub use desk::Desk;

@@ -15,9 +15,7 @@ mod rings;
 mod visit;
 mod worker;
 
+pub use calls::Calls;
 pub use office::Office;
 pub use visit::Visit;
 pub use worker::{SeatBack, Worker};
-
-#[cfg(test)]
-mod tests;

@@ -21,4 +21,3 @@ pub mod Ends
 pub mod Bells
 pub mod Rung
 pub mod Handing
-pub mod Worked

@@ -23,8 +23,6 @@ mod payment;
 mod record;
 mod rule;
 mod seat;
-#[cfg(test)]
-mod tests;
 mod view;
 
 pub use board::Board;

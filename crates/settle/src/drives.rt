@@ -40,35 +40,14 @@ pub fn drive<R: Threads + Sync, G: Gate + Sync>(
     ensures driven { IfOk result
         (IsDriven net.now past.now plan master.old.shows master.new.shows) }
 {
-    drive_by(rt, alloc, net, plan, past, board, master, gate, true)
-}
-
-// Makes rounds as `drive` does. Where it is not to start `threads`, the workers always go one after
-// another.
-pub(crate) fn drive_by<R: Threads + Sync, G: Gate + Sync>(
-    rt: &R,
-    alloc: Global,
-    net: &Network,
-    plan: Plan,
-    past: &[Raise],
-    board: &Board,
-    master: &mut PaySeat,
-    gate: &G,
-    threads: bool,
-) -> Result<Driven, Mem>
-    requires ready { MayDrive board.now net.now past.now plan master.old }
-    ensures table { master.new.table ≡ master.old.table }
-    ensures below_least { IsBelowLeast net.now master.new.shows }
-    ensures driven { IfOk result
-        (IsDriven net.now past.now plan master.old.shows master.new.shows) }
-{
-    let driven = drive_on(rt, alloc, net, plan, past, board, master, gate, threads);
+    let driven = drive_on(rt, alloc, net, plan, past, board, master, gate, true);
     let _clock = master.clock();
     driven
 }
 
-// The rounds themselves.
-fn drive_on<R: Threads + Sync, G: Gate + Sync>(
+// The rounds themselves. Where it is not to start `threads`, the workers always go one after
+// another.
+pub(crate) fn drive_on<R: Threads + Sync, G: Gate + Sync>(
     rt: &R,
     alloc: Global,
     net: &Network,

@@ -13,7 +13,4 @@ pub use bells::{nobody_can_pay_more, round_and_ask};
 pub use drives::drive;
 pub use plan::{Driven, Plan};
 pub use runs::{Settled, settle, settle_alone, settle_from, settle_owned, settle_owned_from};
-pub use teams::{offices_of, round};
-
-#[cfg(test)]
-mod tests;
+pub use teams::{calls_two_workers, offices_of, round};

@@ -5,7 +5,7 @@ ghost use Rattle.settle.specs.Drives.{IsPlan};
 ghost use Rattle.settle.specs.Runs.{CanGoOn, IsRecordOf, IsSettled, IsWithin};
 ghost use Rattle.std.specs.Prelude.{◌≡◌, ◌<◌, [], All, IfOk, length, replicate};
 
-use crate::drives::drive_by;
+use crate::drives::drive_on;
 use crate::plan::{Driven, Plan};
 use clear_core::Raise;
 use clr_edge::Gate;
@@ -135,7 +135,7 @@ fn run_on<R: Threads + Sync, G: Gate + Sync>(
         journal,
         rounds,
         visits,
-    } = drive_by(
+    } = drive_on(
         rt,
         alloc,
         &net,
@@ -172,7 +172,7 @@ fn payments_after(alloc: Global, net: &Network, past: &[Raise]) -> Result<Vec<Pa
 }
 
 // As many payments of nothing.
-pub(crate) fn unpaid(alloc: Global, debts: usize) -> Result<Vec<Payment>, Mem>
+fn unpaid(alloc: Global, debts: usize) -> Result<Vec<Payment>, Mem>
     ensures { IfOk result (λ ps. ps.items ≡ replicate debts unpaid_word) }
 {
     let nothing = Payment { value: 0, stamp: 0 };

@@ -132,8 +132,9 @@ fn work_all<R: Threads + Sync, G: Gate + Sync>(
     work(rt, board, sweeps, gate, workers.as_mut_slice(), beside)
 }
 
-// Whether two workers have a bell up, by one look at each bell.
-pub(crate) fn calls_two_workers(net: &Network, board: &Board, workers: u32) -> bool
+/// Whether two workers have a bell up, by one look at each bell. No clause can say it: any thread may
+/// ring a bell at any time.
+pub fn calls_two_workers(net: &Network, board: &Board, workers: u32) -> bool
     requires workers { 1 ≤ workers }
     requires net { net.now ≡ board.now.net }
 {

@@ -24,8 +24,8 @@ pub make-requires-clause-belongs : goal.make-requires-clause-belongs
 make-requires-clause-belongs g c =
     subst (λ ps. Belongs c.args.net ps c.args.past.now) (sym (c.as_slice.ensures.value ∙ c.in_ok-payments.ensures)) c.requires.past
 
-pub drive_by-requires-clause-ready : goal.drive_by-requires-clause-ready
-drive_by-requires-clause-ready g c κs within =
+pub drive_on-requires-clause-ready : goal.drive_on-requires-clause-ready
+drive_on-requires-clause-ready g c κs within =
     let panel = c.in_ok-board.ensures.board in
     record {
       limits = c.requires.plan;
@@ -40,7 +40,7 @@ pub returns : goal.returns
 returns g c =
     let net = c.args.net in
     let past = c.args.past.now in
-    let t = c.drive_by.new.master.shows in
+    let t = c.drive_on.new.master.shows in
     let d = c.in_ok-journal.ensures.driven in
     let into = c.seal-sealed.new.into in
     let p = c.in_ok-payments.payments in

@@ -1,10 +1,12 @@
-use Rattle.std.proofs.Common.{◌≡◌, length, sym, ap, ◌∙◌, subst, arith}
+use Rattle.std.proofs.Common.{◌≡◌, ◌≢◌, ℕ, ◌+◌, ◌*◌, ◌≤◌, length, sym, ap, ◌∙◌, subst, arith}
+use Rattle.std.specs.Prelude.{sum_by}
+use Rattle.bank_worker.specs.Visits.{AddsRaises}
 use Rattle.clr_net.specs.Amounts.{IsAtMost}
 use Rattle.clr_net.specs.Limits.{IsNetwork}
 use Rattle.clr_net.specs.Net.{Net}
 use Rattle.clear_core.specs.Clearing.{least}
 use Rattle.pay_words.specs.declared.view.Shown.{Shown}
-use Rattle.settle.specs.Between.{HaveGrownAlike, crews}
+use Rattle.settle.specs.Between.{HaveGrownAlike, IsBetween, crews, raises_by}
 use Rattle.settle.specs.Offices.{AreOffices}
 use Rattle.settle.specs.Rounds.{AreReady, AreRounded}
 use Rattle.settle.proofs.AllDown.{idle_between}
@@ -12,13 +14,18 @@ use Rattle.settle.proofs.Handed.{crews_ready, first_net, first_master, first_sea
 use Rattle.settle.proofs.Rounded.{few_in_round, of_board, between_again, all_divide, all_seen, none_fell, none_rose, some_raise, some_rose}
 use Rattle.settle.proofs.teams.round.Goals as goal
 
+-- so many raises more are raises that were added
+added_raises : (n : ℕ) (s t : Shown) (k : ℕ) → length t.raises ≡ length s.raises + k → (n ≢ 0 → 1 ≤ k) → AddsRaises n s t
+added_raises n s t k e some = (omega (arith, e), λ d. omega (arith, e, some d))
+
 pub work_all-requires-clause-some : goal.work_all-requires-clause-some
 work_all-requires-clause-some g c κs within =
     let w = c.args.plan.workers in
     let s = c.args.master.now.shows in
     let board = c.args.board.now in
     let made = c.in_ok-workers.ensures.crews in
-    (omega (arith, ap length made, length-crews w board.table s w, c.requires.ready.limits.some_workers), omega (arith, ap length made, length-crews w board.table s w, c.requires.ready.limits.few_workers))
+    let many = sym (ap length made ∙ length-crews w board.table s w) in
+    (subst (λ n. 1 ≤ n) many c.requires.ready.limits.some_workers, subst (λ n. n ≤ 64) many c.requires.ready.limits.few_workers)
 
 pub work_all-requires-clause-ready : goal.work_all-requires-clause-ready
 work_all-requires-clause-ready g c κs within =
@@ -39,8 +46,8 @@ close_workers-requires g c =
     let rest = c.in_ok-workers.ensures.rest in
     record {
       workers = (
-        omega (arith, c.requires.ready.limits.some_workers, c.requires.ready.workers_are),
-        omega (arith, c.requires.ready.limits.few_workers, c.requires.ready.workers_are),
+        subst (λ n. 1 ≤ n) c.requires.ready.workers_are c.requires.ready.limits.some_workers,
+        subst (λ n. n ≤ 64) c.requires.ready.workers_are c.requires.ready.limits.few_workers,
         omega (arith, rounded.as_many, length-crews w board.table s w, c.requires.ready.workers_are, c.work_all.new.workers.ok),
       );
       network = subst IsNetwork c.requires.ready.net_is c.requires.ready.between.network;
@@ -72,11 +79,13 @@ returns g c =
     let some = c.requires.ready.limits.some_workers in
     let few = c.requires.ready.limits.few_sweeps in
     let same_net : t.net ≡ net = back.net_is ∙ sym here in
+    let again : IsBetween net t = between_again board net s w sweeps units news here c.requires.ready.workers_are some few between rounded m t over back
+        (back.master ∙ ap (λ (u : Shown). u.master) rest ∙ first_master w w s ∙ between.master) in
     record {
       table = c.close_workers.ensures.table ∙ c.open_workers.ensures.table;
       net = c.close_workers.ensures.net ∙ c.open_workers.ensures.net;
-      idle = idle_between net t (between_again board net s w sweeps units news here c.requires.ready.workers_are some few between rounded m t over back (back.master ∙ ap (λ (u : Shown). u.master) rest ∙ first_master w w s ∙ between.master));
-      between = between_again board net s w sweeps units news here c.requires.ready.workers_are some few between rounded m t over back (back.master ∙ ap (λ (u : Shown). u.master) rest ∙ first_master w w s ∙ between.master);
+      idle = idle_between net t again;
+      between = again;
       offices = subst (λ k. AreOffices net k k c.close_workers.new.offices.items) (sym c.requires.ready.workers_are)
           (subst (λ (m : Net). AreOffices m board.workers board.workers c.close_workers.new.offices.items) (sym here) c.in_ok-visits.ensures.offices);
       round = record {
@@ -85,14 +94,14 @@ returns g c =
         none_rose = none_rose board net s w sweeps units news here c.requires.ready.workers_are some few between rounded m t over back;
         divide = all_divide board net s w sweeps units news here c.requires.ready.workers_are some few between rounded m t over back;
         seen = all_seen board net s w sweeps units news here c.requires.ready.workers_are some few between rounded m t over back;
-        visits_are = omega (arith, c.in_ok-visits.ensures.visits, ap (λ (u : Shown). u.taken) rest, first_taken w w s);
-        visits_by_banks = omega (arith, c.in_ok-visits.ensures.sum, few_in_round board net s w sweeps units news here c.requires.ready.workers_are some few between rounded);
+        visits_are = c.in_ok-visits.ensures.visits ∙ ap (λ k. k + c.in_ok-visits.visits) (ap (λ (u : Shown). u.taken) rest ∙ first_taken w w s);
+        visits_by_banks = subst (λ k. k ≤ sweeps * length net.banks) (sym c.in_ok-visits.ensures.sum)
+            (few_in_round board net s w sweeps units news here c.requires.ready.workers_are some few between rounded);
         raises =
-            let before : length m.raises ≡ length s.raises = ap (λ (u : Shown). length u.raises) rest ∙ ap length (first_raises w w s) in (
-              omega (arith, c.in_ok-visits.ensures.raises, before),
-              λ some_units. omega (arith, c.in_ok-visits.ensures.raises, before, some_raise board net s w sweeps units news here c.requires.ready.workers_are some few between rounded some_units),
-            );
-        seats = omega (arith, back.seats, ap (λ (u : Shown). u.seats) rest, first_seats w w s);
+            let before : length m.raises ≡ length s.raises = ap (λ (u : Shown). length u.raises) rest ∙ ap length (first_raises w w s) in
+            added_raises units s t (sum_by raises_by news) (c.in_ok-visits.ensures.raises ∙ ap (λ k. k + sum_by raises_by news) before)
+            (some_raise board net s w sweeps units news here c.requires.ready.workers_are some few between rounded);
+        seats = back.seats ∙ ap (λ (u : Shown). u.seats) rest ∙ first_seats w w s;
         paid_low = subst (λ (n : Net). IsAtMost t.paid (least n)) same_net c.clock-clock.ensures.paid_below_least;
         sights_low = subst (λ (n : Net). IsAtMost t.sights (least n)) same_net c.clock-clock.ensures.sights_below_least;
       };

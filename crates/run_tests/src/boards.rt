@@ -1,0 +1,54 @@
+ghost use Rattle.pay_words.specs.Traces.{start_of};
+ghost use Rattle.pay_words.specs.Views.{HoldsAll, IsAt, opening};
+ghost use Rattle.std.specs.Prelude.{◌≡◌, ◌≤◌, IfOk, [], length};
+
+use clear_core::Raise;
+use clr_net::{BankId, Mem, Network};
+use pay_words::{Board, PaySeat, Payment};
+use std::alloc::Global;
+
+// What stands on a debt before its first raise.
+pub(crate) const UNPAID: Payment = Payment { value: 0, stamp: 0 };
+
+// A board for so many workers on which nothing is paid, and its master.
+pub(crate) fn new_board(alloc: Global, net: &Network, workers: u32) -> Result<(Board, PaySeat), Mem>
+    requires workers { (1 ≤ workers) × (workers ≤ 64) }
+    requires debts { length net.now.debts ≡ 2 }
+    ensures board { IfOk result (λ r. (r.0.net ≡ net.now) × (r.0.past ≡ [])
+        × (r.0.workers ≡ workers)) }
+    ensures master { IfOk result (λ r. (r.1.table ≡ r.0.table)
+        × (r.1.shows ≡ opening net.now (start_of net.now []))) }
+{
+    Board::make(alloc, net, workers, &[UNPAID, UNPAID], &[])
+}
+
+// The first ten raises: the stamp, the debt and what is paid from then on.
+pub(crate) fn first_raises(raises: &[Raise]) -> [(u64, u32, u64); 10] {
+    let mut told = [(0, 0, 0); 10];
+    for (place, raise) in raises.iter().enumerate() {
+        if let Some(one) = told.get_mut(place) {
+            *one = (raise.stamp, raise.debt.0, raise.to);
+        }
+    }
+    told
+}
+
+// Takes those of the first three bells that are wanted, and answers which of these were up.
+pub(crate) fn take_bells(
+    board: &Board,
+    master: &mut PaySeat,
+    banks: u32,
+    wanted: [bool; 3],
+) -> [bool; 3]
+    requires seat { IsAt board.now master.old }
+    requires held { HoldsAll master.old.shows }
+    requires banks { banks ≤ length board.now.net.banks }
+{
+    let mut up = [false; 3];
+    for bank in 0..banks.min(3) {
+        if wanted[bank as usize] {
+            up[bank as usize] = board.take(master, BankId(bank));
+        }
+    }
+    up
+}

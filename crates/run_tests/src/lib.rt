@@ -1,0 +1,16 @@
+//! Tests of the crates that make the run: of a bank's desk, the board of payment words, a worker's
+//! visits, and the rounds of all workers. They stand apart, so that those crates are proved once.
+#![tactic(auto)]
+
+#[cfg(test)]
+mod boards;
+#[cfg(test)]
+mod desks;
+#[cfg(test)]
+mod gates;
+#[cfg(test)]
+mod runs;
+#[cfg(test)]
+mod words;
+#[cfg(test)]
+mod workers;

@@ -1,0 +1,554 @@
+ghost use Rattle.std.specs.Prelude.{◌≡◌, ◌<◌, ◌≤◌, All, length};
+ghost use Rattle.settle.specs.Between.{IsBetween};
+ghost use Rattle.settle.specs.Runs.{CanGoOn};
+
+use crate::boards::{first_raises, new_board, take_bells};
+use crate::gates::{ByTwos, PaidBefore, new_meeting, new_turns};
+use clear_core::{Journal, Raise, Scratch};
+use clear_least::central;
+use clr_edge::{Gate, OpenGate};
+use clr_net::{Amounts, BankId, Mem, Network};
+use net_samples::{add_bank, add_debt, chain, ring, woven};
+use pay_words::{Board, PaySeat};
+use raise_journal::{Verdict, replay};
+use settle::{
+    Plan, Settled, calls_two_workers, nobody_can_pay_more, offices_of, round_and_ask, settle,
+    settle_alone, settle_from, settle_owned,
+};
+use std::alloc::Global;
+use std::sync::atomic::{AtomicU64, Ordering};
+use std::test::Fail;
+use std::thread::Threads;
+
+// A plan of one worker and one sweep.
+const ALONE: Plan = Plan {
+    workers: 1,
+    sweeps: 1,
+};
+
+// What a run came to, in numbers: what is paid on the first two debts, and the first ten raises.
+#[derive(Clone, Copy)]
+struct Told {
+    debts: usize,
+    paid: [u64; 2],
+    rounds: u64,
+    visits: u64,
+    made: u64,
+    seats: u64,
+    journal: usize,
+    raises: [(u64, u32, u64); 10],
+}
+
+fn told_of(settled: &Settled) -> Told {
+    let paid = settled.paid.as_slice();
+    let journal = settled.sealed.journal();
+    let mut first = [0; 2];
+    for (place, value) in paid.iter().enumerate() {
+        if let Some(one) = first.get_mut(place) {
+            *one = *value;
+        }
+    }
+    let raises = first_raises(journal);
+    Told {
+        debts: paid.len(),
+        paid: first,
+        rounds: settled.rounds,
+        visits: settled.visits,
+        made: settled.sealed.made(),
+        seats: settled.sealed.seats(),
+        journal: journal.len(),
+        raises,
+    }
+}
+
+// What a run on the network comes to.
+fn run<R: Threads + Sync, G: Gate + Sync>(
+    rt: &R,
+    alloc: Global,
+    net: &Network,
+    plan: Plan,
+    gate: &G,
+) -> Result<Told, Mem>
+    requires workers { (1 ≤ plan.workers) × (plan.workers ≤ 64) }
+    requires sweeps { (1 ≤ plan.sweeps) × (plan.sweeps ≤ 1000) }
+{
+    let settled = settle(rt, alloc, net, plan, gate)?;
+    Ok(told_of(&settled))
+}
+
+// A run on the chain, and one on the ring.
+fn run_chain<R: Threads + Sync, G: Gate + Sync>(
+    rt: &R,
+    alloc: Global,
+    plan: Plan,
+    gate: &G,
+) -> Result<Told, Mem>
+    requires workers { (1 ≤ plan.workers) × (plan.workers ≤ 64) }
+    requires sweeps { (1 ≤ plan.sweeps) × (plan.sweeps ≤ 1000) }
+{
+    let net = chain(alloc)?;
+    run(rt, alloc, &net, plan, gate)
+}
+
+fn run_ring<R: Threads + Sync, G: Gate + Sync>(
+    rt: &R,
+    alloc: Global,
+    plan: Plan,
+    gate: &G,
+) -> Result<Told, Mem>
+    requires workers { (1 ≤ plan.workers) × (plan.workers ≤ 64) }
+    requires sweeps { (1 ≤ plan.sweeps) × (plan.sweeps ≤ 1000) }
+{
+    let net = ring(alloc)?;
+    run(rt, alloc, &net, plan, gate)
+}
+
+#[test]
+fn one_unit_goes_round_a_ring(rt: HostRuntime) -> Result<(), Fail> {
+    let told = run_ring(&rt, rt.alloc(), ALONE, &OpenGate)?;
+    let paid = told.paid;
+    let told_raises = told.raises;
+    let counts = [told.rounds, told.visits, told.made, told.seats];
+    // A and B by turns, a unit each.
+    let raises = [
+        (1, 0, 1),
+        (2, 1, 1),
+        (3, 0, 2),
+        (4, 1, 2),
+        (5, 0, 3),
+        (6, 1, 3),
+        (7, 0, 4),
+        (8, 1, 4),
+        (9, 0, 5),
+        (10, 1, 5),
+    ];
+    assert_eq!(rt;
+        (paid, counts, told.journal, told_raises),
+        ([5, 5], [6, 11, 10, 6], 10, raises)
+    );
+    Ok(())
+}
+
+// Whether a run on the ring by a plan pays all by ten raises, with a seat for each worker in each
+// round. One worker that sweeps often enough finds it all in its first round.
+fn pays_all<R: Threads + Sync>(rt: &R, alloc: Global, plan: Plan) -> Result<bool, Mem>
+    requires workers { (1 ≤ plan.workers) × (plan.workers ≤ 64) }
+    requires sweeps { (1 ≤ plan.sweeps) × (plan.sweeps ≤ 1000) }
+{
+    let told = run_ring(rt, alloc, plan, &OpenGate)?;
+    let paid = told.paid;
+    let rounds = if plan.workers > 1 {
+        told.rounds
+    } else if plan.sweeps == 1 {
+        6
+    } else {
+        2
+    };
+    Ok(
+        paid == [5, 5]
+            && told.journal == 10
+            && told.rounds == rounds
+            && told.seats % told.rounds.max(1) == 0
+            && told.seats / told.rounds.max(1) == plan.workers as u64,
+    )
+}
+
+// Whether each of six plans does.
+fn all_pay_all<R: Threads + Sync>(rt: &R, alloc: Global) -> Result<bool, Mem> {
+    let mut all = true;
+    for (workers, sweeps) in [(1, 1), (1, 7), (2, 1), (2, 7), (64, 1), (64, 7)] {
+        all = pays_all(rt, alloc, Plan { workers, sweeps })? && all;
+    }
+    Ok(all)
+}
+
+#[test]
+fn every_plan_pays_the_same(rt: HostRuntime) -> Result<(), Fail> {
+    let all = all_pay_all(&rt, rt.alloc())?;
+    assert!(rt; all);
+    Ok(())
+}
+
+#[test]
+fn a_chain_takes_two_rounds(rt: HostRuntime) -> Result<(), Fail> {
+    let told = run_chain(&rt, rt.alloc(), ALONE, &OpenGate)?;
+    let paid = told.paid;
+    let counts = [told.rounds, told.visits, told.made, told.seats];
+    assert_eq!(rt; (paid, counts), ([7, 8], [2, 3, 2, 2]));
+    Ok(())
+}
+
+// A run of four workers without a bank.
+fn run_none<R: Threads + Sync>(rt: &R, alloc: Global) -> Result<Told, Mem> {
+    let net = Network::empty(alloc);
+    let plan = Plan {
+        workers: 4,
+        sweeps: 1,
+    };
+    run(rt, alloc, &net, plan, &OpenGate)
+}
+
+#[test]
+fn no_bank_takes_one_round(rt: HostRuntime) -> Result<(), Fail> {
+    let told = run_none(&rt, rt.alloc())?;
+    assert_eq!(rt; (told.debts, told.rounds, told.visits), (0, 1, 0));
+    Ok(())
+}
+
+// Whether nobody can pay more after so many rounds of the only worker of a board, made by hand.
+fn asked_after<R: Threads + Sync>(
+    rt: &R,
+    alloc: Global,
+    net: &Network,
+    board: &Board,
+    master: &mut PaySeat,
+    rounds: u32,
+) -> Result<bool, Mem>
+    requires board { (net.now ≡ board.now.net) × (board.now.workers ≡ 1) }
+    requires master { (master.old.table ≡ board.now.table) × IsBetween net.now master.old.shows }
+    requires rounds { (rounds ≤ 10) × (master.old.shows.seats ≡ 0) }
+{
+    let mut journal = Journal::empty(alloc);
+    let mut offices = offices_of(alloc, net, 1)?;
+    for _ in 0..rounds {
+        let _down = round_and_ask(
+            rt,
+            alloc,
+            net,
+            ALONE,
+            board,
+            master,
+            &OpenGate,
+            &mut journal,
+            &mut offices,
+        )?;
+    }
+    Ok(nobody_can_pay_more(net, board, master))
+}
+
+// The same, on a new board.
+fn asked<R: Threads + Sync>(rt: &R, alloc: Global, net: &Network, rounds: u32) -> Result<bool, Mem>
+    requires { (length net.now.debts ≡ 2) × (rounds ≤ 10) }
+{
+    let (board, mut master) = new_board(alloc, net, 1)?;
+    asked_after(rt, alloc, net, &board, &mut master, rounds)
+}
+
+// The same, of the chain after no round and one, and of the ring after one, five and six.
+fn asked_of_both<R: Threads + Sync>(rt: &R, alloc: Global) -> Result<[bool; 5], Mem> {
+    let [none, one] = asked_of_chain(rt, alloc)?;
+    let net = ring(alloc)?;
+    let first = asked(rt, alloc, &net, 1)?;
+    let fifth = asked(rt, alloc, &net, 5)?;
+    let sixth = asked(rt, alloc, &net, 6)?;
+    Ok([none, one, first, fifth, sixth])
+}
+
+fn asked_of_chain<R: Threads + Sync>(rt: &R, alloc: Global) -> Result<[bool; 2], Mem> {
+    let net = chain(alloc)?;
+    let none = asked(rt, alloc, &net, 0)?;
+    let one = asked(rt, alloc, &net, 1)?;
+    Ok([none, one])
+}
+
+#[test]
+fn the_bells_are_down_once_nobody_can_pay_more(rt: HostRuntime) -> Result<(), Fail> {
+    let down = asked_of_both(&rt, rt.alloc())?;
+    assert_eq!(rt; down, [false, true, false, false, true]);
+    Ok(())
+}
+
+// How many of so many workers met in a round of a run.
+fn met_in<R: Threads + Sync>(
+    rt: &R,
+    alloc: Global,
+    net: &Network,
+    workers: u32,
+    round: u64,
+) -> Result<u64, Mem>
+    requires { (1 ≤ workers) × (workers ≤ 64) }
+{
+    let gate = new_meeting(workers, round);
+    run(rt, alloc, net, Plan { workers, sweeps: 1 }, &gate)?;
+    Ok(gate.met.load(Ordering::SeqCst))
+}
+
+// How many of two and of three met in the first round of a run on the chain.
+fn met_on_chain<R: Threads + Sync>(rt: &R, alloc: Global) -> Result<(u64, u64), Mem> {
+    let net = chain(alloc)?;
+    let two = met_in(rt, alloc, &net, 2, 0)?;
+    let three = met_in(rt, alloc, &net, 3, 0)?;
+    Ok((two, three))
+}
+
+#[test]
+fn all_workers_work_at_once(rt: HostRuntime) -> Result<(), Fail> {
+    let met = met_on_chain(&rt, rt.alloc())?;
+    assert_eq!(rt; met, (2, 3));
+    Ok(())
+}
+
+// What two workers pay on the chain in a run that starts no thread, and how many met.
+fn run_alone<R: Threads + Sync>(rt: &R, alloc: Global) -> Result<([u64; 2], u64), Mem> {
+    let plan = Plan {
+        workers: 2,
+        sweeps: 1,
+    };
+    let gate = new_meeting(2, 0);
+    let settled = settle_alone(rt, alloc, chain(alloc)?, plan, &gate)?;
+    let paid = told_of(&settled).paid;
+    Ok((paid, gate.met.load(Ordering::SeqCst)))
+}
+
+#[test]
+fn alone_no_worker_works_beside_another(rt: HostRuntime) -> Result<(), Fail> {
+    let told = run_alone(&rt, rt.alloc())?;
+    // The first waited in vain, and the second found that both had come.
+    assert_eq!(rt; told, ([7, 8], 1));
+    Ok(())
+}
+
+// Adds 512 banks of nothing, but that C owes A a unit and D owes B one.
+fn add_two_pairs(alloc: Global, net: &mut Network) -> Result<(), Mem> {
+    for number in 0..512_u32 {
+        let name = [b'A' + (number / 26) as u8, b'A' + (number % 26) as u8];
+        let cash = if number == 2 || number == 3 { 1 } else { 0 };
+        add_bank(alloc, net, &name, cash)?;
+    }
+    add_debt(net, 2, 0, 1)?;
+    add_debt(net, 3, 1, 1)
+}
+
+// How many of two workers met in the second round of a run on them.
+fn met_later<R: Threads + Sync>(rt: &R, alloc: Global) -> Result<u64, Mem> {
+    let mut net = Network::empty(alloc);
+    add_two_pairs(alloc, &mut net)?;
+    met_in(rt, alloc, &net, 2, 1)
+}
+
+#[test]
+fn workers_work_at_once_in_a_later_round_too(rt: HostRuntime) -> Result<(), Fail> {
+    // After a round of 512 visits a bell of each of two workers is up: each bank that is paid was
+    // visited before.
+    let met = met_later(&rt, rt.alloc())?;
+    assert_eq!(rt; met, 2);
+    Ok(())
+}
+
+// Whether bells of two workers are up, where of the three bells of a board these are.
+fn two_called(alloc: Global, net: &Network, workers: u32, up: [bool; 3]) -> Result<bool, Mem>
+    requires { (length net.now.debts ≡ 2) × (1 ≤ workers) × (workers ≤ 64) }
+{
+    let (board, mut master) = new_board(alloc, net, workers)?;
+    take_bells(&board, &mut master, net.banks(), [!up[0], !up[1], !up[2]]);
+    Ok(calls_two_workers(net, &board, workers))
+}
+
+// Workers, bells, and whether they call two of the workers.
+const CALLING: [(u32, [bool; 3], bool); 9] = [
+    (2, [true, true, true], true),
+    (2, [true, true, false], true),
+    (2, [false, true, true], true),
+    (2, [true, false, true], false),
+    (2, [false, true, false], false),
+    (2, [false, false, false], false),
+    (3, [true, false, true], true),
+    (3, [false, false, true], false),
+    (1, [true, true, true], false),
+];
+
+// The first case on a network in which it is not so.
+fn first_uncalled(alloc: Global, net: &Network) -> Result<Option<usize>, Mem>
+    requires { length net.now.debts ≡ 2 }
+{
+    for (place, (workers, up, wanted)) in CALLING.iter().enumerate() {
+        let workers = (*workers).clamp(1, 64);
+        if two_called(alloc, net, workers, *up)? != *wanted {
+            return Ok(Some(place));
+        }
+    }
+    Ok(None)
+}
+
+// The same, on the chain.
+fn uncalled(alloc: Global) -> Result<Option<usize>, Mem> {
+    let net = chain(alloc)?;
+    first_uncalled(alloc, &net)
+}
+
+#[test]
+fn bells_of_two_workers_call_both(rt: HostRuntime) -> Result<(), Fail> {
+    let wrong = uncalled(rt.alloc())?;
+    assert_eq!(rt; wrong, None);
+    Ok(())
+}
+
+// Adds five banks, of which C owes A a unit, and D one to B and one to E.
+fn add_five(alloc: Global, net: &mut Network) -> Result<(), Mem> {
+    for (name, cash) in [(b"A", 0), (b"B", 0), (b"C", 1), (b"D", 2), (b"E", 0)] {
+        add_bank(alloc, net, name, cash)?;
+    }
+    add_debt(net, 2, 0, 1)?;
+    add_debt(net, 3, 1, 1)?;
+    add_debt(net, 3, 4, 1)
+}
+
+// A run on them by two workers in turn: the last visit of each, the rounds and all visits.
+fn run_in_turn<R: Threads + Sync>(rt: &R, alloc: Global) -> Result<[u64; 4], Mem> {
+    let mut net = Network::empty(alloc);
+    add_five(alloc, &mut net)?;
+    let gate = new_turns();
+    let plan = Plan {
+        workers: 2,
+        sweeps: 2,
+    };
+    let told = run(rt, alloc, &net, plan, &gate)?;
+    let [first, second] = [
+        gate.last[0].load(Ordering::SeqCst),
+        gate.last[1].load(Ordering::SeqCst),
+    ];
+    Ok([first, second, told.rounds, told.visits])
+}
+
+#[test]
+fn a_sweep_hears_a_bell_that_another_worker_rang(rt: HostRuntime) -> Result<(), Fail> {
+    let told = run_in_turn(&rt, rt.alloc())?;
+    // Worker 0 visits A, C and E. C pays A, and D, of worker 1, pays B and E once the bell of E was
+    // taken. So the second sweep of worker 0 hears A and E, and nothing is left for a second round.
+    assert_eq!(rt; told, [5, 3, 2, 8]);
+    Ok(())
+}
+
+#[test]
+fn a_bank_passes_the_gate_before_it_looks(rt: HostRuntime) -> Result<(), Fail> {
+    let gate = PaidBefore {
+        waiting: AtomicU64::new(0),
+        paid: AtomicU64::new(0),
+    };
+    let plan = Plan {
+        workers: 2,
+        sweeps: 1,
+    };
+    let told = run_chain(&rt, rt.alloc(), plan, &gate)?;
+    // B has seen what A paid while it was at the gate, and so pays all at once.
+    assert_eq!(rt;
+        (told.journal, told.raises[0], told.raises[1]),
+        (2, (1, 0, 7), (2, 1, 8))
+    );
+    Ok(())
+}
+
+#[test]
+fn the_gate_is_told_the_worker_and_the_visit(rt: HostRuntime) -> Result<(), Fail> {
+    let gate = ByTwos {
+        calls: AtomicU64::new(0),
+        others: AtomicU64::new(0),
+    };
+    let told = run_ring(&rt, rt.alloc(), ALONE, &gate)?;
+    let calls = gate.calls.load(Ordering::SeqCst);
+    // Two visits in each of five rounds and one in the last, numbered anew in each.
+    assert_eq!(rt;
+        [told.visits, calls, gate.others.load(Ordering::SeqCst)],
+        [11, 11, 0]
+    );
+    Ok(())
+}
+
+// A run on the network from these raises.
+fn run_from<R: Threads + Sync>(
+    rt: &R,
+    alloc: Global,
+    net: &Network,
+    past: &[Raise],
+) -> Result<Told, Mem>
+    requires past { CanGoOn net.now past.now }
+{
+    let settled = settle_from(rt, alloc, net, ALONE, past, &OpenGate)?;
+    Ok(told_of(&settled))
+}
+
+// A run on the chain from what a run left where B had less.
+fn run_again<R: Threads + Sync>(rt: &R, alloc: Global) -> Result<Told, Mem> {
+    let poorer = chain(alloc)?;
+    let before = settle_owned(rt, alloc, poorer, ALONE, &OpenGate)?;
+    let mut net = chain(alloc)?;
+    net.set_cash(BankId(1), 2);
+    run_from(rt, alloc, &net, before.sealed.journal())
+}
+
+#[test]
+fn a_run_goes_on_where_a_bank_has_more(rt: HostRuntime) -> Result<(), Fail> {
+    let told = run_again(&rt, rt.alloc())?;
+    let counts = [told.rounds, told.made, told.seats];
+    let paid = told.paid;
+    let raises = (told.raises[0], told.raises[1], told.raises[2]);
+    assert_eq!(rt;
+        (paid, counts, told.journal, raises),
+        ([7, 9], [2, 1, 2], 3, ((1, 0, 7), (2, 1, 8), (3, 1, 9)))
+    );
+    Ok(())
+}
+
+// Whether a replay finds the raises lawful, and pays this.
+fn replays_to(alloc: Global, net: &Network, journal: &[Raise], wanted: &[u64]) -> Result<bool, Mem>
+    requires { All (λ r. r.debt.0 < length net.now.debts) journal.now }
+{
+    let mut replayed = Amounts::zeros(alloc, net.debts() as usize)?;
+    let mut scratch = Scratch::of(alloc, net)?;
+    let verdict = replay(net, journal, replayed.as_mut_slice(), &mut scratch);
+    Ok(verdict == Verdict::Lawful && replayed.as_slice() == wanted)
+}
+
+// Whether so many workers pay this, by a journal that a replay finds lawful.
+fn is_cleared_by<R: Threads + Sync>(
+    rt: &R,
+    alloc: Global,
+    net: &Network,
+    workers: u32,
+    wanted: &[u64],
+) -> Result<bool, Mem>
+    requires { (1 ≤ workers) × (workers ≤ 64) }
+{
+    let plan = Plan { workers, sweeps: 2 };
+    let settled = settle(rt, alloc, net, plan, &OpenGate)?;
+    let paid = settled.paid.as_slice() == wanted;
+    Ok(paid && replays_to(alloc, net, settled.sealed.journal(), wanted)?)
+}
+
+// Whether 1, 2, 3 and 64 workers do.
+fn is_cleared<R: Threads + Sync>(
+    rt: &R,
+    alloc: Global,
+    net: &Network,
+    wanted: &[u64],
+) -> Result<bool, Mem> {
+    let mut all = true;
+    for workers in [1, 2, 3, 64] {
+        all = is_cleared_by(rt, alloc, net, workers, wanted)? && all;
+    }
+    Ok(all)
+}
+
+// The same of a network of so many banks that divide by all six rules in turn, with debts of several
+// classes, and owe outside.
+fn woven_is_cleared<R: Threads + Sync>(rt: &R, alloc: Global, banks: u32) -> Result<bool, Mem> {
+    let net = woven(alloc, banks)?;
+    let wanted = central(alloc, &net)?;
+    is_cleared(rt, alloc, &net, wanted.as_slice())
+}
+
+// Whether five such networks are.
+fn all_are_cleared<R: Threads + Sync>(rt: &R, alloc: Global) -> Result<bool, Mem> {
+    let mut all = true;
+    for banks in [8, 9, 11, 12, 30] {
+        all = woven_is_cleared(rt, alloc, banks)? && all;
+    }
+    Ok(all)
+}
+
+#[test]
+fn generated_networks_are_cleared_by_any_number_of_workers(rt: HostRuntime) -> Result<(), Fail> {
+    let all = all_are_cleared(&rt, rt.alloc())?;
+    assert!(rt; all);
+    Ok(())
+}

@@ -1,0 +1,317 @@
+ghost use Rattle.clr_net.specs.Samples.{chain as chain_net};
+ghost use Rattle.net_samples.specs.Networks.{ring as ring_net};
+ghost use Rattle.pay_words.specs.Traces.{start_of};
+ghost use Rattle.pay_words.specs.Views.{IsAt, opening};
+ghost use Rattle.settle.specs.Between.{IsBetween};
+ghost use Rattle.std.specs.Prelude.{◌≡◌, ◌<◌, ◌≤◌, [], OnOk, length};
+
+use crate::boards::{first_raises, new_board, take_bells};
+use crate::gates::FirstVisits;
+use bank_worker::{Calls, SeatBack, Visit, Worker};
+use clear_core::Journal;
+use clr_edge::OpenGate;
+use clr_net::{DebtId, Mem, Network};
+use net_samples::{chain, ring};
+use pay_words::{Board, PaySeat};
+use settle::{Plan, offices_of, round};
+use std::alloc::Global;
+use std::sync::atomic::{AtomicU64, Ordering};
+use std::test::Fail;
+use std::thread::Threads;
+
+// What rounds of the only worker of a board came to: of each the units by which payments rose, the
+// visits and the raises; the first raises of all; and which of the first three bells are up then.
+#[derive(Clone, Copy)]
+struct Told {
+    rounds: [(u64, u64, usize); 6],
+    raises: [(u64, u32, u64); 10],
+    up: [bool; 3],
+}
+
+// So many rounds at one office: in each a worker takes another seat to it, and leaves it again.
+fn rounds_on<R: Threads + Sync>(
+    rt: &R,
+    alloc: Global,
+    net: &Network,
+    board: &Board,
+    master: &mut PaySeat,
+    sweeps: u32,
+    rounds: usize,
+) -> Result<Told, Mem>
+    requires board { (net.now ≡ board.now.net) × (board.now.workers ≡ 1) }
+    requires master { (master.old.table ≡ board.now.table) × IsBetween net.now master.old.shows }
+    requires rounds { (rounds ≤ 6) × (master.old.shows.seats ≡ 0) }
+    requires sweeps { (1 ≤ sweeps) × (sweeps ≤ 1000) }
+    ensures table { master.new.table ≡ master.old.table }
+    ensures between { OnOk result (IsBetween net.now master.new.shows) }
+{
+    let plan = Plan { workers: 1, sweeps };
+    let mut journal = Journal::empty(alloc);
+    let mut offices = offices_of(alloc, net, 1)?;
+    let mut told = [(0, 0, 0); 6];
+    for number in 0..rounds {
+        let before = journal.as_slice().len();
+        let (units, visits) = round(
+            rt,
+            alloc,
+            net,
+            plan,
+            board,
+            master,
+            &OpenGate,
+            &mut journal,
+            &mut offices,
+            false,
+        )?;
+        told[number] = (units, visits, journal.as_slice().len() - before);
+    }
+    let raises = first_raises(journal.as_slice());
+    let up = [false; 3];
+    Ok(Told {
+        rounds: told,
+        raises,
+        up,
+    })
+}
+
+// The same, on a new board.
+fn rounds_of<R: Threads + Sync>(
+    rt: &R,
+    alloc: Global,
+    net: &Network,
+    sweeps: u32,
+    rounds: usize,
+) -> Result<Told, Mem>
+    requires debts { length net.now.debts ≡ 2 }
+    requires rounds { rounds ≤ 6 }
+    requires sweeps { (1 ≤ sweeps) × (sweeps ≤ 1000) }
+{
+    let (board, mut master) = new_board(alloc, net, 1)?;
+    let mut told = rounds_on(rt, alloc, net, &board, &mut master, sweeps, rounds)?;
+    let up = take_bells(&board, &mut master, net.banks(), [true; 3]);
+    told.up = up;
+    Ok(told)
+}
+
+// The same, on the chain.
+fn on_chain<R: Threads + Sync>(rt: &R, alloc: Global, rounds: usize) -> Result<Told, Mem>
+    requires { rounds ≤ 6 }
+{
+    let net = chain(alloc)?;
+    rounds_of(rt, alloc, &net, 1, rounds)
+}
+
+// And on the ring.
+fn on_ring<R: Threads + Sync>(
+    rt: &R,
+    alloc: Global,
+    sweeps: u32,
+    rounds: usize,
+) -> Result<Told, Mem>
+    requires rounds { rounds ≤ 6 }
+    requires sweeps { (1 ≤ sweeps) × (sweeps ≤ 1000) }
+{
+    let net = ring(alloc)?;
+    rounds_of(rt, alloc, &net, sweeps, rounds)
+}
+
+#[test]
+fn payments_flow_down_a_chain(rt: HostRuntime) -> Result<(), Fail> {
+    let told = on_chain(&rt, rt.alloc(), 2)?;
+    let up = told.up;
+    let rounds = (told.rounds[0], told.rounds[1]);
+    let raises = (told.raises[0], told.raises[1]);
+    // In the end no bell is up any more.
+    assert_eq!(rt;
+        (rounds, raises, up),
+        (((15, 3, 2), (0, 0, 0)), ((1, 0, 7), (2, 1, 8)), [false; 3])
+    );
+    Ok(())
+}
+
+#[test]
+fn one_unit_goes_round_a_ring(rt: HostRuntime) -> Result<(), Fail> {
+    let told = on_ring(&rt, rt.alloc(), 1, 6)?;
+    // Two visits in each of five rounds, and one more that finds nothing to raise.
+    let round = (2, 2, 2);
+    let rounds = told.rounds;
+    assert_eq!(rt; rounds, [round, round, round, round, round, (0, 1, 0)]);
+    Ok(())
+}
+
+#[test]
+fn sweeps_find_it_all_in_one_round(rt: HostRuntime) -> Result<(), Fail> {
+    let told = on_ring(&rt, rt.alloc(), 7, 1)?;
+    assert_eq!(rt; told.rounds[0], (10, 11, 10));
+    Ok(())
+}
+
+#[test]
+fn a_worker_takes_another_seat(rt: HostRuntime) -> Result<(), Fail> {
+    let told = on_ring(&rt, rt.alloc(), 1, 2)?;
+    // Visits and raises begin anew with the seat.
+    assert_eq!(rt; (told.rounds[0], told.rounds[1]), ((2, 2, 2), (2, 2, 2)));
+    Ok(())
+}
+
+#[test]
+fn a_bell_is_up_where_a_payment_is_new(rt: HostRuntime) -> Result<(), Fail> {
+    let told = on_ring(&rt, rt.alloc(), 1, 1)?;
+    let up = told.up;
+    // B was visited after A, and paid A then.
+    assert_eq!(rt; (told.rounds[0], up), ((2, 2, 2), [true, false, false]));
+    Ok(())
+}
+
+// The desks of the third worker of a new board, the units of its round, and its visits.
+fn round_of_third(alloc: Global, net: &Network) -> Result<(usize, Option<u64>, u64), Mem>
+    requires { net.now ≡ ring_net }
+{
+    let (board, mut master) = new_board(alloc, net, 3)?;
+    let seat = board.hand(alloc, &mut master, 2)?;
+    let mut worker = match Worker::make(alloc, net, seat, 2, 3) {
+        Ok(worker) => worker,
+        Err(SeatBack { seat: _ }) => return Err(Mem),
+    };
+    let units = units_of(worker.round(&board, 7, &OpenGate));
+    Ok((worker.desks(), units, worker.visits()))
+}
+
+// The units of visits, or nothing after want of memory.
+fn units_of(answer: Visit) -> Option<u64> {
+    match answer {
+        Visit::Raised(units) => Some(units),
+        Visit::Mem => None,
+    }
+}
+
+// The same, of the ring.
+fn third_of_ring(alloc: Global) -> Result<(usize, Option<u64>, u64), Mem> {
+    let net = ring(alloc)?;
+    round_of_third(alloc, &net)
+}
+
+#[test]
+fn a_worker_without_banks_makes_no_visit(rt: HostRuntime) -> Result<(), Fail> {
+    let told = third_of_ring(rt.alloc())?;
+    assert_eq!(rt; told, (0, Some(0), 0));
+    Ok(())
+}
+
+// One visit of a worker's first desk: its units, how many raises were noted, and the clock then.
+fn visit_once(board: &Board, worker: Worker, gate: &FirstVisits) -> (Option<u64>, usize, u64)
+    requires seat { IsAt board.now worker.seat }
+    requires desk { 0 < length worker.desks }
+    requires visits { worker.visits ≡ 0 }
+{
+    let mut worker = worker;
+    let units = units_of(worker.visit(board, 0, gate));
+    let (seat, journal) = worker.finish();
+    (units, journal.as_slice().len(), seat.clock())
+}
+
+// What a visit of A by one worker and one of B by another come to, and what stands then on the debt
+// of B.
+#[derive(Clone, Copy)]
+struct Visits {
+    first: Option<u64>,
+    second: Option<u64>,
+    // The value and the stamp of the word, the raises that were noted, and the clock.
+    told: (u64, u64, usize, u64),
+}
+
+// The visits, on the new board of the chain.
+fn visits_on(
+    alloc: Global,
+    net: &Network,
+    board: &Board,
+    master: &mut PaySeat,
+    gate: &FirstVisits,
+) -> Result<Visits, Mem>
+    requires net { (net.now ≡ chain_net) × (board.now.net ≡ chain_net) }
+    requires workers { board.now.workers ≡ 3 }
+    requires master { (master.old.table ≡ board.now.table)
+        × (master.old.shows ≡ opening chain_net (start_of chain_net [])) }
+{
+    let seat = board.hand(alloc, master, 0)?;
+    let next = board.hand(alloc, master, 1)?;
+    let mut other = board.hand(alloc, master, 2)?;
+    let (Ok(first), Ok(second)) = (
+        Worker::make(alloc, net, seat, 0, 3),
+        Worker::make(alloc, net, next, 1, 3),
+    ) else {
+        return Err(Mem);
+    };
+    // What A pays has a stamp, so that a look of B would move the clock.
+    let (first, _, _) = visit_once(board, first, gate);
+    let (second, raises, clock) = visit_once(board, second, gate);
+    let word = board.look(&mut other, DebtId(1));
+    Ok(Visits {
+        first,
+        second,
+        told: (word.value, word.stamp, raises, clock),
+    })
+}
+
+// The same, on a board made for it.
+fn visits_of(alloc: Global, net: &Network, gate: &FirstVisits) -> Result<Visits, Mem>
+    requires { net.now ≡ chain_net }
+{
+    let (board, mut master) = new_board(alloc, net, 3)?;
+    visits_on(alloc, net, &board, &mut master, gate)
+}
+
+// The same, with the network too, and how often the first visits passed the gate.
+fn visits_of_chain(alloc: Global) -> Result<(Visits, u64), Mem> {
+    let net = chain(alloc)?;
+    let gate = FirstVisits {
+        calls: AtomicU64::new(0),
+    };
+    let visits = visits_of(alloc, &net, &gate)?;
+    Ok((visits, gate.calls.load(Ordering::SeqCst)))
+}
+
+#[test]
+fn a_visit_without_memory_leaves_all_as_it_was(rt: HostRuntime) -> Result<(), Fail> {
+    let (visits, calls) = visits_of_chain(rt.alloc())?;
+    let wanted = match (visits.first, visits.second) {
+        (Some(_), Some(_)) => (Some(8), (8, 2, 1, 2)),
+        (None, Some(_)) => (Some(1), (1, 1, 1, 1)),
+        (_, None) => (None, (0, 0, 0, 0)),
+    };
+    // Each visit passed the gate, with or without memory.
+    assert_eq!(rt; (calls, (visits.second, visits.told)), (2, wanted));
+    Ok(())
+}
+
+// Where calls of two banks are found, by one worker: from the first place and from the one after
+// the first call; in a sweep over all; once the first call has ended; whether there is a place past
+// them, and none once both have ended.
+fn two_calls() -> ([usize; 4], bool, bool) {
+    let mut calls = Calls::none(1);
+    calls.call(301);
+    calls.call(4);
+    let both = (calls.next(false, 0), calls.next(false, 5));
+    let whole = calls.next(true, 0);
+    calls.end(4);
+    let left = calls.next(false, 0);
+    let past = calls.next(false, 302) >= 1_000;
+    calls.end(301);
+    ([both.0, both.1, whole, left], past, calls.is_empty())
+}
+
+// Whether a worker among several calls none.
+fn calls_none() -> bool {
+    let mut calls = Calls::none(3);
+    calls.call(4);
+    calls.is_empty()
+}
+
+#[test]
+fn the_only_worker_calls_the_desks_that_it_rang(rt: HostRuntime) -> Result<(), Fail> {
+    assert_eq!(rt;
+        (two_calls(), calls_none()),
+        (([4, 301, 0, 301], true, true), true)
+    );
+    Ok(())
+}

@@ -1,9 +1,0 @@
-use Rattle.std.proofs.Common.{◌≡◌}
-use Rattle.pay_words.specs.Views.{HoldsAll, IsAt}
-use Rattle.settle.proofs.tests.two_called.Given as goal
-
-abbrev pub invariant-loop-bank : goal.invariant-loop-bank
-invariant-loop-bank l = record {
-  at : IsAt l.board l.master;
-  held : HoldsAll l.master.shows;
-}
