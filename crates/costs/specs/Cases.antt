@@ -2,11 +2,10 @@
 use Rattle.std.specs.Prelude.{◌≡◌, ℕ, [], ◌∷◌, codes, refl}
 use Rattle.clr_net.specs.declared.rule.RuleKind.TheVariants as kind
 use Rattle.clr_net.specs.Net.{Net}
-use Rattle.clr_net.specs.Samples.{debt, chain}
+use Rattle.clr_net.specs.Samples.{debt, chain, ring, ruled}
 use Rattle.rule_unit.specs.Units.{awards_after}
 use Rattle.clr_net.specs.Division.{share_by_from}
 use Rattle.clear_core.specs.Rounds.{rounds_of}
-use Rattle.net_samples.specs.Networks.{ring, ruled}
 use Rattle.cascade.specs.declared.standing.Health.{Health}
 use Rattle.cascade.specs.declared.standing.Health.TheVariants.{Sound, Fundamental, Contagion}
 use Rattle.costs.specs.declared.standing.CostStanding.{CostStanding}

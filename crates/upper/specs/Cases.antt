@@ -2,12 +2,11 @@
 use Rattle.std.specs.Prelude.{◌≡◌, ℕ, true, false, [], ◌∷◌, codes, refl}
 use Rattle.clr_net.specs.declared.rule.RuleKind.TheVariants as kind
 use Rattle.clr_net.specs.Net.{Net}
-use Rattle.clr_net.specs.Samples.{bank, debt, chain}
+use Rattle.clr_net.specs.Samples.{bank, debt, chain, ruled}
 use Rattle.rule_unit.specs.Units.{awards_after}
 use Rattle.clr_net.specs.Division.{share_by_from}
 use Rattle.clear_core.specs.Clearing.{pay, rounds, least}
 use Rattle.clear_core.specs.Rounds.{rounds_of}
-use Rattle.net_samples.specs.Networks.{ruled}
 use Rattle.upper.specs.Bounds.{greatest, gridlocked, waves}
 
 -- A falls at once, and B after it
