@@ -4,9 +4,8 @@ use Rattle.std.specs.Prelude.{slice_index}
 use Rattle.rule_unit.specs.Units.{awards_after}
 use Rattle.clr_net.specs.Division.{share_by_from}
 use Rattle.clr_net.specs.Net.{Net}
-use Rattle.clr_net.specs.Samples.{chain}
+use Rattle.clr_net.specs.Samples.{chain, ring}
 use Rattle.clear_core.specs.Clearing.{part, receipts}
-use Rattle.net_samples.specs.Networks.{ring}
 use Rattle.pay_words.specs.Traces.{start_of}
 use Rattle.pay_words.specs.Views.{opening}
 

@@ -1,7 +1,6 @@
 ghost use Rattle.clear_core.specs.Clearing.{part, receipts};
 ghost use Rattle.clr_net.specs.Net.{creditor_of, debtor_of};
-ghost use Rattle.clr_net.specs.Samples.{chain as chain_net};
-ghost use Rattle.net_samples.specs.Networks.{ring as ring_net};
+ghost use Rattle.clr_net.specs.Samples.{chain as chain_net, ring as ring_net};
 ghost use Rattle.pay_words.specs.Views.{HoldsAll, HoldsAllOf, IsAt, OwesNoRing, handed, holds, looked};
 ghost use Rattle.pay_words.specs.Traces.{start_of};
 ghost use Rattle.pay_words.specs.Views.{opening, raised, rejoined};

@@ -1,5 +1,4 @@
-ghost use Rattle.clr_net.specs.Samples.{chain as chain_net};
-ghost use Rattle.net_samples.specs.Networks.{ring as ring_net};
+ghost use Rattle.clr_net.specs.Samples.{chain as chain_net, ring as ring_net};
 ghost use Rattle.pay_words.specs.Traces.{start_of};
 ghost use Rattle.pay_words.specs.Views.{IsAt, opening};
 ghost use Rattle.settle.specs.Between.{IsBetween};
