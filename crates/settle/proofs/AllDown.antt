@@ -1,6 +1,5 @@
 -- All bells down at a master that holds all banks: the payments are the least that clear.
-use Rattle.std.proofs.Common.{◌≡◌, ◌≢◌, ℕ, ◌+◌, ◌<◌, ◌≤◌, true, length, ap, ◌∙◌, subst, ⊎_elim, arith}
-use Rattle.std.proofs.lemmas.Bool.{cases_lt}
+use Rattle.std.proofs.Common.{◌≡◌, ◌≢◌, ℕ, ◌<◌, true, length, ap, ◌∙◌, subst, ⊎_elim, arith}
 use Rattle.clr_net.specs.Amounts.{IsAtMost}
 use Rattle.clr_net.specs.Limits.{IsNetwork}
 use Rattle.clr_net.specs.Net.{Net, creditor_of, debtor_of}
@@ -27,15 +26,6 @@ idle_between net s h = record {
 pub record AreDown (s : Shown) (n : ℕ) : Type 0 where
   pub worn : (b : ℕ) → b < n → is_marked s.fresh b ≢ true
   pub seen : (b : ℕ) → b < n → HasSeenAll s b
-
--- one more bell was down
-pub one_more_down : (s : Shown) (n : ℕ) → is_marked s.fresh n ≢ true → HasSeenAll s n → AreDown s n → AreDown s (n + 1)
-one_more_down s n worn seen h = record {
-  worn = λ b lt. ⊎_elim (λ (l : b < n). h.worn b l)
-      (λ (ge : n ≤ b). let e : n ≡ b = omega (arith, lt, ge) in subst (λ k. is_marked s.fresh k ≢ true) e worn) (cases_lt b n);
-  seen = λ b lt. ⊎_elim (λ (l : b < n). h.seen b l)
-      (λ (ge : n ≤ b). let e : n ≡ b = omega (arith, lt, ge) in subst (HasSeenAll s) e seen) (cases_lt b n);
-}
 
 -- where all are down, each bank divides, and has seen what is paid to it
 pub all_down : (net : Net) (s : Shown) → IsNetwork net → IsIdle net s → length s.paid ≡ length s.net.debts

@@ -13,10 +13,6 @@ use Rattle.bank_worker.proofs.Rooms.{banks_of_seat}
 use Rattle.settle.specs.Between.{IsOfBoard}
 use Rattle.settle.specs.Offices.{AreOffices, Serves, no_office, office_at}
 
--- there is no office yet
-pub offices_none : (net : Net) (workers : ℕ) → AreOffices net workers 0 []
-offices_none net workers = record { as_many = refl; each = λ k l. absurd (omega arith) }
-
 -- one office more, that of the worker before
 pub office_more : (net : Net) (workers n i : ℕ) (os : List OfficeView) (o : OfficeView) → AreOffices net workers n os
     → workers - 1 - n ≡ i → Serves net workers i o → AreOffices net workers (n + 1) (os ++ o ∷ [])

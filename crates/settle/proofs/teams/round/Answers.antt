@@ -80,7 +80,7 @@ returns g c =
     let few = c.requires.ready.limits.few_sweeps in
     let same_net : t.net ≡ net = back.net_is ∙ sym here in
     let again : IsBetween net t = between_again board net s w sweeps units news here c.requires.ready.workers_are some few between rounded m t over back
-        (back.master ∙ ap (λ (u : Shown). u.master) rest ∙ first_master w w s ∙ between.master) in
+    (back.master ∙ ap (λ (u : Shown). u.master) rest ∙ first_master w w s ∙ between.master) in
     record {
       table = c.close_workers.ensures.table ∙ c.open_workers.ensures.table;
       net = c.close_workers.ensures.net ∙ c.open_workers.ensures.net;
