@@ -110,20 +110,44 @@ fn run_line<R: Threads + Sync, F: Shelf, G: Gate + Sync>(
     Ok(run_words(rt, alloc, words.as_slice(), files, sinks, gate))
 }
 
-// Runs a line with so much room for what is told, and compares the code and what is told.
-fn tells<R: Threads + Sync + Abort>(
+fn same<R: Abort>(rt: &R, line: &str, written: &[u8], wanted: &[u8]) {
+    assert_eq!(rt; written, wanted, "{line}");
+}
+
+fn same_code<R: Abort>(rt: &R, line: &str, code: u8, wanted: u8) {
+    assert_eq!(rt; code, wanted, "{line}");
+}
+
+// Runs a line, and compares the code, and what is told by seven bytes a put, for which there is so
+// much room.
+fn tells<R: Threads + Sync + Abort, G: Gate + Sync>(
     rt: &R,
     alloc: Global,
     line: &str,
     files: &mut MemShelf,
     out: &mut MemSink,
+    gate: &G,
     (room, code, message): (usize, u8, &str),
 ) -> Result<Option<Numbers>, Fail> {
-    let mut err = MemSink::with_room(alloc, room, 1000, 0)?;
-    let (status, numbers) = run_line(rt, alloc, line, files, (out, &mut err), &OpenGate)?;
-    assert_eq!(rt; err.written(), message.as_bytes());
-    assert_eq!(rt; status.code(), code);
+    let mut err = MemSink::with_room(alloc, room, 7, 0)?;
+    let (status, numbers) = run_line(rt, alloc, line, files, (out, &mut err), gate)?;
+    same(rt, line, err.written(), message.as_bytes());
+    same_code(rt, line, status.code(), code);
     Ok(numbers)
+}
+
+// Runs a line so, with so much room for its text, which is not compared.
+fn runs_on<R: Threads + Sync + Abort, G: Gate + Sync>(
+    rt: &R,
+    alloc: Global,
+    line: &str,
+    files: &mut MemShelf,
+    room: usize,
+    gate: &G,
+    told: (usize, u8, &str),
+) -> Result<Option<Numbers>, Fail> {
+    let mut out = MemSink::with_room(alloc, room, 1000, 0)?;
+    tells(rt, alloc, line, files, &mut out, gate, told)
 }
 
 // Runs a line, and compares its code and what it writes and tells.
@@ -135,8 +159,16 @@ fn ends<R: Threads + Sync + Abort>(
     (code, text, message): (u8, &str, &str),
 ) -> Result<(), Fail> {
     let mut out = MemSink::with_room(alloc, 6000, 1000, 0)?;
-    tells(rt, alloc, line, files, &mut out, (1000, code, message))?;
-    assert_eq!(rt; out.written(), text.as_bytes());
+    tells(
+        rt,
+        alloc,
+        line,
+        files,
+        &mut out,
+        &OpenGate,
+        (1000, code, message),
+    )?;
+    same(rt, line, out.written(), text.as_bytes());
     Ok(())
 }
 
@@ -334,7 +366,7 @@ const NO_JOBS: [&str; 5] = [
 #[test]
 fn words_that_are_no_job(rt: HostRuntime) -> Result<(), Fail> {
     let usage = (2, "", "clearing: the command line is not understood\n");
-    for line in NO_JOBS {
+    for line in &NO_JOBS {
         check(&rt, rt.alloc(), line, [CHAIN_BANKS, CHAIN_DEBTS, ""], usage)?;
     }
     Ok(())
@@ -343,20 +375,14 @@ fn words_that_are_no_job(rt: HostRuntime) -> Result<(), Fail> {
 #[test]
 fn files_that_are_missing(rt: HostRuntime) -> Result<(), Fail> {
     let alloc = rt.alloc();
+    let no_banks = "clearing: cannot read b.csv\n";
     let no_debts = "clearing: cannot read d.csv\n";
     let mut files = MemShelf::make(alloc);
-    ends(
-        &rt,
-        alloc,
-        CLEAR,
-        &mut files,
-        (3, "", "clearing: cannot read b.csv\n"),
-    )?;
+    ends(&rt, alloc, CLEAR, &mut files, (3, "", no_banks))?;
     files.add("b.csv", b"no header")?;
     ends(&rt, alloc, CLEAR, &mut files, (3, "", no_debts))?;
     // A message of which nothing can be written changes nothing.
-    let mut out = MemSink::with_room(alloc, 1000, 1000, 0)?;
-    tells(&rt, alloc, CLEAR, &mut files, &mut out, (0, 3, ""))?;
+    runs_on(&rt, alloc, CLEAR, &mut files, 0, &OpenGate, (0, 3, ""))?;
     Ok(())
 }
 
@@ -365,15 +391,9 @@ fn an_output_that_breaks(rt: HostRuntime) -> Result<(), Fail> {
     let alloc = rt.alloc();
     let mut files = shelf(alloc, CHAIN_BANKS, CHAIN_DEBTS)?;
     let mut out = MemSink::with_room(alloc, 1000, 10, 2)?;
-    let mut err = MemSink::with_room(alloc, 1000, 7, 0)?;
-    let sinks = (&mut out, &mut err);
-    let (status, _) = run_line(&rt, alloc, CLEAR, &mut files, sinks, &OpenGate)?;
-    assert_eq!(rt; status.code(), 5);
-    assert_eq!(rt; out.written(), b"debtor,cre".as_slice());
-    assert_eq!(rt;
-        err.written(),
-        b"clearing: cannot write the output\n".as_slice()
-    );
+    let told = (1000, 5, "clearing: cannot write the output\n");
+    tells(&rt, alloc, CLEAR, &mut files, &mut out, &OpenGate, told)?;
+    same(&rt, CLEAR, out.written(), b"debtor,cre");
     Ok(())
 }
 

@@ -3,7 +3,7 @@
 ghost use Rattle.clr_edge.specs.MemShelf.{fault_count};
 ghost use Rattle.std.specs.Prelude.{None};
 
-use super::{CHAIN_BANKS, CHAIN_DEBTS, CLEAR, REPLAY, STRESS, run_line, shelf};
+use super::{CHAIN_BANKS, CHAIN_DEBTS, CLEAR, REPLAY, STRESS, run_line, same, shelf};
 use clr_edge::{FetchFault, MemShelf, MemSink, OpenGate, Shelf};
 use std::alloc::Global;
 use std::process::Abort;
@@ -38,17 +38,29 @@ enum Wrong {
     NoFile,
 }
 
-// The files of the chain, of which the one of this number and name is wrong.
-fn files_with(alloc: Global, wrong: Wrong, number: u64, name: &str) -> Result<MemShelf, Fail> {
-    let mut files = shelf(alloc, CHAIN_BANKS, CHAIN_DEBTS)?;
-    files.add("s.toml", b"scenario = [{name = \"none\"}]")?;
-    files.add("j.csv", b"stamp,debtor,creditor,class,to\n")?;
+// Makes the file of this number and name wrong.
+fn spoil(
+    alloc: Global,
+    wrong: Wrong,
+    number: u64,
+    name: &str,
+    files: &mut MemShelf,
+) -> Result<(), Fail> {
     match wrong {
         Wrong::Nothing => {}
         Wrong::Missing => files.fail_at(number)?,
         Wrong::TooLong => files.add(name, vec![in alloc; b'\n'; 8_388_609]?.as_slice())?,
         Wrong::NoFile => files.add(name, b"bad")?,
     }
+    Ok(())
+}
+
+// The files of the chain, of which the one of this number and name is wrong.
+fn files_with(alloc: Global, wrong: Wrong, number: u64, name: &str) -> Result<MemShelf, Fail> {
+    let mut files = shelf(alloc, CHAIN_BANKS, CHAIN_DEBTS)?;
+    files.add("s.toml", b"scenario = [{name = \"none\"}]")?;
+    files.add("j.csv", b"stamp,debtor,creditor,class,to\n")?;
+    spoil(alloc, wrong, number, name, &mut files)?;
     Ok(files)
 }
 
@@ -78,7 +90,7 @@ fn fetches<R: Threads + Sync + Abort>(
         names: String::new(alloc),
     };
     run_noting(rt, alloc, line, &mut noting)?;
-    assert_eq!(rt; noting.names.as_str(), names);
+    same(rt, line, noting.names.as_bytes(), names.as_bytes());
     Ok(())
 }
 
@@ -119,20 +131,30 @@ const FETCHED: [Fetched<'static>; 6] = [
     ("clear --banks b.csv", "", &[]),
 ];
 
+// Runs a line where one of its files is wrong in each way.
+fn stops<R: Threads + Sync + Abort>(
+    rt: &R,
+    alloc: Global,
+    line: &str,
+    all: &str,
+    (number, name, to_it): (u64, &str, &str),
+) -> Result<(), Fail> {
+    // Nothing more is fetched after a file that is missing or too long; a journal may be longer
+    // than is tried here.
+    fetches(rt, alloc, line, (Wrong::Missing, number, name), to_it)?;
+    if name != "j.csv" {
+        fetches(rt, alloc, line, (Wrong::TooLong, number, name), to_it)?;
+    }
+    // What a file has in it is looked at once all are there.
+    fetches(rt, alloc, line, (Wrong::NoFile, number, name), all)
+}
+
 #[test]
 fn files_are_fetched_once_and_in_order(rt: HostRuntime) -> Result<(), Fail> {
-    let alloc = rt.alloc();
-    for (line, all, files) in FETCHED {
-        fetches(&rt, alloc, line, (Wrong::Nothing, 0, ""), all)?;
-        for (number, name, to_it) in files {
-            // Nothing more is fetched after a file that is missing or too long; a journal may be
-            // longer than is tried here.
-            fetches(&rt, alloc, line, (Wrong::Missing, *number, name), to_it)?;
-            if *name != "j.csv" {
-                fetches(&rt, alloc, line, (Wrong::TooLong, *number, name), to_it)?;
-            }
-            // What a file has in it is looked at once all are there.
-            fetches(&rt, alloc, line, (Wrong::NoFile, *number, name), all)?;
+    for (line, all, files) in &FETCHED {
+        fetches(&rt, rt.alloc(), line, (Wrong::Nothing, 0, ""), all)?;
+        for file in *files {
+            stops(&rt, rt.alloc(), line, all, *file)?;
         }
     }
     Ok(())

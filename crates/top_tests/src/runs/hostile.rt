@@ -3,9 +3,9 @@
 
 use super::{
     CHAIN_BANKS, CHAIN_BOTH, CHAIN_DEBTS, CHAIN_TEXT, CLEAR, CLEAR_BOTH, REPLAY, Refused, STRESS,
-    all_refused, check, ends, shelf, tells,
+    all_refused, check, ends, runs_on, same, shelf, tells,
 };
-use clr_edge::MemSink;
+use clr_edge::{MemShelf, MemSink, OpenGate};
 use std::alloc::Global;
 use std::process::Abort;
 use std::test::Fail;
@@ -20,35 +20,42 @@ fn puts<R: Threads + Sync + Abort>(
     before: usize,
 ) -> Result<(), Fail> {
     let mut files = shelf(alloc, CHAIN_BANKS, CHAIN_DEBTS)?;
-    let mut out = MemSink::with_room(alloc, 200, 1, before as u64 + 1)?;
+    let mut out = MemSink::with_room(alloc, 200, 1, (before as u64).saturating_add(1))?;
     let ending = if before == text.len() {
         (100, 0, "")
     } else {
         (100, 5, "clearing: cannot write the output\n")
     };
-    tells(rt, alloc, line, &mut files, &mut out, ending)?;
-    assert_eq!(rt; out.written(), &text.as_bytes()[..before]);
+    tells(rt, alloc, line, &mut files, &mut out, &OpenGate, ending)?;
+    same(
+        rt,
+        line,
+        out.written(),
+        text.as_bytes().get(..before).unwrap_or(b""),
+    );
+    Ok(())
+}
+
+fn puts_all<R: Threads + Sync + Abort>(
+    rt: &R,
+    alloc: Global,
+    line: &str,
+    text: &str,
+) -> Result<(), Fail> {
+    for before in 0..text.len() + 1 {
+        puts(rt, alloc, line, text, before)?;
+    }
     Ok(())
 }
 
 #[test]
 fn every_put_may_fail(rt: HostRuntime) -> Result<(), Fail> {
-    for (line, text) in [(CLEAR, CHAIN_TEXT), (CLEAR_BOTH, CHAIN_BOTH)] {
-        for before in 0..text.len() + 1 {
-            puts(&rt, rt.alloc(), line, text, before)?;
-        }
-    }
-    Ok(())
+    puts_all(&rt, rt.alloc(), CLEAR, CHAIN_TEXT)?;
+    puts_all(&rt, rt.alloc(), CLEAR_BOTH, CHAIN_BOTH)
 }
 
-// Runs a line on files of which one fetch fails, and then on all. The text is compared elsewhere.
-fn fetches<R: Threads + Sync + Abort>(
-    rt: &R,
-    alloc: Global,
-    line: &str,
-    fail_at: u64,
-    (unread, (code, message)): (&str, (u8, &str)),
-) -> Result<(), Fail> {
+// The files of each line below, of which one fetch fails.
+fn files_failing(alloc: Global, fail_at: u64) -> Result<MemShelf, Fail> {
     let mut files = shelf(alloc, CHAIN_BANKS, CHAIN_DEBTS)?;
     files.add(
         "j.csv",
@@ -57,12 +64,38 @@ fn fetches<R: Threads + Sync + Abort>(
     files.add("s.toml", b"scenario = [{name = \"none\"}]")?;
     files.add("bad.toml", b"scenario = [{cut = 5}]")?;
     files.fail_at(fail_at)?;
+    Ok(files)
+}
+
+// Runs a line on such files, and then on all. The text is compared elsewhere.
+fn fetches<R: Threads + Sync + Abort>(
+    rt: &R,
+    alloc: Global,
+    line: &str,
+    (fail_at, unread): (u64, &str),
+    (code, message): (u8, &str),
+) -> Result<(), Fail> {
+    let mut files = files_failing(alloc, fail_at)?;
     if !unread.is_empty() {
         ends(rt, alloc, line, &mut files, (3, "", unread))?;
     }
-    let mut out = MemSink::with_room(alloc, 1000, 1000, 0)?;
-    tells(rt, alloc, line, &mut files, &mut out, (100, code, message))?;
+    let told = (100, code, message);
+    runs_on(rt, alloc, line, &mut files, 1000, &OpenGate, told)?;
     Ok(())
+}
+
+// Runs a line where each fetch fails in turn, and none.
+fn fetches_each<R: Threads + Sync + Abort>(
+    rt: &R,
+    alloc: Global,
+    line: &str,
+    no_third: &str,
+    found: (u8, &str),
+) -> Result<(), Fail> {
+    fetches(rt, alloc, line, (1, "clearing: cannot read b.csv\n"), found)?;
+    fetches(rt, alloc, line, (2, "clearing: cannot read d.csv\n"), found)?;
+    fetches(rt, alloc, line, (3, no_third), found)?;
+    fetches(rt, alloc, line, (4, ""), found)
 }
 
 // A line, what is told where its third file cannot be read, and its code and message where all can.
@@ -87,14 +120,8 @@ const FETCHES: [(&str, &str, (u8, &str)); 6] = [
 // the first run does.
 #[test]
 fn every_fetch_may_fail(rt: HostRuntime) -> Result<(), Fail> {
-    let (no_banks, no_debts) = (
-        "clearing: cannot read b.csv\n",
-        "clearing: cannot read d.csv\n",
-    );
-    for (line, no_third, found) in FETCHES {
-        for (fail_at, unread) in [(1, no_banks), (2, no_debts), (3, no_third), (4, "")] {
-            fetches(&rt, rt.alloc(), line, fail_at, (unread, found))?;
-        }
+    for (line, no_third, found) in &FETCHES {
+        fetches_each(&rt, rt.alloc(), line, no_third, *found)?;
     }
     Ok(())
 }
@@ -121,12 +148,22 @@ const CUTS: [(usize, usize, (u8, &str, &str)); 9] = [
     (44, 45, (0, CHAIN_TEXT, "")),
 ];
 
+// Runs a line on the chain, of whose debts file so many bytes are there.
+fn is_cut<R: Threads + Sync + Abort>(
+    rt: &R,
+    alloc: Global,
+    bytes: usize,
+    ending: (u8, &str, &str),
+) -> Result<(), Fail> {
+    let debts = CHAIN_DEBTS.get(..bytes).unwrap_or(CHAIN_DEBTS);
+    check(rt, alloc, CLEAR, [CHAIN_BANKS, debts, ""], ending)
+}
+
 #[test]
 fn a_debts_file_cut_anywhere(rt: HostRuntime) -> Result<(), Fail> {
-    for (from, to, ending) in CUTS {
-        for bytes in from..to + 1 {
-            let debts = CHAIN_DEBTS.get(..bytes).unwrap_or(CHAIN_DEBTS);
-            check(&rt, rt.alloc(), CLEAR, [CHAIN_BANKS, debts, ""], ending)?;
+    for (from, to, ending) in &CUTS {
+        for bytes in *from..*to + 1 {
+            is_cut(&rt, rt.alloc(), bytes, *ending)?;
         }
     }
     Ok(())
@@ -195,7 +232,7 @@ const JOURNALS: [(&str, &str); 6] = [
 
 #[test]
 fn hostile_journals(rt: HostRuntime) -> Result<(), Fail> {
-    for (journal, message) in JOURNALS {
+    for (journal, message) in &JOURNALS {
         let texts = [CHAIN_BANKS, CHAIN_DEBTS, journal];
         check(&rt, rt.alloc(), REPLAY, texts, (4, "", message))?;
     }

@@ -3,8 +3,9 @@
 //! shares no code with the program; what is compressed, for which more than one answer is right, was
 //! judged by it. And files with one bank or debt more than a network may have.
 
-use super::{CENTRAL, REPLAY, ends, shelf, tells, twelve_banks};
-use clr_edge::{MemShelf, MemSink};
+use super::{CENTRAL, REPLAY, ends, same, shelf, tells, twelve_banks};
+use clr_edge::{MemShelf, MemSink, OpenGate};
+use clr_net::Network;
 use net_csv::{print_banks, print_debts};
 use net_gen::generate;
 use std::alloc::Global;
@@ -31,6 +32,10 @@ fn sink(alloc: Global) -> Result<MemSink, Fail> {
     Ok(MemSink::with_room(alloc, 200_000, 100_000, 0)?)
 }
 
+fn same_digest<R: Abort>(rt: &R, line: &str, text: &[u8], wanted: (usize, u64)) {
+    assert_eq!(rt; (text.len(), digest(text)), wanted, "{line}");
+}
+
 // Runs a line that ends well, and compares the length and the digest of its text.
 fn has_text<R: Threads + Sync + Abort>(
     rt: &R,
@@ -39,8 +44,8 @@ fn has_text<R: Threads + Sync + Abort>(
     (line, length, sum): Text<'_>,
 ) -> Result<(), Fail> {
     let mut out = sink(alloc)?;
-    tells(rt, alloc, line, files, &mut out, (1000, 0, ""))?;
-    assert_eq!(rt; (out.written().len(), digest(out.written())), (length, sum));
+    tells(rt, alloc, line, files, &mut out, &OpenGate, (1000, 0, ""))?;
+    same_digest(rt, line, out.written(), (length, sum));
     Ok(())
 }
 
@@ -52,7 +57,7 @@ fn saves_journal<R: Threads + Sync + Abort>(
 ) -> Result<usize, Fail> {
     let line = "clear --banks b.csv --debts d.csv --show journal";
     let mut out = sink(alloc)?;
-    let numbers = tells(rt, alloc, line, files, &mut out, (1000, 0, ""))?;
+    let numbers = tells(rt, alloc, line, files, &mut out, &OpenGate, (1000, 0, ""))?;
     files.add("j.csv", out.written())?;
     Ok(match numbers {
         Some((_, _, _, raises)) => raises,
@@ -68,8 +73,16 @@ fn pays<R: Threads + Sync + Abort>(
     text: &[u8],
 ) -> Result<(), Fail> {
     let mut out = sink(alloc)?;
-    tells(rt, alloc, CENTRAL, files, &mut out, (1000, 0, ""))?;
-    assert!(rt; out.written() == text);
+    tells(
+        rt,
+        alloc,
+        CENTRAL,
+        files,
+        &mut out,
+        &OpenGate,
+        (1000, 0, ""),
+    )?;
+    same(rt, CENTRAL, out.written(), text);
     Ok(())
 }
 
@@ -82,14 +95,15 @@ fn replays<R: Threads + Sync + Abort>(
     front: &str,
 ) -> Result<(), Fail> {
     let mut out = sink(alloc)?;
-    tells(rt, alloc, REPLAY, files, &mut out, (1000, 0, ""))?;
-    match out.written().strip_prefix(front.as_bytes()) {
-        Some(text) => pays(rt, alloc, files, text),
-        None => {
-            assert!(rt; false, "no {front}");
-            Ok(())
-        }
-    }
+    tells(rt, alloc, REPLAY, files, &mut out, &OpenGate, (1000, 0, ""))?;
+    let paid = out.written().get(front.len()..).unwrap_or(&[]);
+    same(
+        rt,
+        REPLAY,
+        out.written().get(..front.len()).unwrap_or(&[]),
+        front.as_bytes(),
+    );
+    pays(rt, alloc, files, paid)
 }
 
 // Runs each line on some files, and replays the journal of a run.
@@ -220,14 +234,23 @@ const ON_TWO_HUNDRED: [Text<'static>; 10] = [
     ),
 ];
 
+fn add_banks(alloc: Global, net: &Network, files: &mut MemShelf) -> Result<(), Fail> {
+    let text = print_banks(alloc, net)?;
+    files.add("b.csv", text.as_slice())?;
+    Ok(())
+}
+
+fn add_debts(alloc: Global, net: &Network, files: &mut MemShelf) -> Result<(), Fail> {
+    let text = print_debts(alloc, net)?;
+    files.add("d.csv", text.as_slice())?;
+    Ok(())
+}
+
 // Adds the two files of a generated network.
 fn add_generated(alloc: Global, files: &mut MemShelf) -> Result<(), Fail> {
     let net = generate(alloc, 1, 200, 2000)?;
-    let banks = print_banks(alloc, &net)?;
-    files.add("b.csv", banks.as_slice())?;
-    let debts = print_debts(alloc, &net)?;
-    files.add("d.csv", debts.as_slice())?;
-    Ok(())
+    add_banks(alloc, &net, files)?;
+    add_debts(alloc, &net, files)
 }
 
 #[test]

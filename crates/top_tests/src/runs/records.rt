@@ -1,8 +1,8 @@
 //! What a run answers beside its text: the record of the board, and the visits at the gate.
 
 use super::tasks::{RING_BANKS, RING_DEBTS, THREE_SCENARIOS};
-use super::{CHAIN_BANKS, CHAIN_DEBTS, Numbers, run_line, shelf_of_three, tells};
-use clr_edge::{Gate, MemSink};
+use super::{CHAIN_BANKS, CHAIN_DEBTS, Numbers, runs_on, shelf_of_three};
+use clr_edge::{Gate, MemShelf, OpenGate};
 use std::alloc::Global;
 use std::process::Abort;
 use std::sync::atomic::{AtomicU64, Ordering};
@@ -67,27 +67,30 @@ const RECORDED: [Recorded<'static>; 15] = [
 ];
 
 // Runs a line, and compares the numbers of its record.
-fn records<R: Threads + Sync + Abort>(
+fn has_record<R: Threads + Sync + Abort>(
     rt: &R,
     alloc: Global,
     (line, third, room, wanted): Recorded<'_>,
 ) -> Result<(), Fail> {
     let mut files = shelf_of_three(alloc, [CHAIN_BANKS, CHAIN_DEBTS, third])?;
-    let mut out = MemSink::with_room(alloc, room, 1000, 0)?;
-    let ending = if room < 50 {
+    let told = if room < 50 {
         (100, 5, "clearing: cannot write the output\n")
     } else {
         (100, 0, "")
     };
-    let numbers = tells(rt, alloc, line, &mut files, &mut out, ending)?;
-    assert_eq!(rt; numbers, wanted);
+    let numbers = runs_on(rt, alloc, line, &mut files, room, &OpenGate, told)?;
+    same_numbers(rt, line, numbers, wanted);
     Ok(())
+}
+
+fn same_numbers<R: Abort>(rt: &R, line: &str, numbers: Option<Numbers>, wanted: Option<Numbers>) {
+    assert_eq!(rt; numbers, wanted, "{line}");
 }
 
 #[test]
 fn tasks_on_one_board_answer_its_record(rt: HostRuntime) -> Result<(), Fail> {
-    for row in RECORDED {
-        records(&rt, rt.alloc(), row)?;
+    for row in &RECORDED {
+        has_record(&rt, rt.alloc(), *row)?;
     }
     Ok(())
 }
@@ -127,34 +130,29 @@ impl Counter {
     }
 }
 
-// Runs a line that ends well and passes a gate.
-fn passes<R: Threads + Sync + Abort>(
+// What a gate counts in a run that ends well: the visits, the greatest number of a visit in its
+// round, and the greatest number of a worker.
+fn counted_on<R: Threads + Sync + Abort>(
     rt: &R,
     alloc: Global,
     line: &str,
-    texts: [&str; 3],
-    gate: &Counter,
-) -> Result<(), Fail> {
-    let mut files = shelf_of_three(alloc, texts)?;
-    let mut out = MemSink::with_room(alloc, 2000, 1000, 0)?;
-    let mut err = MemSink::with_room(alloc, 1000, 1000, 0)?;
-    let (status, _) = run_line(rt, alloc, line, &mut files, (&mut out, &mut err), gate)?;
-    assert_eq!(rt; status.code(), 0);
-    Ok(())
+    files: &mut MemShelf,
+) -> Result<(u64, u64, u64), Fail> {
+    let gate = Counter::new();
+    runs_on(rt, alloc, line, files, 2000, &gate, (100, 0, ""))?;
+    Ok(gate.counts())
 }
 
-// What a gate counts in a run of a task by a plan: the visits, the greatest number of a visit in its
-// round, and the greatest number of a worker.
+// What it counts for a task by a plan.
 fn counted<R: Threads + Sync + Abort>(
     rt: &R,
     alloc: Global,
     (task, plan): (&str, &str),
     texts: [&str; 3],
 ) -> Result<(u64, u64, u64), Fail> {
+    let mut files = shelf_of_three(alloc, texts)?;
     let line = format!(in alloc; "{task} {plan}")?;
-    let gate = Counter::new();
-    passes(rt, alloc, line.as_str(), texts, &gate)?;
-    Ok(gate.counts())
+    counted_on(rt, alloc, line.as_str(), &mut files)
 }
 
 const TASKS: [(&str, u64, u64); 6] = [
@@ -166,19 +164,29 @@ const TASKS: [(&str, u64, u64); 6] = [
     ("gen --seed 1 --size 2 --tries 0", 2, 2),
 ];
 
+const RING: [&str; 3] = [RING_BANKS, RING_DEBTS, "scenario = [{name = \"as it is\"}]"];
+
+// Runs a task on the ring by one worker and by two.
+fn passes<R: Threads + Sync + Abort>(
+    rt: &R,
+    alloc: Global,
+    (task, visits, last): (&str, u64, u64),
+) -> Result<(), Fail> {
+    let one = counted(rt, alloc, (task, "--workers 1 --sweeps 7"), RING)?;
+    assert_eq!(rt; one, (visits, last, 0), "{task}");
+    // The second worker visits the second bank.
+    let two = counted(rt, alloc, (task, "--workers 2 --sweeps 1"), RING)?;
+    assert_eq!(rt; two.2, 1, "{task}");
+    Ok(())
+}
+
 // On the ring one unit goes round five times: ten visits that raise, and one of A that does not.
 // One worker with sweeps enough makes them in one round. A saved bank costs a second run, from what
 // was paid: a visit of each bank.
 #[test]
 fn the_gate_of_a_job_is_passed(rt: HostRuntime) -> Result<(), Fail> {
-    let alloc = rt.alloc();
-    let ring = [RING_BANKS, RING_DEBTS, "scenario = [{name = \"as it is\"}]"];
-    for (task, visits, last) in TASKS {
-        let one = counted(&rt, alloc, (task, "--workers 1 --sweeps 7"), ring)?;
-        assert_eq!(rt; one, (visits, last, 0));
-        // The second worker visits the second bank.
-        let two = counted(&rt, alloc, (task, "--workers 2 --sweeps 1"), ring)?;
-        assert_eq!(rt; two.2, 1);
+    for task in &TASKS {
+        passes(&rt, rt.alloc(), *task)?;
     }
     Ok(())
 }

@@ -128,21 +128,32 @@ fn journals_are_shown(rt: HostRuntime) -> Result<(), Fail> {
     all_done(&rt, rt.alloc(), &SHOWN)
 }
 
+// Runs the ring by a plan.
+fn pays<R: Threads + Sync + Abort>(rt: &R, alloc: Global, plan: &str) -> Result<(), Fail> {
+    let paid = "debtor,creditor,class,claim,paid\nA,B,1,5,5\nB,A,1,5,5\n";
+    let line = format!(in alloc; "{CLEAR} {plan}")?;
+    check(
+        rt,
+        alloc,
+        line.as_str(),
+        [RING_BANKS, RING_DEBTS, ""],
+        (0, paid, ""),
+    )
+}
+
+const PLANS: [&str; 6] = [
+    "--workers 1 --sweeps 1",
+    "--workers 1 --sweeps 7",
+    "--workers 2 --sweeps 1",
+    "--workers 2 --sweeps 7",
+    "--workers 64 --sweeps 1",
+    "--workers 64 --sweeps 7",
+];
+
 #[test]
 fn every_plan_pays_the_same(rt: HostRuntime) -> Result<(), Fail> {
-    let alloc = rt.alloc();
-    let paid = "debtor,creditor,class,claim,paid\nA,B,1,5,5\nB,A,1,5,5\n";
-    for workers in ["1", "2", "64"] {
-        for sweeps in ["1", "7"] {
-            let line = format!(in alloc; "{CLEAR} --workers {workers} --sweeps {sweeps}")?;
-            check(
-                &rt,
-                alloc,
-                line.as_str(),
-                [RING_BANKS, RING_DEBTS, ""],
-                (0, paid, ""),
-            )?;
-        }
+    for plan in &PLANS {
+        pays(&rt, rt.alloc(), plan)?;
     }
     Ok(())
 }
@@ -221,16 +232,24 @@ fn replays<R: Threads + Sync + Abort>(
     check(rt, alloc, REPLAY, texts, ending)
 }
 
+// Replays a journal that is lawful and complete.
+fn is_lawful<R: Threads + Sync + Abort>(
+    rt: &R,
+    alloc: Global,
+    (banks, raises, verdict): (&str, &str, &str),
+) -> Result<(), Fail> {
+    let text = format!(in alloc; "{verdict}\n{CHAIN_TEXT}")?;
+    replays(rt, alloc, banks, raises, (0, text.as_str(), ""))
+}
+
 #[test]
 fn journals_are_judged(rt: HostRuntime) -> Result<(), Fail> {
-    let alloc = rt.alloc();
     let told = "clearing: the journal is not a lawful complete history\n";
-    for (raises, verdict) in UNLAWFUL {
-        replays(&rt, alloc, CHAIN_BANKS, raises, (7, verdict, told))?;
+    for (raises, verdict) in &UNLAWFUL {
+        replays(&rt, rt.alloc(), CHAIN_BANKS, raises, (7, verdict, told))?;
     }
-    for (banks, raises, verdict) in LAWFUL {
-        let text = format!(in alloc; "{verdict}\n{CHAIN_TEXT}")?;
-        replays(&rt, alloc, banks, raises, (0, text.as_str(), ""))?;
+    for row in &LAWFUL {
+        is_lawful(&rt, rt.alloc(), *row)?;
     }
     Ok(())
 }
@@ -299,7 +318,7 @@ const SCENARIOS: [(&str, &str); 3] = [
 #[test]
 fn scenarios_in_their_order(rt: HostRuntime) -> Result<(), Fail> {
     let alloc = rt.alloc();
-    for (scenarios, text) in SCENARIOS {
+    for (scenarios, text) in &SCENARIOS {
         let texts = [CHAIN_BANKS, CHAIN_DEBTS, scenarios];
         check(&rt, alloc, STRESS, texts, (0, text, ""))?;
     }
