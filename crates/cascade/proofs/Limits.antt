@@ -1,25 +1,13 @@
--- What payments that clear are within, and how many debts a row has at most.
-use Rattle.std.proofs.Common.{◌≡◌, ℕ, ◌≤◌, ◌==◌, List, length, get_or, sym, ap, ◌∙◌, arith}
-use Rattle.std.proofs.lemmas.List.Sums.{length-filter, count_by-le-length, sum_by-le-sum_by}
-use Rattle.std.proofs.lemmas.List.FromFn.{length-range_with_len}
+-- What payments that clear are within.
+use Rattle.std.proofs.Common.{◌≡◌, ℕ, ◌≤◌, List, length, get_or, sym, ap, ◌∙◌, arith}
+use Rattle.std.proofs.lemmas.List.Sums.{sum_by-le-sum_by}
 use Rattle.clr_net.specs.Limits.{IsNetwork}
-use Rattle.clr_net.specs.Net.{Net, row, column, debtor_of, claim_of, debt_numbers}
+use Rattle.clr_net.specs.Net.{Net, column, claim_of}
 use Rattle.clear_core.specs.Buffers.{AreInLimit}
 use Rattle.clear_core.specs.Clearing.{estate, Clears}
 use Rattle.clear_core.proofs.Pay.{length-pay, pay_within}
 use Rattle.clear_core.proofs.Rows.{claim_in_limit}
 use Rattle.cascade.specs.Standings.{worth}
-
--- a row has no more debts than there are
-pub length-row_le : (net : Net) (i : ℕ) → length (row net i) ≤ length net.debts
-length-row_le net i =
-    let owed_by = λ (x : ℕ). debtor_of net x == i in
-    omega (
-      arith,
-      length-filter owed_by (debt_numbers net),
-      count_by-le-length owed_by (debt_numbers net),
-      length-range_with_len 0 (length net.debts),
-    )
 
 -- payments that clear have a place for each debt
 pub clearing_over : (net : Net) (P : List ℕ) → Clears net P → length P ≡ length net.debts

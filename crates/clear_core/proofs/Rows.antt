@@ -1,5 +1,5 @@
 -- What a walk over a row or a column reads, and what the limits of a network say of its rows.
-use Rattle.std.proofs.Common.{◌≡◌, ◌≢◌, ℕ, ◌+◌, ◌<◌, ◌≤◌, ◌==◌, All, List, [], ◌∷◌, ◌++◌, length, get_or, map, take, slice_get, Some, sym, ap, ◌∙◌, subst, ⊎_elim, arith}
+use Rattle.std.proofs.Common.{◌≡◌, ◌≢◌, ℕ, ◌+◌, ◌<◌, ◌≤◌, ◌==◌, Bool, All, List, [], ◌∷◌, ◌++◌, length, get_or, filter, map, take, slice_get, Some, sym, ap, ◌∙◌, subst, ⊎_elim, arith}
 use Rattle.std.specs.Option.{option_map_or}
 use Rattle.std.proofs.lemmas.Bool.{cases_lt}
 use Rattle.std.proofs.lemmas.List.{get_or-map, length-map, map-append, take_more}
@@ -41,16 +41,22 @@ debt_of_column net i ids k d e l =
     subst (λ x. x < length net.debts) (number_at ids (column net i) k d e l)
     (column_place net i k (omega (arith, as_many_numbers ids (column net i) e))).0
 
+-- no more debts are picked than there are
+length-picked_le : (net : Net) (p : ℕ → Bool) → length (filter p (debt_numbers net)) ≤ length net.debts
+length-picked_le net p = omega (
+  arith,
+  length-filter p (debt_numbers net),
+  count_by-le-length p (debt_numbers net),
+  length-range_with_len 0 (length net.debts),
+)
+
 -- no column is longer than the list of debts
 pub length-column_le : (net : Net) (i : ℕ) → length (column net i) ≤ length net.debts
-length-column_le net i =
-    let owed_to = λ (x : ℕ). creditor_of net x == i in
-    omega (
-      arith,
-      length-filter owed_to (debt_numbers net),
-      count_by-le-length owed_to (debt_numbers net),
-      length-range_with_len 0 (length net.debts),
-    )
+length-column_le net i = length-picked_le net (λ x. creditor_of net x == i)
+
+-- and no row
+pub length-row_le : (net : Net) (i : ℕ) → length (row net i) ≤ length net.debts
+length-row_le net i = length-picked_le net (λ x. debtor_of net x == i)
 
 -- the debt of a bank's row that has the number x stands in its place
 pub place_found : (net : Net) (i : ℕ) (ids : List DebtId) (k : ℕ) (d : DebtId) (x : ℕ) → numbers ids ≡ row net i → k < length ids

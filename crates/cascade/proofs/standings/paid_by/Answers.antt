@@ -1,8 +1,7 @@
 use Rattle.std.proofs.Common.{ℕ, get_or, ap, arith}
 use Rattle.std.proofs.lemmas.List.Sums.{sum_by_more}
 use Rattle.clr_net.specs.Net.{row}
-use Rattle.clear_core.proofs.Rows.{as_many_numbers, number_at, debt_of_row}
-use Rattle.cascade.proofs.Limits.{length-row_le}
+use Rattle.clear_core.proofs.Rows.{length-row_le, as_many_numbers, number_at, debt_of_row}
 use Rattle.cascade.proofs.standings.paid_by.Goals as goal
 
 pub bounds-paid-id : goal.bounds-paid-id
