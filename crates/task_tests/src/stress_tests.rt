@@ -163,7 +163,8 @@ const REFUSED: [(u32, FaultKind, &str); 22] = [
     (
         1,
         FaultKind::DoubleBank,
-        "[[scenario]]\nname = 'a'\nloss = [{ bank = 'A', amount = 1 }, { bank = 'A', amount = -1 }]",
+        "[[scenario]]\nname = 'a'\n\
+         loss = [{ bank = 'A', amount = 1 }, { bank = 'A', amount = -1 }]",
     ),
 ];
 

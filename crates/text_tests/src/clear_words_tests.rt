@@ -3,8 +3,8 @@ use clr_net::Mem;
 use std::alloc::Global;
 use std::test::Fail;
 
-// The words of a task, the names of its banks file, of its debts file, of its third file and of its
-// bank, its workers, its sweeps, its seed, its size, its tries and what it keeps, and what it shows.
+// Words, and the job that they are: its task, the names of its three files and of its bank, its
+// workers, sweeps, seed, size, tries and what it keeps, and what it shows.
 type Row = (
     &'static [&'static str],
     Task,
@@ -13,40 +13,46 @@ type Row = (
     Show,
 );
 
+// The names of the two files of most tasks.
+const FILES: [&str; 4] = ["b", "d", "", ""];
+
+// The numbers of a job where none is told.
+const PLAIN: [u64; 6] = [4, 1, 0, 0, 0, 0];
+
 const JOBS: [Row; 17] = [
     // the tasks, with what they require and allow
     (
         &["check", "--banks", "b", "--debts", "d"],
         Task::Check,
-        &["b", "d", "", ""],
-        &[4, 1, 0, 0, 0, 0],
+        &FILES,
+        &PLAIN,
         Show::Payments,
     ),
     (
         &["clear", "--banks", "b", "--debts", "d"],
         Task::Clear,
-        &["b", "d", "", ""],
-        &[4, 1, 0, 0, 0, 0],
+        &FILES,
+        &PLAIN,
         Show::Payments,
     ),
     (
         &["clear", "--banks=b", "--debts=d", "--show=journal"],
         Task::Clear,
-        &["b", "d", "", ""],
-        &[4, 1, 0, 0, 0, 0],
+        &FILES,
+        &PLAIN,
         Show::Journal,
     ),
     (
         &["central", "--banks", "b", "--debts", "d"],
         Task::Central,
-        &["b", "d", "", ""],
-        &[4, 1, 0, 0, 0, 0],
+        &FILES,
+        &PLAIN,
         Show::Payments,
     ),
     (
         &["defaults", "--workers=07", "--banks=b", "--debts=d"],
         Task::Defaults,
-        &["b", "d", "", ""],
+        &FILES,
         &[7, 1, 0, 0, 0, 0],
         Show::Payments,
     ),
@@ -54,14 +60,14 @@ const JOBS: [Row; 17] = [
         &["stress", "--banks=b", "--debts=d", "--scenarios", "s"],
         Task::Stress,
         &["b", "d", "s", ""],
-        &[4, 1, 0, 0, 0, 0],
+        &PLAIN,
         Show::Payments,
     ),
     (
         &["replay", "--banks=b", "--debts=d", "--journal", "j"],
         Task::Replay,
         &["b", "d", "j", ""],
-        &[4, 1, 0, 0, 0, 0],
+        &PLAIN,
         Show::Payments,
     ),
     (
@@ -74,14 +80,14 @@ const JOBS: [Row; 17] = [
     (
         &["convert", "--banks=b", "--debts=d"],
         Task::Convert,
-        &["b", "d", "", ""],
-        &[4, 1, 0, 0, 0, 0],
+        &FILES,
+        &PLAIN,
         Show::Payments,
     ),
     (
         &["bounds", "--banks=b", "--debts=d", "--sweeps=1000"],
         Task::Bounds,
-        &["b", "d", "", ""],
+        &FILES,
         &[4, 1000, 0, 0, 0, 0],
         Show::Payments,
     ),
@@ -89,20 +95,20 @@ const JOBS: [Row; 17] = [
         &["rescue", "--banks=b", "--debts=d", "--bank", "ä d"],
         Task::Rescue,
         &["b", "d", "", "ä d"],
-        &[4, 1, 0, 0, 0, 0],
+        &PLAIN,
         Show::Payments,
     ),
     (
         &["compress", "--banks=b", "--debts=d"],
         Task::Compress,
-        &["b", "d", "", ""],
-        &[4, 1, 0, 0, 0, 0],
+        &FILES,
+        &PLAIN,
         Show::Payments,
     ),
     (
         &["costs", "--banks=b", "--debts=d", "--keep", "1000"],
         Task::Costs,
-        &["b", "d", "", ""],
+        &FILES,
         &[4, 1, 0, 0, 0, 1000],
         Show::Payments,
     ),
@@ -122,7 +128,7 @@ const JOBS: [Row; 17] = [
             "both",
         ],
         Task::Clear,
-        &["b", "d", "", ""],
+        &FILES,
         &[64, 1000, 0, 0, 0, 0],
         Show::Both,
     ),
@@ -130,22 +136,22 @@ const JOBS: [Row; 17] = [
     (
         &["--banks", "b", "clear", "--debts", "d"],
         Task::Clear,
-        &["b", "d", "", ""],
-        &[4, 1, 0, 0, 0, 0],
+        &FILES,
+        &PLAIN,
         Show::Payments,
     ),
     (
         &["--debts=d", "--banks=b", "--", "clear"],
         Task::Clear,
-        &["b", "d", "", ""],
-        &[4, 1, 0, 0, 0, 0],
+        &FILES,
+        &PLAIN,
         Show::Payments,
     ),
     (
         &["clear", "--banks=b=-.csv", "--debts", "ä d"],
         Task::Clear,
         &["b=-.csv", "ä d", "", ""],
-        &[4, 1, 0, 0, 0, 0],
+        &PLAIN,
         Show::Payments,
     ),
 ];
