@@ -107,8 +107,10 @@ fn load_scenarios<F: Shelf>(alloc: Global, job: &Job, files: &mut F) -> Result<I
     let net = read_network(alloc, banks.as_slice(), debts.as_slice())?;
     let scenarios = read_scenarios(alloc, &net, third.as_slice())?;
     Ok(Input {
+        net,
         scenarios,
-        ..of_network(alloc, net)
+        journal: Journal::empty(alloc),
+        bank: BankId(0),
     })
 }
 
@@ -125,8 +127,10 @@ fn load_journal<F: Shelf>(alloc: Global, job: &Job, files: &mut F) -> Result<Inp
     let net = read_network(alloc, banks.as_slice(), debts.as_slice())?;
     let journal = read_journal(alloc, &net, third.as_slice())?;
     Ok(Input {
+        net,
+        scenarios: Vec::new(alloc),
         journal,
-        ..of_network(alloc, net)
+        bank: BankId(0),
     })
 }
 
@@ -143,8 +147,10 @@ fn load_bank<F: Shelf>(alloc: Global, job: &Job, files: &mut F) -> Result<Input,
     let net = read_network(alloc, banks.as_slice(), debts.as_slice())?;
     match net.bank_named(job.bank.as_str().as_bytes()) {
         Some(bank) => Ok(Input {
+            net,
+            scenarios: Vec::new(alloc),
+            journal: Journal::empty(alloc),
             bank,
-            ..of_network(alloc, net)
         }),
         None => Err(Status::Refused(Fault {
             file: FileKind::Words,

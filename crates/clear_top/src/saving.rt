@@ -1,5 +1,6 @@
 //! A bank saved with the least sum, and its network cleared from what was paid before.
 ghost use Rattle.clear_core.specs.Clearing.{least};
+ghost use Rattle.clear_report.specs.Rescues.{rescued_text};
 ghost use Rattle.clear_top.specs.Meaning.{IsRun, Rescues};
 ghost use Rattle.std.specs.Prelude.{◌≡◌, ◌<◌, ℕ, IfOk, length};
 
@@ -9,8 +10,9 @@ use clear_core::Raise;
 use clear_report::rescue_text;
 use clr_edge::Gate;
 use clr_net::{BankId, Mem, Network};
-use rescue::{added, rescue};
+use rescue::{Rescued, added, rescue};
 use settle::Settled;
+use std::alloc::Global;
 use std::thread::Threads;
 
 /// Finds the least sum that saves a bank, adds it to the bank's cash, and goes on from the payments
@@ -51,6 +53,23 @@ fn save_after<R: Threads + Sync, G: Gate + Sync>(
     let found = rescue(alloc, net, bank, least_paid)?;
     let saved = added(alloc, net, bank, found.added)?;
     let Settled { paid, sealed, .. } = clearer.go_on(saved, past)?;
-    let text = rescue_text(alloc, net, bank, &found, paid.as_slice())?;
-    Ok(Outcome::with_record(sealed, Text::of(alloc, text)?))
+    let text = saved_text(alloc, net, bank, &found, paid.as_slice())?;
+    Ok(Outcome::with_record(sealed, text))
+}
+
+// The text of what was found, with the payments.
+fn saved_text(
+    alloc: Global,
+    net: &Network,
+    bank: BankId,
+    found: &Rescued,
+    paid: &[u64],
+) -> Result<Text, Mem>
+    requires bank { bank.0 < length net.now.banks }
+    requires over { length paid.now ≡ length net.now.debts }
+    ensures { IfOk result (λ text. text
+        ≡ rescued_text net.now bank.0 found.now.added found.now.short paid.now) }
+{
+    let text = rescue_text(alloc, net, bank, found, paid)?;
+    Text::of(alloc, text)
 }

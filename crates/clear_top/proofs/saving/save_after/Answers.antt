@@ -11,8 +11,8 @@ go_on-requires-clause-past g c = λ κs lives.
     goes_on_saved c.args.net.now c.in_ok-saved.saved c.args.bank.0 c.in_ok-found.found.added c.args.past.now
     c.in_ok-saved.ensures c.requires.run.1.can_go_on
 
-pub rescue_text-requires-clause-over : goal.rescue_text-requires-clause-over
-rescue_text-requires-clause-over g c =
+pub saved_text-requires-clause-over : goal.saved_text-requires-clause-over
+saved_text-requires-clause-over g c =
     ap length (c.as_slice.ensures ∙ c.in_ok-paid.ensures.paid) ∙ least_places c.in_ok-saved.saved
     ∙ ap (λ n. length n.debts) c.in_ok-saved.ensures
 
@@ -20,15 +20,15 @@ pub returns : goal.returns
 returns g c =
     let net = c.args.net.now in
     let found = c.in_ok-found.found in
-    let out : c.with_record.result ≡ record { status = status.Done; sealed = Some c.in_ok-paid.sealed; text = c.in_ok-of.field-0 } =
+    let out : c.with_record.result ≡ record { status = status.Done; sealed = Some c.in_ok-paid.sealed; text = c.in_ok-text.text } =
     search rules in
     rescues net c.args.clearer.now.plan c.args.bank.0 c.in_ok-saved.saved c.args.past.now
     c.requires.run.0 c.in_ok-paid.field-0.rounds
-    c.in_ok-paid.field-0.sealed c.in_ok-of.field-0 c.with_record.result
+    c.in_ok-paid.field-0.sealed c.in_ok-text.text c.with_record.result
     (c.in_ok-saved.ensures ∙ ap (added net c.args.bank.0) c.in_ok-found.ensures.added)
     c.requires.run.1 c.in_ok-paid.ensures.record_is c.in_ok-paid.ensures.run
-    (c.in_ok-of.ensures ∙ c.in_ok-text.ensures
+    (c.in_ok-text.ensures
     ∙ ap (λ P. rescued_text net c.args.bank.0 found.added found.short P) (c.as_slice.ensures ∙ c.in_ok-paid.ensures.paid)
     ∙ report_is net c.args.bank.0 c.in_ok-saved.saved found.added found.short c.in_ok-found.ensures.added
     c.in_ok-found.ensures.short c.in_ok-saved.ensures)
-    (out ∙ ap (λ s. record { status = status.Done; sealed = Some s; text = c.in_ok-of.field-0 }) (sym c.in_ok-paid.sealed-is))
+    (out ∙ ap (λ s. record { status = status.Done; sealed = Some s; text = c.in_ok-text.text }) (sym c.in_ok-paid.sealed-is))
