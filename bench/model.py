@@ -68,6 +68,8 @@ def units_in_turn(rule, claims):
 
 
 def award(rule, claims, units):
+    if units in (0, sum(claims)):
+        return claims if units else [0] * len(claims)
     turns = units_in_turn(rule, tuple(claims))[:units]
     return [turns.count(x) for x in range(len(claims))]
 
