@@ -17,6 +17,7 @@ import time
 sys.dont_write_bytecode = True
 import model
 from networks import drawn_net, files_and_cases, judge_compression, judge_journal
+from running import Runner
 
 LIMIT = 600  # seconds of a run
 MESSAGES = {
@@ -24,35 +25,22 @@ MESSAGES = {
     2: b"clearing: the command line is not understood\n",
     7: b"clearing: the journal is not a lawful complete history\n",
 }
-NAMES = {1: "got", 2: "told"}
 
 
 class Comparison:
     def __init__(self, program, seed):
-        self.program, self.seed = program, seed
+        self.runner, self.seed = Runner(program, LIMIT), seed
         self.networks = self.cases = self.differ = 0
         self.sizes = {8: 0, 30: 0, 1000: 0}
-        self.running, self.ended = None, False
-        self.opened = [(os.POSIX_SPAWN_OPEN, 0, os.devnull, os.O_RDONLY, 0)] + [
-            (os.POSIX_SPAWN_OPEN, number, name, os.O_WRONLY | os.O_CREAT | os.O_TRUNC, 0o600) for number, name in NAMES.items()]
+        self.ended = False
 
     def end(self, *_):
         """Ends after the network that is being tried, with the counts so far."""
         self.ended = True
 
-    def too_long(self, *_):
-        if self.running:
-            os.kill(self.running, signal.SIGKILL)
-
     def run(self, words):
-        """The status of a run, its output and its messages."""
         self.cases += 1
-        signal.alarm(LIMIT)
-        self.running = os.posix_spawn(self.program, [self.program, *words], os.environ, file_actions=self.opened)
-        status = os.waitstatus_to_exitcode(os.waitpid(self.running, 0)[1])
-        self.running = None
-        signal.alarm(0)
-        return status, *(pathlib.Path(name).read_bytes() for name in NAMES.values())
+        return self.runner.run(words)
 
     def differs(self, words, what):
         """Prints a difference."""
@@ -119,7 +107,6 @@ def main(program, count, seed):
     comparison = Comparison(program, seed)
     for number in (signal.SIGINT, signal.SIGTERM):
         signal.signal(number, comparison.end)
-    signal.signal(signal.SIGALRM, comparison.too_long)
     told = comparison.all(int(count))
     sys.stdout.flush()
     pathlib.Path("..", "told.txt").write_text(told + "\n")
