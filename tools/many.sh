@@ -128,7 +128,7 @@ bad=$(all_jobs | awk -F '\t' 'NF < 2 || $1 !~ /^[A-Za-z0-9._-]+$/ || seen[$1]++ 
 case $task in
 slurm)
     quoted() { printf '%s' "$1" | sed "s/'/'\\\\''/g; s/^/'/; s/\$/'/"; }
-    cat <<END
+    cat <<END || exit 1
 #!/bin/sh
 #SBATCH --array=1-$count
 #SBATCH --cpus-per-task=1

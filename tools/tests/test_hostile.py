@@ -410,7 +410,12 @@ class Failures(Place):
             ("report.py", [*network, "--out", to / "page.html", "--keep", "OUT"], True, None),
             ("evidence.sh", ["make", "OUT", *network, "--scenarios", self.scenarios, "--bank", "A"], True, None),
             ("many.sh", ["run", jobs, "OUT", 1], True, None),
+            ("many.sh", ["slurm", jobs, to / "many"], False, None),
             ("man.py", [ROOT / "tools/lint.py", "--out", "OUT"], False, None),
+            ("install.sh", ["OUT"], False, None),
+            ("install.sh", ["--help"], False, None),
+            ("many.sh", ["--help"], False, None),
+            ("architecture.py", [], False, None),
         ]
 
     def each(self):
