@@ -1,5 +1,5 @@
 """Names of every allowed character through every tool. No tool changes what it reads, writes anywhere but where it is told, or ends
-with 0 after a failure.
+with 0 after a failure. What a browser shows of such names in a report is tried in test_report.
 
 The seed is fixed. HOSTILE_SEED gives another, and HOSTILE_ROUNDS more networks of random names."""
 import csv

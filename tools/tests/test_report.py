@@ -672,13 +672,13 @@ class InTheBrowser(Report):
 
     def test_names_of_every_character_are_shown_as_text(self):
         for number, names in enumerate(networks_of_every_character()):
-            files, title = self.ring_of(names), names[number % len(names)]
+            files, title = self.ring_of(names), f"</title><img src=x> {names[number % len(names)]}"
             self.open(files, "--title", title, "--rescues", "2")
             with self.subTest(names=number):
                 # The page's own table, its data, its title, its scenarios, and the parts of some banks, which are laid out when asked for.
                 self.assertEqual(self.js("return [...document.querySelectorAll('#banks-table tbody th')].map(h => h.textContent)"), names)
                 self.assertEqual(self.js("return JSON.parse(document.getElementById('data').textContent).names"), names)
-                self.assertEqual(self.js("return document.querySelector('h1').textContent"), title)
+                self.assertEqual(self.js("return [document.querySelector('title').textContent, document.querySelector('h1').textContent]"), [title, title])
                 everything = self.js("return document.body.textContent")
                 self.assertEqual([name for name in names[:3] if everything.count(name) < 3], [])
                 for at in range(number % 7, len(names), max(1, len(names) // 12)):
