@@ -1,32 +1,21 @@
-#!/usr/bin/env python3
-"""Random networks for bench/compare.sh, with what the program must print of them by bench/model.py.
-
-    bench/networks.py make FOLDER N SEED    N networks in FOLDER, with jobs on them and their texts
-    bench/networks.py judge FOLDER          judges what the program answered where more than one answer is right
-"""
-import os
+"""Random networks for bench/compare.py, the jobs that are tried on each, and what the program must print by bench/model.py."""
+import collections
 import random
-import sys
 
-sys.dont_write_bytecode = True
 from model import (
     RULES, Bank, Debt, Net, Scenario, banks_text, bounds_text, check_text, costs_text, debt_fields, debts_text, defaults_text,
-    due, gen_text, journal_text, least, line, pay, payments_text, rescue_text, stress_text, verdict)
+    due, gen_text, journal_text, least, line, pay, payments_text, put, rescue_text, stress_text, verdict)
 
 NAMES = [
     "A", "B", "Crédit Loire", "銀行", "x y", "o'Hara", "a\\b", "rounds", "total", "-dash", "#1", "[scenario]", "=", "7",
     "name", "order", "n" * 64, "é" * 32, "\u00a0nbsp", "a;b", "A ", " A", "b" * 63,
 ]
-MESSAGES = {
-    0: "",
-    2: "clearing: the command line is not understood\n",
-    7: "clearing: the journal is not a lawful complete history\n",
-}
 
 # Random networks, and files that say the same in another dress.
 
-def random_net(rng):
-    names = rng.sample([name for name in NAMES if name == name.strip(" ")], rng.randint(2, 8))
+def random_net(rng, size):
+    odd = [name for name in NAMES if name == name.strip(" ")]
+    names = rng.sample(odd + [f"N{i}" for i in range(size - 8)], size)
     most = rng.choice([1, 3, 8, 25])
     rule = rng.choice(RULES + [None, None])
     outside = rng.random() < 0.5
@@ -36,12 +25,26 @@ def random_net(rng):
         for name in names
     ]
     debts, seen = [], set()
-    for _ in range(rng.choice([0, 3, 10, 20, 30])):
-        key = (rng.randrange(len(banks)), rng.randrange(len(banks)), rng.randint(1, 3))
+    last = rng.choice([1, 3, 3, 9])
+    for _ in range(rng.choice([0, 3, 10, 20, 30] if size <= 8 else [size, 3 * size, 6 * size])):
+        key = (rng.randrange(len(banks)), rng.randrange(len(banks)), rng.randint(1, last))
         if key[0] != key[1] and key not in seen:
             seen.add(key)
             debts.append(Debt(*key, rng.randint(0, most)))
     return Net(banks, debts)
+
+
+def ring_net(rng, size):
+    """Few units that go round one or two rings, with a chord here and there."""
+    claim = rng.choice([1, 2, 5])
+    order = rng.choice([list(range(size)), list(range(size))[::-1], rng.sample(range(size), size)])
+    cut = rng.choice([size, rng.randint(2, size - 2)])
+    keys = [(order[i], order[start + (i + 1 - start) % count], 1) for start, count in [(0, cut), (cut, size - cut)] for i in range(start, start + count)]
+    keys += [(rng.randrange(size), rng.randrange(size), 2) for _ in range(rng.choice([0, 1, size // 4]))]
+    debts = [Debt(*key, claim) for key in dict.fromkeys(keys) if key[0] != key[1]]
+    rng.shuffle(debts)
+    rich = rng.sample(range(size), rng.randint(0, 2))
+    return Net([Bank(f"N{i}", int(i in rich), rng.choice(RULES), rng.choice([0, 0, 0, 0, 1])) for i in range(size)], debts)
 
 
 def wide_net(rng):
@@ -132,15 +135,13 @@ def scenarios_toml(net, scenarios):
 def random_journal(rng, net):
     """A lawful history that ends at the least payments, made by raises in some order."""
     paid, raises, stamp = [0] * len(net.debts), [], rng.choice([0, 0, 5])
-    while True:
-        may = pay(net, paid)
-        rising = [x for x in range(len(paid)) if paid[x] < may[x]]
-        if not rising:
-            return raises
+    may = pay(net, paid)
+    while rising := [x for x in range(len(paid)) if paid[x] < may[x]]:
         x = rng.choice(rising)
-        paid[x] = rng.choice([may[x], rng.randint(paid[x] + 1, may[x])])
+        put(net, paid, may, x, rng.choice([may[x], rng.randint(paid[x] + 1, may[x])]))
         raises.append((stamp, x, paid[x]))
         stamp += rng.choice([0, 0, 1, 3])
+    return raises
 
 
 def changed_journal(rng, net, raises):
@@ -167,71 +168,77 @@ def changed_journal(rng, net, raises):
     return raises
 
 
-# The folder of a comparison.
+# What is tried of a network.
 
-def put(folder, name, content):
-    with open(os.path.join(folder, name), "wb") as file:
-        file.write(content if isinstance(content, bytes) else content.encode())
+def drawn_net(rng):
+    """A network of 2 to 8 banks, now and then of 9 to 30, and seldom of 200."""
+    drawn = rng.random()
+    if drawn < 0.003:
+        return random_net(rng, 200)
+    if drawn < 0.11:
+        size = rng.randint(9, 30)
+        return rng.choice([random_net, random_net, ring_net])(rng, size)
+    return wide_net(rng) if drawn < 0.3 else random_net(rng, rng.randint(2, 8))
 
 
-def add_case(folder, number, words, text, status=0):
-    put(folder, f"{number}.words", "".join(word + "\n" for word in words))
-    put(folder, f"{number}.status", f"{status}\n")
-    put(folder, f"{number}.out", text)
-    put(folder, f"{number}.err", MESSAGES[status])
-
-
-def make_one(folder, rng):
-    net = wide_net(rng) if rng.random() < 0.2 else random_net(rng)
-    os.makedirs(folder)
+def files_and_cases(rng, net):
+    """The files of a network by their names, and its cases: the words of a run, its text, and its status."""
     second = any(bank.outside for bank in net.banks) or rng.random() < 0.3
-    put(folder, "banks.csv", dressed(rng, banks_text(net, second), {1, 3}))
-    put(folder, "debts.csv", dressed(rng, debts_text(net), {3}))
     scenarios = random_scenarios(rng, net)
-    put(folder, "scenarios.toml", scenarios_toml(net, scenarios))
+    texts = {
+        "banks.csv": dressed(rng, banks_text(net, second), {1, 3}),
+        "debts.csv": dressed(rng, debts_text(net), {3}),
+        "scenarios.toml": scenarios_toml(net, scenarios).encode(),
+    }
     files = ["--banks", "banks.csv", "--debts", "debts.csv"]
-    how = lambda: rng.choice([[], ["--workers", str(rng.randint(1, 9))], ["--sweeps", str(rng.choice([1, 2, 7, 1000]))]])
+    workers = lambda: str(rng.choice([rng.randint(1, 9), rng.randint(1, 64)]))
+    how = lambda: rng.choice([[], ["--workers", workers()], ["--sweeps", str(rng.choice([1, 2, 7, 1000]))]])
     low = least(net)
     cases = [
-        (["clear", *files, *how()], payments_text(net, low)),
-        (["central", *files], payments_text(net, low)),
-        (["defaults", *files, *how()], defaults_text(net, low)),
-        (["bounds", *files, *how()], bounds_text(net)),
-        (["stress", *files, "--scenarios", "scenarios.toml", *how()], stress_text(net, scenarios)),
-        (["check", *files], check_text(net)),
-        (["convert", *files], banks_text(net, True)),
+        (["clear", *files, *how()], payments_text(net, low), 0),
+        (["central", *files], payments_text(net, low), 0),
+        (["defaults", *files, *how()], defaults_text(net, low), 0),
+        (["bounds", *files, *how()], bounds_text(net), 0),
+        (["stress", *files, "--scenarios", "scenarios.toml", *how()], stress_text(net, scenarios), 0),
+        (["check", *files], check_text(net), 0),
+        (["convert", *files], banks_text(net, True), 0),
     ]
     for keep in [1000, rng.choice([0, 1, 999]), rng.randint(0, 1000)]:
-        cases.append((["costs", *files, "--keep", str(keep)], costs_text(net, keep)))
+        cases.append((["costs", *files, "--keep", str(keep)], costs_text(net, keep), 0))
     for i in rng.sample(range(len(net.banks)), min(3, len(net.banks))):
         name = net.banks[i].name
         if due(net, i) - net.banks[i].cash > 100:
             continue
         words = ["rescue", *files, "--bank", name, *how()]
-        cases.append((words, "", 2) if name.startswith("-") else (words, rescue_text(net, i)))
-    seed, size, tries = rng.choice([rng.randrange(100), rng.randrange(2**64)]), rng.randint(1, 8), rng.randint(0, 40)
-    made = ["gen", "--seed", str(seed), "--size", str(size), "--tries", str(tries)]
-    cases.append((made, gen_text(generated(seed, size, tries))))
+        cases.append((words, "", 2) if name.startswith("-") else (words, rescue_text(net, i), 0))
+    seed, size = rng.choice([rng.randrange(100), rng.randrange(2**64)]), rng.randint(1, 8) if rng.random() < 0.9 else rng.randint(9, 40)
+    tries = rng.randint(0, 5 * size)
+    made = ["gen", "--seed", str(seed), "--size", str(size), "--tries", str(tries), *how()]
+    cases.append((made, gen_text(generated(seed, size, tries)), 0))
     raises = random_journal(rng, net)
     for n in range(4):
         tried = raises if n == 0 else changed_journal(rng, net, raises)
         text, status, paid = verdict(net, tried)
         assert n or (status == 0 and paid == low)
         rounds = rng.choice([None, 0, 12])
-        put(folder, f"journal{n}.csv", dressed(rng, journal_text(net, tried, rounds), {0, 4}))
+        texts[f"journal{n}.csv"] = dressed(rng, journal_text(net, tried, rounds), {0, 4})
         text += "" if status else "\n" + payments_text(net, paid)
         cases.append((["replay", *files, "--journal", f"journal{n}.csv"], text, status))
-    for number, case in enumerate(cases):
-        add_case(folder, number, *case)
-    put(folder, "net", repr((net.banks, net.debts)))
-
-
-def make(folder, count, seed):
-    for n in range(count):
-        make_one(os.path.join(folder, str(n)), random.Random(f"{seed} {n}"))
+    # What is judged, since more than one answer is right.
+    shown = ["clear", *files, "--show", "journal", "--workers", workers(), "--sweeps", str(rng.choice([1, 1, 2, 7, 1000]))]
+    return texts, cases, shown, ["compress", *files]
 
 
 # Answers of which more than one is right.
+
+def balances(net):
+    """What each bank is owed in each class, less what it owes."""
+    sums = collections.Counter()
+    for debt in net.debts:
+        sums[debt.cls, debt.creditor] += debt.claim
+        sums[debt.cls, debt.debtor] -= debt.claim
+    return sums
+
 
 def judge_compression(net, text):
     """What is wrong with a compression, as it is printed; None where it is right."""
@@ -251,22 +258,23 @@ def judge_compression(net, text):
     for record in parts[1].splitlines()[1:-1]:
         cls, name, rank = record.split(",")
         ranks[int(cls), by_name[name]] = int(rank)
+    if balances(net) != balances(left):
+        return "the balance of a bank is another"
+    highest = collections.Counter()
+    for debt in left.debts:
+        if debt.claim:
+            at = debt.cls, debt.creditor
+            highest[at] = max(highest[at], ranks.get((debt.cls, debt.debtor), 0) + 1)
     for cls in sorted({debt.cls for debt in net.debts}):
         for i, bank in enumerate(net.banks):
-            balance = lambda some: sum(
-                debt.claim * ((debt.creditor == i) - (debt.debtor == i)) for debt in some.debts if debt.cls == cls)
-            if balance(net) != balance(left):
-                return f"the balance of {bank.name} in class {cls} is another"
-            below = [ranks.get((cls, debt.debtor), 0) + 1
-                     for debt in left.debts if debt.cls == cls and debt.creditor == i and debt.claim]
-            expected += line(cls, bank.name, max(below, default=0))
+            expected += line(cls, bank.name, highest[cls, i])
     if parts[1] != expected + line("cancelled", cancelled):
         return "the ranks or the sum are wrong"
     return None
 
 
-def judge_journal(net, text):
-    """What is wrong with a journal of a run, as it is printed; None where it is right."""
+def judge_journal(net, low, text):
+    """What is wrong with a journal of a run, as it is printed, where these are the least payments; None where it is right."""
     lines = text.splitlines()
     if lines[:1] != ["stamp,debtor,creditor,class,to"] or not lines[-1].startswith("rounds,"):
         return "no journal"
@@ -279,32 +287,10 @@ def judge_journal(net, text):
     if journal_text(net, raises, rounds) != text:
         return "the text is not as it is printed"
     told, status, paid = verdict(net, raises)
-    if status or paid != least(net):
+    if status or paid != low:
         return "not lawful and complete: " + told.strip()
     if raises != sorted(raises) or len({raised[:2] for raised in raises}) != len(raises):
         return "the raises do not stand in order"
     if not 1 <= rounds <= sum(debt.claim for debt in net.debts) + 1:
         return f"{rounds} rounds"
     return None
-
-
-def judge(folder):
-    for n in sorted(os.listdir(folder), key=int):
-        place = os.path.join(folder, n)
-        with open(os.path.join(place, "net"), encoding="utf-8") as file:
-            banks, debts = eval(file.read())
-        net = Net(list(banks), list(debts))
-        for name, judged in [("compressed.csv", judge_compression), ("journal.csv", judge_journal)]:
-            with open(os.path.join(place, name), encoding="utf-8", newline="") as file:
-                fault = judged(net, file.read())
-            if fault:
-                print(f"{n} {name}: {fault}")
-
-
-if __name__ == "__main__":
-    if sys.argv[1:2] == ["make"] and len(sys.argv) == 5:
-        make(sys.argv[2], int(sys.argv[3]), sys.argv[4])
-    elif sys.argv[1:2] == ["judge"] and len(sys.argv) == 3:
-        judge(sys.argv[2])
-    else:
-        sys.exit(__doc__)

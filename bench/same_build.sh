@@ -13,7 +13,7 @@ root=$(cd "$(dirname "$0")/.." && pwd) || exit 2
 sum_of() { sha256sum <"$1" | cut -d' ' -f1; }
 
 case "${1:-}" in
---help | -h) sed -n '2,11s/^# \{0,1\}//p' "$0"; exit 0 ;;
+--help | -h) sed -n '2,11s/^# \{0,1\}//p' "$0" || exit 1; exit 0 ;;
 -*) echo "same_build.sh: $1 is no commit" >&2; exit 2 ;;
 esac
 if [ $# -eq 2 ]; then

@@ -115,7 +115,11 @@ def main():
     faults = faults_of(below)
     if faults:
         sys.exit("architecture.py: " + "; ".join(faults))
-    print("\n".join(picture(below)))
+    try:
+        with open(1, "w", encoding="utf-8", closefd=False) as output:
+            output.write("\n".join(picture(below)) + "\n")
+    except OSError as fault:
+        sys.exit(f"architecture.py: cannot write the output: {fault.strerror}")
 
 
 if __name__ == "__main__":

@@ -237,7 +237,7 @@ def make_in(folder, asked):
     names = sorted(files_of(folder))
     sums = "".join(f"{checksum(read(name))}  {name}\n" for name in names).encode()
     put(folder, "SHA256SUMS", sums)
-    return f"{len(parts)} networks, {len(names)} files; SHA256SUMS itself has the checksum {checksum(sums)}"
+    return f"{len(parts)} network{'' if len(parts) == 1 else 's'}, {len(names)} files; SHA256SUMS itself has the checksum {checksum(sums)}"
 
 
 def put(folder, name, content):
@@ -404,9 +404,11 @@ class Checking:
     def program(self):
         """Replays and runs again by the program, where there is one. Nothing is built."""
         if not os.environ.get("CLEARING"):
-            if not os.access(BUILT, os.X_OK):
+            # Beside installed tools stands the program itself, and in the repository the script that may build it.
+            here = BUILT if (ask.ROOT / "crates").is_dir() else ask.ROOT / "clearing"
+            if not os.access(here, os.X_OK):
                 return None
-            os.environ["CLEARING"] = str(BUILT)
+            os.environ["CLEARING"] = str(here)
         try:
             return checksum(contents(program_file()))
         except ask.Failed as fault:

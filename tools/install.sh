@@ -14,7 +14,7 @@
 # Ends with 0, with 1 where a file cannot be put in place, and with 2 where the words are not understood.
 case "${1:-}" in
 --help | -h)
-    sed -n '2,15s/^# \{0,1\}//p' "$0"
+    sed -n '2,15s/^# \{0,1\}//p' "$0" || exit 1
     exit 0
     ;;
 -*)

@@ -110,7 +110,7 @@ is_number() { # the word, the most
 }
 
 case "${1:-}" in
---help | -h) help; exit 0 ;;
+--help | -h) help || exit 1; exit 0 ;;
 run) [ $# -eq 3 ] || [ $# -eq 4 ] || refuse "run takes a file of jobs, a folder, and how many at a time" ;;
 slurm) [ $# -eq 3 ] || refuse "slurm takes a file of jobs and a folder" ;;
 one) [ $# -eq 4 ] || refuse "one takes a file of jobs, a folder and a number" ;;
@@ -128,7 +128,7 @@ bad=$(all_jobs | awk -F '\t' 'NF < 2 || $1 !~ /^[A-Za-z0-9._-]+$/ || seen[$1]++ 
 case $task in
 slurm)
     quoted() { printf '%s' "$1" | sed "s/'/'\\\\''/g; s/^/'/; s/\$/'/"; }
-    cat <<END
+    cat <<END || exit 1
 #!/bin/sh
 #SBATCH --array=1-$count
 #SBATCH --cpus-per-task=1

@@ -10,7 +10,7 @@
 # with 1 where a picture cannot be made, and with 2 where the words are not understood.
 case "${1:-}" in
 --help | -h)
-    sed -n '2,11s/^# \{0,1\}//p' "$0"
+    sed -n '2,11s/^# \{0,1\}//p' "$0" || exit 1
     exit 0
     ;;
 -*)

@@ -13,7 +13,7 @@
 # Ends with 0 where no step failed, with 1 where one did, and with 2 where the words are not understood.
 case "${1:-}" in
 --help | -h)
-    sed -n '2,14s/^# \{0,1\}//p' "$0"
+    sed -n '2,14s/^# \{0,1\}//p' "$0" || exit 1
     exit 0
     ;;
 esac

@@ -14,7 +14,7 @@
 # Ends with 0, with 1 and a message where something is not as it must be, and with 2 where the words are not understood.
 case "${1:-}" in
 --help | -h)
-    sed -n '2,17s/^# \{0,1\}//p' "$0"
+    sed -n '2,17s/^# \{0,1\}//p' "$0" || exit 1
     exit 0
     ;;
 esac
@@ -182,6 +182,12 @@ Description: proved settlement simulator for networks of banks
  Computes who pays what when banks owe each other more than they have, in whole
  units and by a bankruptcy rule for each bank. What it prints is proved.
 CONTROL
+# Python keeps what it read of the tools beside them, where it may.
+cat >"$tree/DEBIAN/prerm" <<'PRERM'
+#!/bin/sh
+find "${DPKG_ROOT:-}/usr/share/clearing" -name __pycache__ -prune -exec rm -rf {} +
+PRERM
+chmod 755 "$tree/DEBIAN/prerm"
 find "$tree" -exec touch -h -d "@$SOURCE_DATE_EPOCH" {} +
 dpkg-deb --root-owner-group --build "$tree" "$work/$package" >"$work/dpkg.log" 2>&1 || fail "dpkg-deb: $(cat "$work/dpkg.log")"
 

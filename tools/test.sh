@@ -11,7 +11,7 @@
 # Ends with 0 where no test failed, else with 1.
 case "${1:-}" in
 --help | -h)
-    sed -n '2,11s/^# \{0,1\}//p' "$0"
+    sed -n '2,11s/^# \{0,1\}//p' "$0" || exit 1
     exit 0
     ;;
 esac

@@ -1,5 +1,5 @@
 """Names of every allowed character through every tool. No tool changes what it reads, writes anywhere but where it is told, or ends
-with 0 after a failure.
+with 0 after a failure. What a browser shows of such names in a report is tried in test_report.
 
 The seed is fixed. HOSTILE_SEED gives another, and HOSTILE_ROUNDS more networks of random names."""
 import csv
@@ -410,7 +410,12 @@ class Failures(Place):
             ("report.py", [*network, "--out", to / "page.html", "--keep", "OUT"], True, None),
             ("evidence.sh", ["make", "OUT", *network, "--scenarios", self.scenarios, "--bank", "A"], True, None),
             ("many.sh", ["run", jobs, "OUT", 1], True, None),
+            ("many.sh", ["slurm", jobs, to / "many"], False, None),
             ("man.py", [ROOT / "tools/lint.py", "--out", "OUT"], False, None),
+            ("install.sh", ["OUT"], False, None),
+            ("install.sh", ["--help"], False, None),
+            ("many.sh", ["--help"], False, None),
+            ("architecture.py", [], False, None),
         ]
 
     def each(self):

@@ -1,7 +1,8 @@
 import os
+import pathlib
 import subprocess
 
-from common import ROOT, Case
+from common import PROGRAM, ROOT, Case
 
 
 class Install(Case):
@@ -37,6 +38,17 @@ class Install(Case):
         # A second time, over the first.
         self.assertEqual(self.installed(prefix).stdout, done.stdout)
         self.assertEqual(sorted(told), sorted(str(path) for path in prefix.rglob("*") if not path.is_dir()))
+
+    def test_evidence_is_checked_by_the_program_beside_the_tools(self):
+        prefix, evidence = self.folder / "prefix", self.folder / "evidence"
+        built = ROOT / "crates/clear_main/out/clear_main"
+        self.assertEqual(self.installed(prefix, program=built if pathlib.Path(PROGRAM) == ROOT / "clearing" else PROGRAM).returncode, 0)
+        files = [word for kind in ("banks", "debts") for word in (f"--{kind}", ROOT / f"examples/chain/{kind}.csv")]
+        environment = {**os.environ, "CLEARING": ""}
+        subprocess.run([prefix / "bin/clearing-evidence", "make", evidence, *files], env=environment, check=True, capture_output=True)
+        told = subprocess.check_output([prefix / "bin/clearing-evidence", "check", evidence], env=environment, encoding="utf-8")
+        self.assertRegex(told, "(?m)^as it is, replayed by the program: lawful,2; payments same$")
+        self.assertNotIn("none is built", told)
 
     def test_what_cannot_be_written_is_said(self):
         done = self.installed(self.file("taken", "a file"))

@@ -1,3 +1,4 @@
+import os
 import re
 import shutil
 import subprocess
@@ -32,6 +33,13 @@ class Man(Case):
             done = subprocess.run(["mandoc", "-T", "lint", "-W", "warning", str(page)], capture_output=True, encoding="utf-8")
             wrong = [line for line in done.stdout.splitlines() if "missing date" not in line]
             self.assertEqual(wrong, [], page.name)
+
+    @needs("man", "nroff")
+    def test_pages_fit_a_terminal_of_80_columns(self):
+        for page in [*self.pages(), ROOT / "docs/clearing.1"]:
+            done = subprocess.run(["man", "--warnings", "-l", str(page)], stdin=subprocess.DEVNULL, capture_output=True, encoding="utf-8",
+                                  env={**os.environ, "MANWIDTH": "80", "LC_ALL": "C.UTF-8"})
+            self.assertEqual((done.returncode, done.stderr), (0, ""), page.name)
 
     def test_what_is_no_tool_is_refused(self):
         none = self.file("none.py", "#!/bin/sh\nimport sys; sys.exit('no help')\n")

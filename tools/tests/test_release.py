@@ -169,8 +169,13 @@ class Release(Case):
         self.clears(root / "usr/bin/clearing")
         self.assertTrue((root / "usr/share/man/man1/clearing.1.gz").is_file())
         self.assertEqual(ran("dpkg-deb", "--field", package, "Depends").stdout.split(" (")[0], "libc6")
-        self.assertEqual(ran(*dpkg, "--remove", "clearing").returncode, 0)
-        self.assertFalse((root / "usr/bin/clearing").exists())
+        # What Python keeps of the tools, where it may write, goes with them.
+        lint = root / "usr/share/clearing/tools/from_list.py"
+        self.assertEqual(ran("python3", lint, "--help", env={**os.environ, "PYTHONDONTWRITEBYTECODE": ""}).returncode, 0)
+        self.assertTrue((lint.parent / "__pycache__").is_dir())
+        self.assertEqual(ran(*dpkg, "--force-script-chrootless", "--remove", "clearing").returncode, 0)
+        self.assertEqual([path for path in (root / "usr").rglob("*") if not path.is_dir()], [])
+        self.assertFalse((root / "usr/share/clearing").exists())
 
     def refused(self, message, *words, status=1, **more):
         folder = self.folder / "none"

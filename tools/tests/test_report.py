@@ -16,7 +16,7 @@ import time
 import unittest
 from decimal import Decimal
 
-from common import ODD_NAMES, PROGRAM, ROOT, Case, clearing, python_with, tool
+from common import ODD_NAMES, PROGRAM, ROOT, Case, all_names, clearing, python_with, tool
 
 D3 = "/usr/share/nodejs/d3/dist/d3.min.js"
 TWELVE = ROOT / "examples/twelve-banks"
@@ -50,6 +50,20 @@ def odd_net(folder, most=None):
     debts = [f"{name},{names[(at + 1) % len(names)]},1,{2 + at % 4}" for at, name in enumerate(names)]
     (folder / "debts.csv").write_text("debtor,creditor,class,claim\n" + "\n".join(debts) + "\n")
     return files_of(folder), names
+
+
+def networks_of_every_character():
+    """The names of networks of up to 900 banks: in the first those that HTML or a script may take for something else, in others every
+    allowed character of up to three bytes, and in the last some of four. With REPORT_NAMES=all in the environment all of four too."""
+    harmful = ["<script>alert(1)</script>", "</script>", "<img src=x onerror=alert(1)>", "&amp;", "&", "'", "</noscript><script>alert(1)</script>",
+               "<svg onload=alert(1)>", "<!--", "-->", "]]>", "<![CDATA[", "javascript:alert(1)", "</title>", "</style>", "<base href=//x>", "{{x}}", "${alert(1)}",
+               "\\u003cscript", "<a href=#>x</a>", "__proto__", "constructor", "toString", "0", "-1", "null", *ODD_NAMES]
+    names = [name for name in dict.fromkeys(harmful) if name.strip(" \t") == name]
+    yield names[:38]
+    yield names
+    every = [*all_names(last=0xFFFF), *all_names(0x10000, step=1 if os.environ.get("REPORT_NAMES") == "all" else 211)]
+    for at in range(0, len(every), 900):
+        yield list(dict.fromkeys(every[at : at + 900]))
 
 
 def rows_of(task, files, *more):
@@ -634,6 +648,61 @@ class InTheBrowser(Report):
             self.click(key)
         self.assertEqual(self.js("return document.querySelectorAll('img, script:not([type])').length"), 2)
         self.assertEqual(sorted(self.js("return [...document.querySelectorAll('#banks-table tbody th')].map(h => h.textContent)")), sorted(names))
+
+    def ring_of(self, names):
+        """A ring of banks of these names, short of cash, with scenarios by these names."""
+        banks = self.file("banks.csv", "name,cash,rule\n" + "".join(f"{name},{at % 3},equal\n" for at, name in enumerate(names)))
+        debts = "".join(f"{name},{names[(at + 1) % len(names)]},1,{2 + at % 4}\n" for at, name in enumerate(names))
+        text = lambda name: json.dumps(name, ensure_ascii=False)
+        scenarios = "".join(f"[[scenario]]\nname = {text(name)}\ncut = 100\n[[scenario.loss]]\nbank = {text(name)}\namount = 1\n" for name in names[:3])
+        return ["--banks", banks, "--debts", self.file("debts.csv", "debtor,creditor,class,claim\n" + debts),
+                "--scenarios", self.file("scenarios.toml", scenarios)]
+
+    def elements(self):
+        """How often the page has each kind of element with each list of attributes, where the search is empty and no part is laid out. Names
+        that are written from right to left have an element `bdi` of their own."""
+        self.js("location.hash = ''; const box = document.getElementById('search'); box.value = ''; box.dispatchEvent(new Event('input'))")
+        self.until(lambda: not self.js("return document.getElementById('part').childNodes.length"))
+        return self.js("""const count = {};
+            for (const e of document.querySelectorAll('*:not(bdi)')) {
+                const kind = e.tagName + ' ' + [...e.attributes].map(a => a.name).filter(name => name !== 'class').sort();
+                count[kind] = (count[kind] || 0) + 1;
+            }
+            return count;""")
+
+    def test_names_of_every_character_are_shown_as_text(self):
+        for number, names in enumerate(networks_of_every_character()):
+            files, title = self.ring_of(names), f"</title><img src=x> {names[number % len(names)]}"
+            self.open(files, "--title", title, "--rescues", "2")
+            with self.subTest(names=number):
+                # The page's own table, its data, its title, its scenarios, and the parts of some banks, which are laid out when asked for.
+                self.assertEqual(self.js("return [...document.querySelectorAll('#banks-table tbody th')].map(h => h.textContent)"), names)
+                self.assertEqual(self.js("return JSON.parse(document.getElementById('data').textContent).names"), names)
+                self.assertEqual(self.js("return [document.querySelector('title').textContent, document.querySelector('h1').textContent]"), [title, title])
+                everything = self.js("return document.body.textContent")
+                self.assertEqual([name for name in names[:3] if everything.count(name) < 3], [])
+                for at in range(number % 7, len(names), max(1, len(names) // 12)):
+                    self.js("location.hash = arguments[0]", f"#bank-{at}")
+                    self.until(lambda: self.js("return document.querySelector(arguments[0])", f"#bank-{at}"))
+                    shown = self.js("return document.querySelector(arguments[0]).textContent", f"#bank-{at}")
+                    for name in (names[at], names[(at + 1) % len(names)], names[at - 1]):
+                        self.assertIn(name, shown)
+                # The player says who pays whom, and the line of the journal.
+                self.click("first")
+                self.click("next")
+                debtor, creditor = self.js("return document.getElementById('line').textContent").split(",")[1:3] or ("", "")
+                self.assertEqual(names[(names.index(debtor) + 1) % len(names)], creditor)
+                self.assertIn(f"\u2068{debtor}\u2069 has now paid \u2068{creditor}\u2069", self.js("return document.getElementById('raise').textContent"))
+                # The search finds a bank by its whole name.
+                for name in names[number % 5 :: max(1, len(names) // 5)]:
+                    self.js("const box = document.getElementById('search'); box.value = arguments[0]; box.dispatchEvent(new Event('input'))", name)
+                    self.assertIn(name, self.shown_rows())
+                found = self.elements()
+                self.page(self.ring_of([f"N{at}" for at in range(len(names))]), "--title", "N", "--rescues", "2")
+                self.driver.get(self.address)
+                self.click("first")
+                self.click("next")
+                self.assertEqual(found, self.elements())
 
     def test_the_largest_network_opens_at_once(self):
         files = largest(self.folder)
