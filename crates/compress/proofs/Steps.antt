@@ -1,8 +1,7 @@
 -- The two other steps: a walk goes on to a new bank, or its last bank is done.
-use Rattle.std.proofs.Common.{◌≡◌, ◌≢◌, ℕ, ◌+◌, ◌<◌, ◌≤◌, List, [], ◌∷◌, ◌++◌, length, length-set, get_or, set, sum_by, Bool, true, false, not, Option, Some, None, refl, sym, ap, ◌∙◌, subst, ⊎_elim, arith}
+use Rattle.std.proofs.Common.{◌≡◌, ◌≢◌, ℕ, ◌+◌, ◌<◌, ◌≤◌, List, [], ◌∷◌, ◌++◌, length, length-set, get_or, set, Bool, true, false, not, Option, Some, None, refl, sym, ap, ◌∙◌, subst, ⊎_elim, arith}
 use Rattle.std.proofs.lemmas.Bool.{cases_lt, true≢false}
 use Rattle.std.proofs.lemmas.List.{length-append, get_or_past, get_or-set_same, get_or-set_other, length_push, map-append}
-use Rattle.std.proofs.lemmas.List.Sums.{sum_by-set}
 use Rattle.std.specs.Bool.{OnTrue, OnFalse}
 use Rattle.std.specs.Option.{is_some, option_to_list}
 use Rattle.clr_net.specs.declared.debt.DebtId.{DebtId}
@@ -10,7 +9,7 @@ use Rattle.clr_net.specs.Net.{Net, numbers, debtor_of}
 use Rattle.compress.specs.Compression.{rank_above}
 use Rattle.compress.specs.declared.mark.Mark.{Mark}
 use Rattle.compress.specs.declared.mark.Mark.TheVariants.{New, Walked, Done}
-use Rattle.compress.specs.Walk.{mark_of, end_of, steps_left, HasNoWalk, IsWalk, AreDone, IsKept, IsReady, LeadsOn}
+use Rattle.compress.specs.Walk.{mark_of, end_of, HasNoWalk, IsWalk, AreDone, IsKept, IsReady, LeadsOn}
 use Rattle.compress.proofs.Walks.{stop_last, walk_grows, walk_back, walk_ends}
 use Rattle.compress.proofs.Dones.{done_marked, done_more}
 
@@ -81,15 +80,6 @@ module _ (net : Net) (c s : ℕ) (C W : List ℕ) (marks : List Mark) (x : ℕ)
       (Walked (length W + 1)) d grown_in_range on.unfinished
       (λ e. walked_not_done (length W + 1) e)
 
-  pub grown_less : sum_by steps_left (set marks (debtor_of net x) (Walked (length W + 1)))
-      < sum_by steps_left marks
-  grown_less = omega (
-    arith,
-    sum_by-set steps_left marks (debtor_of net x)
-        (Walked (length W + 1)) Done grown_in_range,
-    ap steps_left new,
-  )
-
 module _ (net : Net) (c s : ℕ) (C W : List ℕ) (marks : List Mark)
     (w : IsWalk net c s C W marks) where
   end_walked : mark_of marks (end_of net s W) ≡ Walked (length W)
@@ -110,14 +100,6 @@ module _ (net : Net) (c s : ℕ) (C W : List ℕ) (marks : List Mark)
       → AreDone net c C (set R (end_of net s W) v) (set marks (end_of net s W) Done)
   retired_done R v d l ready e = done_more net c C R marks (end_of net s W) v d end_in_range
       (omega (arith, end_in_range)) end_not_done ready e
-
-  pub retired_less : sum_by steps_left (set marks (end_of net s W) Done) < sum_by steps_left marks
-  retired_less = omega (
-    arith,
-    sum_by-set steps_left marks
-        (end_of net s W) Done Done end_in_range,
-    ap steps_left end_walked,
-  )
 
   pub retired_back : (V : List ℕ) (y : ℕ) → W ≡ V ++ y ∷ []
       → IsWalk net c s C V (set marks (end_of net s W) Done)
