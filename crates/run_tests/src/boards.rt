@@ -33,21 +33,27 @@ pub(crate) fn first_raises(raises: &[Raise]) -> [(u64, u32, u64); 10] {
     told
 }
 
-// Takes those of the first three bells that are wanted, and answers which of these were up.
+// No bank of a network.
+pub(crate) const NONE: [u32; 3] = [u32::MAX; 3];
+
+// Takes all bells but those of these banks, and answers which of the first three were up.
 pub(crate) fn take_bells(
     board: &Board,
     master: &mut PaySeat,
     banks: u32,
-    wanted: [bool; 3],
+    kept: [u32; 3],
 ) -> [bool; 3]
     requires seat { IsAt board.now master.old }
     requires held { HoldsAll master.old.shows }
     requires banks { banks ≤ length board.now.net.banks }
 {
     let mut up = [false; 3];
-    for bank in 0..banks.min(3) {
-        if wanted[bank as usize] {
-            up[bank as usize] = board.take(master, BankId(bank));
+    for bank in 0..banks {
+        if bank != kept[0] && bank != kept[1] && bank != kept[2] {
+            let taken = board.take(master, BankId(bank));
+            if bank < 3 {
+                up[bank as usize] = taken;
+            }
         }
     }
     up

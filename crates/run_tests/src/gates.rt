@@ -25,15 +25,15 @@ impl Gate for FirstVisits {
     }
 }
 
-// In one round, the first visit of each worker waits for those of the others. Each worker comes
+// In one round, the first visit of each worker waits until so many have come. Each worker comes
 // once.
 #[derive(Drop)]
 pub(crate) struct Meeting {
-    workers: u64,
+    wanted: u64,
     // Which round it is, from 0.
     round: u64,
     // How many first visits each worker made.
-    rounds: [AtomicU64; 3],
+    rounds: [AtomicU64; 8],
     come: AtomicU64,
     pub(crate) met: AtomicU64,
 }
@@ -47,18 +47,27 @@ impl Gate for Meeting {
             return;
         }
         self.come.fetch_add(1, Ordering::SeqCst);
-        if waits_for(&self.come, self.workers) {
+        if waits_for(&self.come, self.wanted) {
             self.met.fetch_add(1, Ordering::SeqCst);
         }
     }
 }
 
-// The meeting of so many workers in a round.
-pub(crate) fn new_meeting(workers: u32, round: u64) -> Meeting {
+// The meeting of so many of at most eight workers in a round.
+pub(crate) fn new_meeting(wanted: u64, round: u64) -> Meeting {
     Meeting {
-        workers: workers as u64,
+        wanted,
         round,
-        rounds: [AtomicU64::new(0), AtomicU64::new(0), AtomicU64::new(0)],
+        rounds: [
+            AtomicU64::new(0),
+            AtomicU64::new(0),
+            AtomicU64::new(0),
+            AtomicU64::new(0),
+            AtomicU64::new(0),
+            AtomicU64::new(0),
+            AtomicU64::new(0),
+            AtomicU64::new(0),
+        ],
         come: AtomicU64::new(0),
         met: AtomicU64::new(0),
     }
@@ -101,42 +110,83 @@ pub(crate) fn new_turns() -> InTurn {
     }
 }
 
-// Lets A pay only once B is at its gate, and lets B on only once A has paid.
+// Lets A pay only once B is at its gate, and lets B on only once A has paid. A is the bank that
+// worker 0 visits in this turn, and B that which worker 1 does.
 #[derive(Drop)]
 pub(crate) struct PaidBefore {
-    pub(crate) waiting: AtomicU64,
-    pub(crate) paid: AtomicU64,
+    turn: u64,
+    waiting: AtomicU64,
+    paid: AtomicU64,
 }
 
 impl Gate for PaidBefore {
     fn at(&self, worker: u32, visit: u64) {
-        match (worker, visit) {
-            (0, 1) => {
-                waits_for(&self.waiting, 1);
-            }
-            (0, 2) => self.paid.store(1, Ordering::SeqCst),
-            (1, 1) => {
-                self.waiting.store(1, Ordering::SeqCst);
-                waits_for(&self.paid, 1);
-            }
-            _ => {}
+        let next = visit.saturating_add(1);
+        if worker == 0 && (visit == self.turn || next == self.turn) {
+            waits_for(&self.waiting, 1);
+        } else if worker == 0 && visit > self.turn {
+            self.paid.store(1, Ordering::SeqCst);
+        } else if worker == 1 && visit == self.turn {
+            self.waiting.store(1, Ordering::SeqCst);
+            waits_for(&self.paid, 1);
         }
     }
 }
 
-// Counts the calls of the gate, and those that tell another worker than the first, or another visit
-// than the first and the second by turns.
-#[derive(Drop)]
-pub(crate) struct ByTwos {
-    pub(crate) calls: AtomicU64,
-    pub(crate) others: AtomicU64,
+pub(crate) fn new_paid_before(turn: u64) -> PaidBefore {
+    PaidBefore {
+        turn,
+        waiting: AtomicU64::new(0),
+        paid: AtomicU64::new(0),
+    }
 }
 
-impl Gate for ByTwos {
+// Counts the calls of the gate, those that tell a first visit, and those that tell a fifth worker,
+// or another visit of a worker than the first and the next.
+#[derive(Drop)]
+pub(crate) struct Numbers {
+    last: [AtomicU64; 4],
+    calls: AtomicU64,
+    firsts: AtomicU64,
+    others: AtomicU64,
+}
+
+impl Gate for Numbers {
     fn at(&self, worker: u32, visit: u64) {
-        let place = self.calls.fetch_add(1, Ordering::SeqCst);
-        if worker != 0 || visit != 1 + place % 2 {
+        self.calls.fetch_add(1, Ordering::SeqCst);
+        let before = match self.last.get(worker as usize) {
+            Some(last) => last.swap(visit, Ordering::SeqCst),
+            None => u64::MAX,
+        };
+        if visit == 1 {
+            self.firsts.fetch_add(1, Ordering::SeqCst);
+        }
+        if before == u64::MAX || visit != 1 && visit != before + 1 {
             self.others.fetch_add(1, Ordering::SeqCst);
         }
+    }
+}
+
+impl Numbers {
+    pub(crate) fn new() -> Numbers {
+        Numbers {
+            last: [
+                AtomicU64::new(0),
+                AtomicU64::new(0),
+                AtomicU64::new(0),
+                AtomicU64::new(0),
+            ],
+            calls: AtomicU64::new(0),
+            firsts: AtomicU64::new(0),
+            others: AtomicU64::new(0),
+        }
+    }
+
+    pub(crate) fn counts(&self) -> [u64; 3] {
+        [
+            self.calls.load(Ordering::SeqCst),
+            self.firsts.load(Ordering::SeqCst),
+            self.others.load(Ordering::SeqCst),
+        ]
     }
 }

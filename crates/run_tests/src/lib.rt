@@ -9,6 +9,10 @@ mod desks;
 #[cfg(test)]
 mod gates;
 #[cfg(test)]
+mod meetings;
+#[cfg(test)]
+mod nets;
+#[cfg(test)]
 mod runs;
 #[cfg(test)]
 mod words;

@@ -3,7 +3,8 @@ ghost use Rattle.settle.specs.Between.{IsBetween};
 ghost use Rattle.settle.specs.Runs.{CanGoOn};
 
 use crate::boards::{first_raises, new_board, take_bells};
-use crate::gates::{ByTwos, PaidBefore, new_meeting, new_turns};
+use crate::gates::{Numbers, new_meeting, new_paid_before, new_turns};
+use crate::nets::{Sample, late_chain, net_of};
 use clear_core::{Journal, Raise, Scratch};
 use clear_least::central;
 use clr_edge::{Gate, OpenGate};
@@ -13,10 +14,10 @@ use pay_words::{Board, PaySeat};
 use raise_journal::{Verdict, replay};
 use settle::{
     Plan, Settled, calls_two_workers, nobody_can_pay_more, offices_of, round_and_ask, settle,
-    settle_alone, settle_from, settle_owned,
+    settle_from, settle_owned,
 };
 use std::alloc::Global;
-use std::sync::atomic::{AtomicU64, Ordering};
+use std::sync::atomic::Ordering;
 use std::test::Fail;
 use std::thread::Threads;
 
@@ -195,166 +196,141 @@ fn no_bank_takes_one_round(rt: HostRuntime) -> Result<(), Fail> {
     Ok(())
 }
 
-// Whether nobody can pay more after so many rounds of the only worker of a board, made by hand.
-fn asked_after<R: Threads + Sync>(
-    rt: &R,
-    alloc: Global,
-    net: &Network,
-    board: &Board,
-    master: &mut PaySeat,
-    rounds: u32,
-) -> Result<bool, Mem>
-    requires board { (net.now ≡ board.now.net) × (board.now.workers ≡ 1) }
-    requires master { (master.old.table ≡ board.now.table) × IsBetween net.now master.old.shows }
-    requires rounds { (rounds ≤ 10) × (master.old.shows.seats ≡ 0) }
-{
-    let mut journal = Journal::empty(alloc);
-    let mut offices = offices_of(alloc, net, 1)?;
-    for _ in 0..rounds {
-        let _down = round_and_ask(
-            rt,
-            alloc,
-            net,
-            ALONE,
-            board,
-            master,
-            &OpenGate,
-            &mut journal,
-            &mut offices,
-        )?;
-    }
-    Ok(nobody_can_pay_more(net, board, master))
-}
-
-// The same, on a new board.
-fn asked<R: Threads + Sync>(rt: &R, alloc: Global, net: &Network, rounds: u32) -> Result<bool, Mem>
-    requires { (length net.now.debts ≡ 2) × (rounds ≤ 10) }
-{
-    let (board, mut master) = new_board(alloc, net, 1)?;
-    asked_after(rt, alloc, net, &board, &mut master, rounds)
-}
-
-// The same, of the chain after no round and one, and of the ring after one, five and six.
-fn asked_of_both<R: Threads + Sync>(rt: &R, alloc: Global) -> Result<[bool; 5], Mem> {
-    let [none, one] = asked_of_chain(rt, alloc)?;
-    let net = ring(alloc)?;
-    let first = asked(rt, alloc, &net, 1)?;
-    let fifth = asked(rt, alloc, &net, 5)?;
-    let sixth = asked(rt, alloc, &net, 6)?;
-    Ok([none, one, first, fifth, sixth])
-}
-
-fn asked_of_chain<R: Threads + Sync>(rt: &R, alloc: Global) -> Result<[bool; 2], Mem> {
-    let net = chain(alloc)?;
-    let none = asked(rt, alloc, &net, 0)?;
-    let one = asked(rt, alloc, &net, 1)?;
-    Ok([none, one])
-}
-
-#[test]
-fn the_bells_are_down_once_nobody_can_pay_more(rt: HostRuntime) -> Result<(), Fail> {
-    let down = asked_of_both(&rt, rt.alloc())?;
-    assert_eq!(rt; down, [false, true, false, false, true]);
-    Ok(())
-}
-
-// How many of so many workers met in a round of a run.
-fn met_in<R: Threads + Sync>(
+// The last answer of so many rounds of the workers of a board, made by hand, and whether nobody can
+// pay more then.
+fn asked_after<R: Threads + Sync, G: Gate + Sync>(
     rt: &R,
     alloc: Global,
     net: &Network,
     workers: u32,
-    round: u64,
-) -> Result<u64, Mem>
-    requires { (1 ≤ workers) × (workers ≤ 64) }
+    board: &Board,
+    master: &mut PaySeat,
+    gate: &G,
+    rounds: u32,
+) -> Result<[bool; 2], Mem>
+    requires board { (net.now ≡ board.now.net) × (board.now.workers ≡ workers) }
+    requires master { (master.old.table ≡ board.now.table) × IsBetween net.now master.old.shows }
+    requires rounds { (rounds ≤ 10) × (master.old.shows.seats ≡ 0) }
+    requires workers { (1 ≤ workers) × (workers ≤ 64) }
 {
-    let gate = new_meeting(workers, round);
-    run(rt, alloc, net, Plan { workers, sweeps: 1 }, &gate)?;
+    let plan = Plan { workers, sweeps: 1 };
+    let mut journal = Journal::empty(alloc);
+    let mut offices = offices_of(alloc, net, workers)?;
+    let mut down = false;
+    for _ in 0..rounds {
+        down = round_and_ask(
+            rt,
+            alloc,
+            net,
+            plan,
+            board,
+            master,
+            gate,
+            &mut journal,
+            &mut offices,
+        )?;
+    }
+    let now = nobody_can_pay_more(net, board, master);
+    Ok([down, now])
+}
+
+// The same, on a new board.
+fn asked<R: Threads + Sync, G: Gate + Sync>(
+    rt: &R,
+    alloc: Global,
+    net: &Network,
+    workers: u32,
+    gate: &G,
+    rounds: u32,
+) -> Result<[bool; 2], Mem>
+    requires net { (length net.now.debts ≡ 2) × (rounds ≤ 10) }
+    requires workers { (1 ≤ workers) × (workers ≤ 64) }
+{
+    let (board, mut master) = new_board(alloc, net, workers)?;
+    asked_after(rt, alloc, net, workers, &board, &mut master, gate, rounds)
+}
+
+// The same, by one worker.
+fn asked_of<R: Threads + Sync>(
+    rt: &R,
+    alloc: Global,
+    sample: Sample,
+    rounds: u32,
+) -> Result<[bool; 2], Mem> {
+    let net = net_of(alloc, sample)?;
+    asked(rt, alloc, &net, 1, &OpenGate, rounds.min(10))
+}
+
+// A network, so many rounds, and whether all bells are down then. Without a round no answer is
+// given.
+const ASKED: [(Sample, u32, bool); 7] = [
+    (Sample::Chain, 0, false),
+    (Sample::Chain, 1, true),
+    (Sample::Ring, 1, false),
+    (Sample::Ring, 5, false),
+    (Sample::Ring, 6, true),
+    (Sample::TwoPairs, 1, false),
+    (Sample::TwoPairs, 2, true),
+];
+
+// The first case in which it is not so.
+fn first_unasked<R: Threads + Sync>(rt: &R, alloc: Global) -> Result<Option<usize>, Mem> {
+    for (place, (sample, rounds, wanted)) in ASKED.iter().enumerate() {
+        if asked_of(rt, alloc, *sample, *rounds)? != [*wanted; 2] {
+            return Ok(Some(place));
+        }
+    }
+    Ok(None)
+}
+
+#[test]
+fn the_bells_are_down_once_nobody_can_pay_more(rt: HostRuntime) -> Result<(), Fail> {
+    let wrong = first_unasked(&rt, rt.alloc())?;
+    assert_eq!(rt; wrong, None);
+    Ok(())
+}
+
+// The answer of a round of three workers of the chain, made by hand, and how many of them met.
+fn met_by_hand<R: Threads + Sync>(rt: &R, alloc: Global) -> Result<u64, Mem> {
+    let net = net_of(alloc, Sample::Chain)?;
+    let gate = new_meeting(3, 0);
+    asked(rt, alloc, &net, 3, &gate, 1)?;
     Ok(gate.met.load(Ordering::SeqCst))
 }
 
-// How many of two and of three met in the first round of a run on the chain.
-fn met_on_chain<R: Threads + Sync>(rt: &R, alloc: Global) -> Result<(u64, u64), Mem> {
-    let net = chain(alloc)?;
-    let two = met_in(rt, alloc, &net, 2, 0)?;
-    let three = met_in(rt, alloc, &net, 3, 0)?;
-    Ok((two, three))
-}
-
 #[test]
-fn all_workers_work_at_once(rt: HostRuntime) -> Result<(), Fail> {
-    let met = met_on_chain(&rt, rt.alloc())?;
-    assert_eq!(rt; met, (2, 3));
+fn a_round_by_hand_has_all_workers_at_once(rt: HostRuntime) -> Result<(), Fail> {
+    let met = met_by_hand(&rt, rt.alloc())?;
+    assert_eq!(rt; met, 3);
     Ok(())
 }
 
-// What two workers pay on the chain in a run that starts no thread, and how many met.
-fn run_alone<R: Threads + Sync>(rt: &R, alloc: Global) -> Result<([u64; 2], u64), Mem> {
-    let plan = Plan {
-        workers: 2,
-        sweeps: 1,
-    };
-    let gate = new_meeting(2, 0);
-    let settled = settle_alone(rt, alloc, chain(alloc)?, plan, &gate)?;
-    let paid = told_of(&settled).paid;
-    Ok((paid, gate.met.load(Ordering::SeqCst)))
-}
-
-#[test]
-fn alone_no_worker_works_beside_another(rt: HostRuntime) -> Result<(), Fail> {
-    let told = run_alone(&rt, rt.alloc())?;
-    // The first waited in vain, and the second found that both had come.
-    assert_eq!(rt; told, ([7, 8], 1));
-    Ok(())
-}
-
-// Adds 512 banks of nothing, but that C owes A a unit and D owes B one.
-fn add_two_pairs(alloc: Global, net: &mut Network) -> Result<(), Mem> {
-    for number in 0..512_u32 {
-        let name = [b'A' + (number / 26) as u8, b'A' + (number % 26) as u8];
-        let cash = if number == 2 || number == 3 { 1 } else { 0 };
-        add_bank(alloc, net, &name, cash)?;
-    }
-    add_debt(net, 2, 0, 1)?;
-    add_debt(net, 3, 1, 1)
-}
-
-// How many of two workers met in the second round of a run on them.
-fn met_later<R: Threads + Sync>(rt: &R, alloc: Global) -> Result<u64, Mem> {
-    let mut net = Network::empty(alloc);
-    add_two_pairs(alloc, &mut net)?;
-    met_in(rt, alloc, &net, 2, 1)
-}
-
-#[test]
-fn workers_work_at_once_in_a_later_round_too(rt: HostRuntime) -> Result<(), Fail> {
-    // After a round of 512 visits a bell of each of two workers is up: each bank that is paid was
-    // visited before.
-    let met = met_later(&rt, rt.alloc())?;
-    assert_eq!(rt; met, 2);
-    Ok(())
-}
-
-// Whether bells of two workers are up, where of the three bells of a board these are.
-fn two_called(alloc: Global, net: &Network, workers: u32, up: [bool; 3]) -> Result<bool, Mem>
+// Whether bells of two workers are up, where those of these banks alone are.
+fn two_called(alloc: Global, net: &Network, workers: u32, up: [u32; 3]) -> Result<bool, Mem>
     requires { (length net.now.debts ≡ 2) × (1 ≤ workers) × (workers ≤ 64) }
 {
     let (board, mut master) = new_board(alloc, net, workers)?;
-    take_bells(&board, &mut master, net.banks(), [!up[0], !up[1], !up[2]]);
+    take_bells(&board, &mut master, net.banks(), up);
     Ok(calls_two_workers(net, &board, workers))
 }
 
-// Workers, bells, and whether they call two of the workers.
-const CALLING: [(u32, [bool; 3], bool); 9] = [
-    (2, [true, true, true], true),
-    (2, [true, true, false], true),
-    (2, [false, true, true], true),
-    (2, [true, false, true], false),
-    (2, [false, true, false], false),
-    (2, [false, false, false], false),
-    (3, [true, false, true], true),
-    (3, [false, false, true], false),
-    (1, [true, true, true], false),
+// Workers, the banks whose bells are up, and whether they call two of the workers. There is no bank
+// 700.
+const CALLING: [(u32, [u32; 3], bool); 14] = [
+    (2, [0, 1, 2], true),
+    (2, [0, 1, 1], true),
+    (2, [1, 2, 2], true),
+    (2, [0, 2, 2], false),
+    (2, [1, 1, 1], false),
+    (2, [700, 700, 700], false),
+    (3, [0, 2, 2], true),
+    (3, [2, 2, 2], false),
+    (1, [0, 1, 2], false),
+    (2, [5, 698, 698], true),
+    (2, [4, 6, 698], false),
+    (5, [5, 610, 695], false),
+    (5, [5, 610, 699], true),
+    (64, [3, 67, 640], true),
 ];
 
 // The first case on a network in which it is not so.
@@ -370,9 +346,9 @@ fn first_uncalled(alloc: Global, net: &Network) -> Result<Option<usize>, Mem>
     Ok(None)
 }
 
-// The same, on the chain.
+// The same, on 700 banks.
 fn uncalled(alloc: Global) -> Result<Option<usize>, Mem> {
-    let net = chain(alloc)?;
+    let net = net_of(alloc, Sample::TwoPairs)?;
     first_uncalled(alloc, &net)
 }
 
@@ -419,66 +395,116 @@ fn a_sweep_hears_a_bell_that_another_worker_rang(rt: HostRuntime) -> Result<(), 
     Ok(())
 }
 
-#[test]
-fn a_bank_passes_the_gate_before_it_looks(rt: HostRuntime) -> Result<(), Fail> {
-    let gate = PaidBefore {
-        waiting: AtomicU64::new(0),
-        paid: AtomicU64::new(0),
-    };
+// The journal of a run by two workers on a chain whose banks are visited in this turn.
+fn run_late<R: Threads + Sync>(
+    rt: &R,
+    alloc: Global,
+    turn: u32,
+) -> Result<(usize, [(u64, u32, u64); 2]), Mem>
+    requires { (1 ≤ turn) × (turn ≤ 100) }
+{
+    let net = late_chain(alloc, turn)?;
+    let gate = new_paid_before(u64::from(turn));
     let plan = Plan {
         workers: 2,
         sweeps: 1,
     };
-    let told = run_chain(&rt, rt.alloc(), plan, &gate)?;
-    // B has seen what A paid while it was at the gate, and so pays all at once.
-    assert_eq!(rt;
-        (told.journal, told.raises[0], told.raises[1]),
-        (2, (1, 0, 7), (2, 1, 8))
-    );
+    let told = run(rt, alloc, &net, plan, &gate)?;
+    Ok((told.journal, [told.raises[0], told.raises[1]]))
+}
+
+#[test]
+fn a_bank_passes_the_gate_before_it_looks(rt: HostRuntime) -> Result<(), Fail> {
+    for turn in [1_u32, 5, 70] {
+        let told = run_late(&rt, rt.alloc(), turn.clamp(1, 100))?;
+        // B has seen what A paid while it was at the gate, and so pays all at once.
+        assert_eq!(rt; told, (2, [(1, 0, 7), (2, 1, 8)]), "{turn}");
+    }
     Ok(())
+}
+
+// A network, workers and sweeps; the rounds, visits, raises and seats of a run; and the calls of its
+// gate, those of a first visit, and those of a wrong one.
+type Counted = (Sample, u32, u32, [u64; 4], [u64; 3]);
+
+// On the long ring there are two visits in each of 150 rounds and one in the last, numbered anew in
+// each; by sweeps enough all are of the first. Of the 700 banks two are visited a second time.
+const COUNTED: [Counted; 5] = [
+    (Sample::Ring, 1, 1, [6, 11, 10, 6], [11, 6, 0]),
+    (Sample::LongRing, 1, 1, [151, 301, 300, 151], [301, 151, 0]),
+    (Sample::LongRing, 1, 1000, [2, 301, 300, 2], [301, 1, 0]),
+    (Sample::TwoPairs, 1, 1, [2, 702, 2, 2], [702, 2, 0]),
+    (Sample::TwoPairs, 4, 1, [2, 702, 2, 8], [702, 6, 0]),
+];
+
+// What a run on a network comes to in such numbers.
+fn counted<R: Threads + Sync>(
+    rt: &R,
+    alloc: Global,
+    sample: Sample,
+    plan: Plan,
+) -> Result<([u64; 4], [u64; 3]), Mem>
+    requires workers { (1 ≤ plan.workers) × (plan.workers ≤ 64) }
+    requires sweeps { (1 ≤ plan.sweeps) × (plan.sweeps ≤ 1000) }
+{
+    let net = net_of(alloc, sample)?;
+    let gate = Numbers::new();
+    let told = run(rt, alloc, &net, plan, &gate)?;
+    Ok((
+        [told.rounds, told.visits, told.made, told.seats],
+        gate.counts(),
+    ))
 }
 
 #[test]
 fn the_gate_is_told_the_worker_and_the_visit(rt: HostRuntime) -> Result<(), Fail> {
-    let gate = ByTwos {
-        calls: AtomicU64::new(0),
-        others: AtomicU64::new(0),
-    };
-    let told = run_ring(&rt, rt.alloc(), ALONE, &gate)?;
-    let calls = gate.calls.load(Ordering::SeqCst);
-    // Two visits in each of five rounds and one in the last, numbered anew in each.
-    assert_eq!(rt;
-        [told.visits, calls, gate.others.load(Ordering::SeqCst)],
-        [11, 11, 0]
-    );
+    for (place, (sample, workers, sweeps, run, gate)) in COUNTED.iter().enumerate() {
+        let plan = Plan {
+            workers: (*workers).clamp(1, 64),
+            sweeps: (*sweeps).clamp(1, 1000),
+        };
+        let told = counted(&rt, rt.alloc(), *sample, plan)?;
+        assert_eq!(rt; told, (*run, *gate), "{place}");
+    }
     Ok(())
 }
 
 // A run on the network from these raises.
-fn run_from<R: Threads + Sync>(
+fn run_from<R: Threads + Sync, G: Gate + Sync>(
     rt: &R,
     alloc: Global,
     net: &Network,
+    workers: u32,
     past: &[Raise],
+    gate: &G,
 ) -> Result<Told, Mem>
     requires past { CanGoOn net.now past.now }
+    requires workers { (1 ≤ workers) × (workers ≤ 64) }
 {
-    let settled = settle_from(rt, alloc, net, ALONE, past, &OpenGate)?;
+    let plan = Plan { workers, sweeps: 1 };
+    let settled = settle_from(rt, alloc, net, plan, past, gate)?;
     Ok(told_of(&settled))
 }
 
 // A run on the chain from what a run left where B had less.
-fn run_again<R: Threads + Sync>(rt: &R, alloc: Global) -> Result<Told, Mem> {
+fn run_again<R: Threads + Sync, G: Gate + Sync>(
+    rt: &R,
+    alloc: Global,
+    workers: u32,
+    gate: &G,
+) -> Result<Told, Mem>
+    requires { (1 ≤ workers) × (workers ≤ 64) }
+{
     let poorer = chain(alloc)?;
     let before = settle_owned(rt, alloc, poorer, ALONE, &OpenGate)?;
     let mut net = chain(alloc)?;
     net.set_cash(BankId(1), 2);
-    run_from(rt, alloc, &net, before.sealed.journal())
+    run_from(rt, alloc, &net, workers, before.sealed.journal(), gate)
 }
 
 #[test]
 fn a_run_goes_on_where_a_bank_has_more(rt: HostRuntime) -> Result<(), Fail> {
-    let told = run_again(&rt, rt.alloc())?;
+    let told = run_again(&rt, rt.alloc(), 1, &OpenGate)?;
     let counts = [told.rounds, told.made, told.seats];
     let paid = told.paid;
     let raises = (told.raises[0], told.raises[1], told.raises[2]);
@@ -486,6 +512,14 @@ fn a_run_goes_on_where_a_bank_has_more(rt: HostRuntime) -> Result<(), Fail> {
         (paid, counts, told.journal, raises),
         ([7, 9], [2, 1, 2], 3, ((1, 0, 7), (2, 1, 8), (3, 1, 9)))
     );
+    Ok(())
+}
+
+#[test]
+fn a_run_that_goes_on_has_all_workers_at_once(rt: HostRuntime) -> Result<(), Fail> {
+    let gate = new_meeting(3, 0);
+    run_again(&rt, rt.alloc(), 3, &gate)?;
+    assert_eq!(rt; gate.met.load(Ordering::SeqCst), 3);
     Ok(())
 }
 

@@ -4,7 +4,7 @@ ghost use Rattle.pay_words.specs.Views.{IsAt, opening};
 ghost use Rattle.settle.specs.Between.{IsBetween};
 ghost use Rattle.std.specs.Prelude.{◌≡◌, ◌<◌, ◌≤◌, [], OnOk, length};
 
-use crate::boards::{first_raises, new_board, take_bells};
+use crate::boards::{NONE, first_raises, new_board, take_bells};
 use crate::gates::FirstVisits;
 use bank_worker::{Calls, SeatBack, Visit, Worker};
 use clear_core::Journal;
@@ -87,7 +87,7 @@ fn rounds_of<R: Threads + Sync>(
 {
     let (board, mut master) = new_board(alloc, net, 1)?;
     let mut told = rounds_on(rt, alloc, net, &board, &mut master, sweeps, rounds)?;
-    let up = take_bells(&board, &mut master, net.banks(), [true; 3]);
+    let up = take_bells(&board, &mut master, net.banks(), NONE);
     told.up = up;
     Ok(told)
 }

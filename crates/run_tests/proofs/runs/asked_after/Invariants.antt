@@ -1,4 +1,4 @@
-use Rattle.std.proofs.Common.{◌≡◌}
+use Rattle.std.proofs.Common.{◌≡◌, ◌*◌, ◌≤◌}
 use Rattle.settle.specs.Between.{IsBetween}
 use Rattle.settle.specs.Offices.{AreOffices}
 use Rattle.run_tests.proofs.runs.asked_after.Given as goal
@@ -7,6 +7,6 @@ abbrev pub invariant-loop : goal.invariant-loop
 invariant-loop g l = record {
   table : l.master.table ≡ l.board.table;
   between : IsBetween l.net l.master.shows;
-  offices : AreOffices l.net 1 1 l.offices.items;
-  seats : l.master.shows.seats ≡ l.counter;
+  offices : AreOffices l.net l.workers l.workers l.offices.items;
+  seats : l.master.shows.seats ≤ l.counter * 64;
 }

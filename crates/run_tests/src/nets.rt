@@ -1,0 +1,90 @@
+ghost use Rattle.std.specs.Prelude.{◌≡◌, ◌≤◌, IfOk, length};
+
+use clr_net::{Mem, Network};
+use net_samples::{add_bank, add_debt, chain, ring};
+use std::alloc::Global;
+
+// The networks of two debts on which runs are tried.
+#[derive(Clone, Copy)]
+pub(crate) enum Sample {
+    Chain,
+    Ring,
+    // A ring whose debts are of 150 units.
+    LongRing,
+    // 700 banks.
+    TwoPairs,
+}
+
+// Adds A and B, which owe one another 150 units. A has one.
+fn add_long_ring(alloc: Global, net: &mut Network) -> Result<(), Mem> {
+    add_bank(alloc, net, b"A", 1)?;
+    add_bank(alloc, net, b"B", 0)?;
+    add_debt(net, 0, 1, 150)?;
+    add_debt(net, 1, 0, 150)
+}
+
+// Adds 700 banks of nothing, but that the bank 6 owes the bank 2 a unit and the bank 7 owes the bank
+// 3 one. Each of both pairs is of one worker, where there are one, two or four.
+fn add_two_pairs(alloc: Global, net: &mut Network) -> Result<(), Mem> {
+    for number in 0..700_u32 {
+        let name = [b'A' + (number / 32) as u8, b'A' + (number % 32) as u8];
+        let cash = if number == 6 || number == 7 { 1 } else { 0 };
+        add_bank(alloc, net, &name, cash)?;
+    }
+    add_debt(net, 6, 2, 1)?;
+    add_debt(net, 7, 3, 1)
+}
+
+fn made_by_hand(alloc: Global, sample: Sample) -> Result<Network, Mem> {
+    let mut net = Network::empty(alloc);
+    match sample {
+        Sample::TwoPairs => add_two_pairs(alloc, &mut net)?,
+        _ => add_long_ring(alloc, &mut net)?,
+    }
+    Ok(net)
+}
+
+// A network of two debts.
+pub(crate) fn net_of(alloc: Global, sample: Sample) -> Result<Network, Mem>
+    ensures { IfOk result (λ net. length net.debts ≡ 2) }
+{
+    let net = match sample {
+        Sample::Chain => chain(alloc)?,
+        Sample::Ring => ring(alloc)?,
+        _ => made_by_hand(alloc, sample)?,
+    };
+    if net.debts() != 2 {
+        return Err(Mem);
+    }
+    Ok(net)
+}
+
+// Adds the banks of a chain of three of which the first is the bank that worker 0 of two visits in
+// this turn, the second that which worker 1 does, and the third a bank that comes after both.
+fn add_late_banks(alloc: Global, net: &mut Network, turn: u32) -> Result<(), Mem>
+    requires { (1 ≤ turn) × (turn ≤ 100) }
+{
+    for number in 0..2 * turn + 2 {
+        let name = [b'A' + (number / 32) as u8, b'A' + (number % 32) as u8];
+        let cash = if number == 2 * turn - 2 {
+            7
+        } else if number == 2 * turn - 1 {
+            1
+        } else {
+            0
+        };
+        add_bank(alloc, net, &name, cash)?;
+    }
+    Ok(())
+}
+
+// That chain, with banks of nothing before and after.
+pub(crate) fn late_chain(alloc: Global, turn: u32) -> Result<Network, Mem>
+    requires { (1 ≤ turn) × (turn ≤ 100) }
+{
+    let mut net = Network::empty(alloc);
+    add_late_banks(alloc, &mut net, turn)?;
+    add_debt(&mut net, 2 * turn - 2, 2 * turn - 1, 10)?;
+    add_debt(&mut net, 2 * turn - 1, 2 * turn + 1, 9)?;
+    Ok(net)
+}
