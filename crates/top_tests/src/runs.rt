@@ -3,6 +3,7 @@ mod hostile;
 mod networks;
 mod records;
 mod tasks;
+mod threads;
 mod twelve_banks;
 
 use clear_top::{Ended, Status, run};

@@ -1,7 +1,7 @@
 //! What a run answers beside its text: the record of the board, and the visits at the gate.
 
 use super::tasks::{RING_BANKS, RING_DEBTS, THREE_SCENARIOS};
-use super::{CHAIN_BANKS, CHAIN_DEBTS, Numbers, runs_on, shelf_of_three};
+use super::{CHAIN_BANKS, CHAIN_DEBTS, Numbers, TWO_BANKS, runs_on, shelf_of_three};
 use clr_edge::{Gate, MemShelf, OpenGate};
 use std::alloc::Global;
 use std::process::Abort;
@@ -187,6 +187,31 @@ fn passes<R: Threads + Sync + Abort>(
 fn the_gate_of_a_job_is_passed(rt: HostRuntime) -> Result<(), Fail> {
     for task in &TASKS {
         passes(&rt, rt.alloc(), *task)?;
+    }
+    Ok(())
+}
+
+const OWE_SIXTY: &str = "debtor,creditor,class,claim\nA,B,1,60\nB,A,1,60\n";
+
+// A task by one worker with sweeps enough, its banks, the visits, and the greatest number of one in
+// its round.
+const IN_ONE_ROUND: [(&str, &str, u64, u64); 2] = [
+    ("clear --banks b.csv --debts d.csv", RING_BANKS, 121, 121),
+    // Nothing is paid before the bank is saved, in a visit of each bank.
+    (
+        "rescue --banks b.csv --debts d.csv --bank A",
+        TWO_BANKS,
+        123,
+        121,
+    ),
+];
+
+#[test]
+fn a_job_has_as_many_sweeps_as_it_says(rt: HostRuntime) -> Result<(), Fail> {
+    for (task, banks, visits, last) in &IN_ONE_ROUND {
+        let plan = "--workers 1 --sweeps 1000";
+        let told = counted(&rt, rt.alloc(), (task, plan), [banks, OWE_SIXTY, ""])?;
+        assert_eq!(rt; told, (*visits, *last, 0), "{task}");
     }
     Ok(())
 }

@@ -26,7 +26,7 @@ pub const RING_DEBTS: &str = "debtor,creditor,class,claim\nA,B,1,5\nB,A,1,5\n";
 
 const NO_BANKS: &str = "name,cash,rule\n";
 
-const NO_DEBTS: &str = "debtor,creditor,class,claim\n";
+pub const NO_DEBTS: &str = "debtor,creditor,class,claim\n";
 
 const CHAIN_DEFAULTS: &str = "bank,estate,paid,owed,equity,state\nA,7,7,10,0,fundamental\n\
 B,8,8,9,0,contagion\nC,8,0,0,8,sound\ntotal,23,15,19,8,2\ncash,8\n";

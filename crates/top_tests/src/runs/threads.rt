@@ -1,0 +1,98 @@
+//! Which visits of a run are made at once: those of the workers of one board, and those of several
+//! scenarios, whose boards start no threads of their own.
+
+use super::tasks::NO_DEBTS;
+use super::{TWO_BANKS, runs_on, shelf_of_three};
+use clr_edge::Gate;
+use std::alloc::Global;
+use std::process::Abort;
+use std::sync::atomic::{AtomicU64, Ordering};
+use std::test::Fail;
+use std::thread::Threads;
+
+// Lets some first visits of a round go on, and has each later one wait until so many have come.
+#[derive(Drop)]
+struct Meeting {
+    skipped: u64,
+    wanted: u64,
+    come: AtomicU64,
+    // How many did not wait in vain.
+    met: AtomicU64,
+}
+
+// Waits a while until a number is reached, and answers whether it was.
+fn waits_for(number: &AtomicU64, wanted: u64) -> bool {
+    for _ in 0..50_000_000_u32 {
+        if number.load(Ordering::SeqCst) >= wanted {
+            return true;
+        }
+    }
+    false
+}
+
+impl Gate for Meeting {
+    fn at(&self, _worker: u32, visit: u64) {
+        if visit != 1 || self.come.fetch_add(1, Ordering::SeqCst) < self.skipped {
+            return;
+        }
+        if waits_for(&self.come, self.wanted) {
+            self.met.fetch_add(1, Ordering::SeqCst);
+        }
+    }
+}
+
+// A line on two banks without debts, a file of scenarios, the first visits that are skipped, for how
+// many the others wait, and how many do not do so in vain. Each worker has one first visit in a run.
+type Case<'a> = (&'a str, &'a str, u64, u64, u64);
+
+const CASES: [Case<'static>; 4] = [
+    ("clear --banks b.csv --debts d.csv --workers 2", "", 0, 2, 2),
+    // The second run too.
+    (
+        "rescue --banks b.csv --debts d.csv --bank A --workers 2",
+        "",
+        2,
+        4,
+        2,
+    ),
+    // The first worker waits in vain, and the second finds it there.
+    (
+        "stress --banks b.csv --debts d.csv --scenarios s.toml --workers 2",
+        "scenario = [{name=\"1\"}]",
+        0,
+        2,
+        1,
+    ),
+    (
+        "stress --banks b.csv --debts d.csv --scenarios s.toml --workers 1",
+        "scenario = [{name=\"1\"},{name=\"2\"},{name=\"3\"},{name=\"4\"}]",
+        0,
+        4,
+        4,
+    ),
+];
+
+fn meets<R: Threads + Sync + Abort>(
+    rt: &R,
+    alloc: Global,
+    (line, scenarios, skipped, wanted, met): Case<'_>,
+) -> Result<(), Fail> {
+    let mut files = shelf_of_three(alloc, [TWO_BANKS, NO_DEBTS, scenarios])?;
+    let gate = Meeting {
+        skipped,
+        wanted,
+        come: AtomicU64::new(0),
+        met: AtomicU64::new(0),
+    };
+    runs_on(rt, alloc, line, &mut files, 2000, &gate, (100, 0, ""))?;
+    assert_eq!(rt; gate.met.load(Ordering::SeqCst), met, "{line}");
+    Ok(())
+}
+
+#[test]
+fn workers_and_scenarios_are_cleared_at_once(rt: HostRuntime) -> Result<(), Fail> {
+    for case in &CASES {
+        meets(&rt, rt.alloc(), *case)?;
+    }
+    Ok(())
+}
