@@ -4,7 +4,6 @@
 //! it. What is lawful and leaves every bank quiet pays the least clearing payments.
 #![tactic(auto)]
 
-mod awarded;
 mod gathering;
 pub mod laws;
 mod printing;
@@ -12,11 +11,10 @@ mod reading;
 mod replaying;
 mod verdict;
 
-pub use awarded::replay_with;
 pub use gathering::{gather, in_order};
 pub use printing::print_journal;
 pub use reading::read_journal;
-pub use replaying::replay;
+pub use replaying::{replay, replay_with};
 pub use verdict::Verdict;
 
 /// The most raises of a journal that is read.

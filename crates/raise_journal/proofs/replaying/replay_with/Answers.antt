@@ -1,6 +1,6 @@
 use Rattle.std.proofs.Common.{sym, ◌∙◌}
 use Rattle.raise_journal.proofs.Lawful.{lawful_is, lawful_pays_least, stands_paid}
-use Rattle.raise_journal.proofs.awarded.replay_with.Goals as goal
+use Rattle.raise_journal.proofs.replaying.replay_with.Goals as goal
 
 pub returns-clause-lawful : goal.returns-clause-lawful
 returns-clause-lawful c = rw c.judge.ensures.verdict (lawful_is c.args.net.now c.args.journal.now c.banks.ensures.network)
