@@ -6,7 +6,7 @@ use Rattle.std.proofs.lemmas.List.{get_or-map, get_or_past, length-map}
 use Rattle.std.proofs.lemmas.List.Sums.{get_or-le-sum_by, sum-map, sum_by-cons, sum_by-le-sum_by}
 use Rattle.clr_net.specs.Amounts.{IsAtMost}
 use Rattle.clr_net.specs.Net.{Net, row, debtor_of, creditor_of}
-use Rattle.clr_net.proofs.Lists.{same_from_sum}
+use Rattle.clr_net.proofs.Lists.{same_from_sum, sum_rises, sums_agree}
 use Rattle.bank_desk.specs.Desks.{BankView, desk_of}
 use Rattle.pay_words.specs.declared.view.Shown.{Shown}
 use Rattle.pay_words.specs.Views.{Panel, IsOver, handed, holds, is_marked, is_of_worker, tabled}
@@ -23,36 +23,20 @@ use Rattle.std.proofs.Math.Seq.{take-length}
 use Rattle.std.proofs.Math.Nat.{mul-le-mul_left}
 use Rattle.bank_worker.proofs.Rooms.{filter_agree}
 use Rattle.settle.proofs.Shares.{all_banks, banks_of, sum_below_times, sum_by_below}
-use Rattle.settle.proofs.Quiet.{raises_a_unit}
 use Rattle.settle.proofs.Handed.{crew_there, handed_holds, length-crews}
 
--- sums of two functions, of which one is nowhere below the other, are equal only where they agree
-agree_where_sums_do : {A : Type 0} (d : A) (f g : A → ℕ) (xs : List A) → ((k : ℕ) → k < length xs → f (get_or xs k d) ≤ g (get_or xs k d)) → sum_by g xs ≤ sum_by f xs
-    → (k : ℕ) → k < length xs → f (get_or xs k d) ≡ g (get_or xs k d)
-agree_where_sums_do d f g xs below sums k lk =
-    let at_most : IsAtMost (map f xs) (map g xs) = λ j. ⊎_elim
-    (λ (lt : j < length xs). omega (arith, get_or-map f xs j d 0 lt, get_or-map g xs j d 0 lt, below j lt))
+-- of two lists, of which one gives nowhere less than the other, with a sum no greater: they give the same in each place
+agree_where_sums_do : {A : Type 0} (d : A) (f g : A → ℕ) (xs ys : List A) → length ys ≡ length xs → ((k : ℕ) → k < length xs → f (get_or xs k d) ≤ g (get_or ys k d)) → sum_by g ys ≤ sum_by f xs
+    → (k : ℕ) → k < length xs → f (get_or xs k d) ≡ g (get_or ys k d)
+agree_where_sums_do d f g xs ys l below sums k lk =
+    let at_most : IsAtMost (map f xs) (map g ys) = λ j. ⊎_elim
+    (λ (lt : j < length xs). omega (arith, get_or-map f xs j d 0 lt, get_or-map g ys j d 0 (omega (arith, lt, l)), below j lt))
     (λ (ge : length xs ≤ j). omega (arith, get_or_past (map f xs) j 0 (omega (arith, length-map xs f))))
     (cases_lt j (length xs)) in
-    let same = same_from_sum (map f xs) (map g xs) (length-map xs f ∙ sym (length-map xs g)) at_most (omega (arith, sum-map f xs, sum-map g xs)) in
-    sym (get_or-map f xs k d 0 lk) ∙ ap (λ ys. get_or ys k 0) same ∙ get_or-map g xs k d 0 lk
+    let same = same_from_sum (map f xs) (map g ys) (length-map xs f ∙ sym l ∙ sym (length-map ys g)) at_most (omega (arith, sum-map f xs, sum-map g ys)) in
+    sym (get_or-map f xs k d 0 lk) ∙ ap (λ zs. get_or zs k 0) same ∙ get_or-map g ys k d 0 (omega (arith, lk, l))
 
--- and equal where they agree
-sums_agree : {A : Type 0} (d : A) (f g : A → ℕ) (xs : List A) → ((k : ℕ) → k < length xs → f (get_or xs k d) ≡ g (get_or xs k d)) → sum_by f xs ≡ sum_by g xs
-sums_agree d f g [] h = refl
-sums_agree d f g (x ∷ xs) h = omega (arith, sum_by-cons f x xs, sum_by-cons g x xs, h 0 (omega arith), sums_agree d f g xs (λ k lk. h (suc k) (omega (arith, lk))))
-
--- the same, of one function over two lists
-lists_agree : {A : Type 0} (d : A) (f : A → ℕ) (xs ys : List A) → length ys ≡ length xs → ((k : ℕ) → k < length xs → f (get_or xs k d) ≤ f (get_or ys k d)) → sum_by f ys ≤ sum_by f xs
-    → (k : ℕ) → k < length xs → f (get_or xs k d) ≡ f (get_or ys k d)
-lists_agree d f xs ys l below sums k lk =
-    let at_most : IsAtMost (map f xs) (map f ys) = λ j. ⊎_elim
-    (λ (lt : j < length xs). omega (arith, get_or-map f xs j d 0 lt, get_or-map f ys j d 0 (omega arith), below j lt))
-    (λ (ge : length xs ≤ j). omega (arith, get_or_past (map f xs) j 0 (omega (arith, length-map xs f))))
-    (cases_lt j (length xs)) in
-    let same = same_from_sum (map f xs) (map f ys) (length-map xs f ∙ sym l ∙ sym (length-map ys f)) at_most (omega (arith, sum-map f xs, sum-map f ys)) in
-    sym (get_or-map f xs k d 0 lk) ∙ ap (λ zs. get_or zs k 0) same ∙ get_or-map f ys k d 0 (omega (arith, lk, l))
-
+-- two lists that give the same in each place have one sum
 lists_equal_sums : {A : Type 0} (d : A) (f : A → ℕ) (xs ys : List A) → length ys ≡ length xs → ((k : ℕ) → k < length xs → f (get_or xs k d) ≡ f (get_or ys k d)) → sum_by f xs ≡ sum_by f ys
 lists_equal_sums d f [] [] l h = refl
 lists_equal_sums d f [] (y ∷ ys) l h = absurd (omega (arith, l))
@@ -245,7 +229,7 @@ module _ (board : Panel) (net : Net) (s : Shown) (w sweeps n : ℕ) (news : List
         let olds = crews w board.table s w in
         let u = (crew_at news i).seat.shows in
         let crew_same : paid_by_crew (crew_at olds i) ≡ paid_by_crew (crew_at news i) =
-        lists_agree no_crew paid_by_crew olds news rounded.as_many
+        agree_where_sums_do no_crew paid_by_crew paid_by_crew olds news rounded.as_many
         (λ k lk. let lk' : k < w = omega (arith, lk, length-crews w board.table s w) in omega (arith, ap paid_by_crew (crew_there w board.table s w k lk'), crew_rose k lk'))
         (omega (arith, rounded.rose)) i (omega (arith, li, length-crews w board.table s w)) in
         let desks = (crew_at news i).desks in
@@ -253,11 +237,11 @@ module _ (board : Panel) (net : Net) (s : Shown) (w sweeps n : ℕ) (news : List
         let p = place b lb in
         let desk_same : paid_by s (desk_of net b) ≡ paid_by u (desk_of net b) =
         ap (paid_by s) (sym p.2)
-        ∙ agree_where_sums_do no_desk (paid_by s) (paid_by u) desks
+        ∙ agree_where_sums_do no_desk (paid_by s) (paid_by u) desks desks refl
         (λ k lk. sum_by-le-sum_by (slice_index s.paid) (slice_index u.paid) (desk_at desks k).debts_out (fell_nowhere i li)) (omega (arith, all_same)) p.0 p.1
         ∙ ap (paid_by u) p.2 in
         let f = row_finds net b x lx refl in
-        let here_same = agree_where_sums_do 0 (slice_index s.paid) (slice_index u.paid) (row net b) (λ k lk. fell_nowhere i li (get_or (row net b) k 0)) (omega (arith, desk_same)) f.0 f.1 in
+        let here_same = agree_where_sums_do 0 (slice_index s.paid) (slice_index u.paid) (row net b) (row net b) refl (λ k lk. fell_nowhere i li (get_or (row net b) k 0)) (omega (arith, desk_same)) f.0 f.1 in
         paid_is x lx ∙ ap (slice_index u.paid) (sym f.2) ∙ sym here_same ∙ ap (slice_index s.paid) f.2
 
     -- where all payments stayed, the round raised nothing
@@ -283,10 +267,12 @@ module _ (board : Panel) (net : Net) (s : Shown) (w sweeps n : ℕ) (news : List
     pub some_rose : n ≢ 0 → sum s.paid + 1 ≤ sum t.paid
     some_rose some_units =
         let same_debts : length t.net.debts ≡ length s.net.debts = ap (λ (m : Net). length m.debts) (back'.net_is ∙ sym between.net_is) in
-        raises_a_unit s.paid t.paid n (omega (arith, between.over.paid, over.paid, same_debts))
-        (λ x. ⊎_elim
-        (λ (lx : x < length net.debts). none_fell x lx)
-        (λ (ge : length net.debts ≤ x). omega (arith, get_or_past s.paid x 0 (omega (arith, ge, between.over.paid, ap (λ (m : Net). length m.debts) between.net_is))))
-        (cases_lt x (length net.debts)))
-        (λ e. raised_nothing (λ x lx. ap (λ P. get_or P x 0) (sym e)))
-        some_units
+        omega (
+          arith,
+          sum_rises s.paid t.paid (omega (arith, between.over.paid, over.paid, same_debts))
+              (λ x. ⊎_elim
+              (λ (lx : x < length net.debts). none_fell x lx)
+              (λ (ge : length net.debts ≤ x). omega (arith, get_or_past s.paid x 0 (omega (arith, ge, between.over.paid, ap (λ (m : Net). length m.debts) between.net_is))))
+              (cases_lt x (length net.debts)))
+              (λ e. some_units (raised_nothing (λ x lx. ap (λ P. get_or P x 0) (sym e)))),
+        )
