@@ -13,15 +13,12 @@ pub record RanTo (net : Net) (plan : Plan) (s t : Shown) (rounds : ℕ) : Type 0
   pub as_many : rounds ≡ length raised
   pub ran : AreRoundsFrom net plan s raised t
 
-none_yet : All (λ n. 1 ≤ n) []
-none_yet k d lt = absurd (omega (arith, lt))
-
 one_first : (n : ℕ) (ns : List ℕ) → 1 ≤ n → All (λ m. 1 ≤ m) ns → All (λ m. 1 ≤ m) (n ∷ ns)
 one_first n ns some h zero d lt = some
 one_first n ns some h (suc k) d lt = h k d (omega (arith, lt))
 
 pub ran_none : (net : Net) (plan : Plan) (s : Shown) → RanTo net plan s s 0
-ran_none net plan s = record { raised = []; each_some = none_yet; as_many = refl; ran = refl }
+ran_none net plan s = record { raised = []; each_some = λ k d lt. absurd (omega (arith, lt)); as_many = refl; ran = refl }
 
 pub ran_more : (net : Net) (plan : Plan) (s m t : Shown) (rounds units visits : ℕ) → IsRoundOf net plan units visits m t → units ≢ 0
     → RanTo net plan s m rounds → RanTo net plan s t (rounds + 1)
