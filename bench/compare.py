@@ -32,7 +32,8 @@ class Comparison:
         self.runner, self.seed = Runner(program, LIMIT), seed
         self.networks = self.cases = self.differ = 0
         self.sizes = {8: 0, 30: 0, 1000: 0}
-        self.ended = False
+        # Whether an interrupt came, and whether it ended a run too, as it does in a terminal.
+        self.ended = self.cut = False
 
     def end(self, *_):
         """Ends after the network that is being tried, with the counts so far."""
@@ -40,10 +41,14 @@ class Comparison:
 
     def run(self, words):
         self.cases += 1
-        return self.runner.run(words)
+        got = self.runner.run(words)
+        self.cut = self.cut or self.ended and got[0] < 0
+        return got
 
     def differs(self, words, what):
         """Prints a difference."""
+        if self.cut:
+            return
         print(f"network {self.networks} of seed {self.seed}: clearing {' '.join(words)}: {what}", flush=True)
         pathlib.Path("differs.txt").open("a", encoding="utf-8").write(f"{words!r}: {what}\n")
         self.same = False
@@ -85,6 +90,8 @@ class Comparison:
         self.compare(["replay", *shown[1:5], "--journal", "journal.csv"], f"lawful,{raises}\n\n" + model.payments_text(net, low))
         self.judge(compress, lambda text: judge_compression(net, text))
         model.forget()
+        if self.cut:
+            return
         if not self.same:
             self.differ += 1
             shutil.copytree(".", pathlib.Path("..", "differ", str(self.networks)))
