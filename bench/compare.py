@@ -81,6 +81,7 @@ class Comparison:
         for name, text in texts.items():
             pathlib.Path(name).write_bytes(text)
         self.same = True
+        before = self.cases
         for case in cases:
             self.compare(*case)
         low = model.least(net)
@@ -91,6 +92,7 @@ class Comparison:
         self.judge(compress, lambda text: judge_compression(net, text))
         model.forget()
         if self.cut:
+            self.cases = before
             return
         if not self.same:
             self.differ += 1
