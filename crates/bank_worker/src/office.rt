@@ -1,6 +1,9 @@
 ghost use Rattle.bank_worker.specs.Offices.{IsOfficeFor, banks_of_worker};
-ghost use Rattle.bank_worker.specs.Rings.{AreMarksUpTo};
-ghost use Rattle.std.specs.Prelude.{◌≡◌, ◌^◌, ◌≤◌, IfOk, length};
+ghost use Rattle.bank_desk.specs.Desks.{desk_of};
+ghost use Rattle.bank_worker.specs.Rings.{AreMarksUpTo, creditors_of};
+ghost use Rattle.bank_worker.specs.Views.{banks_of};
+ghost use Rattle.clear_core.specs.Buffers.{HasRoom};
+ghost use Rattle.std.specs.Prelude.{◌≡◌, ◌^◌, ◌≤◌, IfOk, length, map};
 
 use crate::calls::Calls;
 use bank_desk::Desk;
@@ -17,6 +20,8 @@ const MANY_VISITS: u64 = 1 << 62;
 #[derive(Drop)]
 pub struct Office {
     pub(crate) desks: Vec<Desk>,
+    // The bank of each desk, so that a sweep reaches no desk whose bell is down.
+    pub(crate) banks: Vec<u32>,
     pub(crate) worker: u32,
     // The creditor of each debt, in file order.
     pub(crate) creditors: Vec<u32>,
@@ -34,7 +39,8 @@ pub struct Office {
 impl Model for Office {
     ghost use Rattle.bank_worker.specs.Offices.{OfficeView};
     ghost use Rattle.bank_worker.specs.Rings.{AreMarksUpTo};
-    ghost use Rattle.std.specs.Prelude.{vec_capacity, vec_len};
+    ghost use Rattle.bank_worker.specs.Views.{banks_of};
+    ghost use Rattle.std.specs.Prelude.{◌≡◌, vec_capacity, vec_len};
 
     ghost Value = { OfficeView };
 
@@ -46,7 +52,8 @@ impl Model for Office {
       room = vec_capacity o.targets;
     } };
 
-    ghost invariant = { λ o. AreMarksUpTo o.counted o.marks.items };
+    ghost invariant = { λ o. AreMarksUpTo o.counted o.marks.items
+        × (o.banks.items ≡ banks_of o.desks.items) };
 }
 
 impl Office {
@@ -57,30 +64,63 @@ impl Office {
             (λ o. IsOfficeFor net.now (banks_of_worker net.now workers worker) o) }
         ensures worker { IfOk result (λ o. o.worker ≡ worker) }
     {
-        let mut desks = Vec::new(alloc);
-        let mut longest = 0;
-        for number in 0..net.banks() {
-            longest = longest.max(net.row(BankId(number)).len());
-            if number % workers == worker {
-                desks.push(Desk::of(alloc, net, BankId(number))?)?;
-            }
-        }
-        let mut creditors = Vec::with_capacity(alloc, net.debts() as usize)?;
-        for number in 0..net.debts() {
-            creditors.push_reserved(net.debt(DebtId(number)).creditor.0);
-        }
-        let marks = no_marks(alloc, net.banks() as usize)?;
-        let targets = Vec::with_capacity(alloc, longest)?;
+        let (desks, banks) = desks_of(alloc, net, worker, workers)?;
         Ok(Office {
             desks,
+            banks,
             worker,
-            creditors,
-            marks,
+            creditors: creditors(alloc, net)?,
+            marks: no_marks(alloc, net.banks() as usize)?,
             counted: 0,
-            targets,
+            targets: Vec::with_capacity(alloc, longest_row(net))?,
             calls: Calls::none(workers),
         })
     }
+}
+
+// The desks of a worker among so many, in file order, and the bank of each.
+fn desks_of(
+    alloc: Global,
+    net: &Network,
+    worker: u32,
+    workers: u32,
+) -> Result<(Vec<Desk>, Vec<u32>), Mem>
+    requires workers { 1 ≤ workers }
+    ensures desks { IfOk result (λ r. r.0.items
+        ≡ map (desk_of net.now) (banks_of_worker net.now workers worker)) }
+    ensures banks { IfOk result (λ r. r.1.items ≡ banks_of r.0.items) }
+{
+    let mut desks = Vec::new(alloc);
+    let mut banks = Vec::new(alloc);
+    for number in 0..net.banks() {
+        if number % workers == worker {
+            desks.push(Desk::of(alloc, net, BankId(number))?)?;
+            banks.push(number)?;
+        }
+    }
+    Ok((desks, banks))
+}
+
+// The creditor of each debt, in file order.
+fn creditors(alloc: Global, net: &Network) -> Result<Vec<u32>, Mem>
+    ensures { IfOk result (λ creditors. creditors.items ≡ creditors_of net.now) }
+{
+    let mut creditors = Vec::with_capacity(alloc, net.debts() as usize)?;
+    for number in 0..net.debts() {
+        creditors.push_reserved(net.debt(DebtId(number)).creditor.0);
+    }
+    Ok(creditors)
+}
+
+// The length of the longest row.
+fn longest_row(net: &Network) -> usize
+    ensures { HasRoom net.now result }
+{
+    let mut longest = 0;
+    for number in 0..net.banks() {
+        longest = longest.max(net.row(BankId(number)).len());
+    }
+    longest
 }
 
 // As many marks of no visit.

@@ -1,16 +1,15 @@
 ghost use Rattle.bank_worker.specs.Rings.{AreMarksBelow, AreMarksUpTo, creditors_of};
 ghost use Rattle.bank_worker.specs.Offices.{IsOfficeFor};
 ghost use Rattle.bank_worker.specs.Views.{desk_at, desks_held, banks_held};
-ghost use Rattle.bank_worker.specs.Visits.{AreNoted, AreSettled, IsAllCalm, IsRounded, IsSameCrew};
-ghost use Rattle.bank_worker.specs.Visits.{IsSameSeat, IsStopped, IsVisited, LooksOnce, MayRest};
+ghost use Rattle.bank_worker.specs.Visits.{AreDown, AreNoted, AreSettled, IsAllCalm, IsDown, IsRounded};
+ghost use Rattle.bank_worker.specs.Visits.{IsSameCrew, IsSameSeat, IsStopped, IsVisited, LooksOnce, MayRest};
 ghost use Rattle.bank_worker.specs.Visits.{PaysOut, RingsAll};
 ghost use Rattle.bank_worker.specs.Visits.{VisitsByBells, WhenMem, WhenRaised};
 ghost use Rattle.clear_core.specs.Buffers.{HasRoom};
 ghost use Rattle.bank_desk.specs.Desks.{desk_of, target};
 ghost use Rattle.clr_net.specs.Limits.{IsNetwork};
 ghost use Rattle.clr_net.specs.declared.TheConstants.{MAX_BANKS, MAX_OWED};
-ghost use Rattle.pay_words.specs.Views.{HasSeenFloor, IsAt, IsCalm, OwesNoRing, holds, is_marked};
-ghost use Rattle.pay_words.specs.Views.{is_of_worker, took};
+ghost use Rattle.pay_words.specs.Views.{IsAt, OwesNoRing, holds, is_of_worker, took};
 ghost use Rattle.std.specs.Prelude.{◌≡◌, ◌+◌, ◌*◌, ◌^◌, ◌<◌, ◌≤◌, ℕ, [], IfErr, IfOk, false};
 ghost use Rattle.std.specs.Prelude.{if◌then◌else◌, length, true};
 ghost use Rattle.std.specs.Prelude.{vec_capacity, vec_len};
@@ -44,6 +43,8 @@ pub struct SeatBack {
 pub struct Worker {
     seat: PaySeat,
     desks: Vec<Desk>,
+    // The bank of each desk, so that a sweep reaches no desk whose bell is down.
+    banks: Vec<u32>,
     worker: u32,
     visits: u64,
     journal: Journal,
@@ -81,7 +82,7 @@ impl Model for Worker {
       worker = w.worker;
       visits = w.visits;
       journal = w.journal.raises;
-    }) w.creditors.items w.marks.items w.counted (vec_capacity w.targets) };
+    }) w.banks.items w.creditors.items w.marks.items w.counted (vec_capacity w.targets) };
 }
 
 impl Worker {
@@ -136,6 +137,7 @@ impl Worker {
     {
         let Office {
             desks,
+            banks,
             worker,
             creditors,
             mut marks,
@@ -148,6 +150,7 @@ impl Worker {
         Worker {
             seat,
             desks,
+            banks,
             worker,
             visits: 0,
             journal: Journal::empty(alloc),
@@ -273,6 +276,7 @@ impl Worker {
         let Worker {
             seat,
             desks,
+            banks,
             worker,
             journal,
             creditors,
@@ -284,6 +288,7 @@ impl Worker {
         } = self;
         let office = Office {
             desks,
+            banks,
             worker,
             creditors,
             marks,
@@ -312,7 +317,7 @@ impl Worker {
         let mut units = 0;
         let mut from = 0;
         'sweep: loop {
-            let place = self.calls.next(whole, from);
+            let place = self.next(board, whole, from);
             if place >= desks {
                 return Visit::Raised(units);
             }
@@ -326,6 +331,37 @@ impl Worker {
         }
     }
 
+    // The next place from this one on where a sweep stops: in a sweep over all desks the first whose
+    // bell is up, else the first that is called; or a place past all desks.
+    fn next(&mut self, board: &Board, whole: bool, from: usize) -> usize
+        requires seat { IsAt board.now self.old.seat }
+        requires from { from ≤ length self.old.desks }
+        ensures same { self.new ≡ self.old }
+        ensures ahead { from ≤ result }
+        ensures down { whole ≡ true
+            → AreDown self.old.seat.shows self.old.desks from result }
+    {
+        if !whole {
+            return self.calls.next(false, from);
+        }
+        for place in from..self.desks.len() {
+            let bank = self.bank(place);
+            if board.glance(&mut self.seat, bank) {
+                return place;
+            }
+        }
+        self.desks.len()
+    }
+
+    // The bank of a desk.
+    fn bank(&self, place: usize) -> BankId
+        requires { place < length self.now.desks }
+        ensures bank { result.0 ≡ (desk_at self.now.desks place).bank }
+        ensures held { holds self.now.seat.shows result.0 ≡ true }
+    {
+        BankId(self.banks[place])
+    }
+
     // Takes the bell of a desk's bank, and answers whether it was up.
     fn take(&mut self, board: &Board, place: usize) -> bool
         requires seat { IsAt board.now self.old.seat }
@@ -337,13 +373,10 @@ impl Worker {
                 else self.old.seat.shows;
           };
         } }
-        ensures up_if_fresh { is_marked self.old.seat.shows.fresh (desk_at self.old.desks place).bank ≡ true
-            → result ≡ true }
-        ensures seen_floor { result ≡ false
-            → IsCalm self.old.seat.shows (desk_at self.old.desks place).bank
-            → HasSeenFloor self.old.seat.shows (desk_at self.old.desks place).bank }
+        ensures down { result ≡ false
+            → IsDown self.old.seat.shows (desk_at self.old.desks place).bank }
     {
-        let bank = self.desks[place].bank();
+        let bank = self.bank(place);
         let up = board.take(&mut self.seat, bank);
         if up {
             self.calls.end(place);
