@@ -11,7 +11,7 @@ ghost use Rattle.clr_net.specs.Limits.{IsNetwork};
 ghost use Rattle.clr_net.specs.declared.TheConstants.{MAX_BANKS, MAX_OWED};
 ghost use Rattle.pay_words.specs.Views.{IsAt, OwesNoRing, holds, is_of_worker, took};
 ghost use Rattle.std.specs.Prelude.{◌≡◌, ◌+◌, ◌*◌, ◌^◌, ◌<◌, ◌≤◌, ℕ, [], IfErr, IfOk, false};
-ghost use Rattle.std.specs.Prelude.{if◌then◌else◌, length, true};
+ghost use Rattle.std.specs.Prelude.{if◌then◌else◌, length, slice_index, true};
 ghost use Rattle.std.specs.Prelude.{vec_capacity, vec_len};
 
 use crate::calls::Calls;
@@ -344,13 +344,7 @@ impl Worker {
         if !whole {
             return self.calls.next(false, from);
         }
-        for place in from..self.desks.len() {
-            let bank = self.bank(place);
-            if board.glance(&mut self.seat, bank) {
-                return place;
-            }
-        }
-        self.desks.len()
+        first_up(board, &mut self.seat, self.banks.as_slice(), from)
     }
 
     // The bank of a desk.
@@ -383,6 +377,25 @@ impl Worker {
         }
         up
     }
+}
+
+// The first place from this one on whose bank has its bell up, or the number of places.
+fn first_up(board: &Board, seat: &mut PaySeat, banks: &[u32], from: usize) -> usize
+    requires seat { IsAt board.now seat.old }
+    requires held { (k : ℕ) → k < length banks.now
+        → holds seat.old.shows (slice_index banks.now k) ≡ true }
+    requires from { from ≤ length banks.now }
+    ensures same { seat.new ≡ seat.old }
+    ensures ahead { (from ≤ result) × (result ≤ length banks.now) }
+    ensures down { (k : ℕ) → from ≤ k → k < result
+        → IsDown seat.old.shows (slice_index banks.now k) }
+{
+    for place in from..banks.len() {
+        if board.glance(seat, BankId(banks[place])) {
+            return place;
+        }
+    }
+    banks.len()
 }
 
 // Visits the bank of a desk, whose raises have room in the journal. The visit has a number that no
