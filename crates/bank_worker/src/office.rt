@@ -1,12 +1,10 @@
 ghost use Rattle.bank_worker.specs.Offices.{IsOfficeFor, banks_of_worker};
-ghost use Rattle.bank_desk.specs.Desks.{desk_of};
 ghost use Rattle.bank_worker.specs.Rings.{AreMarksUpTo, creditors_of};
-ghost use Rattle.bank_worker.specs.Views.{banks_of};
 ghost use Rattle.clear_core.specs.Buffers.{HasRoom};
-ghost use Rattle.std.specs.Prelude.{◌≡◌, ◌^◌, ◌≤◌, IfOk, length, map};
+ghost use Rattle.std.specs.Prelude.{◌≡◌, ◌^◌, ◌≤◌, IfOk, length};
 
 use crate::calls::Calls;
-use bank_desk::Desk;
+use crate::desks::Desks;
 use clr_net::{BankId, DebtId, Mem, Network};
 use std::alloc::Global;
 use std::marker::Model;
@@ -19,9 +17,7 @@ const MANY_VISITS: u64 = 1 << 62;
 /// is visited should pay.
 #[derive(Drop)]
 pub struct Office {
-    pub(crate) desks: Vec<Desk>,
-    // The bank of each desk, so that a sweep reaches no desk whose bell is down.
-    pub(crate) banks: Vec<u32>,
+    pub(crate) desks: Desks,
     pub(crate) worker: u32,
     // The creditor of each debt, in file order.
     pub(crate) creditors: Vec<u32>,
@@ -39,21 +35,19 @@ pub struct Office {
 impl Model for Office {
     ghost use Rattle.bank_worker.specs.Offices.{OfficeView};
     ghost use Rattle.bank_worker.specs.Rings.{AreMarksUpTo};
-    ghost use Rattle.bank_worker.specs.Views.{banks_of};
-    ghost use Rattle.std.specs.Prelude.{◌≡◌, vec_capacity, vec_len};
+    ghost use Rattle.std.specs.Prelude.{vec_capacity, vec_len};
 
     ghost Value = { OfficeView };
 
     ghost view = { λ o. record {
-      desks = o.desks.items;
+      desks = o.desks;
       worker = o.worker;
       creditors = o.creditors.items;
       marks = vec_len o.marks;
       room = vec_capacity o.targets;
     } };
 
-    ghost invariant = { λ o. AreMarksUpTo o.counted o.marks.items
-        × (o.banks.items ≡ banks_of o.desks.items) };
+    ghost invariant = { λ o. AreMarksUpTo o.counted o.marks.items };
 }
 
 impl Office {
@@ -64,10 +58,8 @@ impl Office {
             (λ o. IsOfficeFor net.now (banks_of_worker net.now workers worker) o) }
         ensures worker { IfOk result (λ o. o.worker ≡ worker) }
     {
-        let (desks, banks) = desks_of(alloc, net, worker, workers)?;
         Ok(Office {
-            desks,
-            banks,
+            desks: Desks::of(alloc, net, worker, workers)?,
             worker,
             creditors: creditors(alloc, net)?,
             marks: no_marks(alloc, net.banks() as usize)?,
@@ -76,29 +68,6 @@ impl Office {
             calls: Calls::none(workers),
         })
     }
-}
-
-// The desks of a worker among so many, in file order, and the bank of each.
-fn desks_of(
-    alloc: Global,
-    net: &Network,
-    worker: u32,
-    workers: u32,
-) -> Result<(Vec<Desk>, Vec<u32>), Mem>
-    requires workers { 1 ≤ workers }
-    ensures desks { IfOk result (λ r. r.0.items
-        ≡ map (desk_of net.now) (banks_of_worker net.now workers worker)) }
-    ensures banks { IfOk result (λ r. r.1.items ≡ banks_of r.0.items) }
-{
-    let mut desks = Vec::new(alloc);
-    let mut banks = Vec::new(alloc);
-    for number in 0..net.banks() {
-        if number % workers == worker {
-            desks.push(Desk::of(alloc, net, BankId(number))?)?;
-            banks.push(number)?;
-        }
-    }
-    Ok((desks, banks))
 }
 
 // The creditor of each debt, in file order.

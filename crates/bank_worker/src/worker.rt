@@ -15,6 +15,7 @@ ghost use Rattle.std.specs.Prelude.{if◌then◌else◌, length, slice_index, tr
 ghost use Rattle.std.specs.Prelude.{vec_capacity, vec_len};
 
 use crate::calls::Calls;
+use crate::desks::Desks;
 use crate::looks::look_at_all;
 use crate::office::{Office, begin_again};
 use crate::raises::raise_all;
@@ -42,9 +43,7 @@ pub struct SeatBack {
 #[derive(Drop)]
 pub struct Worker {
     seat: PaySeat,
-    desks: Vec<Desk>,
-    // The bank of each desk, so that a sweep reaches no desk whose bell is down.
-    banks: Vec<u32>,
+    desks: Desks,
     worker: u32,
     visits: u64,
     journal: Journal,
@@ -70,7 +69,7 @@ impl Model for Worker {
 
     ghost view = { λ w. record {
       seat = w.seat;
-      desks = w.desks.items;
+      desks = w.desks;
       worker = w.worker;
       visits = w.visits;
       journal = w.journal.raises;
@@ -78,11 +77,11 @@ impl Model for Worker {
 
     ghost invariant = { λ w. IsStaffed (record {
       seat = w.seat;
-      desks = w.desks.items;
+      desks = w.desks;
       worker = w.worker;
       visits = w.visits;
       journal = w.journal.raises;
-    }) w.banks.items w.creditors.items w.marks.items w.counted (vec_capacity w.targets) };
+    }) w.creditors.items w.marks.items w.counted (vec_capacity w.targets) };
 }
 
 impl Worker {
@@ -137,7 +136,6 @@ impl Worker {
     {
         let Office {
             desks,
-            banks,
             worker,
             creditors,
             mut marks,
@@ -150,7 +148,6 @@ impl Worker {
         Worker {
             seat,
             desks,
-            banks,
             worker,
             visits: 0,
             journal: Journal::empty(alloc),
@@ -201,7 +198,7 @@ impl Worker {
         self.visits += 1;
         self.counted += 1;
         gate.at(self.worker, self.visits);
-        let desk = &self.desks[place];
+        let desk = self.desks.at(place);
         let Ok(()) = self.journal.reserve(desk.debts_out().len()) else {
             return Visit::Mem;
         };
@@ -276,7 +273,6 @@ impl Worker {
         let Worker {
             seat,
             desks,
-            banks,
             worker,
             journal,
             creditors,
@@ -288,7 +284,6 @@ impl Worker {
         } = self;
         let office = Office {
             desks,
-            banks,
             worker,
             creditors,
             marks,
@@ -344,7 +339,7 @@ impl Worker {
         if !whole {
             return self.calls.next(false, from);
         }
-        first_up(board, &mut self.seat, self.banks.as_slice(), from)
+        first_up(board, &mut self.seat, self.desks.banks(), from)
     }
 
     // The bank of a desk.
@@ -353,7 +348,8 @@ impl Worker {
         ensures bank { result.0 ≡ (desk_at self.now.desks place).bank }
         ensures held { holds self.now.seat.shows result.0 ≡ true }
     {
-        BankId(self.banks[place])
+        let banks = self.desks.banks();
+        BankId(banks[place])
     }
 
     // Takes the bell of a desk's bank, and answers whether it was up.

@@ -5,8 +5,8 @@ use Rattle.bank_desk.specs.Desks.{BankView, desk_of}
 use Rattle.pay_words.specs.Views.{is_of_worker}
 use Rattle.bank_worker.specs.Views.{banks_of}
 use Rattle.bank_worker.proofs.Rooms.{desks_with, desks_without}
-use Rattle.bank_worker.proofs.office.desks_of.Goals as goal
-use Rattle.bank_worker.proofs.office.desks_of.Goals.{then-number-workers+in_ok-of+in_ok-push+in_ok-push-2, else-number-workers}
+use Rattle.bank_worker.proofs.desks.Desks.of.Goals as goal
+use Rattle.bank_worker.proofs.desks.Desks.of.Goals.{then-number-workers+in_ok-of+in_ok-push+in_ok-push-2, else-number-workers}
 
 pub loop-number-preserved : goal.loop-number-preserved
 loop-number-preserved c =

@@ -3,7 +3,7 @@ use Rattle.std.specs.List.{range_with_len}
 use Rattle.bank_desk.specs.Desks.{desk_of}
 use Rattle.pay_words.specs.Views.{is_of_worker}
 use Rattle.bank_worker.specs.Views.{banks_of}
-use Rattle.bank_worker.proofs.office.desks_of.Given as goal
+use Rattle.bank_worker.proofs.desks.Desks.of.Given as goal
 
 abbrev pub invariant-loop-number : goal.invariant-loop-number
 invariant-loop-number l = record {
