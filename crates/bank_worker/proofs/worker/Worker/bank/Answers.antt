@@ -1,4 +1,4 @@
-use Rattle.std.proofs.Common.{◌≡◌, ◌<◌, length, get_or, sym, ap, ◌∙◌, arith}
+use Rattle.std.proofs.Common.{◌<◌, length, get_or, sym, ap, ◌∙◌, arith}
 use Rattle.pay_words.specs.Views.{holds}
 use Rattle.bank_worker.specs.Views.{Crew, desk_at}
 use Rattle.bank_worker.proofs.Manned.{bank_at, length_banks}

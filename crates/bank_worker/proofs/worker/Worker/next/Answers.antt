@@ -1,4 +1,4 @@
-use Rattle.std.proofs.Common.{◌<◌, length, ◌∙◌, subst, arith}
+use Rattle.std.proofs.Common.{◌<◌, length, subst, arith}
 use Rattle.bank_worker.specs.Views.{Crew, desk_at}
 use Rattle.bank_worker.specs.Visits.{IsDown}
 use Rattle.bank_worker.proofs.Manned.{bank_at, length_banks}
