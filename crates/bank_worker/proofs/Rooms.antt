@@ -5,9 +5,6 @@ use Rattle.std.specs.List.{range_with_len}
 use Rattle.std.specs.Option.{option_map_or}
 use Rattle.std.proofs.lemmas.List.{map-append}
 use Rattle.std.proofs.lemmas.List.FromFn.{map-range_with_len_more}
-use Rattle.std.specs.Ordering.{ord_max}
-use Rattle.std.proofs.Common.{nat_cmp}
-use Rattle.std.proofs.lemmas.Grind.{common_steps}
 use Rattle.clr_net.specs.Net.{Net, creditor_of}
 use Rattle.clr_net.specs.declared.debt.Debt.{Debt}
 use Rattle.clr_net.proofs.RangeFilters.{filter_range_more}
@@ -53,10 +50,6 @@ filter_agree p q n (suc m) l h =
     ∙ ap (λ xs. xs ++ cond (p m) (m ∷ []) []) (filter_agree p q n m (omega arith) h)
     ∙ sym (filter_next p m)
     ∙ ap (λ k. filter p (range_with_len 0 k)) e
-
--- the greater of two numbers
-pub longer : (a b : ℕ) → (a ≤ ord_max nat_cmp a b) × (b ≤ ord_max nat_cmp a b)
-longer a b = (grind (arith, common_steps), grind (arith, common_steps))
 
 -- the banks of a worker are those of its seat
 pub banks_of_seat : (net : Net) (s : Shown) (workers i : ℕ) → net ≡ s.net

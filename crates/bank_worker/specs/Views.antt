@@ -36,6 +36,10 @@ no_desk = record {
   debts_in = [];
 }
 
+-- the banks of some desks
+abbrev pub banks_of : List BankView → List ℕ
+banks_of desks = map (λ d. d.bank) desks
+
 abbrev pub desk_at : List BankView → ℕ → BankView
 desk_at desks k = slice_index_or desks k no_desk
 

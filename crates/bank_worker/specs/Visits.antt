@@ -99,6 +99,15 @@ pub record IsVisited (desk : BankView) (n : ℕ) (old new : Crew) : Type 0 where
   pub notes : Notes desk old new
   pub rings : RingsAll desk old.seat.shows new.seat.shows
 
+-- the bell of the bank b is down: it was taken before, and where nothing is pending the floor was seen
+pub record IsDown (s : Shown) (b : ℕ) : Type 0 where
+  pub taken : is_marked s.fresh b ≡ false
+  pub seen : IsCalm s b → HasSeenFloor s b
+
+-- so are the bells of the desks from one place on to another
+abbrev pub AreDown : Shown → List BankView → ℕ → ℕ → Type 0
+AreDown s desks from to = (k : ℕ) → from ≤ k → k < to → IsDown s (desk_at desks k).bank
+
 -- nothing that the seat shows of its banks is pending
 abbrev pub IsAllCalm : Shown → Type 0
 IsAllCalm s = (b : ℕ) → b < length s.net.banks → holds s b ≡ true → IsCalm s b

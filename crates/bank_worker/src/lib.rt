@@ -8,6 +8,7 @@
 #![tactic(auto)]
 
 mod calls;
+mod desks;
 mod looks;
 mod office;
 mod raises;

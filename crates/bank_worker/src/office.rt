@@ -1,9 +1,10 @@
 ghost use Rattle.bank_worker.specs.Offices.{IsOfficeFor, banks_of_worker};
-ghost use Rattle.bank_worker.specs.Rings.{AreMarksUpTo};
+ghost use Rattle.bank_worker.specs.Rings.{AreMarksUpTo, creditors_of};
+ghost use Rattle.clear_core.specs.Buffers.{HasRoom};
 ghost use Rattle.std.specs.Prelude.{◌≡◌, ◌^◌, ◌≤◌, IfOk, length};
 
 use crate::calls::Calls;
-use bank_desk::Desk;
+use crate::desks::Desks;
 use clr_net::{BankId, DebtId, Mem, Network};
 use std::alloc::Global;
 use std::marker::Model;
@@ -16,7 +17,7 @@ const MANY_VISITS: u64 = 1 << 62;
 /// is visited should pay.
 #[derive(Drop)]
 pub struct Office {
-    pub(crate) desks: Vec<Desk>,
+    pub(crate) desks: Desks,
     pub(crate) worker: u32,
     // The creditor of each debt, in file order.
     pub(crate) creditors: Vec<u32>,
@@ -39,7 +40,7 @@ impl Model for Office {
     ghost Value = { OfficeView };
 
     ghost view = { λ o. record {
-      desks = o.desks.items;
+      desks = o.desks;
       worker = o.worker;
       creditors = o.creditors.items;
       marks = vec_len o.marks;
@@ -57,30 +58,38 @@ impl Office {
             (λ o. IsOfficeFor net.now (banks_of_worker net.now workers worker) o) }
         ensures worker { IfOk result (λ o. o.worker ≡ worker) }
     {
-        let mut desks = Vec::new(alloc);
-        let mut longest = 0;
-        for number in 0..net.banks() {
-            longest = longest.max(net.row(BankId(number)).len());
-            if number % workers == worker {
-                desks.push(Desk::of(alloc, net, BankId(number))?)?;
-            }
-        }
-        let mut creditors = Vec::with_capacity(alloc, net.debts() as usize)?;
-        for number in 0..net.debts() {
-            creditors.push_reserved(net.debt(DebtId(number)).creditor.0);
-        }
-        let marks = no_marks(alloc, net.banks() as usize)?;
-        let targets = Vec::with_capacity(alloc, longest)?;
         Ok(Office {
-            desks,
+            desks: Desks::of(alloc, net, worker, workers)?,
             worker,
-            creditors,
-            marks,
+            creditors: creditors(alloc, net)?,
+            marks: no_marks(alloc, net.banks() as usize)?,
             counted: 0,
-            targets,
+            targets: Vec::with_capacity(alloc, longest_row(net))?,
             calls: Calls::none(workers),
         })
     }
+}
+
+// The creditor of each debt, in file order.
+fn creditors(alloc: Global, net: &Network) -> Result<Vec<u32>, Mem>
+    ensures { IfOk result (λ creditors. creditors.items ≡ creditors_of net.now) }
+{
+    let mut creditors = Vec::with_capacity(alloc, net.debts() as usize)?;
+    for number in 0..net.debts() {
+        creditors.push_reserved(net.debt(DebtId(number)).creditor.0);
+    }
+    Ok(creditors)
+}
+
+// The length of the longest row.
+fn longest_row(net: &Network) -> usize
+    ensures { HasRoom net.now result }
+{
+    let mut longest = 0;
+    for number in 0..net.banks() {
+        longest = longest.max(net.row(BankId(number)).len());
+    }
+    longest
 }
 
 // As many marks of no visit.

@@ -1,21 +1,21 @@
 ghost use Rattle.bank_worker.specs.Rings.{AreMarksBelow, AreMarksUpTo, creditors_of};
 ghost use Rattle.bank_worker.specs.Offices.{IsOfficeFor};
 ghost use Rattle.bank_worker.specs.Views.{desk_at, desks_held, banks_held};
-ghost use Rattle.bank_worker.specs.Visits.{AreNoted, AreSettled, IsAllCalm, IsRounded, IsSameCrew};
-ghost use Rattle.bank_worker.specs.Visits.{IsSameSeat, IsStopped, IsVisited, LooksOnce, MayRest};
+ghost use Rattle.bank_worker.specs.Visits.{AreDown, AreNoted, AreSettled, IsAllCalm, IsDown, IsRounded};
+ghost use Rattle.bank_worker.specs.Visits.{IsSameCrew, IsSameSeat, IsStopped, IsVisited, LooksOnce, MayRest};
 ghost use Rattle.bank_worker.specs.Visits.{PaysOut, RingsAll};
 ghost use Rattle.bank_worker.specs.Visits.{VisitsByBells, WhenMem, WhenRaised};
 ghost use Rattle.clear_core.specs.Buffers.{HasRoom};
 ghost use Rattle.bank_desk.specs.Desks.{desk_of, target};
 ghost use Rattle.clr_net.specs.Limits.{IsNetwork};
 ghost use Rattle.clr_net.specs.declared.TheConstants.{MAX_BANKS, MAX_OWED};
-ghost use Rattle.pay_words.specs.Views.{HasSeenFloor, IsAt, IsCalm, OwesNoRing, holds, is_marked};
-ghost use Rattle.pay_words.specs.Views.{is_of_worker, took};
+ghost use Rattle.pay_words.specs.Views.{IsAt, OwesNoRing, holds, is_of_worker, took};
 ghost use Rattle.std.specs.Prelude.{◌≡◌, ◌+◌, ◌*◌, ◌^◌, ◌<◌, ◌≤◌, ℕ, [], IfErr, IfOk, false};
-ghost use Rattle.std.specs.Prelude.{if◌then◌else◌, length, true};
+ghost use Rattle.std.specs.Prelude.{if◌then◌else◌, length, slice_index, true};
 ghost use Rattle.std.specs.Prelude.{vec_capacity, vec_len};
 
 use crate::calls::Calls;
+use crate::desks::Desks;
 use crate::looks::look_at_all;
 use crate::office::{Office, begin_again};
 use crate::raises::raise_all;
@@ -43,7 +43,7 @@ pub struct SeatBack {
 #[derive(Drop)]
 pub struct Worker {
     seat: PaySeat,
-    desks: Vec<Desk>,
+    desks: Desks,
     worker: u32,
     visits: u64,
     journal: Journal,
@@ -69,7 +69,7 @@ impl Model for Worker {
 
     ghost view = { λ w. record {
       seat = w.seat;
-      desks = w.desks.items;
+      desks = w.desks;
       worker = w.worker;
       visits = w.visits;
       journal = w.journal.raises;
@@ -77,7 +77,7 @@ impl Model for Worker {
 
     ghost invariant = { λ w. IsStaffed (record {
       seat = w.seat;
-      desks = w.desks.items;
+      desks = w.desks;
       worker = w.worker;
       visits = w.visits;
       journal = w.journal.raises;
@@ -198,7 +198,7 @@ impl Worker {
         self.visits += 1;
         self.counted += 1;
         gate.at(self.worker, self.visits);
-        let desk = &self.desks[place];
+        let desk = self.desks.at(place);
         let Ok(()) = self.journal.reserve(desk.debts_out().len()) else {
             return Visit::Mem;
         };
@@ -312,7 +312,7 @@ impl Worker {
         let mut units = 0;
         let mut from = 0;
         'sweep: loop {
-            let place = self.calls.next(whole, from);
+            let place = self.next(board, whole, from);
             if place >= desks {
                 return Visit::Raised(units);
             }
@@ -326,6 +326,32 @@ impl Worker {
         }
     }
 
+    // The next place from this one on where a sweep stops: in a sweep over all desks the first whose
+    // bell is up, else the first that is called; or a place past all desks.
+    fn next(&mut self, board: &Board, whole: bool, from: usize) -> usize
+        requires seat { IsAt board.now self.old.seat }
+        requires from { from ≤ length self.old.desks }
+        ensures same { self.new ≡ self.old }
+        ensures ahead { from ≤ result }
+        ensures down { whole ≡ true
+            → AreDown self.old.seat.shows self.old.desks from result }
+    {
+        if !whole {
+            return self.calls.next(false, from);
+        }
+        first_up(board, &mut self.seat, self.desks.banks(), from)
+    }
+
+    // The bank of a desk.
+    fn bank(&self, place: usize) -> BankId
+        requires { place < length self.now.desks }
+        ensures bank { result.0 ≡ (desk_at self.now.desks place).bank }
+        ensures held { holds self.now.seat.shows result.0 ≡ true }
+    {
+        let banks = self.desks.banks();
+        BankId(banks[place])
+    }
+
     // Takes the bell of a desk's bank, and answers whether it was up.
     fn take(&mut self, board: &Board, place: usize) -> bool
         requires seat { IsAt board.now self.old.seat }
@@ -337,19 +363,35 @@ impl Worker {
                 else self.old.seat.shows;
           };
         } }
-        ensures up_if_fresh { is_marked self.old.seat.shows.fresh (desk_at self.old.desks place).bank ≡ true
-            → result ≡ true }
-        ensures seen_floor { result ≡ false
-            → IsCalm self.old.seat.shows (desk_at self.old.desks place).bank
-            → HasSeenFloor self.old.seat.shows (desk_at self.old.desks place).bank }
+        ensures down { result ≡ false
+            → IsDown self.old.seat.shows (desk_at self.old.desks place).bank }
     {
-        let bank = self.desks[place].bank();
+        let bank = self.bank(place);
         let up = board.take(&mut self.seat, bank);
         if up {
             self.calls.end(place);
         }
         up
     }
+}
+
+// The first place from this one on whose bank has its bell up, or the number of places.
+fn first_up(board: &Board, seat: &mut PaySeat, banks: &[u32], from: usize) -> usize
+    requires seat { IsAt board.now seat.old }
+    requires held { (k : ℕ) → k < length banks.now
+        → holds seat.old.shows (slice_index banks.now k) ≡ true }
+    requires from { from ≤ length banks.now }
+    ensures same { seat.new ≡ seat.old }
+    ensures ahead { (from ≤ result) × (result ≤ length banks.now) }
+    ensures down { (k : ℕ) → from ≤ k → k < result
+        → IsDown seat.old.shows (slice_index banks.now k) }
+{
+    for place in from..banks.len() {
+        if board.glance(seat, BankId(banks[place])) {
+            return place;
+        }
+    }
+    banks.len()
 }
 
 // Visits the bank of a desk, whose raises have room in the journal. The visit has a number that no

@@ -1,24 +1,21 @@
 -- Words for the proofs that each step keeps the rule of the bells.
-use Rattle.std.proofs.Common.{◌≡◌, ◌≢◌, ℕ, zero, suc, ◌+◌, ◌<◌, ◌≤◌, ◌==◌, List, [], ◌∷◌, length, map, set, get_or, sum, sum_by, Bool, true, false, refl, sym, ap, ◌∙◌, subst, ⊎_elim, arith, le_trans, le_of_eq, zero-le, length-set, get_or-set_same, get_or-set_other}
+use Rattle.std.proofs.Common.{◌≡◌, ◌≢◌, ℕ, zero, suc, ◌+◌, ◌*◌, ◌<◌, ◌≤◌, ◌==◌, List, [], ◌∷◌, set, get_or, sum, sum_by, Bool, true, false, refl, sym, ap, ◌∙◌, subst, ⊎_elim, arith, le_trans, le_of_eq, zero-le, length-set, get_or-set_same, get_or-set_other}
 use Rattle.std.specs.Prelude.{if◌then◌else◌}
 use Rattle.std.specs.List.{range_with_len}
-use Rattle.std.proofs.lemmas.Bool.{eq-eqb, ne_eqb, cases_Bool}
-use Rattle.std.proofs.lemmas.List.{ext_get_or, get_or_past}
-use Rattle.std.proofs.lemmas.List.FromFn.{length-range_with_len}
-use Rattle.std.proofs.lemmas.List.Sums.{sum_by-cons, sum_by-set}
+use Rattle.std.proofs.lemmas.Bool.{eq-eqb, ne_eqb, cases_Bool, cond-true, cond-false}
+use Rattle.std.proofs.lemmas.List.{ext_get_or}
+use Rattle.std.proofs.lemmas.List.FromFn.{length-range_with_len, get_or-range_with_len}
+use Rattle.std.proofs.lemmas.List.Sums.{sum_by-cons, sum_by-set, get_or-le-sum_by, sum_by-le, sum-map}
 use mathlib.Core.Option.{some, some-ne-none, some-injective}
 use mathlib.Core.Logic.{dite}
-use native.Mathlib.Decide.{ℕ_discrete, dec_lt}
+use native.Mathlib.Decide.{ℕ_discrete}
 use lib.ListN.{get_elem?}
 use Rattle.atomic_table.proofs.Lists.{at_set}
-use Rattle.clr_net.proofs.Lists.{sum-le, sum-cons}
-use Rattle.clr_net.specs.Amounts.{IsAtMost}
 use Rattle.pay_words.specs.declared.deed.Deed.{Deed}
 use Rattle.pay_words.specs.declared.view.View.{View}
 use Rattle.pay_words.specs.Views.{tabled}
 use Rattle.pay_words.specs.Kept.{Tower, HasBells, how_many}
-use Rattle.pay_words.proofs.Tables.{tabled_at, length-tabled, sum_less}
-use Rattle.pay_words.proofs.Marks.{chooses, refuses}
+use Rattle.pay_words.proofs.Tables.{tabled_at, length-tabled, sum_less, tabled_most}
 use Rattle.pay_words.proofs.Views.{within_length}
 
 -- a function that is changed at one number
@@ -26,12 +23,13 @@ abbrev pub changed : {A : Type 0} → ℕ → A → (ℕ → A) → ℕ → A
 changed x a f y = if y == x then a else f y
 
 pub changed_here : {A : Type 0} (x : ℕ) (a : A) (f : ℕ → A) (y : ℕ) → y ≡ x → changed x a f y ≡ a
-changed_here x a f y e = chooses (y == x) a (f y) (eq-eqb y x e)
+changed_here x a f y e = cond-true (y == x) a (f y) (eq-eqb y x e)
 
 pub changed_else : {A : Type 0} (x : ℕ) (a : A) (f : ℕ → A) (y : ℕ) → y ≢ x → changed x a f y ≡ f y
-changed_else x a f y ne = refuses (y == x) a (f y) (ne_eqb y x ne)
+changed_else x a f y ne = cond-false (y == x) a (f y) (ne_eqb y x ne)
 
-got : {A : Type 0} (l : List A) (i : ℕ) (a d : A) → get_elem? l i ≡ some a → get_or l i d ≡ a
+-- what stands in a place of a list
+pub got : {A : Type 0} (l : List A) (i : ℕ) (a d : A) → get_elem? l i ≡ some a → get_or l i d ≡ a
 got [] i a d e = absurd (some-ne-none a (sym e))
 got (x ∷ xs) zero a d e = some-injective x a e
 got (x ∷ xs) (suc i) a d e = got xs i a d e
@@ -42,9 +40,7 @@ sum_views f views id v w at = subst (λ (u : View). sum_by f (set views id w) + 
 
 -- a sum over all views is at least what one has, and it is that where the others have nothing
 pub sum_least : (f : View → ℕ) (views : List View) (id : ℕ) (v : View) → get_elem? views id ≡ some v → f v ≤ sum_by f views
-sum_least f [] id v at = absurd (some-ne-none v (sym at))
-sum_least f (x ∷ xs) zero v at = omega (arith, sum_by-cons f x xs, ap f (some-injective x v at))
-sum_least f (x ∷ xs) (suc id) v at = omega (arith, sum_by-cons f x xs, sum_least f xs id v at)
+sum_least f views id v at = subst (λ (u : View). f u ≤ sum_by f views) (got views id v v at) (get_or-le-sum_by f views id v (within_length views id v at))
 
 sum_none : (f : View → ℕ) (views : List View) → ((j : ℕ) (u : View) → get_elem? views j ≡ some u → f u ≡ 0) → sum_by f views ≡ 0
 sum_none f [] h = refl
@@ -74,24 +70,17 @@ sum_changed n f g c lt same =
     let at : get_or (tabled n f) c 0 ≡ f c = tabled_at n f c 0 lt in
     omega (arith, ap sum is, sum_by-set (λ (m : ℕ). m) (tabled n f) c (g c) 0 (omega (arith, lt, length-tabled n f)), at)
 
-pub tabled_most : (n : ℕ) (f g : ℕ → ℕ) → ((x : ℕ) → x < n → f x ≤ g x) → IsAtMost (tabled n f) (tabled n g)
-tabled_most n f g h x = dite (dec_lt x n)
-    (λ lt. omega (arith, tabled_at n f x 0 lt, tabled_at n g x 0 lt, h x lt))
-    (λ ge. let far : length (tabled n f) ≤ x = omega (arith, length-tabled n f) in omega (arith, get_or_past (tabled n f) x 0 far))
-
-ones : (xs : List ℕ) → sum (map (λ (_ : ℕ). 1) xs) ≡ length xs
-ones [] = refl
-ones (x ∷ xs) = omega (arith, sum-cons 1 (map (λ (_ : ℕ). 1) xs), ones xs)
-
-zeros : (xs : List ℕ) → sum (map (λ (_ : ℕ). 0) xs) ≡ 0
-zeros [] = refl
-zeros (x ∷ xs) = omega (arith, sum-cons 0 (map (λ (_ : ℕ). 0) xs), zeros xs)
-
-pub sum_of_ones : (n : ℕ) (f : ℕ → ℕ) → ((x : ℕ) → x < n → f x ≤ 1) → sum (tabled n f) ≤ n
-sum_of_ones n f h = omega (arith, sum-le (tabled n f) (tabled n (λ _. 1)) (tabled_most n f (λ _. 1) h), ones (range_with_len 0 n), length-range_with_len 0 n)
-
-pub sum_of_zeros : (n : ℕ) (f : ℕ → ℕ) → ((x : ℕ) → x < n → f x ≤ 0) → sum (tabled n f) ≤ 0
-sum_of_zeros n f h = omega (arith, sum-le (tabled n f) (tabled n (λ _. 0)) (tabled_most n f (λ _. 0) h), zeros (range_with_len 0 n))
+-- a sum over a table of numbers that are low
+pub sum_low : (n m : ℕ) (f : ℕ → ℕ) → ((x : ℕ) → x < n → f x ≤ m) → sum (tabled n f) ≤ n * m
+sum_low n m f h = omega (
+  arith,
+  sum-map f (range_with_len 0 n),
+  sum_by-le f m (range_with_len 0 n) (λ k d l.
+      let low : k < n = omega (arith, length-range_with_len 0 n) in
+      let at : get_or (range_with_len 0 n) k d ≡ k = omega (arith, get_or-range_with_len 0 n k d low) in
+      subst (λ x. f x ≤ m) (sym at) (h k low)),
+  ap (λ l. l * m) (length-range_with_len 0 n),
+)
 
 pub marks_grow_by_one : (n : ℕ) (marks : ℕ → Bool) (x : ℕ) → x < n → how_many n (changed x true marks) ≤ how_many n marks + 1
 marks_grow_by_one n marks x lt =

@@ -1,9 +1,7 @@
 -- What the words and the raises are when a board is closed by a master that holds all banks.
-use Rattle.std.proofs.Common.{◌≡◌, ℕ, zero, suc, ◌+◌, ◌<◌, ◌≤◌, All, List, [], ◌∷◌, ◌++◌, length, get_or, sum, Bool, true, false, inl, inr, refl, sym, ap, ◌∙◌, subst, ⊎_elim, arith}
+use Rattle.std.proofs.Common.{◌≡◌, ℕ, zero, suc, ◌+◌, ◌<◌, ◌≤◌, All, List, [], ◌∷◌, ◌++◌, length, get_or, sum, Bool, true, false, inl, inr, refl, sym, ap, ◌∙◌, subst, arith}
 use Rattle.std.specs.Prelude.{slice_index, if◌then◌else◌}
 use Rattle.std.proofs.lemmas.List.{append-nil, ext_get_or}
-use mathlib.Core.Option.{some, some-ne-none, some-injective}
-use lib.ListN.{get_elem?}
 use Rattle.atomic_table.specs.Table.{Final, Seen}
 use Rattle.clr_net.specs.Amounts.{IsAtMost}
 use Rattle.clr_net.specs.Net.{Net, debtor_of, debt_numbers}
@@ -24,19 +22,14 @@ use Rattle.pay_words.specs.Kept.{Ledger, Suits, taken_of, made_of, own_raises}
 use Rattle.pay_words.proofs.Tables.{tabled_at, tabled_agree, length-tabled}
 use Rattle.pay_words.proofs.Traces.{among_raises_of, under_ending, read_back}
 use Rattle.pay_words.proofs.Lawful.{value_fits, paid_in_below}
-use Rattle.pay_words.proofs.Pasts.{covered, mapped_twice}
+use Rattle.pay_words.proofs.Pasts.{covered}
 use Rattle.pay_words.proofs.Orders.{in_ordered, same_of}
 use Rattle.pay_words.proofs.Histories.{lawful_agree, history_of, replayed_is}
 use Rattle.pay_words.proofs.Views.{rule, not_both}
-use Rattle.pay_words.proofs.Marks.{chooses}
 use Rattle.pay_words.proofs.Bells.{sum_least, sum_alone}
-use Rattle.std.proofs.lemmas.Bool.{cases_Bool}
+use Rattle.std.proofs.lemmas.Bool.{cond-true, false_from_ne_true}
 use Rattle.std.proofs.Common.{◌≢◌}
-
-pub get_here : (xs : List ℕ) (i n : ℕ) → get_elem? xs i ≡ some n → slice_index xs i ≡ n
-get_here [] i n e = absurd (some-ne-none n (sym e))
-get_here (x ∷ xs) zero n e = some-injective _ _ e
-get_here (x ∷ xs) (suc i) n e = get_here xs i n e
+use mathlib.Core.List.{map-map}
 
 in_at : (rs : List Raise) (k : ℕ) (d : Raise) → k < length rs → In (get_or rs k d) rs
 in_at [] k d lt = absurd (omega (arith, lt))
@@ -52,7 +45,7 @@ module _ (net : Net) (raises : List Raise) (known : (r : Raise) → In r raises 
   payments = start_of net raises
 
   values_are : values payments ≡ paid_in net t
-  values_are = mapped_twice (λ (p : Payment). p.value) (λ (x : ℕ). last_payment x raises) (debt_numbers net)
+  values_are = map-map (λ (p : Payment). p.value) (λ (x : ℕ). last_payment x raises) (debt_numbers net)
 
   low_stamp : (r : Raise) → In r raises → r.stamp ≤ sum (values payments)
   low_stamp r i =
@@ -98,7 +91,7 @@ made_none d k roll count id j v u f chief all apart fits = go u.live refl
     made : u.live ≡ true → length u.shown.raises ≡ 0
     made on = none u.shown.raises (λ r i.
         let g = fits on in
-        let plain : u.shown.master ≡ false = ⊎_elim (λ (e : u.shown.master ≡ true). absurd (apart ((g.leads e).0 ∙ sym (f.leads chief).0))) (λ (e : u.shown.master ≡ false). e) (cases_Bool u.shown.master) in
+        let plain : u.shown.master ≡ false = false_from_ne_true u.shown.master (λ e. apart ((g.leads e).0 ∙ sym (f.leads chief).0)) in
         let o = g.only r (subst (λ (b : Bool). In r (own_raises b u.shown.raises)) (sym plain) i) in
         not_both d k roll count id j u v (debtor_of d.net r.debt.0) apart f (all r.debt.0 o.0) g o.1)
 
@@ -149,7 +142,7 @@ closes d id v ws xs on chief all final =
             let r = h.rung in
             let taken = sum_least taken_of s.views id v final.1.1 in
             let made = sum_alone made_of s.views id v final.1.1 (λ j u ne e. made_none d k (slice_index s.words 0) (length s.views) id j v u f chief mine ne (λ o. h.fits j u e o)) in
-            omega (arith, r.few, taken, made, chooses v.live v.shown.taken 0 on, chooses v.live (length v.shown.raises) 0 on);
+            omega (arith, r.few, taken, made, cond-true v.live v.shown.taken 0 on, cond-true v.live (length v.shown.raises) 0 on);
         after_past = λ a b lt i j l. f.late (get_or v.shown.raises a b) (in_at v.shown.raises a b lt) (get_or d.past i j) (in_at d.past i j l);
       };
     }

@@ -1,7 +1,7 @@
 -- Which banks a master holds while seats are handed out and taken back.
-use Rattle.std.proofs.Common.{◌≡◌, ◌≢◌, ℕ, ◌<◌, length, true, false, sym, ◌∙◌, ⊎_elim, eqb-true}
+use Rattle.std.proofs.Common.{◌≡◌, ◌≢◌, ℕ, ◌<◌, length, true, sym, ◌∙◌, eqb-true}
 use Rattle.std.specs.Prelude.{◌%◌}
-use Rattle.std.proofs.lemmas.Bool.{cases_Bool}
+use Rattle.std.proofs.lemmas.Bool.{false_from_ne_true}
 use Rattle.pay_words.specs.declared.view.Shown.{Shown}
 use Rattle.pay_words.specs.Views.{HoldsAll, HoldsAllOf, holds, is_of_worker, handed, without, rejoined}
 use Rattle.pay_words.proofs.Marks.{marked}
@@ -14,10 +14,8 @@ holds_of_all workers i s all b lt e = all b lt
 
 -- what is handed to one worker is not missing for another
 pub holds_of_others : (workers i j : ℕ) (s : Shown) → i ≢ j → HoldsAllOf workers j s → HoldsAllOf workers j (without workers i s)
-holds_of_others workers i j s apart all b lt e = stays workers i s b lt (all b lt e) (⊎_elim
-    (λ (t : goes workers i s b ≡ true). absurd (apart (sym (eqb-true (b % workers) i (goes_if workers i s b t).1) ∙ eqb-true (b % workers) j e)))
-    (λ (f : goes workers i s b ≡ false). f)
-    (cases_Bool (goes workers i s b)))
+holds_of_others workers i j s apart all b lt e = stays workers i s b lt (all b lt e)
+    (false_from_ne_true (goes workers i s b) (λ t. apart (sym (eqb-true (b % workers) i (goes_if workers i s b t).1) ∙ eqb-true (b % workers) j e)))
 
 -- the banks of a worker are back with its seat
 pub holds_of_back : (workers i : ℕ) (s t : Shown) → ((b : ℕ) → b < length s.net.banks → is_of_worker workers i b ≡ true → holds t b ≡ true) → HoldsAllOf workers i (rejoined s t)

@@ -13,8 +13,8 @@ use Rattle.clear_core.specs.declared.event.Raise.{Raise}
 use Rattle.clear_core.proofs.Pay.{pay_at}
 use Rattle.pay_words.specs.declared.payment.Payment.{Payment}
 use Rattle.pay_words.specs.Words.{unpaid}
-use Rattle.pay_words.specs.Traces.{Traces, IsLawful, In, Rise, ending, ending_from, raises_of, last_payment, start_of, paid_to, paid_in, total}
-use Rattle.pay_words.proofs.Tables.{tabled_at, length-tabled}
+use Rattle.pay_words.specs.Traces.{Traces, IsLawful, In, Rise, ending, ending_from, raises_of, last_payment, start_of, paid_to, total}
+use Rattle.pay_words.proofs.Tables.{tabled_at, length-tabled, tabled_agree}
 use Rattle.pay_words.proofs.Marks.{column_agree}
 use Rattle.pay_words.proofs.Traces.{among_raises_of}
 use Rattle.pay_words.proofs.Pasts.{before_of}
@@ -31,10 +31,7 @@ lawful_agree net t u h same = record {
 }
   where
     all : total net u ≡ total net t
-    all = ap sum (ext_get_or 0 (paid_in net u) (paid_in net t)
-        (length-tabled (length net.debts) (λ y. (ending (u y)).value) ∙ sym (length-tabled (length net.debts) (λ y. (ending (t y)).value)))
-        (λ x lt. let l : x < length net.debts = omega (arith, lt, length-tabled (length net.debts) (λ y. (ending (u y)).value)) in
-        tabled_at (length net.debts) (λ y. (ending (u y)).value) x 0 l ∙ ap (λ (rs : List Raise). (ending rs).value) (same x l) ∙ sym (tabled_at (length net.debts) (λ y. (ending (t y)).value) x 0 l)))
+    all = ap sum (tabled_agree 0 (length net.debts) (λ y. (ending (u y)).value) (λ y. (ending (t y)).value) (λ y l. ap (λ (rs : List Raise). (ending rs).value) (same y l)))
 
 in_got : (rs : List Raise) (i : ℕ) (r : Raise) → slice_get rs i ≡ Some r → In r rs
 in_got [] i r e = absurd (cc)

@@ -1,8 +1,9 @@
 -- The master takes a seat back.
-use Rattle.std.proofs.Common.{◌≡◌, ◌≢◌, ◌⊎◌, ℕ, ◌+◌, ◌<◌, ◌≤◌, max, List, [], ◌++◌, length, set, Bool, true, false, true≢false, inl, inr, refl, sym, ap, ◌∙◌, subst, ⊎_elim, arith, le_trans, le_of_eq, length-set, append_assoc}
+use Rattle.std.proofs.Common.{◌≡◌, ◌≢◌, ◌⊎◌, ℕ, ◌+◌, ◌<◌, ◌≤◌, max, List, [], ◌++◌, length, set, Bool, true, false, true≢false, refl, sym, ap, ◌∙◌, subst, ⊎_elim, arith, le_trans, le_of_eq, length-set, append_assoc}
 use Rattle.std.specs.Prelude.{slice_index, if◌then◌else◌, ◌||◌}
-use Rattle.std.proofs.lemmas.Bool.{cases_Bool}
+use Rattle.std.proofs.lemmas.Bool.{cases_Bool, cond-true, cond-false, or_cases, or_left, or_right, false_from_ne_true}
 use Rattle.std.proofs.lemmas.List.{append-nil}
+use mathlib.Core.Logic.{⊎_map}
 use mathlib.Core.Option.{some, some-injective}
 use lib.ListN.{get_elem?}
 use Rattle.atomic_table.specs.Table.{Joins}
@@ -17,10 +18,10 @@ use Rattle.pay_words.specs.declared.view.Shown.{Shown}
 use Rattle.pay_words.specs.declared.view.View.{View}
 use Rattle.pay_words.specs.Views.{IsSound, OwesNoRing, is_marked, holds, rejoined, rejoined_over}
 use Rattle.pay_words.specs.Traces.{Traces, Stood, In, ending, raises_of}
-use Rattle.pay_words.specs.Kept.{Ledger, Suits, Sits, Tower, HasBells, IsCalled, IsRung, taken_of, made_of, own_raises, both_of, nobody, showing}
+use Rattle.pay_words.specs.Kept.{Ledger, Suits, Sits, Tower, HasBells, IsRung, taken_of, made_of, own_raises, both_of, nobody, showing}
 use Rattle.pay_words.proofs.Tables.{length-tabled}
 use Rattle.pay_words.proofs.Traces.{in_split, raises_of-append, raises_of-none}
-use Rattle.pay_words.proofs.Marks.{marked_if, marked, either_marked, first_marked, second_marked, chooses, refuses, chosen_second, chosen_first, chosen_each, chosen_most, length-chosen, receipts_agree}
+use Rattle.pay_words.proofs.Marks.{marked_if, marked, chosen_second, chosen_first, chosen_each, chosen_most, length-chosen, receipts_agree}
 use Rattle.pay_words.proofs.Views.{rule, fits_set, sits_set, within_length}
 use Rattle.pay_words.proofs.Bells.{sum_views, has_set}
 use Rattle.pay_words.proofs.Rung.{called_still}
@@ -37,19 +38,19 @@ module _ (net : Net) (s t : Shown) where
   both = rejoined_over net s t
 
   pub held_if : (b : ℕ) → holds both b ≡ true → (b < length net.banks) × ((holds s b ≡ true) ⊎ (holds t b ≡ true))
-  held_if b e = let g = marked_if (length net.banks) (λ c. holds s c || holds t c) b e in (g.0, either_marked (holds s b) (holds t b) g.1)
+  held_if b e = let g = marked_if (length net.banks) (λ c. holds s c || holds t c) b e in (g.0, or_cases (holds s b) (holds t b) g.1)
 
   pub held_first : (b : ℕ) → b < length net.banks → holds s b ≡ true → holds both b ≡ true
-  held_first b lt e = marked (length net.banks) (λ c. holds s c || holds t c) b lt (first_marked (holds s b) (holds t b) e)
+  held_first b lt e = marked (length net.banks) (λ c. holds s c || holds t c) b lt (or_left (holds s b) (holds t b) e)
 
   pub held_second : (b : ℕ) → b < length net.banks → holds t b ≡ true → holds both b ≡ true
-  held_second b lt e = marked (length net.banks) (λ c. holds s c || holds t c) b lt (second_marked (holds s b) (holds t b) e)
+  held_second b lt e = marked (length net.banks) (λ c. holds s c || holds t c) b lt (or_right (holds s b) (holds t b) e)
 
-  -- the debts of a bank of the second seat, and of another that the two hold
-  pub by_debtor : {P : Type 0} (x : ℕ) → holds both (debtor_of net x) ≡ true → (owes x ≡ true → P) → (owes x ≡ false → holds s (debtor_of net x) ≡ true → P) → P
-  by_debtor x e f g = ⊎_elim f
-      (λ (no' : owes x ≡ false). ⊎_elim (λ (h : holds s (debtor_of net x) ≡ true). g no' h) (λ (h : holds t (debtor_of net x) ≡ true). absurd (true≢false (sym h ∙ no'))) (held_if (debtor_of net x) e).1)
-      (cases_Bool (owes x))
+  -- a bank that the two hold is the second seat's, or the first's alone
+  pub by_holder : {P : Type 0} (b : ℕ) → holds both b ≡ true → (holds t b ≡ true → P) → (holds t b ≡ false → holds s b ≡ true → P) → P
+  by_holder b e f g = ⊎_elim f
+      (λ (no' : holds t b ≡ false). ⊎_elim (g no') (λ (h : holds t b ≡ true). absurd (true≢false (sym h ∙ no'))) (held_if b e).1)
+      (cases_Bool (holds t b))
 
   seen_second : (b : ℕ) → holds t b ≡ true → receipts net both.sights b ≡ receipts net t.sights b
   seen_second b e = receipts_agree net both.sights t.sights b (λ x lt is. chosen_second 0 (length net.debts) gets s.sights t.sights x lt (ap (holds t) is ∙ e))
@@ -60,7 +61,7 @@ module _ (net : Net) (s t : Shown) where
   within_both : ((x : ℕ) → x < length net.debts → holds s (debtor_of net x) ≡ true → slice_index s.paid x ≤ part net x (receipts net s.sights (debtor_of net x)))
       → ((x : ℕ) → x < length net.debts → holds t (debtor_of net x) ≡ true → slice_index t.paid x ≤ part net x (receipts net t.sights (debtor_of net x)))
       → (x : ℕ) → x < length net.debts → holds both (debtor_of net x) ≡ true → slice_index both.paid x ≤ part net x (receipts net both.sights (debtor_of net x))
-  within_both f g x lt e = by_debtor x e
+  within_both f g x lt e = by_holder (debtor_of net x) e
       (λ h. subst (λ (y : ℕ × ℕ). y.0 ≤ part net x y.1) (λ k. (sym (chosen_second 0 (length net.debts) owes s.paid t.paid x lt h) k, sym (seen_second (debtor_of net x) h) k)) (g x lt h))
       (λ h mine. subst (λ (y : ℕ × ℕ). y.0 ≤ part net x y.1) (λ k. (sym (chosen_first 0 (length net.debts) owes s.paid t.paid x lt h) k, sym (seen_first (debtor_of net x) h) k)) (f x lt mine))
 
@@ -125,15 +126,11 @@ module _ (d : Deed) (k : Ledger) (roll count id other : ℕ) (v w : View) (apart
   both_suits sound = record {
     net_is = f.net_is;
     sound = sound;
-    mine = λ b e. ⊎_elim
-        (λ (h : holds t b ≡ true). chooses (holds t b) id (k.owner b) h)
-        (λ (h : holds t b ≡ false). refuses (holds t b) id (k.owner b) h
-        ∙ f.mine b (⊎_elim (λ (a : holds s b ≡ true). a) (λ (a : holds t b ≡ true). absurd (true≢false (sym a ∙ h))) (held_if d.net s t b e).1))
-        (cases_Bool (holds t b));
-    pays = λ x lt e. by_debtor d.net s t x e
+    mine = λ b e. by_holder d.net s t b e (cond-true (holds t b) id (k.owner b)) (λ h own. cond-false (holds t b) id (k.owner b) h ∙ f.mine b own);
+    pays = λ x lt e. by_holder d.net s t (debtor_of d.net x) e
         (λ h. (λ i. record { value = chosen_second 0 debts (owes d.net s t) s.paid t.paid x lt h i; stamp = chosen_second 0 debts (owes d.net s t) s.paid_stamps t.paid_stamps x lt h i }) ∙ g.pays x lt h)
         (λ h mine. (λ i. record { value = chosen_first 0 debts (owes d.net s t) s.paid t.paid x lt h i; stamp = chosen_first 0 debts (owes d.net s t) s.paid_stamps t.paid_stamps x lt h i }) ∙ f.pays x lt mine);
-    told = λ x lt e. by_debtor d.net s t x e (λ h. told_second x lt h ∙ sym (more_base x)) (λ h mine. told_first x lt mine ∙ sym (same_base x h))
+    told = λ x lt e. by_holder d.net s t (debtor_of d.net x) e (λ h. told_second x lt h ∙ sym (more_base x)) (λ h mine. told_first x lt mine ∙ sym (same_base x h))
         ∙ sym (ap (λ (rs : List Raise). raises_of x (k.base ++ t.raises) ++ rs) (none_own x (s.raises ++ t.raises)) ∙ append-nil (raises_of x (k.base ++ t.raises)));
     only = λ r j. absurd (subst (λ (b : Bool). In r (own_raises b (s.raises ++ t.raises))) chief j);
     stood = λ x lt. ⊎_elim
@@ -145,7 +142,7 @@ module _ (d : Deed) (k : Ledger) (roll count id other : ℕ) (v w : View) (apart
     floor = chosen_each 0 debts (owes d.net s t) s.floor t.paid (λ x m. m ≤ (ending (k.trace x)).value) (λ x lt _. f.floor x lt)
         (λ x lt h. le_of_eq (ap (λ (p : Payment). p.value) (g.pays x lt h)));
     seen_by_clock = chosen_most debts (gets d.net s t) s.sight_stamps t.sight_stamps (λ _. max s.clock t.clock) (λ x. omega (arith, f.seen_by_clock x)) (λ x. omega (arith, g.seen_by_clock x));
-    paid_by_clock = λ x lt e. by_debtor d.net s t x e (λ h. omega (arith, g.paid_by_clock x lt h)) (λ h mine. omega (arith, f.paid_by_clock x lt mine));
+    paid_by_clock = λ x lt e. by_holder d.net s t (debtor_of d.net x) e (λ h. omega (arith, g.paid_by_clock x lt h)) (λ h mine. omega (arith, f.paid_by_clock x lt mine));
     past_by_clock = λ r i. omega (arith, f.past_by_clock r i);
     late = λ r i. ⊎_elim (λ (j : In r s.raises). f.late r j) (λ (j : In r t.raises). g.late r j) (in_split s.raises t.raises r i);
     clock_low = omega (arith, f.clock_low, g.clock_low);
@@ -157,7 +154,7 @@ module _ (d : Deed) (k : Ledger) (roll count id other : ℕ) (v w : View) (apart
   third_suits j u away far a = record {
     net_is = a.net_is;
     sound = a.sound;
-    mine = λ b e. refuses (holds t b) id (k.owner b) (outside b e) ∙ a.mine b e;
+    mine = λ b e. cond-false (holds t b) id (k.owner b) (outside b e) ∙ a.mine b e;
     pays = a.pays;
     told = λ x lt e. a.told x lt e ∙ ap (λ (rs : List Raise). rs ++ raises_of x (own_raises u.shown.master u.shown.raises)) (sym (same_base x (outside _ e)));
     only = a.only;
@@ -172,7 +169,7 @@ module _ (d : Deed) (k : Ledger) (roll count id other : ℕ) (v w : View) (apart
   }
     where
       outside : (b : ℕ) → holds u.shown b ≡ true → holds t b ≡ false
-      outside b e = ⊎_elim (λ (h : holds t b ≡ true). absurd (far (sym (a.mine b e) ∙ g.mine b h))) (λ (h : holds t b ≡ false). h) (cases_Bool (holds t b))
+      outside b e = false_from_ne_true (holds t b) (λ h. far (sym (a.mine b e) ∙ g.mine b h))
 
 -- the bells come back with their banks
 module _ (d : Deed) (t : Traces) (words : List ℕ) (views : List View) (id other : ℕ) (v w : View) (h : IsRung d t words views)
@@ -191,8 +188,8 @@ module _ (d : Deed) (t : Traces) (words : List ℕ) (views : List View) (id othe
 
   level_up : (x : ℕ) → x < length d.net.debts → lower.level x ≤ raised_level x
   level_up x lt = ⊎_elim
-      (λ (e : back x ≡ true). le_trans (h.levels x lt) (le_of_eq (sym (chooses (back x) (ending (t x)).value (lower.level x) e))))
-      (λ (e : back x ≡ false). le_of_eq (sym (refuses (back x) (ending (t x)).value (lower.level x) e)))
+      (λ (e : back x ≡ true). le_trans (h.levels x lt) (le_of_eq (sym (cond-true (back x) (ending (t x)).value (lower.level x) e))))
+      (λ (e : back x ≡ false). le_of_eq (sym (cond-false (back x) (ending (t x)).value (lower.level x) e)))
       (cases_Bool (back x))
 
   third_has : (u : View) → HasBells d lower u → HasBells d higher u
@@ -200,33 +197,25 @@ module _ (d : Deed) (t : Traces) (words : List ℕ) (views : List View) (id othe
 
   both_has : HasBells d lower v → HasBells d lower w → HasBells d higher (showing v (rejoined_over d.net v.shown w.shown))
   both_has f g = record {
-    seen = λ x lt m. by_creditor x lt m
+    seen = λ x lt m. by_holder d.net v.shown w.shown (creditor_of d.net x) m
         (λ e. chosen_second 0 n (gets d.net v.shown w.shown) v.shown.sights w.shown.sights x lt e ∙ g.seen x lt e)
         (λ e own. chosen_first 0 n (gets d.net v.shown w.shown) v.shown.sights w.shown.sights x lt e ∙ f.seen x lt own);
-    pend = λ x lt m. by_creditor x lt m
+    pend = λ x lt m. by_holder d.net v.shown w.shown (creditor_of d.net x) m
         (λ e. chosen_second false n (gets d.net v.shown w.shown) v.shown.pending w.shown.pending x lt e ∙ g.pend x lt e)
         (λ e own. chosen_first false n (gets d.net v.shown w.shown) v.shown.pending w.shown.pending x lt e ∙ f.pend x lt own);
-    owed = λ x lt m. by_debtor d.net v.shown w.shown x m
+    owed = λ x lt m. by_holder d.net v.shown w.shown (debtor_of d.net x) m
         (λ e. chosen_second false n (owes d.net v.shown w.shown) v.shown.owes_ring w.shown.owes_ring x lt e ∙ g.owed x lt e)
         (λ e own. chosen_first false n (owes d.net v.shown w.shown) v.shown.owes_ring w.shown.owes_ring x lt e ∙ f.owed x lt own);
     level = chosen_each 0 n (owes d.net v.shown w.shown) v.shown.floor w.shown.paid (λ x m. m ≤ raised_level x)
         (λ x lt e. le_trans (f.level x lt) (level_up x lt))
-        (λ x lt e. le_of_eq (paid x lt e ∙ sym (chooses (back x) (ending (t x)).value (lower.level x) e)));
-    fresh = λ b lt m. ⊎_elim
-        (λ (e : holds w.shown b ≡ true). chosen_second false (length d.net.banks) (holds w.shown) v.shown.fresh w.shown.fresh b lt e ∙ g.fresh b lt e)
-        (λ (e : holds w.shown b ≡ false). chosen_first false (length d.net.banks) (holds w.shown) v.shown.fresh w.shown.fresh b lt e
-        ∙ f.fresh b lt (⊎_elim (λ (own : holds v.shown b ≡ true). own) (λ (no' : holds w.shown b ≡ true). absurd (true≢false (sym no' ∙ e))) (held_if d.net v.shown w.shown b m).1))
-        (cases_Bool (holds w.shown b));
+        (λ x lt e. le_of_eq (paid x lt e ∙ sym (cond-true (back x) (ending (t x)).value (lower.level x) e)));
+    fresh = λ b lt m. by_holder d.net v.shown w.shown b m
+        (λ e. chosen_second false (length d.net.banks) (holds w.shown) v.shown.fresh w.shown.fresh b lt e ∙ g.fresh b lt e)
+        (λ e own. chosen_first false (length d.net.banks) (holds w.shown) v.shown.fresh w.shown.fresh b lt e ∙ f.fresh b lt own);
   }
     where
       n : ℕ
       n = length d.net.debts
-
-      by_creditor : {P : Type 0} (x : ℕ) → x < length d.net.debts → holds (rejoined_over d.net v.shown w.shown) (creditor_of d.net x) ≡ true → (holds w.shown (creditor_of d.net x) ≡ true → P)
-          → (holds w.shown (creditor_of d.net x) ≡ false → holds v.shown (creditor_of d.net x) ≡ true → P) → P
-      by_creditor x lt m a b = ⊎_elim a
-          (λ (e : holds w.shown (creditor_of d.net x) ≡ false). b e (⊎_elim (λ (own : holds v.shown (creditor_of d.net x) ≡ true). own) (λ (no' : holds w.shown (creditor_of d.net x) ≡ true). absurd (true≢false (sym no' ∙ e))) (held_if d.net v.shown w.shown (creditor_of d.net x) m).1))
-          (cases_Bool (holds w.shown (creditor_of d.net x)))
 
   module _ (at : get_elem? views id ≡ some v) (on : v.live ≡ true) (was : get_elem? views other ≡ some w) (also : w.live ≡ true) (apart : other ≢ id) (joined : View) (still : joined.live ≡ true) (has_both : HasBells d higher joined)
       (taken : joined.shown.taken ≡ v.shown.taken + w.shown.taken) (made : length joined.shown.raises ≡ length v.shown.raises + length w.shown.raises) where
@@ -234,27 +223,21 @@ module _ (d : Deed) (t : Traces) (words : List ℕ) (views : List View) (id othe
     rung_join = record {
       tower = higher;
       bells = h.bells;
-      answered = λ x lt. ⊎_elim
-          (λ (a : lower.seen x ≡ (ending (t x)).value). inl a)
-          (λ (a : IsCalled d.net words lower x ⊎ (lower.owed x ≡ true)). inr (⊎_elim (λ (c : IsCalled d.net words lower x). inl (called_still d.net words words lower higher x refl refl c)) (λ (o : lower.owed x ≡ true). inr o) a))
-          (h.answered x lt);
+      answered = λ x lt. ⊎_map (λ a. a) (⊎_map (called_still d.net words words lower higher x refl refl) (λ o. o)) (h.answered x lt);
       lifted = λ x lt. ⊎_elim
           (λ (e : back x ≡ true).
-          let level = chooses (back x) (ending (t x)).value (lower.level x) e in
+          let level = cond-true (back x) (ending (t x)).value (lower.level x) e in
           let no_ring : lower.owed x ≡ false = sym ((h.has other w was also).owed x lt e) ∙ calm x lt e in
-          ⊎_elim
-          (λ (a : lower.seen x ≡ (ending (t x)).value). inl (le_of_eq (level ∙ sym a)))
-          (λ (a : IsCalled d.net words lower x ⊎ (lower.owed x ≡ true)). ⊎_elim
-          (λ (c : IsCalled d.net words lower x). inr (called_still d.net words words lower higher x refl refl c))
-          (λ (o : lower.owed x ≡ true). absurd (true≢false (sym o ∙ no_ring))) a)
+          ⊎_map (λ a. le_of_eq (level ∙ sym a))
+          (⊎_elim (called_still d.net words words lower higher x refl refl) (λ (o : lower.owed x ≡ true). absurd (true≢false (sym o ∙ no_ring))))
           (h.answered x lt))
           (λ (e : back x ≡ false).
-          let level = refuses (back x) (ending (t x)).value (lower.level x) e in
-          ⊎_elim (λ (a : lower.level x ≤ lower.seen x). inl (le_trans (le_of_eq level) a)) (λ (c : IsCalled d.net words lower x). inr (called_still d.net words words lower higher x refl refl c)) (h.lifted x lt))
+          let level = cond-false (back x) (ending (t x)).value (lower.level x) e in
+          ⊎_map (λ a. le_trans (le_of_eq level) a) (called_still d.net words words lower higher x refl refl) (h.lifted x lt))
           (cases_Bool (back x));
       levels = λ x lt. ⊎_elim
-          (λ (e : back x ≡ true). le_of_eq (chooses (back x) (ending (t x)).value (lower.level x) e))
-          (λ (e : back x ≡ false). le_trans (le_of_eq (refuses (back x) (ending (t x)).value (lower.level x) e)) (h.levels x lt))
+          (λ (e : back x ≡ true). le_of_eq (cond-true (back x) (ending (t x)).value (lower.level x) e))
+          (λ (e : back x ≡ false). le_trans (le_of_eq (cond-false (back x) (ending (t x)).value (lower.level x) e)) (h.levels x lt))
           (cases_Bool (back x));
       fresh = h.fresh;
       few =
@@ -269,12 +252,12 @@ module _ (d : Deed) (t : Traces) (words : List ℕ) (views : List View) (id othe
             sum_views made_of one other w nobody there,
             taken,
             made,
-            chooses joined.live joined.shown.taken 0 still,
-            chooses v.live v.shown.taken 0 on,
-            chooses w.live w.shown.taken 0 also,
-            chooses joined.live (length joined.shown.raises) 0 still,
-            chooses v.live (length v.shown.raises) 0 on,
-            chooses w.live (length w.shown.raises) 0 also,
+            cond-true joined.live joined.shown.taken 0 still,
+            cond-true v.live v.shown.taken 0 on,
+            cond-true w.live w.shown.taken 0 also,
+            cond-true joined.live (length joined.shown.raises) 0 still,
+            cond-true v.live (length v.shown.raises) 0 on,
+            cond-true w.live (length w.shown.raises) 0 also,
           );
       has = has_set d higher (set views id joined) other nobody
           (λ j u far e o. ⊎_elim
@@ -320,9 +303,9 @@ joins d id v other w may s h at apart there =
       lawful = h.lawful;
       known = λ r i. ⊎_elim (λ (j : In r k.base). h.known r j) (λ (j : In r w.shown.raises). (g.only r (subst (λ (b : Bool). In r (own_raises b w.shown.raises)) (sym may.plain) j)).0) (in_split k.base w.shown.raises r i);
       held = λ b lt. ⊎_elim
-          (λ (t : holds w.shown b ≡ true). subst (λ (j : ℕ). Sits two j (λ u. holds u.shown b ≡ true)) (sym (chooses (holds w.shown b) id (k.owner b) t))
+          (λ (t : holds w.shown b ≡ true). subst (λ (j : ℕ). Sits two j (λ u. holds u.shown b ≡ true)) (sym (cond-true (holds w.shown b) id (k.owner b) t))
           (joined, seat, may.live, held_second v.shown.net v.shown w.shown b (omega (arith, lt, over)) t))
-          (λ (t : holds w.shown b ≡ false). subst (λ (j : ℕ). Sits two j (λ u. holds u.shown b ≡ true)) (sym (refuses (holds w.shown b) id (k.owner b) t))
+          (λ (t : holds w.shown b ≡ false). subst (λ (j : ℕ). Sits two j (λ u. holds u.shown b ≡ true)) (sym (cond-false (holds w.shown b) id (k.owner b) t))
           (let m = sits_set s.views id v joined (k.owner b) (λ u. holds u.shown b ≡ true) at refl (λ e. held_first v.shown.net v.shown w.shown b (omega (arith, lt, over)) e) (h.held b lt) in
           let e = h.held b lt in
           let off : k.owner b ≢ other = λ e'. let same : e.0 ≡ w = some-injective e.0 w (sym e.1 ∙ ap (get_elem? s.views) e' ∙ was) in absurd (true≢false (sym e.3 ∙ ap (λ (u : View). holds u.shown b) same ∙ t)) in

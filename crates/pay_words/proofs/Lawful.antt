@@ -1,8 +1,9 @@
 -- One more raise keeps the raises lawful, and no payment word overflows.
-use Rattle.std.proofs.Common.{◌≡◌, ◌≢◌, ℕ, ◌+◌, ◌<◌, ◌≤◌, List, length, get_or, sum, refl, sym, ap, ◌∙◌, subst, ⊎_elim, le_trans, le_of_eq, arith}
+use Rattle.std.proofs.Common.{◌≡◌, ◌≢◌, ℕ, ◌+◌, ◌<◌, ◌≤◌, List, length, sum, refl, sym, ap, ◌∙◌, subst, ⊎_elim, le_trans, le_of_eq, arith}
 use Rattle.std.specs.Prelude.{slice_index}
 use Rattle.std.proofs.lemmas.List.{get_or_past}
 use Rattle.std.proofs.lemmas.List.Sums.{sum_by-le-sum_by}
+use Rattle.clear_core.proofs.Within.{least_in_limit}
 use native.Mathlib.Decide.{ℕ_discrete, dec_lt}
 use mathlib.Core.Logic.{dite}
 use Rattle.clr_net.specs.declared.TheConstants.{MAX_CLAIM}
@@ -13,28 +14,17 @@ use Rattle.clr_net.proofs.Lists.{sum-le}
 use Rattle.clear_core.specs.Clearing.{part, receipts, least}
 use Rattle.clear_core.specs.History.{raised_before}
 use Rattle.clear_core.specs.declared.event.Raise.{Raise}
-use Rattle.clear_core.proofs.Pay.{pay_at, pay_within, part_mono, sum-pay_le}
+use Rattle.clear_core.proofs.Pay.{part_mono, sum-pay_le}
 use Rattle.clear_core.proofs.Least.{least_clears}
-use Rattle.clear_core.proofs.Journals.{pay_le_least}
-use Rattle.clear_core.proofs.Rows.{claim_in_limit}
 use Rattle.pay_words.specs.declared.payment.Payment.{Payment}
 use Rattle.pay_words.specs.Words.{unpaid}
 use Rattle.pay_words.specs.Traces.{Traces, IsLawful, In, Rise, Stood, ending, paid_in, paid_to, total}
-use Rattle.pay_words.proofs.Tables.{tabled_at, length-tabled, sum_less}
+use Rattle.pay_words.proofs.Tables.{tabled_at, length-tabled, sum_less, tabled_most}
 use Rattle.pay_words.proofs.Traces.{left_by, pushed, pushed_here, pushed_else, pushed_cases, before_pushed, rise_push, under_ending, ending_push, stood_before}
 
--- the least clearing payments are within the claims, and so in all within what is owed
-pub least_in_limit : (net : Net) (x : ℕ) → IsNetwork net → slice_index (least net) x ≤ MAX_CLAIM
-least_in_limit net x network =
-    omega (arith, ap (λ P. get_or P x 0) (least_clears net), pay_within net (least net) x, claim_in_limit net x network)
-
+-- the least clearing payments are in all within what is owed
 pub sum-least_le : (net : Net) → sum (least net) ≤ units_owed net
 sum-least_le net = omega (arith, ap sum (least_clears net), sum-pay_le net (least net))
-
--- what a bank's rule gives from what is at most the least clearing payments is at most the least clearing payment
-pub part_le_least : (net : Net) (P : List ℕ) (x : ℕ) → x < length net.debts → IsAtMost P (least net)
-    → part net x (receipts net P (debtor_of net x)) ≤ slice_index (least net) x
-part_le_least net P x lt h = omega (arith, pay_at net P x lt, pay_le_least net P h x)
 
 module _ (net : Net) (t : Traces) (h : IsLawful net t) where
   pub paid_in_at : (x : ℕ) → x < length net.debts → slice_index (paid_in net t) x ≡ (ending (t x)).value
@@ -71,10 +61,7 @@ module _ (net : Net) (t : Traces) (h : IsLawful net t) where
 
       pub total_rises : total net t < total net more
       total_rises = sum_less (paid_in net t) (paid_in net more) x (omega (arith, length-tabled (length net.debts) (λ y. (ending (t y)).value)))
-          (λ y. dite (dec_lt y (length net.debts))
-          (λ l. omega (arith, paid_in_at y l, tabled_at (length net.debts) (λ z. (ending (more z)).value) y 0 l, ending_rises y))
-          (λ ge. let far : length (paid_in net t) ≤ y = omega (arith, length-tabled (length net.debts) (λ z. (ending (t z)).value)) in
-          omega (arith, get_or_past (paid_in net t) y 0 far)))
+          (tabled_most (length net.debts) (λ y. (ending (t y)).value) (λ y. (ending (more y)).value) (λ y _. ending_rises y))
           (omega (arith, paid_in_at x lt, tabled_at (length net.debts) (λ z. (ending (more z)).value) x 0 lt, up, ap (λ (q : Payment). q.value) (ending_here x refl)))
 
       within_more : (stamp y : ℕ) → part net y (paid_to net t stamp y) ≤ part net y (paid_to net more stamp y)

@@ -1,9 +1,9 @@
 -- Marks of banks, and lists of which one part is chosen from another.
-use Rattle.std.proofs.Common.{◌≡◌, ◌⊎◌, ℕ, suc, ◌+◌, ◌<◌, ◌≤◌, List, [], ◌∷◌, length, get_or, sum_by, Bool, true, false, true≢false, inl, inr, refl, sym, ◌∙◌, subst, ⊎_elim, arith}
-use Rattle.std.specs.Prelude.{slice_index, if◌then◌else◌, ◌&&◌, ◌||◌, not, slice_index_or}
-use Rattle.std.proofs.lemmas.Bool.{cases_Bool}
+use Rattle.std.proofs.Common.{◌≡◌, ℕ, ◌<◌, ◌≤◌, List, length, get_or, sum_by, Bool, true, false, true≢false, sym, ◌∙◌, subst, ⊎_elim, arith}
+use Rattle.std.specs.Prelude.{slice_index, if◌then◌else◌, ◌&&◌, not, slice_index_or}
+use Rattle.std.proofs.lemmas.Bool.{cases_Bool, cond-true, cond-false, and_from, and_parts, not-true, not_from_false}
 use Rattle.std.proofs.lemmas.List.{get_or_past}
-use Rattle.std.proofs.lemmas.List.Sums.{sum_by-cons}
+use Rattle.clr_net.proofs.Lists.{sums_agree}
 use mathlib.Core.Logic.{dite}
 use native.Mathlib.Decide.{dec_lt}
 use Rattle.clr_net.specs.Net.{Net, column, creditor_of}
@@ -21,36 +21,11 @@ module _ (n : ℕ) (f : ℕ → Bool) (b : ℕ) where
   pub marked : b < n → f b ≡ true → is_marked (tabled n f) b ≡ true
   marked l e = tabled_at n f b false l ∙ e
 
--- the first where the test passes
-pub chooses : {A : Type 0} (t : Bool) (x y : A) → t ≡ true → (if t then x else y) ≡ x
-chooses true x y e = refl
-chooses false x y e = absurd (true≢false (sym e))
-
-pub refuses : {A : Type 0} (t : Bool) (x y : A) → t ≡ false → (if t then x else y) ≡ y
-refuses true x y e = absurd (true≢false e)
-refuses false x y e = refl
-
-pub either_marked : (s t : Bool) → (s || t) ≡ true → (s ≡ true) ⊎ (t ≡ true)
-either_marked true t e = inl refl
-either_marked false t e = inr e
-
-pub first_marked : (s t : Bool) → s ≡ true → (s || t) ≡ true
-first_marked true t e = refl
-first_marked false t e = absurd (true≢false (sym e))
-
-pub second_marked : (s t : Bool) → t ≡ true → (s || t) ≡ true
-second_marked true t e = refl
-second_marked false t e = e
-
 pub both_marked : (s t : Bool) → (s && not t) ≡ true → (s ≡ true) × (t ≡ false)
-both_marked true false e = (refl, refl)
-both_marked true true e = absurd (true≢false (sym e))
-both_marked false t e = absurd (true≢false (sym e))
+both_marked s t e = let both = and_parts s (not t) e in (both.0, not-true t both.1)
 
 pub marked_without : (s t : Bool) → s ≡ true → t ≡ false → (s && not t) ≡ true
-marked_without true false e f = refl
-marked_without true true e f = absurd (true≢false f)
-marked_without false t e f = absurd (true≢false (sym e))
+marked_without s t e f = and_from s (not t) e (not_from_false t f)
 
 module _ {A : Type 0} (none : A) (n : ℕ) (p : ℕ → Bool) (xs ys : List A) where
   abbrev pick : ℕ → A
@@ -60,10 +35,10 @@ module _ {A : Type 0} (none : A) (n : ℕ) (p : ℕ → Bool) (xs ys : List A) w
   chosen_at x lt = tabled_at n pick x none lt
 
   pub chosen_second : (x : ℕ) → x < n → p x ≡ true → get_or (chosen none n p xs ys) x none ≡ get_or ys x none
-  chosen_second x lt e = tabled_at n pick x none lt ∙ chooses (p x) (get_or ys x none) (get_or xs x none) e
+  chosen_second x lt e = tabled_at n pick x none lt ∙ cond-true (p x) (get_or ys x none) (get_or xs x none) e
 
   pub chosen_first : (x : ℕ) → x < n → p x ≡ false → get_or (chosen none n p xs ys) x none ≡ get_or xs x none
-  chosen_first x lt e = tabled_at n pick x none lt ∙ refuses (p x) (get_or ys x none) (get_or xs x none) e
+  chosen_first x lt e = tabled_at n pick x none lt ∙ cond-false (p x) (get_or ys x none) (get_or xs x none) e
 
   pub length-chosen : length (chosen none n p xs ys) ≡ n
   length-chosen = length-tabled n pick
@@ -84,13 +59,9 @@ chosen_most n p xs ys Q f g x = dite (dec_lt x n)
     (λ lt. chosen_each 0 n p xs ys (λ y m. m ≤ Q y) (λ y _ _. f y) (λ y _ _. g y) x lt)
     (λ ge. omega (arith, chosen_past 0 n p xs ys x (omega arith)))
 
-sum_agree : (f g : ℕ → ℕ) (xs : List ℕ) → ((k : ℕ) → k < length xs → f (get_or xs k 0) ≡ g (get_or xs k 0)) → sum_by f xs ≡ sum_by g xs
-sum_agree f g [] h = refl
-sum_agree f g (x ∷ xs) h = sum_by-cons f x xs ∙ (λ i. h 0 (omega arith) i + sum_agree f g xs (λ k l. h (suc k) (omega (arith, l))) i) ∙ sym (sum_by-cons g x xs)
-
 -- receipts are those of two lists that agree at each debt that is owed to the bank
 pub receipts_agree : (net : Net) (P Q : List ℕ) (b : ℕ) → ((x : ℕ) → x < length net.debts → creditor_of net x ≡ b → slice_index P x ≡ slice_index Q x) → receipts net P b ≡ receipts net Q b
-receipts_agree net P Q b h = sum_agree (slice_index P) (slice_index Q) (column net b) (λ k l. let c = column_place net b k l in h (get_or (column net b) k 0) c.0 c.1)
+receipts_agree net P Q b h = sums_agree 0 (slice_index P) (slice_index Q) (column net b) (λ k l. let c = column_place net b k l in h (get_or (column net b) k 0) c.0 c.1)
 
 pub column_agree : (net : Net) (f g : ℕ → ℕ) (b : ℕ) → ((x : ℕ) → x < length net.debts → f x ≡ g x) → sum_by f (column net b) ≡ sum_by g (column net b)
-column_agree net f g b h = sum_agree f g (column net b) (λ k l. h (get_or (column net b) k 0) (column_place net b k l).0)
+column_agree net f g b h = sums_agree 0 f g (column net b) (λ k l. h (get_or (column net b) k 0) (column_place net b k l).0)

@@ -1,8 +1,8 @@
 -- The first state of a board meets its rule.
-use Rattle.std.proofs.Common.{◌≡◌, ℕ, zero, suc, ◌+◌, ◌<◌, ◌≤◌, max, List, [], ◌∷◌, ◌++◌, length, map, take, get_or, Bool, true, false, true≢false, refl, sym, ap, ◌∙◌, subst, arith, le_refl, le_trans, le_of_eq, zero-le, replicate}
+use Rattle.std.proofs.Common.{◌≡◌, ℕ, zero, suc, ◌+◌, ◌<◌, ◌≤◌, max, List, [], ◌∷◌, ◌++◌, length, map, get_or, Bool, true, false, true≢false, refl, sym, ap, ◌∙◌, subst, arith, le_refl, le_trans, le_of_eq, zero-le, replicate}
 use Rattle.std.specs.Prelude.{◌%◌, slice_index}
 use Rattle.std.proofs.Math.Nat.{mod-lt}
-use Rattle.std.proofs.lemmas.List.{take_more, map-append, get_or-map, length-map, get_or-replicate, length-replicate, append-nil, get_or_past, get_or_append_left, length-append}
+use Rattle.std.proofs.lemmas.List.{get_or-map, length-map, get_or-replicate, length-replicate, append-nil, get_or_past, get_or_append_left, length-append}
 use mathlib.Core.Option.{some, some-ne-none, some-injective}
 use mathlib.Core.Logic.{dite}
 use native.Mathlib.Decide.{dec_lt}
@@ -23,14 +23,11 @@ use Rattle.pay_words.proofs.Traces.{ending_stood, among_raises_of, under_ending}
 use Rattle.pay_words.proofs.Lawful.{total_le, value_fits}
 use Rattle.pay_words.specs.Seats.{IsKeptIn, Tells, purse}
 use Rattle.pay_words.proofs.Tables.{tabled_at}
-use Rattle.pay_words.proofs.Bells.{sum_of_ones, sum_of_zeros}
 use Rattle.std.proofs.Common.{inl}
 use Rattle.std.proofs.lemmas.List.Sums.{sum_by-cons}
 use Rattle.std.proofs.lemmas.List.{get_or-append-add}
+use Rattle.pay_words.proofs.Bells.{sum_low}
 use Rattle.pay_words.proofs.Pasts.{traces, past_known, past_lawful, start_at, start_over, start_low, start_within}
-
-pub mapped_more : {A B : Type 0} (f : A → B) (xs : List A) (k : ℕ) (d : A) → k < length xs → map f (take k xs) ++ f (get_or xs k d) ∷ [] ≡ map f (take (k + 1) xs)
-mapped_more f xs k d lt = sym (ap (map f) (take_more xs k d lt) ∙ map-append f (take k xs) (get_or xs k d ∷ []))
 
 pub greatest_more : (ns : List ℕ) (n : ℕ) → greatest (ns ++ n ∷ []) ≡ max n (greatest ns)
 greatest_more [] n = refl
@@ -153,8 +150,8 @@ module _ (d : Deed) (start : List Payment) (network : IsNetwork d.net) (h : Belo
       levels = λ x lt. le_refl _;
       fresh = λ b lt _. (bell_up b lt, λ x _ _. refl);
       few =
-          let up = sum_of_ones (length net.banks) (bell net (opening_words net start)) (λ b lt. le_of_eq (bell_up b lt)) in
-          let owed = sum_of_zeros n (λ _. 0) (λ _ _. le_refl 0) in
+          let up = sum_low (length net.banks) 1 (bell net (opening_words net start)) (λ b lt. le_of_eq (bell_up b lt)) in
+          let owed = sum_low n 0 (λ _. 0) (λ _ _. le_refl 0) in
           let v : View = record { live = true; rolled = 1; shown = opening net start } in
           omega (arith, up, owed, sum_by-cons taken_of v [], sum_by-cons made_of v []);
       has = rung_one;

@@ -4,6 +4,7 @@ use Rattle.std.specs.Prelude.{slice_index, if◌then◌else◌, ◌&&◌, nat_lt
 use Rattle.std.proofs.lemmas.Bool.{eqb-true, eq-eqb}
 use Rattle.std.proofs.lemmas.List.{get_or_past, get_or-map, length-map, length-replicate}
 use Rattle.std.proofs.lemmas.List.Sums.{sum_by-le-sum_by}
+use mathlib.Core.List.{map-map}
 use mathlib.Core.Logic.{dite}
 use native.Mathlib.Decide.{dec_lt}
 use Rattle.clr_net.specs.Amounts.{IsAtMost}
@@ -104,10 +105,6 @@ paid_before_at net stamp rs y = dite (dec_lt y (length net.debts))
     (λ lt. omega (arith, tabled_at (length net.debts) (raised_before stamp rs) y 0 lt, before_of stamp y rs))
     (λ ge. let far : length (paid_before net stamp rs) ≤ y = omega (arith, length-tabled (length net.debts) (raised_before stamp rs)) in omega (arith, get_or_past (paid_before net stamp rs) y 0 far))
 
-pub mapped_twice : {A B C : Type 0} (g : B → C) (f : A → B) (xs : List A) → map g (map f xs) ≡ map (λ x. g (f x)) xs
-mapped_twice g f [] = refl
-mapped_twice g f (x ∷ xs) = λ i. g (f x) ∷ mapped_twice g f xs i
-
 module _ (net : Net) (start : List Payment) (past : List Raise) (h : Belongs net start past) where
   abbrev pub traces : Traces
   traces x = raises_of x past
@@ -145,7 +142,7 @@ module _ (net : Net) (start : List Payment) (past : List Raise) (h : Belongs net
   -- the sum of the opening values
   start_total : sum (map (λ p. p.value) start) ≡ total net traces
   start_total = ap (λ (ps : List Payment). sum (map (λ p. p.value) ps)) h.start_is
-      ∙ ap sum (mapped_twice (λ (p : Payment). p.value) (λ (y : ℕ). last_payment y past) (debt_numbers net))
+      ∙ ap sum (map-map (λ (p : Payment). p.value) (λ (y : ℕ). last_payment y past) (debt_numbers net))
 
   pub start_low : (x : ℕ) → x < length net.debts → (ending (traces x)).stamp ≤ total net traces
   start_low x lt =

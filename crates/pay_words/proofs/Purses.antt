@@ -1,7 +1,7 @@
 -- What a seat has in memory of the values that are paid, after a raise, a handing out and a taking back.
 use Rattle.std.proofs.Common.{◌≡◌, ◌≢◌, ℕ, ◌<◌, List, [], length, get_or, set, Bool, true, false, true≢false, refl, sym, ap, ◌∙◌, subst, ⊎_elim, arith, length-set, get_or-set_same, get_or-set_other}
 use Rattle.std.specs.Prelude.{◌%◌, slice_index, slice_index_or, ◌&&◌, ◌||◌, not}
-use Rattle.std.proofs.lemmas.Bool.{cases_Bool, eqb-true, eq-eqb}
+use Rattle.std.proofs.lemmas.Bool.{cases_Bool, eqb-true, eq-eqb, or_cases}
 use Rattle.std.proofs.lemmas.List.{get_or_read}
 use Rattle.std.proofs.Math.Nat.{mod-lt}
 use mathlib.Core.Logic.{dite}
@@ -10,7 +10,7 @@ use Rattle.clr_net.specs.Limits.{IsNetwork}
 use Rattle.clr_net.specs.Net.{Net, debtor_of}
 use Rattle.pay_words.specs.Seats.{Purse, HasAll, HasOwn, Tells, list_for, purse}
 use Rattle.pay_words.specs.Views.{chosen, is_marked, is_of_worker, tabled}
-use Rattle.pay_words.proofs.Marks.{both_marked, chosen_first, chosen_second, either_marked, marked_if}
+use Rattle.pay_words.proofs.Marks.{both_marked, chosen_first, chosen_second, marked_if}
 use Rattle.pay_words.proofs.Tables.{tabled_at}
 
 -- a list and what is paid, of which the same place changes
@@ -99,7 +99,7 @@ module _ (net : Net) (mine theirs : List Bool) (paid their_paid : List ℕ) (p q
     debtors = f.debtors;
     tells = λ x lt held.
         let b = debtor_of net x in
-        let h = either_marked (is_marked mine b) (is_marked theirs b) (marked_if (length net.banks) (λ c. is_marked mine c || is_marked theirs c) b held).1 in
+        let h = or_cases (is_marked mine b) (is_marked theirs b) (marked_if (length net.banks) (λ c. is_marked mine c || is_marked theirs c) b held).1 in
         ⊎_elim (λ (e : owes x ≡ true). tells_theirs x lt e)
         (λ (e : owes x ≡ false). ⊎_elim (λ (own : is_marked mine b ≡ true). tells_mine x lt e own) (λ (own : is_marked theirs b ≡ true). absurd (true≢false (sym own ∙ e))) h)
         (cases_Bool (owes x));

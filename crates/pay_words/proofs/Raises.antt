@@ -1,6 +1,7 @@
 -- A raise keeps the rule of a board.
 use Rattle.std.proofs.Common.{◌≡◌, ◌≢◌, ◌⊎◌, ℕ, ◌+◌, ◌*◌, ◌<◌, ◌≤◌, List, [], ◌∷◌, ◌++◌, length, set, get_or, Bool, true, false, true≢false, inl, inr, ⊎_elim, refl, sym, ap, ◌∙◌, subst, arith, le_refl, le_trans, le_of_eq, length-set, get_or-set_same, get_or-set_other}
 use Rattle.std.specs.Prelude.{slice_index}
+use Rattle.clear_core.proofs.Least.{part_le_least}
 use mathlib.Core.Option.{none}
 use mathlib.Core.Logic.{dite}
 use native.Mathlib.Decide.{ℕ_discrete}
@@ -19,7 +20,7 @@ use Rattle.pay_words.specs.Traces.{IsLawful, In, ending, raises_of}
 use Rattle.pay_words.specs.Kept.{Ledger, Suits, Raises, own_raises, showing}
 use Rattle.pay_words.proofs.Tables.{after_set, set_below}
 use Rattle.pay_words.proofs.Traces.{left_by, read_back, pushed, pushed_here, pushed_else, stood_pushed, in_cases, raises_of-push, raises_of-push_else}
-use Rattle.pay_words.proofs.Lawful.{total_le, part_le_least, ending_here, ending_else, ending_rises, total_rises, lawful_push, seen_before}
+use Rattle.pay_words.proofs.Lawful.{total_le, ending_here, ending_else, ending_rises, total_rises, lawful_push, seen_before}
 use Rattle.pay_words.proofs.Views.{rule, fits_again, sits_set, not_both}
 use Rattle.pay_words.proofs.Rung.{rung_raise}
 

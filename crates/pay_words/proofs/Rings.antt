@@ -1,10 +1,10 @@
 -- A ring, a glance and a take keep the rule of a board.
 use Rattle.std.proofs.Common.{◌≡◌, ◌≢◌, ◌⊎◌, ℕ, ◌+◌, ◌<◌, ◌≤◌, ◌==◌, List, length, set, Bool, true, false, true≢false, inl, inr, refl, sym, ap, ◌∙◌, subst, ⊎_elim, arith, le_trans, le_of_eq, length-set, get_or-set_same, get_or-set_other}
 use Rattle.std.specs.Prelude.{slice_index, if◌then◌else◌, ◌&&◌, ◌||◌, not}
-use Rattle.std.proofs.lemmas.Bool.{cases_Bool, eqb-true, eq-eqb, ne_eqb, and_parts, and_from}
+use Rattle.std.proofs.lemmas.Bool.{eqb-true, eq-eqb, ne_eqb, and_parts, and_from, cond-true, cond-false, false_from_ne_true, and_right}
 use Rattle.std.proofs.lemmas.List.{get_or_past, set-get_or}
 use mathlib.Core.Option.{some, none}
-use mathlib.Core.Logic.{dite}
+use mathlib.Core.Logic.{dite, ⊎_map}
 use native.Mathlib.Decide.{ℕ_discrete, dec_lt}
 use lib.ListN.{get_elem?}
 use Rattle.atomic_table.specs.Table.{State, Me, Allows, keeps, step}
@@ -20,7 +20,6 @@ use Rattle.pay_words.specs.Traces.{Traces, ending}
 use Rattle.pay_words.specs.Views.{IsSound, IsCalm, OwesRing, holds, is_marked, tabled, rung, took}
 use Rattle.pay_words.specs.Kept.{Ledger, Suits, IsKept, Tower, HasBells, IsCalled, IsRung, TakeTells, Rings, Glances, Takes, after_take, bell, taken_of, made_of, showing}
 use Rattle.pay_words.proofs.Tables.{tabled_at, length-tabled}
-use Rattle.pay_words.proofs.Marks.{chooses, refuses}
 use Rattle.pay_words.proofs.Bells.{changed, changed_here, changed_else, sum_views, has_set, sum_changed, one_less}
 use Rattle.pay_words.proofs.Rung.{NoOther, called_still}
 use Rattle.pay_words.proofs.Views.{rule, fits_again, sits_set, not_both}
@@ -115,7 +114,7 @@ module _ (d : Deed) (t : Traces) (words : List ℕ) (views : List View) (id : �
     rung_tower = record w { owed = λ x. if answers x then false else w.owed x }
 
     still_owed : (x : ℕ) → answers x ≡ false → rung_tower.owed x ≡ w.owed x
-    still_owed x e = refuses (answers x) false (w.owed x) e
+    still_owed x e = cond-false (answers x) false (w.owed x) e
 
     abbrev now : List ℕ
     now = set words (n + 1 + b) 1
@@ -127,11 +126,7 @@ module _ (d : Deed) (t : Traces) (words : List ℕ) (views : List View) (id : �
     called_else x ne c = called_still net words now w rung_tower x (bell_else d words size b lt 1 (creditor_of net x) ne) refl c
 
     not_answered : (x : ℕ) → creditor_of net x ≢ b → answers x ≡ false
-    not_answered x ne = ap (λ (z : Bool). holds v.shown (debtor_of net x) && z) (ne_eqb (creditor_of net x) b ne) ∙ and_false (holds v.shown (debtor_of net x))
-      where
-        and_false : (z : Bool) → (z && false) ≡ false
-        and_false true = refl
-        and_false false = refl
+    not_answered x ne = and_right (holds v.shown (debtor_of net x)) (creditor_of net x == b) (ne_eqb (creditor_of net x) b ne)
 
     rung_at : (y : ℕ) → y < n → is_marked (rung v.shown b).owes_ring y ≡ (is_marked v.shown.owes_ring y && not (creditor_of net y == b))
     rung_at y l = subst (λ (m : Net). is_marked (tabled (length m.debts) (λ x. is_marked v.shown.owes_ring x && not (creditor_of m x == b))) y ≡ (is_marked v.shown.owes_ring y && not (creditor_of net y == b))) (sym over)
@@ -157,10 +152,7 @@ module _ (d : Deed) (t : Traces) (words : List ℕ) (views : List View) (id : �
     others_rung u apart g = record {
       seen = g.seen;
       pend = g.pend;
-      owed = λ y l m. g.owed y l m ∙ sym (still_owed y (⊎_elim
-          (λ (e : answers y ≡ true). absurd (apart y m (and_parts (holds v.shown (debtor_of net y)) (creditor_of net y == b) e).0))
-          (λ (e : answers y ≡ false). e)
-          (cases_Bool (answers y))));
+      owed = λ y l m. g.owed y l m ∙ sym (still_owed y (false_from_ne_true (answers y) (λ e. apart y m (and_parts (holds v.shown (debtor_of net y)) (creditor_of net y == b) e).0)));
       level = g.level;
       fresh = g.fresh;
     }
@@ -171,13 +163,10 @@ module _ (d : Deed) (t : Traces) (words : List ℕ) (views : List View) (id : �
       bells = λ c l'. dite (ℕ_discrete c b) (λ e. le_of_eq (bell_here d words size b lt 1 c e)) (λ ne. le_trans (le_of_eq (bell_else d words size b lt 1 c ne)) (h.bells c l'));
       answered = λ y l'. dite (ℕ_discrete (creditor_of net y) b)
           (λ e. inr (inl (up y e)))
-          (λ ne. ⊎_elim
-          (λ (a : w.seen y ≡ (ending (t y)).value). inl a)
-          (λ (a : IsCalled net words w y ⊎ (w.owed y ≡ true)). inr (⊎_elim (λ (c : IsCalled net words w y). inl (called_else y ne c)) (λ (o : w.owed y ≡ true). inr (still_owed y (not_answered y ne) ∙ o)) a))
-          (h.answered y l'));
+          (λ ne. ⊎_map (λ a. a) (⊎_map (called_else y ne) (λ o. still_owed y (not_answered y ne) ∙ o)) (h.answered y l'));
       lifted = λ y l'. dite (ℕ_discrete (creditor_of net y) b)
           (λ e. inr (up y e))
-          (λ ne. ⊎_elim (λ (a : w.level y ≤ w.seen y). inl a) (λ (c : IsCalled net words w y). inr (called_else y ne c)) (h.lifted y l'));
+          (λ ne. ⊎_map (λ a. a) (called_else y ne) (h.lifted y l'));
       levels = h.levels;
       fresh = λ c l' e. let f = h.fresh c l' e in (dite (ℕ_discrete c b) (λ i. bell_here d words size b lt 1 c i) (λ ne. bell_else d words size b lt 1 c ne ∙ f.0), f.1);
       few =
@@ -186,16 +175,13 @@ module _ (d : Deed) (t : Traces) (words : List ℕ) (views : List View) (id : �
           let one = bell_here d words size b lt 1 b refl in
           let was : w.owed x ≡ true = sym ((h.has id v at on).owed x l mine) ∙ owing in
           let here : answers x ≡ true = and_from (holds v.shown (debtor_of net x)) (creditor_of net x == b) mine (eq-eqb (creditor_of net x) b is) in
-          let less = one_less n w.owed rung_tower.owed x l was (chooses (answers x) false (w.owed x) here) owed_before in
+          let less = one_less n w.owed rung_tower.owed x l was (cond-true (answers x) false (w.owed x) here) owed_before in
           omega (arith, h.few, sum_views taken_of views id v u at, sum_views made_of views id v u at, more, one, less);
       has = has_set d rung_tower views id (showing v (rung v.shown b)) (λ j u ne e o. others_rung u (λ y a c. alone y c j u ne e o a) (h.has j u e o)) (λ _. rung_has (h.has id v at on));
     }
       where
         owed_before : (y : ℕ) → rung_tower.owed y ≡ true → w.owed y ≡ true
-        owed_before y e = ⊎_elim
-            (λ (a : answers y ≡ true). absurd (true≢false (sym e ∙ chooses (answers y) false (w.owed y) a)))
-            (λ (a : answers y ≡ false). sym (still_owed y a) ∙ e)
-            (cases_Bool (answers y))
+        owed_before y e = sym (still_owed y (false_from_ne_true (answers y) (λ a. true≢false (sym e ∙ cond-true (answers y) false (w.owed y) a)))) ∙ e
 
   -- a take that finds the bell up
   module _ (over : v.shown.net ≡ d.net) (mine : holds v.shown b ≡ true) (alone : NoOther views id b) (long : length v.shown.fresh ≡ length d.net.banks) where
@@ -206,10 +192,10 @@ module _ (d : Deed) (t : Traces) (words : List ℕ) (views : List View) (id : �
     down = set words (n + 1 + b) 0
 
     pend_here : (x : ℕ) → creditor_of net x ≡ b → took_tower.pend x ≡ true
-    pend_here x e = chooses (creditor_of net x == b) true (w.pend x) (eq-eqb (creditor_of net x) b e)
+    pend_here x e = cond-true (creditor_of net x == b) true (w.pend x) (eq-eqb (creditor_of net x) b e)
 
     pend_else : (x : ℕ) → creditor_of net x ≢ b → took_tower.pend x ≡ w.pend x
-    pend_else x ne = refuses (creditor_of net x == b) true (w.pend x) (ne_eqb (creditor_of net x) b ne)
+    pend_else x ne = cond-false (creditor_of net x == b) true (w.pend x) (ne_eqb (creditor_of net x) b ne)
 
     called_on : (x : ℕ) → creditor_of net x ≢ b → IsCalled net words w x → IsCalled net down took_tower x
     called_on x ne c = called_still net words down w took_tower x (bell_else d words size b lt 0 (creditor_of net x) ne) (pend_else x ne) c
@@ -250,13 +236,10 @@ module _ (d : Deed) (t : Traces) (words : List ℕ) (views : List View) (id : �
       bells = λ c l'. dite (ℕ_discrete c b) (λ e. let z = bell_here d words size b lt 0 c e in omega (arith, z)) (λ ne. le_trans (le_of_eq (bell_else d words size b lt 0 c ne)) (h.bells c l'));
       answered = λ y l'. dite (ℕ_discrete (creditor_of net y) b)
           (λ e. inr (inl (inr (pend_here y e))))
-          (λ ne. ⊎_elim
-          (λ (a : w.seen y ≡ (ending (t y)).value). inl a)
-          (λ (a : IsCalled net words w y ⊎ (w.owed y ≡ true)). inr (⊎_elim (λ (c : IsCalled net words w y). inl (called_on y ne c)) (λ (o : w.owed y ≡ true). inr o) a))
-          (h.answered y l'));
+          (λ ne. ⊎_map (λ a. a) (⊎_map (called_on y ne) (λ o. o)) (h.answered y l'));
       lifted = λ y l'. dite (ℕ_discrete (creditor_of net y) b)
           (λ e. inr (inr (pend_here y e)))
-          (λ ne. ⊎_elim (λ (a : w.level y ≤ w.seen y). inl a) (λ (c : IsCalled net words w y). inr (called_on y ne c)) (h.lifted y l'));
+          (λ ne. ⊎_map (λ a. a) (called_on y ne) (h.lifted y l'));
       levels = h.levels;
       fresh = λ c l' e. dite (ℕ_discrete c b)
           (λ i. absurd (true≢false (sym e ∙ changed_here b false w.fresh c i)))
@@ -266,7 +249,7 @@ module _ (d : Deed) (t : Traces) (words : List ℕ) (views : List View) (id : �
           let u = showing v (took v.shown b) in
           let less = sum_changed (length net.banks) (bell net words) (bell net down) b lt (λ c ne. bell_else d words size b lt 0 c ne) in
           let none' = bell_here d words size b lt 0 b refl in
-          omega (arith, h.few, sum_views taken_of views id v u at, sum_views made_of views id v u at, less, none', raised, chooses v.live v.shown.taken 0 on, chooses v.live (v.shown.taken + 1) 0 on);
+          omega (arith, h.few, sum_views taken_of views id v u at, sum_views made_of views id v u at, less, none', raised, cond-true v.live v.shown.taken 0 on, cond-true v.live (v.shown.taken + 1) 0 on);
       has = has_set d took_tower views id (showing v (took v.shown b)) (λ j u ne e o. others_took u (alone j u ne e o) (h.has j u e o)) (λ _. took_has (h.has id v at on));
     }
 

@@ -1,8 +1,9 @@
 -- Each step keeps the rule of the bells.
-use Rattle.std.proofs.Common.{◌≡◌, ◌≢◌, ◌⊎◌, ℕ, ◌+◌, ◌<◌, ◌≤◌, List, length, set, sum, true, false, inl, inr, refl, sym, ap, ◌∙◌, subst, ⊎_elim, arith, le_trans, length-append, get_or-set_same, get_or-set_other}
+use Rattle.std.proofs.Common.{◌≡◌, ◌≢◌, ℕ, ◌+◌, ◌<◌, ◌≤◌, List, length, set, sum, true, false, inl, inr, refl, sym, ap, ◌∙◌, subst, arith, le_trans, length-append, get_or-set_same, get_or-set_other}
 use Rattle.std.specs.Prelude.{slice_index, if◌then◌else◌}
+use Rattle.std.proofs.lemmas.Bool.{cond-true}
 use mathlib.Core.Option.{some}
-use mathlib.Core.Logic.{dite}
+use mathlib.Core.Logic.{dite, ⊎_map}
 use native.Mathlib.Decide.{ℕ_discrete}
 use lib.ListN.{get_elem?}
 use Rattle.clr_net.specs.Net.{Net, debtor_of, creditor_of}
@@ -13,7 +14,6 @@ use Rattle.pay_words.specs.declared.view.View.{View}
 use Rattle.pay_words.specs.Traces.{Traces, ending}
 use Rattle.pay_words.specs.Views.{holds, is_marked, looked, raised}
 use Rattle.pay_words.specs.Kept.{Tower, HasBells, IsCalled, IsRung, bell, bells_up, taken_of, made_of, showing}
-use Rattle.pay_words.proofs.Marks.{chooses}
 use Rattle.pay_words.proofs.Tables.{tabled_agree}
 use Rattle.pay_words.proofs.Traces.{pushed, pushed_else}
 use Rattle.pay_words.proofs.Bells.{changed, changed_here, changed_else, sum_views, has_set, marks_grow_by_one}
@@ -43,11 +43,8 @@ module _ (d : Deed) (t : Traces) (words : List ℕ) (views : List View) (id : �
   rung_same now u bells keep live taken made = record {
     tower = w;
     bells = λ b lt. omega (arith, h.bells b lt, bells b);
-    answered = λ x lt. ⊎_elim
-        (λ (a : w.seen x ≡ (ending (t x)).value). inl a)
-        (λ (a : IsCalled net words w x ⊎ (w.owed x ≡ true)). inr (⊎_elim (λ (c : IsCalled net words w x). inl (called_still net words now w w x (bells (creditor_of net x)) refl c)) (λ (o : w.owed x ≡ true). inr o) a))
-        (h.answered x lt);
-    lifted = λ x lt. ⊎_elim (λ (a : w.level x ≤ w.seen x). inl a) (λ (c : IsCalled net words w x). inr (called_still net words now w w x (bells (creditor_of net x)) refl c)) (h.lifted x lt);
+    answered = λ x lt. ⊎_map (λ a. a) (⊎_map (called_still net words now w w x (bells (creditor_of net x)) refl) (λ o. o)) (h.answered x lt);
+    lifted = λ x lt. ⊎_map (λ a. a) (called_still net words now w w x (bells (creditor_of net x)) refl) (h.lifted x lt);
     levels = h.levels;
     fresh = λ b lt e. let f = h.fresh b lt e in (bells b ∙ f.0, f.1);
     few =
@@ -99,13 +96,10 @@ module _ (d : Deed) (t : Traces) (words : List ℕ) (views : List View) (id : �
       bells = h.bells;
       answered = λ y l. dite (ℕ_discrete y x)
           (λ e. inl (changed_here x p.value w.seen y e ∙ ap (λ (z : ℕ). (ending (t z)).value) (sym e)))
-          (λ ne. ⊎_elim
-          (λ (a : w.seen y ≡ (ending (t y)).value). inl (changed_else x p.value w.seen y ne ∙ a))
-          (λ (a : IsCalled net words w y ⊎ (w.owed y ≡ true)). inr (⊎_elim (λ (c : IsCalled net words w y). inl (still y ne c)) (λ (o : w.owed y ≡ true). inr o) a))
-          (h.answered y l));
+          (λ ne. ⊎_map (λ a. changed_else x p.value w.seen y ne ∙ a) (⊎_map (still y ne) (λ o. o)) (h.answered y l));
       lifted = λ y l. dite (ℕ_discrete y x)
           (λ e. inl (omega (arith, h.levels y l, changed_here x p.value w.seen y e, ap (λ (z : ℕ). (ending (t z)).value) e)))
-          (λ ne. ⊎_elim (λ (a : w.level y ≤ w.seen y). inl (omega (arith, a, changed_else x p.value w.seen y ne))) (λ (c : IsCalled net words w y). inr (still y ne c)) (h.lifted y l));
+          (λ ne. ⊎_map (λ (a : w.level y ≤ w.seen y). omega (arith, a, changed_else x p.value w.seen y ne)) (still y ne) (h.lifted y l));
       levels = h.levels;
       fresh = λ b l e. let f = h.fresh b l e in (f.0, λ y m o. dite (ℕ_discrete y x) (λ e'. changed_here x false w.pend y e') (λ ne. changed_else x false w.pend y ne ∙ f.1 y m o));
       few =
@@ -155,11 +149,9 @@ module _ (d : Deed) (t : Traces) (words : List ℕ) (views : List View) (id : �
       bells = λ b l. omega (arith, h.bells b l, same_bell b);
       answered = λ y l. dite (ℕ_discrete y x)
           (λ e. inr (inr (changed_here x true w.owed y e)))
-          (λ ne. ⊎_elim
-          (λ (a : w.seen y ≡ (ending (t y)).value). inl (a ∙ sym (ap (λ (rs : List Raise). (ending rs).value) (pushed_else t x r y ne))))
-          (λ (a : IsCalled net words w y ⊎ (w.owed y ≡ true)). inr (⊎_elim (λ (c : IsCalled net words w y). inl (called_still net words now w owing y (same_bell (creditor_of net y)) refl c)) (λ (o : w.owed y ≡ true). inr (changed_else x true w.owed y ne ∙ o)) a))
-          (h.answered y l));
-      lifted = λ y l. ⊎_elim (λ (a : w.level y ≤ w.seen y). inl a) (λ (c : IsCalled net words w y). inr (called_still net words now w owing y (same_bell (creditor_of net y)) refl c)) (h.lifted y l);
+          (λ ne. ⊎_map (λ a. a ∙ sym (ap (λ (rs : List Raise). (ending rs).value) (pushed_else t x r y ne)))
+          (⊎_map (called_still net words now w owing y (same_bell (creditor_of net y)) refl) (λ o. changed_else x true w.owed y ne ∙ o)) (h.answered y l));
+      lifted = λ y l. ⊎_map (λ a. a) (called_still net words now w owing y (same_bell (creditor_of net y)) refl) (h.lifted y l);
       levels = λ y l. le_trans (h.levels y l) (up y);
       fresh = λ b l e. let f = h.fresh b l e in (same_bell b ∙ f.0, f.1);
       few =
@@ -168,6 +160,6 @@ module _ (d : Deed) (t : Traces) (words : List ℕ) (views : List View) (id : �
           let b = sum_views made_of views id v u at in
           let c : bells_up net now ≡ bells_up net words = ap sum (tabled_agree 0 (length net.banks) (bell net now) (bell net words) (λ y _. same_bell y)) in
           let g : length u.shown.raises ≡ length v.shown.raises + 1 = length-append v.shown.raises _ in
-          omega (arith, h.few, a, b, c, g, marks_grow_by_one n w.owed x lt, chooses v.live (length v.shown.raises) 0 on, chooses v.live (length u.shown.raises) 0 on);
+          omega (arith, h.few, a, b, c, g, marks_grow_by_one n w.owed x lt, cond-true v.live (length v.shown.raises) 0 on, cond-true v.live (length u.shown.raises) 0 on);
       has = has_set d owing views id (showing v (raised v.shown x to)) (λ j u ne e o. others_owe u (alone j u ne e o) (h.has j u e o)) (λ _. raised_has (h.has id v at on));
     }

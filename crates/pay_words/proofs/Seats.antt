@@ -1,7 +1,7 @@
 -- What a seat has in memory after each of its steps.
-use Rattle.std.proofs.Common.{◌≡◌, ◌≢◌, ⊎_elim, ℕ, ◌+◌, ◌*◌, ◌<◌, ◌≤◌, max, List, [], length, set, Bool, true, false, true≢false, refl, sym, ap, ◌∙◌, subst, arith}
+use Rattle.std.proofs.Common.{◌≡◌, ◌≢◌, ℕ, ◌+◌, ◌*◌, ◌<◌, ◌≤◌, max, List, [], length, set, Bool, true, false, true≢false, refl, sym, ap, ◌∙◌, subst, arith}
 use Rattle.std.specs.Prelude.{slice_index_or, if◌then◌else◌, ◌==◌}
-use Rattle.std.proofs.lemmas.Bool.{cases_Bool}
+use Rattle.std.proofs.lemmas.Bool.{false_from_ne_true, true_from_ne_false}
 use mathlib.Core.Option.{none}
 use Rattle.atomic_table.specs.Table.{Me, Allows, step}
 use Rattle.clr_net.specs.declared.TheConstants.{MAX_CLAIM, MAX_OWED}
@@ -60,14 +60,10 @@ module _ (v : View) (p : Purse) (clock seats : ℕ) (h : IsKeptIn v p clock seat
 
   -- a seat without lists reads its own, and another is the master
   pub at_own : length p.lists ≡ 0 → HasOwn v.shown.net v.shown.banks v.shown.paid p
-  at_own none' = h.at_worker (⊎_elim
-      (λ (e : v.shown.master ≡ true). let all = h.at_master e in absurd (omega (arith, none', all.lists, h.some_workers)))
-      (λ (e : v.shown.master ≡ false). e) (cases_Bool v.shown.master))
+  at_own none' = h.at_worker (false_from_ne_true v.shown.master (λ e. let all = h.at_master e in omega (arith, none', all.lists, h.some_workers)))
 
   pub at_all : length p.lists ≢ 0 → HasAll v.shown.net v.shown.banks v.shown.paid p
-  at_all some' = h.at_master (⊎_elim
-      (λ (e : v.shown.master ≡ true). e)
-      (λ (e : v.shown.master ≡ false). absurd (some' (ap length (h.at_worker e).no_lists))) (cases_Bool v.shown.master))
+  at_all some' = h.at_master (true_from_ne_false v.shown.master (λ e. some' (ap length (h.at_worker e).no_lists)))
 
 -- a raise by the clock in memory
 pub raises_by : (d : Deed) (slots id : ℕ) (me : Me (Unit {0}) View) (x to word : ℕ)

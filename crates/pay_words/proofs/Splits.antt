@@ -1,7 +1,7 @@
 -- The master hands the banks of a worker to a new seat.
 use Rattle.std.proofs.Common.{◌≡◌, ◌≢◌, ◌⊎◌, ℕ, zero, suc, ◌+◌, ◌<◌, ◌≤◌, List, [], ◌∷◌, ◌++◌, length, set, Bool, true, false, true≢false, inl, inr, refl, sym, ap, ◌∙◌, subst, ⊎_elim, arith, length-set, length-append}
 use Rattle.std.specs.Prelude.{slice_index, if◌then◌else◌, ◌&&◌, not}
-use Rattle.std.proofs.lemmas.Bool.{cases_Bool}
+use Rattle.std.proofs.lemmas.Bool.{cases_Bool, cond-true, cond-false, false_from_ne_true}
 use mathlib.Core.Option.{some, some-ne-none, some-injective}
 use lib.ListN.{get_elem?}
 use Rattle.atomic_table.specs.Table.{Splits}
@@ -14,7 +14,7 @@ use Rattle.pay_words.specs.Views.{IsSound, HoldsAllOf, holds, is_of_worker, hand
 use Rattle.pay_words.specs.Traces.{Traces, raises_of}
 use Rattle.pay_words.specs.Kept.{Ledger, Suits, Sits, Tower, HasBells, IsRung, taken_of, made_of, own_raises, rest_of, part_of}
 use Rattle.pay_words.proofs.Tables.{length-tabled}
-use Rattle.pay_words.proofs.Marks.{marked_if, marked, both_marked, marked_without, chooses, refuses}
+use Rattle.pay_words.proofs.Marks.{marked_if, marked, both_marked, marked_without}
 use Rattle.pay_words.proofs.Views.{rule, fits_set, sits_set}
 use Rattle.pay_words.proofs.Bells.{sum_views, has_set}
 use Rattle.std.proofs.lemmas.List.Sums.{sum_by-append, sum_by-cons}
@@ -56,12 +56,12 @@ module _ (workers i : ℕ) (s : Shown) where
   stays_if b e =
       let g = marked_if (length s.net.banks) (λ c. holds s c && not (is_of_worker workers i c)) b e in
       let p = both_marked (holds s b) (is_of_worker workers i b) g.1 in
-      (p.0, ⊎_elim (λ (t : goes b ≡ true). absurd (true≢false (sym (goes_if b t).1 ∙ p.1))) (λ (f : goes b ≡ false). f) (cases_Bool (goes b)))
+      (p.0, false_from_ne_true (goes b) (λ t. true≢false (sym (goes_if b t).1 ∙ p.1)))
 
   pub stays : (b : ℕ) → b < length s.net.banks → holds s b ≡ true → goes b ≡ false → holds (without workers i s) b ≡ true
   stays b lt h e = marked (length s.net.banks) (λ c. holds s c && not (is_of_worker workers i c)) b lt
       (marked_without (holds s b) (is_of_worker workers i b) h
-      (⊎_elim (λ (t : is_of_worker workers i b ≡ true). absurd (true≢false (sym (marked (length s.net.banks) (is_of_worker workers i) b lt t) ∙ e))) (λ (f : is_of_worker workers i b ≡ false). f) (cases_Bool (is_of_worker workers i b))))
+      (false_from_ne_true (is_of_worker workers i b) (λ t. true≢false (sym (marked (length s.net.banks) (is_of_worker workers i) b lt t) ∙ e))))
 
   pub sound_handed : HoldsAllOf workers i s → IsSound s → IsSound (handed workers i s)
   sound_handed all h = sound_part s _ (handed workers i s) h (length-tabled (length s.net.banks) (is_of_worker workers i)) (goes_from all) refl
@@ -81,7 +81,7 @@ module _ (d : Deed) (k : Ledger) (roll count id : ℕ) (v : View) (workers i : �
   part_suits = record {
     net_is = f.net_is;
     sound = sound_handed workers i v.shown all f.sound;
-    mine = λ b e. chooses (goes workers i v.shown b) count (k.owner b) e;
+    mine = λ b e. cond-true (goes workers i v.shown b) count (k.owner b) e;
     pays = λ x lt e. f.pays x lt (goes_from workers i v.shown all _ e);
     told = λ x lt e. told_alone x lt (goes_from workers i v.shown all _ e);
     only = λ r j. absurd j;
@@ -99,7 +99,7 @@ module _ (d : Deed) (k : Ledger) (roll count id : ℕ) (v : View) (workers i : �
   rest_suits room = let l = f.leads chief in record {
     net_is = f.net_is;
     sound = sound_without workers i v.shown f.sound;
-    mine = λ b e. let g = stays_if workers i v.shown b e in refuses (goes workers i v.shown b) count (k.owner b) g.1 ∙ f.mine b g.0;
+    mine = λ b e. let g = stays_if workers i v.shown b e in cond-false (goes workers i v.shown b) count (k.owner b) g.1 ∙ f.mine b g.0;
     pays = λ x lt e. f.pays x lt (stays_if workers i v.shown _ e).0;
     told = λ x lt e. f.told x lt (stays_if workers i v.shown _ e).0;
     only = λ r j. absurd (subst (λ (b : Bool). Rattle.pay_words.specs.Traces.In r (own_raises b v.shown.raises)) chief j);
@@ -119,7 +119,7 @@ module _ (d : Deed) (k : Ledger) (roll count id : ℕ) (v : View) (workers i : �
     sound = g.sound;
     mine = λ b e. ⊎_elim
         (λ (t : goes workers i v.shown b ≡ true). absurd (apart (sym (g.mine b e) ∙ f.mine b (goes_from workers i v.shown all b t))))
-        (λ (t : goes workers i v.shown b ≡ false). refuses (goes workers i v.shown b) count (k.owner b) t ∙ g.mine b e)
+        (λ (t : goes workers i v.shown b ≡ false). cond-false (goes workers i v.shown b) count (k.owner b) t ∙ g.mine b e)
         (cases_Bool (goes workers i v.shown b));
     pays = g.pays;
     told = g.told;
@@ -186,7 +186,7 @@ rung_split d t words views id v workers i at on all h =
             sum_by-append made_of rest (part ∷ []),
             sum_by-cons taken_of part [],
             sum_by-cons made_of part [],
-            chooses {A = ℕ} v.live 0 0 on,
+            cond-true {A = ℕ} v.live 0 0 on,
           );
       has = λ j u e o. ⊎_elim
           (λ (was : (j < length rest) × (get_elem? rest j ≡ some u)). has_set d h.tower views id left (λ a y _ e' o'. h.has a y e' o') (λ _. rest_has d h.tower v workers i (h.has id v at on)) j u was.1 o)
@@ -221,9 +221,9 @@ splits d id v workers i may s h at =
       lawful = h.lawful;
       known = h.known;
       held = λ b lt. ⊎_elim
-          (λ (t : goes workers i v.shown b ≡ true). subst (λ (j : ℕ). Sits (rest ++ part ∷ []) j (λ u. holds u.shown b ≡ true)) (sym (chooses (goes workers i v.shown b) count (k.owner b) t))
+          (λ (t : goes workers i v.shown b ≡ true). subst (λ (j : ℕ). Sits (rest ++ part ∷ []) j (λ u. holds u.shown b ≡ true)) (sym (cond-true (goes workers i v.shown b) count (k.owner b) t))
           (part, at_last rest part count (length-set s.views id left), may.live, t))
-          (λ (t : goes workers i v.shown b ≡ false). subst (λ (j : ℕ). Sits (rest ++ part ∷ []) j (λ u. holds u.shown b ≡ true)) (sym (refuses (goes workers i v.shown b) count (k.owner b) t))
+          (λ (t : goes workers i v.shown b ≡ false). subst (λ (j : ℕ). Sits (rest ++ part ∷ []) j (λ u. holds u.shown b ≡ true)) (sym (cond-false (goes workers i v.shown b) count (k.owner b) t))
           (sits_longer rest (part ∷ []) (k.owner b) _
           (sits_set s.views id v left (k.owner b) (λ u. holds u.shown b ≡ true) at refl (λ e. stays workers i v.shown b (omega (arith, lt, over)) e t) (h.held b lt))))
           (cases_Bool (goes workers i v.shown b));

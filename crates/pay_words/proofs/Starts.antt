@@ -4,6 +4,7 @@ use Rattle.std.specs.Prelude.{slice_index}
 use Rattle.std.proofs.lemmas.List.{ext_get_or, get_or-replicate, length-replicate}
 use mathlib.Core.Logic.{dite}
 use native.Mathlib.Decide.{ℕ_discrete}
+use mathlib.Core.List.{map-map}
 use Rattle.clr_net.specs.Net.{Net, debt_numbers}
 use Rattle.clear_core.specs.declared.event.Raise.{Raise}
 use Rattle.pay_words.specs.declared.payment.Payment.{Payment}
@@ -11,7 +12,6 @@ use Rattle.pay_words.specs.declared.view.Shown.{Shown}
 use Rattle.pay_words.specs.Ends.{payments_of, values}
 use Rattle.pay_words.specs.Traces.{ending, last_payment, raises_of, start_of}
 use Rattle.pay_words.specs.Words.{unpaid}
-use Rattle.pay_words.proofs.Pasts.{mapped_twice}
 use Rattle.pay_words.proofs.Tables.{tabled_at, length-tabled}
 use Rattle.pay_words.proofs.Traces.{left_by, ending_push, raises_of-push, raises_of-push_else}
 
@@ -44,6 +44,6 @@ pub values_shown : (s : Shown) → length s.paid ≡ length s.net.debts → valu
 values_shown s size =
     let n = length s.net.debts in
     let shown : ℕ → Payment = λ x. record { value = slice_index s.paid x; stamp = slice_index s.paid_stamps x } in
-    mapped_twice (λ (p : Payment). p.value) shown (debt_numbers s.net)
+    map-map (λ (p : Payment). p.value) shown (debt_numbers s.net)
     ∙ ext_get_or 0 (map (slice_index s.paid) (debt_numbers s.net)) s.paid (length-tabled n (slice_index s.paid) ∙ sym size)
     (λ x lt. tabled_at n (slice_index s.paid) x 0 (omega (arith, lt, length-tabled n (slice_index s.paid))))

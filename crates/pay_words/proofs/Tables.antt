@@ -1,7 +1,7 @@
 -- Lists over banks and debts: one that a function gives, and one of whose places changes.
-use Rattle.std.proofs.Common.{◌≡◌, ℕ, zero, suc, ◌+◌, ◌<◌, ◌≤◌, List, [], ◌∷◌, length, set, get_or, sum, refl, sym, ap, ◌∙◌, subst, le_refl, arith, get_or-set_same, get_or-set_other}
+use Rattle.std.proofs.Common.{◌≡◌, ℕ, ◌+◌, ◌<◌, ◌≤◌, List, length, set, get_or, sum, sym, ◌∙◌, subst, le_refl, arith, get_or-set_same, get_or-set_other}
 use Rattle.std.specs.Prelude.{slice_index}
-use Rattle.std.proofs.lemmas.List.{ext_get_or}
+use Rattle.std.proofs.lemmas.List.{ext_get_or, set_past, get_or_past}
 use Rattle.std.proofs.lemmas.List.FromFn.{get_or-map-range_with_len, length-map-range_with_len}
 use native.Mathlib.Decide.{ℕ_discrete, dec_lt}
 use mathlib.Core.Logic.{dite}
@@ -19,10 +19,11 @@ pub tabled_agree : {A : Type 0} (d : A) (n : ℕ) (f g : ℕ → A) → ((x : �
 tabled_agree d n f g h = ext_get_or d (tabled n f) (tabled n g) (length-tabled n f ∙ sym (length-tabled n g))
     (λ x lt. let l : x < n = omega (arith, lt, length-tabled n f) in tabled_at n f x d l ∙ h x l ∙ sym (tabled_at n g x d l))
 
-set_past : {A : Type 0} (P : List A) (x : ℕ) (n : A) → length P ≤ x → set P x n ≡ P
-set_past [] x n h = refl
-set_past (p ∷ P) zero n h = absurd (omega arith)
-set_past (p ∷ P) (suc x) n h = ap (λ q. p ∷ q) (set_past P x n (omega arith))
+-- a table of numbers that are nowhere greater
+pub tabled_most : (n : ℕ) (f g : ℕ → ℕ) → ((x : ℕ) → x < n → f x ≤ g x) → IsAtMost (tabled n f) (tabled n g)
+tabled_most n f g h x = dite (dec_lt x n)
+    (λ lt. omega (arith, tabled_at n f x 0 lt, tabled_at n g x 0 lt, h x lt))
+    (λ ge. let far : length (tabled n f) ≤ x = omega (arith, length-tabled n f) in omega (arith, get_or_past (tabled n f) x 0 far))
 
 -- a fact of each number after one has changed: of the new one, and of the others
 pub after_set : (F : ℕ → ℕ → Type 0) (P : List ℕ) (x n : ℕ) → F x n → ((y : ℕ) → F y (get_or P y 0))

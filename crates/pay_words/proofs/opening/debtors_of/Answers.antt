@@ -1,17 +1,16 @@
 use Rattle.std.proofs.Common.{◌≡◌, ℕ, ◌+◌, ◌<◌, ◌∙◌, List, take, [], ◌∷◌, ◌++◌, length, map, get_or, ap, sym, arith}
-use Rattle.std.proofs.lemmas.List.{take_all}
+use Rattle.std.proofs.lemmas.List.{take_all, map_more}
 use Rattle.std.proofs.lemmas.List.FromFn.{length-range_with_len, get_or-range_with_len}
 use Rattle.std.specs.Option.{option_map_or}
 use Rattle.std.specs.Prelude.{Option}
 use Rattle.clr_net.specs.declared.debt.Debt.{Debt}
 use Rattle.clr_net.specs.Net.{Net, debtor_of, debt_numbers}
-use Rattle.pay_words.proofs.Openings.{mapped_more}
 use Rattle.pay_words.proofs.opening.debtors_of.Goals as goal
 
 -- one more debtor
 one_more : (net : Net) (done next : List ℕ) (k d : ℕ) → next ≡ done ++ d ∷ [] → done ≡ map (debtor_of net) (take k (debt_numbers net)) → d ≡ debtor_of net (get_or (debt_numbers net) k 0) → k < length (debt_numbers net)
     → next ≡ map (debtor_of net) (take (k + 1) (debt_numbers net))
-one_more net done next k d e f g lt = e ∙ (λ i. f i ++ g i ∷ []) ∙ mapped_more (debtor_of net) (debt_numbers net) k 0 lt
+one_more net done next k d e f g lt = e ∙ (λ i. f i ++ g i ∷ []) ∙ sym (map_more (debtor_of net) (debt_numbers net) k 0 lt)
 
 pub loop-number-preserved : goal.loop-number-preserved
 loop-number-preserved c =

@@ -1,14 +1,13 @@
-use Rattle.std.proofs.Common.{◌≡◌, ℕ, ◌+◌, ◌-◌, ◌∙◌, List, [], ◌∷◌, ◌++◌, length, map, replicate, ap, arith}
-use Rattle.std.proofs.lemmas.List.{take_all, length-map}
+use Rattle.std.proofs.Common.{◌≡◌, ℕ, ◌+◌, ◌-◌, ◌∙◌, List, [], ◌∷◌, ◌++◌, length, map, replicate, ap, sym, arith}
+use Rattle.std.proofs.lemmas.List.{take_all, length-map, map_more}
 use Rattle.pay_words.specs.Words.{unpaid, word_of}
-use Rattle.pay_words.proofs.Openings.{mapped_more}
 use Rattle.pay_words.proofs.opening.opening_words.Goals as goal
 
 pub loop-payment-preserved : goal.loop-payment-preserved
 loop-payment-preserved c =
     c.in_ok-push-2.ensures.items ∙ ap (λ (w : ℕ). c.loop-payment.words.items ++ w ∷ []) c.word.ensures
     ∙ ap (λ (ws : List ℕ). ws ++ word_of (Rattle.std.specs.Prelude.slice_index_or c.args.start.now c.loop-payment.payment-index unpaid) ∷ []) c.loop-payment.invariant
-    ∙ ap (λ (ws : List ℕ). 1 ∷ ws) (mapped_more word_of c.args.start.now c.loop-payment.payment-index unpaid c.loop-payment-test.true)
+    ∙ ap (λ (ws : List ℕ). 1 ∷ ws) (sym (map_more word_of c.args.start.now c.loop-payment.payment-index unpaid c.loop-payment-test.true))
 
 pub returns : goal.returns
 returns c =

@@ -1,9 +1,10 @@
 use Rattle.std.proofs.Common.{◌≡◌, ◌+◌, ◌<◌, ◌≢◌, length, ap, sym, subst, ◌∙◌, arith, below_more, get_or-set_same, get_or-set_other}
 use Rattle.std.specs.Slots.{slots_items}
+use Rattle.pay_words.proofs.Bells.{got}
 use Rattle.pay_words.specs.Ends.{Ends}
 use Rattle.pay_words.specs.Views.{Panel, Chair, HoldsAll}
 use Rattle.pay_words.specs.Words.{unpaid, payment_of}
-use Rattle.pay_words.proofs.Ends.{get_here, closes, copied}
+use Rattle.pay_words.proofs.Ends.{closes, copied}
 use Rattle.pay_words.proofs.board.Board.close.Goals as goal
 
 pub loop-i-preserved : goal.loop-i-preserved
@@ -13,7 +14,7 @@ loop-i-preserved c =
     (λ k h. let ne : k ≢ c.loop-i.i = omega (arith, h) in get_or-set_other c.loop-i.into c.loop-i.i k c.of_word.result unpaid ne ∙ c.loop-i.invariant k h)
     (get_or-set_same c.loop-i.into c.loop-i.i c.of_word.result unpaid lt
     ∙ c.of_word.ensures
-    ∙ ap payment_of (sym (get_here (slots_items c.close_with-closed.result.words) (c.loop-i.i + 1) c.word-word.result c.word-word.ensures)))
+    ∙ ap payment_of (sym (got (slots_items c.close_with-closed.result.words) (c.loop-i.i + 1) c.word-word.result 0 c.word-word.ensures)))
 
 ended : (c : goal.After-drop-master-inside-3) → Ends c.args.self.net c.args.self.past c.args.master.shows c.loop-i.into
 ended c =

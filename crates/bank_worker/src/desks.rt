@@ -1,0 +1,70 @@
+ghost use Rattle.bank_desk.specs.Desks.{desk_of};
+ghost use Rattle.bank_worker.specs.Offices.{banks_of_worker};
+ghost use Rattle.bank_worker.specs.Views.{banks_of, desk_at};
+ghost use Rattle.std.specs.Prelude.{◌≡◌, ◌<◌, ◌≤◌, IfOk, length, map};
+
+use bank_desk::Desk;
+use clr_net::{BankId, Mem, Network};
+use std::alloc::Global;
+use std::marker::Model;
+
+/// The desks of a worker, in file order, and beside them the bank of each, so that a sweep reaches
+/// no desk whose bell is down.
+#[derive(Drop)]
+pub struct Desks {
+    desks: Vec<Desk>,
+    banks: Vec<u32>,
+}
+
+impl Model for Desks {
+    ghost use Rattle.bank_desk.specs.Desks.{BankView};
+    ghost use Rattle.bank_worker.specs.Views.{banks_of};
+    ghost use Rattle.std.specs.Prelude.{◌≡◌, List};
+
+    ghost Value = { List BankView };
+
+    ghost view = { λ d. d.desks.items };
+
+    ghost invariant = { λ d. d.banks.items ≡ banks_of d.desks.items };
+}
+
+impl Desks {
+    /// The desks of a worker among so many.
+    pub fn of(alloc: Global, net: &Network, worker: u32, workers: u32) -> Result<Desks, Mem>
+        requires workers { 1 ≤ workers }
+        ensures { IfOk result (λ desks.
+            desks ≡ map (desk_of net.now) (banks_of_worker net.now workers worker)) }
+    {
+        let mut desks = Vec::new(alloc);
+        let mut banks = Vec::new(alloc);
+        for number in 0..net.banks() {
+            if number % workers == worker {
+                desks.push(Desk::of(alloc, net, BankId(number))?)?;
+                banks.push(number)?;
+            }
+        }
+        Ok(Desks { desks, banks })
+    }
+
+    /// How many there are.
+    pub fn len(&self) -> usize
+        ensures { result ≡ length self.now }
+    {
+        self.desks.len()
+    }
+
+    /// The desk in this place.
+    pub fn at(&self, place: usize) -> &Desk
+        requires { place < length self.now }
+        ensures { result.now ≡ desk_at self.now place }
+    {
+        &self.desks[place]
+    }
+
+    /// The bank of each desk.
+    pub fn banks(&self) -> &[u32]
+        ensures { result.now ≡ banks_of self.now }
+    {
+        self.banks.as_slice()
+    }
+}
