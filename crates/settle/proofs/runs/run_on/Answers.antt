@@ -89,6 +89,7 @@ returns g c =
         at_rest = record {
           master = t;
           rounds_are = subst (λ (s : Shown). EndsAtRest net c.args.plan s t c.in_ok-journal.field-0.rounds) opened d.at_rest;
+          visits_are = omega (arith, d.visits, ap (λ (u : Shown). u.taken) opened);
           paid_is = d.settled.paid ∙ sym least_paid;
         };
       };
