@@ -3,6 +3,7 @@ use Rattle.std.proofs.Common.{◌≡◌, ◌≢◌, ℕ, suc, ◌+◌, ◌*◌, 
 use Rattle.std.specs.Prelude.{◌%◌, sum_by, slice_index}
 use Rattle.std.proofs.lemmas.Bool.{cases_lt}
 use Rattle.std.proofs.lemmas.List.{get_or-map, get_or_past, length-map}
+use Rattle.std.proofs.lemmas.List.FromFn.{length-range_with_len}
 use Rattle.std.proofs.lemmas.List.Sums.{get_or-le-sum_by, sum-map, sum_by-cons, sum_by-le-sum_by}
 use Rattle.clr_net.specs.Amounts.{IsAtMost}
 use Rattle.clr_net.specs.Net.{Net, row, debtor_of, creditor_of}
@@ -18,11 +19,9 @@ use mathlib.Core.Logic.{dite}
 use native.Mathlib.Decide.{ℕ_discrete}
 use Rattle.settle.specs.Between.{AreOfBoard, IsBack, IsBetween, crew_of, crews, raises_by, shown_by}
 use Rattle.settle.specs.Rounds.{AreRounded, MadeRound, crew_at, no_crew, paid_by_crew}
-use Rattle.std.specs.Prelude.{take}
-use Rattle.std.proofs.Math.Seq.{take-length}
-use Rattle.std.proofs.Math.Nat.{mul-le-mul_left}
-use Rattle.bank_worker.proofs.Rooms.{filter_agree}
-use Rattle.settle.proofs.Shares.{all_banks, banks_of, sum_below_times, sum_by_below}
+use Rattle.std.specs.List.{range_with_len}
+use Rattle.bank_worker.proofs.Rooms.{banks_of_seat}
+use Rattle.settle.proofs.Shares.{all_shares}
 use Rattle.settle.proofs.Handed.{crew_there, handed_holds, length-crews}
 
 -- of two lists, of which one gives nowhere less than the other, with a sum no greater: they give the same in each place
@@ -78,23 +77,16 @@ module _ (board : Panel) (net : Net) (s : Shown) (w sweeps n : ℕ) (news : List
   pub few_in_round : sum_by (λ (k : Crew). k.visits) news ≤ sweeps * length net.banks
   few_in_round =
       let nb = length net.banks in
-      let visits_of = λ (k : Crew). k.visits in
-      let each : (i : ℕ) → i < w → visits_of (crew_at news i) ≤ sweeps * banks_of w nb i = λ i li.
-      let h = handed w i s in
-      let m = made_round i li in
-      let same_banks : length s.net.banks ≡ nb = ap (λ (m : Net). length m.banks) between.net_is in
-      let filtered : length (banks_held h) ≡ banks_of w nb i =
-      ap length (filter_agree (is_of_worker w i) (holds h) (length s.net.banks) (length s.net.banks) (omega arith) (λ k lk. handed_holds net w i s k between.net_is (omega arith)))
-      ∙ ap (λ n. banks_of w n i) same_banks in
-      let desks : length (desks_held h) ≡ banks_of w nb i = length-map (banks_held h) (desk_of s.net) ∙ filtered in
-      omega (arith, m.visits.at_most, ap (λ n. sweeps * n) desks) in
       omega (
         arith,
-        ap (sum_by visits_of) (take-length news),
-        ap (λ n. sum_by visits_of (take n news)) as_many,
-        sum_by_below no_crew visits_of (λ i. sweeps * banks_of w nb i) news w (omega (arith, as_many)) each,
-        sum_below_times sweeps (banks_of w nb) w,
-        mul-le-mul_left sweeps (all_banks w nb),
+        length-range_with_len 0 nb,
+        ap (λ n. sweeps * n) (length-range_with_len 0 nb),
+        all_shares no_crew (λ (k : Crew). k.visits) sweeps w (range_with_len 0 nb) news (λ i ln.
+            let li : i < w = omega (arith, ln, as_many) in
+            let h = handed w i s in
+            let desks = length-map (banks_held h) (desk_of s.net)
+            ∙ sym (ap length (banks_of_seat net h w i (sym between.net_is) (λ b lb. handed_holds net w i s b between.net_is lb))) in
+            omega (arith, (made_round i li).visits.at_most, ap (λ n. sweeps * n) desks)),
       )
 
   -- where units were raised, some worker made a raise
