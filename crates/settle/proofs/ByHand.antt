@@ -17,7 +17,7 @@ use Rattle.settle.specs.ByHand.{after_round, with_last}
 use Rattle.settle.specs.Drives.{IsPlan}
 use Rattle.settle.specs.Rounds.{AreRounded, crew_at}
 use Rattle.settle.specs.declared.plan.Plan.{Plan}
-use Rattle.settle.proofs.Handed.{first_master, first_net, length-crews}
+use Rattle.settle.proofs.Handed.{first_rest, length-crews}
 use Rattle.settle.proofs.Returned.{back_more, back_none, known_banks}
 use Rattle.settle.proofs.Rounded.{between_again, of_board}
 
@@ -116,10 +116,10 @@ stands_again board net plan units s ws here workers limits between rounded =
     let m = without_first w w s in
     let as_many : length ws ≡ w = rounded.as_many ∙ length-crews w board.table s w in
     let crew = of_board board net s w plan.sweeps units ws here workers limits.some_workers limits.few_sweeps between rounded in
-    let net_is : m.net ≡ board.net = first_net w w s ∙ between.net_is ∙ here in
+    let net_is : m.net ≡ board.net = (first_rest w w s).net ∙ between.net_is ∙ here in
     let network : IsNetwork board.net = subst IsNetwork here between.network in
     let back = back_last board w m ws as_many net_is network crew w (omega arith) in
     let t = with_last ws w w m in
     let all_back : IsBack board.workers board.net m ws t 0 = subst (IsBack board.workers board.net m ws t) (omega arith) back in
     between_again board net s w plan.sweeps units ws here workers limits.some_workers limits.few_sweeps between rounded m t (over_last ws w w m (over_first w w s between.over)) all_back
-    (all_back.master ∙ first_master w w s ∙ between.master)
+    (all_back.master ∙ (first_rest w w s).master ∙ between.master)

@@ -3,7 +3,7 @@ use Rattle.pay_words.specs.declared.view.Shown.{Shown}
 use Rattle.pay_words.specs.Views.{HoldsAllOf, OwesNoRing, Place, handed, holds, without}
 use Rattle.bank_worker.specs.Views.{Crew, desks_held}
 use Rattle.settle.specs.Between.{crew_of}
-use Rattle.settle.proofs.Handed.{first_master, first_seats, first_handed, first_holds, first_more, crews_more, handed_holds, handed_quiet}
+use Rattle.settle.proofs.Handed.{first_handed, first_holds, first_more, first_rest, crews_more, handed_holds, handed_quiet}
 use Rattle.settle.specs.Offices.{AreOffices, Serves}
 use Rattle.settle.proofs.Offices.{office_taken, serves_seat, none_left}
 use Rattle.settle.proofs.teams.open_workers.Goals as goal
@@ -18,10 +18,10 @@ hand-requires c =
     let b = c.requires.between in
     record {
       master = (inv.table ∙ c.requires.table, inv.net ∙ b.net_is ∙ c.requires.net);
-      is_the_master = ap (λ (u : Shown). u.master) inv.rest ∙ first_master w n s ∙ b.master;
+      is_the_master = ap (λ (u : Shown). u.master) inv.rest ∙ (first_rest w n s).master ∙ b.master;
       worker = omega (arith, c.requires.workers.2);
       banks = subst (λ (k : ℕ). HoldsAllOf k n c.loop-number.master.shows) c.requires.workers.2 (subst (HoldsAllOf w n) (sym inv.rest) (first_holds w n n s b.holds_all (omega arith)));
-      seats = omega (arith, ap (λ (u : Shown). u.seats) inv.rest, first_seats w n s, c.requires.seats);
+      seats = omega (arith, ap (λ (u : Shown). u.seats) inv.rest, (first_rest w n s).seats, c.requires.seats);
     }
 
 -- what the next worker is handed, and its office
