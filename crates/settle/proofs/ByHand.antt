@@ -1,14 +1,14 @@
 -- A round whose seats a caller hands out and takes back.
-use Rattle.std.proofs.Common.{◌≡◌, ℕ, zero, suc, ◌+◌, ◌-◌, ◌≤◌, true, false, List, length, refl, ◌∙◌, subst, arith}
+use Rattle.std.proofs.Common.{◌≡◌, ℕ, zero, suc, ◌+◌, ◌-◌, ◌≤◌, true, false, List, length, inl, refl, ◌∙◌, subst, arith}
 use Rattle.std.specs.Prelude.{◌&&◌, ◌||◌, not}
-use Rattle.std.proofs.lemmas.List.{length-map, length-replicate}
+use Rattle.std.proofs.lemmas.List.{get_or-replicate, length-map, length-replicate}
 use Rattle.clr_net.specs.Limits.{IsNetwork}
 use Rattle.clr_net.specs.Net.{Net, debtor_of, creditor_of}
 use Rattle.clear_core.specs.declared.event.Raise.{Raise}
 use Rattle.bank_worker.specs.Views.{Crew}
 use Rattle.pay_words.specs.declared.payment.Payment.{Payment}
 use Rattle.pay_words.specs.declared.view.Shown.{Shown}
-use Rattle.pay_words.specs.Traces.{start_of}
+use Rattle.pay_words.specs.Traces.{last_payment, start_of}
 use Rattle.pay_words.specs.Views.{Panel, IsOver, holds, is_of_worker, opening, rejoined, without}
 use Rattle.pay_words.proofs.Marks.{length-chosen}
 use Rattle.pay_words.proofs.Tables.{length-tabled}
@@ -17,8 +17,7 @@ use Rattle.settle.specs.ByHand.{after_round, with_last}
 use Rattle.settle.specs.Drives.{IsPlan}
 use Rattle.settle.specs.Rounds.{AreRounded, crew_at}
 use Rattle.settle.specs.declared.plan.Plan.{Plan}
-use Rattle.settle.proofs.Driving.{length-start_of, opened_first}
-use Rattle.settle.proofs.Handed.{first_master, first_net, length-crews}
+use Rattle.settle.proofs.Handed.{first_rest, length-crews}
 use Rattle.settle.proofs.Returned.{back_more, back_none, known_banks}
 use Rattle.settle.proofs.Rounded.{between_again, of_board}
 
@@ -67,7 +66,7 @@ over_last ws n (suc k) s o = over_rejoined (with_last ws n k s) (crew_at ws (n -
 over_opening : (net : Net) (past : List Raise) → IsOver (opening net (start_of net past))
 over_opening net past =
     let start = start_of net past in
-    let size = length-start_of net past in
+    let size = length-tabled (length net.debts) (λ x. last_payment x past) in
     let values = length-map start (λ (p : Payment). p.value) ∙ size in
     let stamps = length-map start (λ (p : Payment). p.stamp) ∙ size in
     record {
@@ -84,7 +83,17 @@ over_opening net past =
     }
 
 pub opened_stands : (net : Net) (past : List Raise) → IsNetwork net → IsBetween net (opening net (start_of net past))
-opened_stands net past network = opened_first net past (opening net (start_of net past)) network refl (over_opening net past)
+opened_stands net past network = record {
+  network = network;
+  net_is = refl;
+  master = refl;
+  over = over_opening net past;
+  holds_all = λ b lb. get_or-replicate (length net.banks) b true false lb;
+  no_rings = λ x lx. get_or-replicate (length net.debts) x false false lx;
+  calm = λ x lx. get_or-replicate (length net.debts) x false false lx;
+  rest = λ b lb. inl (get_or-replicate (length net.banks) b true false lb);
+  floor = λ x lx. refl;
+}
 
 -- the seats of the last k workers are back
 back_last : (board : Panel) (w : ℕ) (m : Shown) (ws : List Crew) → length ws ≡ w → m.net ≡ board.net → IsNetwork board.net → AreOfBoard board ws
@@ -107,10 +116,10 @@ stands_again board net plan units s ws here workers limits between rounded =
     let m = without_first w w s in
     let as_many : length ws ≡ w = rounded.as_many ∙ length-crews w board.table s w in
     let crew = of_board board net s w plan.sweeps units ws here workers limits.some_workers limits.few_sweeps between rounded in
-    let net_is : m.net ≡ board.net = first_net w w s ∙ between.net_is ∙ here in
+    let net_is : m.net ≡ board.net = (first_rest w w s).net ∙ between.net_is ∙ here in
     let network : IsNetwork board.net = subst IsNetwork here between.network in
     let back = back_last board w m ws as_many net_is network crew w (omega arith) in
     let t = with_last ws w w m in
     let all_back : IsBack board.workers board.net m ws t 0 = subst (IsBack board.workers board.net m ws t) (omega arith) back in
     between_again board net s w plan.sweeps units ws here workers limits.some_workers limits.few_sweeps between rounded m t (over_last ws w w m (over_first w w s between.over)) all_back
-    (all_back.master ∙ first_master w w s ∙ between.master)
+    (all_back.master ∙ (first_rest w w s).master ∙ between.master)

@@ -15,25 +15,17 @@ use Rattle.bank_worker.proofs.Manned.{desk_is}
 use Rattle.settle.specs.Between.{IsBetween, crew_of, crews, without_first}
 use Rattle.settle.specs.Rounds.{AreReady, IsReady, crew_at, no_crew}
 
-pub first_net : (w n : ℕ) (s : Shown) → (without_first w n s).net ≡ s.net
-first_net w zero s = refl
-first_net w (suc n) s = first_net w n s
+-- the master that handed out n seats shows what it showed, but for its banks and seats
+pub record IsRest (n : ℕ) (s t : Shown) : Type 0 where
+  pub net : t.net ≡ s.net
+  pub master : t.master ≡ s.master
+  pub seats : t.seats ≡ s.seats + n
+  pub raises : t.raises ≡ s.raises
+  pub taken : t.taken ≡ s.taken
 
-pub first_master : (w n : ℕ) (s : Shown) → (without_first w n s).master ≡ s.master
-first_master w zero s = refl
-first_master w (suc n) s = first_master w n s
-
-pub first_seats : (w n : ℕ) (s : Shown) → (without_first w n s).seats ≡ s.seats + n
-first_seats w zero s = omega arith
-first_seats w (suc n) s = omega (arith, first_seats w n s)
-
-pub first_raises : (w n : ℕ) (s : Shown) → (without_first w n s).raises ≡ s.raises
-first_raises w zero s = refl
-first_raises w (suc n) s = first_raises w n s
-
-pub first_taken : (w n : ℕ) (s : Shown) → (without_first w n s).taken ≡ s.taken
-first_taken w zero s = refl
-first_taken w (suc n) s = first_taken w n s
+pub first_rest : (w n : ℕ) (s : Shown) → IsRest n s (without_first w n s)
+first_rest w zero s = record { net = refl; master = refl; seats = omega arith; raises = refl; taken = refl }
+first_rest w (suc n) s = let h = first_rest w n s in record { net = h.net; master = h.master; seats = omega (arith, h.seats); raises = h.raises; taken = h.taken }
 
 -- what a worker is handed does not depend on what others were handed before
 pub first_handed : (w n i : ℕ) (s : Shown) → handed w i (without_first w n s) ≡ handed w i s

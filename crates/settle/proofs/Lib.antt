@@ -9,5 +9,4 @@ pub mod Shares
 pub mod Finished
 pub mod AllDown
 pub mod Limits
-pub mod Resting
 pub mod ByHand

@@ -66,10 +66,6 @@ pub held_by : (board : Panel) (i : ℕ) (w : Crew) → IsOfBoard board i w → (
 held_by board i w own b lt =
     ap (λ bs. is_marked bs b) own.banks ∙ tabled_at (length board.net.banks) (is_of_worker board.workers i) b false lt
 
--- how many offices are left once one more is taken
-pub count_left : (w n : ℕ) → n < w → w - n ≡ w - (n + 1) + 1
-count_left w n l = omega arith
-
 -- no office is left once all workers have theirs
 pub none_left : (net : Net) (w n : ℕ) (os : List OfficeView) → w ≤ n → AreOffices net w (w - n) os → os ≡ []
 none_left net w n [] l are = refl

@@ -3,6 +3,7 @@ use Rattle.std.proofs.Common.{◌≡◌, ◌≢◌, ℕ, suc, ◌+◌, ◌*◌, 
 use Rattle.std.specs.Prelude.{◌%◌, sum_by, slice_index}
 use Rattle.std.proofs.lemmas.Bool.{cases_lt}
 use Rattle.std.proofs.lemmas.List.{get_or-map, get_or_past, length-map}
+use Rattle.std.proofs.lemmas.List.FromFn.{length-range_with_len}
 use Rattle.std.proofs.lemmas.List.Sums.{get_or-le-sum_by, sum-map, sum_by-cons, sum_by-le-sum_by}
 use Rattle.clr_net.specs.Amounts.{IsAtMost}
 use Rattle.clr_net.specs.Net.{Net, row, debtor_of, creditor_of}
@@ -18,11 +19,9 @@ use mathlib.Core.Logic.{dite}
 use native.Mathlib.Decide.{ℕ_discrete}
 use Rattle.settle.specs.Between.{AreOfBoard, IsBack, IsBetween, crew_of, crews, raises_by, shown_by}
 use Rattle.settle.specs.Rounds.{AreRounded, MadeRound, crew_at, no_crew, paid_by_crew}
-use Rattle.std.specs.Prelude.{take}
-use Rattle.std.proofs.Math.Seq.{take-length}
-use Rattle.std.proofs.Math.Nat.{mul-le-mul_left}
-use Rattle.bank_worker.proofs.Rooms.{filter_agree}
-use Rattle.settle.proofs.Shares.{all_banks, banks_of, sum_below_times, sum_by_below}
+use Rattle.std.specs.List.{range_with_len}
+use Rattle.bank_worker.proofs.Rooms.{banks_of_seat}
+use Rattle.settle.proofs.Shares.{all_shares}
 use Rattle.settle.proofs.Handed.{crew_there, handed_holds, length-crews}
 
 -- of two lists, of which one gives nowhere less than the other, with a sum no greater: they give the same in each place
@@ -78,38 +77,39 @@ module _ (board : Panel) (net : Net) (s : Shown) (w sweeps n : ℕ) (news : List
   pub few_in_round : sum_by (λ (k : Crew). k.visits) news ≤ sweeps * length net.banks
   few_in_round =
       let nb = length net.banks in
-      let visits_of = λ (k : Crew). k.visits in
-      let each : (i : ℕ) → i < w → visits_of (crew_at news i) ≤ sweeps * banks_of w nb i = λ i li.
-      let h = handed w i s in
-      let m = made_round i li in
-      let same_banks : length s.net.banks ≡ nb = ap (λ (m : Net). length m.banks) between.net_is in
-      let filtered : length (banks_held h) ≡ banks_of w nb i =
-      ap length (filter_agree (is_of_worker w i) (holds h) (length s.net.banks) (length s.net.banks) (omega arith) (λ k lk. handed_holds net w i s k between.net_is (omega arith)))
-      ∙ ap (λ n. banks_of w n i) same_banks in
-      let desks : length (desks_held h) ≡ banks_of w nb i = length-map (banks_held h) (desk_of s.net) ∙ filtered in
-      omega (arith, m.visits.at_most, ap (λ n. sweeps * n) desks) in
       omega (
         arith,
-        ap (sum_by visits_of) (take-length news),
-        ap (λ n. sum_by visits_of (take n news)) as_many,
-        sum_by_below no_crew visits_of (λ i. sweeps * banks_of w nb i) news w (omega (arith, as_many)) each,
-        sum_below_times sweeps (banks_of w nb) w,
-        mul-le-mul_left sweeps (all_banks w nb),
+        length-range_with_len 0 nb,
+        ap (λ n. sweeps * n) (length-range_with_len 0 nb),
+        all_shares no_crew (λ (k : Crew). k.visits) sweeps w (range_with_len 0 nb) news (λ i ln.
+            let li : i < w = omega (arith, ln, as_many) in
+            let h = handed w i s in
+            let desks = length-map (banks_held h) (desk_of s.net)
+            ∙ sym (ap length (banks_of_seat net h w i (sym between.net_is) (λ b lb. handed_holds net w i s b between.net_is lb))) in
+            omega (arith, (made_round i li).visits.at_most, ap (λ n. sweeps * n) desks)),
+      )
+
+  -- where no worker's banks pay more, nothing was raised
+  none_more : ((i : ℕ) → i < w → paid_by_crew (crew_of w board.table s i) ≡ paid_by_crew (crew_at news i)) → n ≡ 0
+  none_more same =
+      let olds = crews w board.table s w in
+      omega (
+        arith,
+        rounded.rose,
+        lists_equal_sums no_crew paid_by_crew olds news rounded.as_many (λ i lo.
+            let li : i < w = omega (arith, lo, length-crews w board.table s w) in
+            ap paid_by_crew (crew_there w board.table s w i li) ∙ same i li),
       )
 
   -- where units were raised, some worker made a raise
   pub some_raise : n ≢ 0 → 1 ≤ sum_by raises_by news
   some_raise some_units = dite (ℕ_discrete (sum_by raises_by news) 0)
-      (λ none.
-      let olds = crews w board.table s w in
-      let each : (i : ℕ) → i < length olds → paid_by_crew (crew_at olds i) ≡ paid_by_crew (crew_at news i) = λ i lo.
-      let li : i < w = omega (arith, lo, length-crews w board.table s w) in
+      (λ none. absurd (some_units (none_more (λ i li.
       let m = made_round i li in
       let zero : raises_by (crew_at news i) ≡ 0 = omega (arith, none, get_or-le-sum_by raises_by news i no_crew (omega (arith, li, as_many))) in
       dite (ℕ_discrete m.units 0)
-      (λ u. omega (arith, ap paid_by_crew (crew_there w board.table s w i li), m.rounded.rose, u))
-      (λ more. absurd (omega (arith, m.rounded.raises.1 more, zero))) in
-      absurd (some_units (omega (arith, rounded.rose, lists_equal_sums no_crew paid_by_crew olds news rounded.as_many each))))
+      (λ u. omega (arith, m.rounded.rose, u))
+      (λ more. absurd (omega (arith, m.rounded.raises.1 more, zero)))))))
       (λ some. omega (arith, some))
 
   -- the worker of the bank b has settled it
@@ -216,9 +216,6 @@ module _ (board : Panel) (net : Net) (s : Shown) (w sweeps n : ℕ) (news : List
         (λ (ge : length s.net.debts ≤ x). omega (arith, get_or_past s.paid x 0 (omega (arith, ge, between.over.paid))))
         (cases_lt x (length s.net.debts))
 
-    crew_rose : (i : ℕ) → i < w → paid_by_crew (crew_of w board.table s i) ≤ paid_by_crew (crew_at news i)
-    crew_rose i li = omega (arith, (made_round i li).rounded.rose)
-
     -- a round that raised nothing left all payments as they were
     pub none_rose : n ≡ 0 → (x : ℕ) → x < length net.debts → get_or t.paid x 0 ≡ get_or s.paid x 0
     none_rose zero_units x lx =
@@ -230,7 +227,7 @@ module _ (board : Panel) (net : Net) (s : Shown) (w sweeps n : ℕ) (news : List
         let u = (crew_at news i).seat.shows in
         let crew_same : paid_by_crew (crew_at olds i) ≡ paid_by_crew (crew_at news i) =
         agree_where_sums_do no_crew paid_by_crew paid_by_crew olds news rounded.as_many
-        (λ k lk. let lk' : k < w = omega (arith, lk, length-crews w board.table s w) in omega (arith, ap paid_by_crew (crew_there w board.table s w k lk'), crew_rose k lk'))
+        (λ k lk. let lk' : k < w = omega (arith, lk, length-crews w board.table s w) in omega (arith, ap paid_by_crew (crew_there w board.table s w k lk'), (made_round k lk').rounded.rose))
         (omega (arith, rounded.rose)) i (omega (arith, li, length-crews w board.table s w)) in
         let desks = (crew_at news i).desks in
         let all_same : paid_by_all u desks ≡ paid_by_all s desks = sym crew_same ∙ ap paid_by_crew (crew_there w board.table s w i li) ∙ ap (λ ds. paid_by_all s ds) (sym (made_round i li).same.desks) in
@@ -245,11 +242,8 @@ module _ (board : Panel) (net : Net) (s : Shown) (w sweeps n : ℕ) (news : List
         paid_is x lx ∙ ap (slice_index u.paid) (sym f.2) ∙ sym here_same ∙ ap (slice_index s.paid) f.2
 
     -- where all payments stayed, the round raised nothing
-    pub raised_nothing : ((x : ℕ) → x < length net.debts → get_or t.paid x 0 ≡ get_or s.paid x 0) → n ≡ 0
-    raised_nothing same =
-        let olds = crews w board.table s w in
-        let each : (i : ℕ) → i < length olds → paid_by_crew (crew_at olds i) ≡ paid_by_crew (crew_at news i) = λ i lo.
-        let li : i < w = omega (arith, lo, length-crews w board.table s w) in
+    raised_nothing : ((x : ℕ) → x < length net.debts → get_or t.paid x 0 ≡ get_or s.paid x 0) → n ≡ 0
+    raised_nothing same = none_more (λ i li.
         let h = handed w i s in
         let u = (crew_at news i).seat.shows in
         let ds = desks_held h in
@@ -261,8 +255,7 @@ module _ (board : Panel) (net : Net) (s : Shown) (w sweeps n : ℕ) (news : List
         let mine : b % w ≡ i = eqb-true (b % w) i (sym (handed_holds net w i s b between.net_is lb) ∙ f.held) in
         sym (paid_by_kept net (desk_at ds k) s u known (λ x lx e.
         ap (λ j. get_or (crew_at news j).seat.shows.paid x 0) (sym mine) ∙ ap (λ c. get_or (shown_by w news c).paid x 0) (sym e) ∙ sym (paid_is x lx) ∙ same x lx))) in
-        ap paid_by_crew (crew_there w board.table s w i li) ∙ desks_same ∙ ap (λ es. paid_by_all u es) (sym (made_round i li).same.desks) in
-        omega (arith, rounded.rose, lists_equal_sums no_crew paid_by_crew olds news rounded.as_many each)
+        desks_same ∙ ap (λ es. paid_by_all u es) (sym (made_round i li).same.desks))
 
     pub some_rose : n ≢ 0 → sum s.paid + 1 ≤ sum t.paid
     some_rose some_units =

@@ -3,7 +3,7 @@ ghost use Rattle.settle.specs.Drives.{IsBelowLeast, IsDriven};
 ghost use Rattle.std.specs.Prelude.{◌≡◌, IfOk};
 
 use crate::plan::{Driven, Plan};
-use crate::teams::{calls_two_workers, offices_of, round};
+use crate::teams::{add_all, calls_two_workers, offices_of, round};
 use clear_core::{Journal, Raise};
 use clr_edge::Gate;
 use clr_net::{MAX_BANKS, Mem, Network};
@@ -65,10 +65,7 @@ pub(crate) fn drive_on<R: Threads + Sync, G: Gate + Sync>(
         (IsDriven net.now past.now plan master.old.shows master.new.shows) }
 {
     let mut journal = Journal::empty(alloc);
-    journal.reserve(past.len())?;
-    for raise in past {
-        journal.push(*raise)?;
-    }
+    add_all(&mut journal, past)?;
     let _clock = master.clock();
     prove!(net.banks() <= MAX_BANKS);
     let mut offices = offices_of(alloc, net, plan.workers)?;

@@ -26,6 +26,7 @@ pub struct Settled {
 
 /// Clears a network by rounds of workers on one board, until a round raises nothing. The record has
 /// a copy of the network. `Mem` is want of memory.
+#[tactic(auto, using(crate::proofs::Finished::record_first, crate::proofs::Finished::bounds_first))]
 pub fn settle<R: Threads + Sync, G: Gate + Sync>(
     rt: &R,
     alloc: Global,
@@ -39,11 +40,12 @@ pub fn settle<R: Threads + Sync, G: Gate + Sync>(
     ensures bounds { IfOk result (λ s.
         IsWithin net.now plan s.rounds s.visits (length s.sealed.journal)) }
 {
-    settle_owned(rt, alloc, net.copy(alloc)?, plan, gate)
+    settle_from(rt, alloc, net, plan, &[], gate)
 }
 
 /// Clears a network as [`settle`] does, and puts the network itself into the record, which saves
 /// the copy. `Mem` is want of memory.
+#[tactic(auto, using(crate::proofs::Finished::record_first, crate::proofs::Finished::bounds_first))]
 pub fn settle_owned<R: Threads + Sync, G: Gate + Sync>(
     rt: &R,
     alloc: Global,
@@ -63,6 +65,7 @@ pub fn settle_owned<R: Threads + Sync, G: Gate + Sync>(
 /// Clears a network as [`settle_owned`] does, and starts no thread: all workers go one after another
 /// in the calling thread, for a caller whose own threads are at work already. `Mem` is want of
 /// memory.
+#[tactic(auto, using(crate::proofs::Finished::record_first, crate::proofs::Finished::bounds_first))]
 pub fn settle_alone<R: Threads + Sync, G: Gate + Sync>(
     rt: &R,
     alloc: Global,

@@ -104,7 +104,7 @@ fn close_workers(
 }
 
 // Adds these raises at the end of a journal.
-fn add_all(journal: &mut Journal, raises: &[Raise]) -> Result<(), Mem>
+pub(crate) fn add_all(journal: &mut Journal, raises: &[Raise]) -> Result<(), Mem>
     ensures { OnOk result (journal.new.raises ≡ journal.old.raises ++ raises.now) }
 {
     journal.reserve(raises.len())?;

@@ -9,8 +9,8 @@ use clr_edge::Gate;
 use pay_words::Board;
 use std::thread::{Threads, join_mut};
 
-// A round of each of these workers: beside the others, each half of the list in a thread of its
-// own, down to one worker, or one after another in this thread.
+// A round of each of these workers, down to one. Where they go `beside` one another each half of the
+// list has a thread of its own; else one half goes after the other, in this thread.
 #[cycle(halves)]
 pub(crate) fn work<R: Threads + Sync, G: Gate + Sync>(
     rt: &R,
@@ -30,66 +30,35 @@ pub(crate) fn work<R: Threads + Sync, G: Gate + Sync>(
         return worker.round(board, sweeps, gate);
     }
     let (front, back) = workers.split_at_mut(workers.len() / 2);
-    if beside {
-        both_halves(rt, board, sweeps, gate, front, back)
-    } else {
-        halves_in_turn(rt, board, sweeps, gate, front, back)
-    }
-}
-
-// Each half in a thread of its own.
-#[cycle(halves)]
-fn both_halves<R: Threads + Sync, G: Gate + Sync>(
-    rt: &R,
-    board: &Board,
-    sweeps: u32,
-    gate: &G,
-    front: &mut [Worker],
-    back: &mut [Worker],
-) -> Visit
-    requires sweeps { (1 ≤ sweeps) × (sweeps ≤ 1000) }
-    requires some { (1 ≤ length front.old) × (1 ≤ length back.old)
-        × (length front.old + length back.old ≤ 64) }
-    requires front { AreReady board.now front.old }
-    requires back { AreReady board.now back.old }
-    ensures rounded { WhenRaised result (λ n.
-        AreRounded sweeps n (front.old ++ back.old) (front.new ++ back.new)) }
-{
     let mut low = || -> Visit
         requires { IsSync R.row × IsSync G.row × (1 ≤ sweeps) × (sweeps ≤ 1000)
             × (1 ≤ length front.now) × (length front.now ≤ 64) × AreReady board.now front.now }
         ensures { WhenRaised result (λ n. AreRounded sweeps n front.entry.now front.exit.now) }
-    { work(rt, board, sweeps, gate, front, true) };
+    { work(rt, board, sweeps, gate, front, beside) };
     let mut high = || -> Visit
         requires { IsSync R.row × IsSync G.row × (1 ≤ sweeps) × (sweeps ≤ 1000)
             × (1 ≤ length back.now) × (length back.now ≤ 64) × AreReady board.now back.now }
         ensures { WhenRaised result (λ n. AreRounded sweeps n back.entry.now back.exit.now) }
-    { work(rt, board, sweeps, gate, back, true) };
-    let (a, b) = join_mut(rt, &mut low, &mut high);
+    { work(rt, board, sweeps, gate, back, beside) };
+    let (a, b) = both(rt, &mut low, &mut high, beside);
     added(a, b)
 }
 
-// One half after the other, in this thread.
-#[cycle(halves)]
-fn halves_in_turn<R: Threads + Sync, G: Gate + Sync>(
+// Both calls: in two threads, or one after the other.
+fn both<R: Threads, F: FnMut() -> Visit + Send, G: FnMut() -> Visit>(
     rt: &R,
-    board: &Board,
-    sweeps: u32,
-    gate: &G,
-    front: &mut [Worker],
-    back: &mut [Worker],
-) -> Visit
-    requires sweeps { (1 ≤ sweeps) × (sweeps ≤ 1000) }
-    requires some { (1 ≤ length front.old) × (1 ≤ length back.old)
-        × (length front.old + length back.old ≤ 64) }
-    requires front { AreReady board.now front.old }
-    requires back { AreReady board.now back.old }
-    ensures rounded { WhenRaised result (λ n.
-        AreRounded sweeps n (front.old ++ back.old) (front.new ++ back.new)) }
+    low: &mut F,
+    high: &mut G,
+    beside: bool,
+) -> (Visit, Visit)
+    requires { F.pre low.old × G.pre high.old }
+    ensures { F.step low.old result.0 low.new × G.step high.old result.1 high.new }
 {
-    let a = work(rt, board, sweeps, gate, front, false);
-    let b = work(rt, board, sweeps, gate, back, false);
-    added(a, b)
+    if beside {
+        join_mut(rt, low, high)
+    } else {
+        (low(), high())
+    }
 }
 
 // The units of two visits, or want of memory where one of them met it.

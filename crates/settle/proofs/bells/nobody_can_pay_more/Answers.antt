@@ -14,9 +14,4 @@ returns-clause-least c true_is =
     ∙ all_down net s c.banks-bank-end.ensures.network c.requires.idle seen.over.paid seen.paid_below_least seen.sights_below_least (subst (AreDown s) (omega arith) c.loop-bank.invariant.down)
 
 pub returns-clause-clears : goal.returns-clause-clears
-returns-clause-clears c true_is =
-    let net = c.args.net.now in
-    let s = c.args.master.now.shows in
-    let seen = c.clock-clock.ensures in
-    subst (Clears net) (sym (ap (λ (u : Shown). u.paid) c.loop-bank.invariant.same
-    ∙ all_down net s c.banks-bank-end.ensures.network c.requires.idle seen.over.paid seen.paid_below_least seen.sights_below_least (subst (AreDown s) (omega arith) c.loop-bank.invariant.down))) (least_clears net)
+returns-clause-clears c true_is = subst (Clears c.args.net.now) (sym (returns-clause-least c true_is)) (least_clears c.args.net.now)

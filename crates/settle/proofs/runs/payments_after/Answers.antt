@@ -1,10 +1,10 @@
-use Rattle.std.proofs.Common.{length, take, get_or, set, sym, ap, ◌∙◌, arith}
+use Rattle.std.proofs.Common.{length, replicate, take, get_or, set, sym, ap, ◌∙◌, arith}
 use Rattle.std.proofs.lemmas.List.{take_more}
 use Rattle.clear_core.specs.declared.event.Raise.{Raise}
 use Rattle.pay_words.specs.Traces.{last_payment, start_of}
-use Rattle.pay_words.proofs.Starts.{start_more}
+use Rattle.pay_words.proofs.Starts.{start_more, start_none}
 use Rattle.pay_words.proofs.Tables.{length-tabled}
-use Rattle.settle.proofs.Finished.{first_payments}
+use Rattle.pay_words.specs.Words.{unpaid}
 use Rattle.settle.proofs.runs.payments_after.Goals as goal
 
 -- what a list has past its end
@@ -12,7 +12,7 @@ abbrev no_raise : Raise
 no_raise = record { stamp = 0; debt = record { 0 = 0 }; to = 0 }
 
 pub loop-raise-init : goal.loop-raise-init
-loop-raise-init c = c.in_ok-payments.ensures ∙ first_payments c.args.net.now c.debts.result c.debts.ensures.debts
+loop-raise-init c = c.in_ok-payments.ensures ∙ ap (λ n. replicate n unpaid) c.debts.ensures.debts ∙ sym (start_none c.args.net.now)
 
 pub index_mut-requires : goal.index_mut-requires
 index_mut-requires c =

@@ -1,20 +1,25 @@
 use Rattle.std.proofs.Common.{◌≡◌, ◌≤◌, ◌++◌, All, length, sum, sym, ap, ◌∙◌, subst, arith}
 use Rattle.clr_net.specs.Net.{Net}
-use Rattle.clear_core.specs.Clearing.{least}
+use Rattle.clear_core.specs.Clearing.{Clears, least}
 use Rattle.clear_core.specs.History.{ordered, replayed}
 use Rattle.clear_core.specs.declared.event.Raise.{Raise}
 use Rattle.clear_core.proofs.Lawful.{stands_in_range}
-use Rattle.clear_core.proofs.Ordered.{length-ordered}
+use Rattle.clear_core.proofs.Least.{least_clears}
+use Rattle.clear_core.proofs.Ordered.{length-ordered, ordered_after_all}
+use Rattle.clear_core.proofs.Pay.{length-pay}
 use Rattle.pay_words.specs.Belongs.{Belongs}
 use Rattle.pay_words.specs.Ends.{AreAfter, values}
 use Rattle.pay_words.specs.Sealed.{Sealed}
+use Rattle.pay_words.specs.Traces.{last_payment, start_of}
 use Rattle.pay_words.specs.Views.{opening}
 use Rattle.pay_words.proofs.Histories.{replayed_is}
+use Rattle.pay_words.proofs.Starts.{values_shown}
+use Rattle.pay_words.proofs.Tables.{length-tabled}
 use Rattle.pay_words.specs.declared.view.Shown.{Shown}
-use Rattle.pay_words.specs.Traces.{start_of}
+use Rattle.raise_journal.proofs.Lawful.{lawful_is}
 use Rattle.settle.specs.Drives.{EndsAtRest}
 use Rattle.settle.proofs.Limits.{within_limits}
-use Rattle.settle.proofs.Finished.{after_a_past, goes_on, lawful_at_least, paid_over, sealed_belongs, values_shown, values_written}
+use Rattle.settle.proofs.Finished.{length-payments_of, written_over}
 use Rattle.settle.proofs.runs.run_on.Goals as goal
 
 pub payments_after-requires : goal.payments_after-requires
@@ -49,13 +54,15 @@ returns g c =
     let rs = c.in_ok-board.board.past ++ t.raises in
     let seal = c.seal-sealed.ensures in
     let journal = c.seal-sealed.result.journal in
+    let network = c.banks.ensures.network in
+    let debts : length t.net.debts ≡ length net.debts = ap (λ (m : Net). length m.debts) d.settled.idle.net_is in
     let noted : journal ≡ ordered rs = ap (λ (r : Sealed). r.journal) seal.record_of in
-    let belongs : Belongs net into journal = sealed_belongs net c.in_ok-board.board.net into journal rs panel.0 noted seal.lawful in
-    let written : paid ≡ values into =
-    c.in_ok-paid.ensures ∙ ap values c.as_slice-2.ensures.value
-    ∙ values_written net past t p.len p.items into p.ok.0 c.in_ok-payments.ensures seal.payments d.settled.idle.net_is in
-    let least_paid : paid ≡ least net =
-    written ∙ ap values seal.payments ∙ values_shown t (paid_over net t d.settled.idle.net_is d.settled.paid) ∙ d.settled.paid in
+    let belongs : Belongs net into journal =
+    subst (λ js. Belongs net into js) (sym noted) (subst (λ (m : Net). Belongs m into (ordered rs)) panel.0 seal.lawful) in
+    let many : p.len ≡ length into = omega (arith, p.ok.0, ap length c.in_ok-payments.ensures, length-tabled (length net.debts) (λ x. last_payment x past), ap length seal.payments, length-payments_of t, debts) in
+    let written : paid ≡ values into = c.in_ok-paid.ensures ∙ ap values (c.as_slice-2.ensures.value ∙ written_over p.len into p.items many) in
+    let over : length t.paid ≡ length t.net.debts = omega (arith, ap length d.settled.paid, ap length (least_clears net), length-pay net (least net), debts) in
+    let least_paid : paid ≡ least net = written ∙ ap values seal.payments ∙ values_shown t over ∙ d.settled.paid in
     let replays : replayed net journal ≡ paid = replayed_is net journal ∙ ap values (sym belongs.start_is) ∙ sym written in
     let low_stamps : All (λ r. r.stamp ≤ sum paid) journal = subst (λ js. All (λ (r : Raise). r.stamp ≤ sum paid) js) (sym noted)
     (subst (λ P. All (λ (r : Raise). r.stamp ≤ sum P) (ordered rs)) (sym written) seal.low_in_order) in
@@ -64,18 +71,18 @@ returns g c =
     record {
       settled = record {
         paid = least_paid;
-        verdict = lawful_at_least net journal c.banks.ensures.network belongs.stands (replays ∙ least_paid);
+        verdict = (lawful_is net journal network).1 (belongs.stands, subst (Clears net) (sym (replays ∙ least_paid)) (least_clears net));
         lawful = (belongs.stands, belongs.traced);
         replays = replays;
         in_order = belongs.in_order;
         low_stamps = low_stamps;
-        within_limits = within_limits net journal paid c.banks.ensures.network belongs.stands replays least_paid low_stamps;
-        can_go_on = goes_on net into journal belongs;
+        within_limits = within_limits net journal paid network belongs.stands replays least_paid low_stamps;
+        can_go_on = subst (λ ps. Belongs net ps journal) belongs.start_is belongs;
         record_is = record {
           net_is = ap (λ (r : Sealed). r.net) seal.record_of ∙ panel.0;
           raises = ordered t.raises;
           journal_is = noted ∙ ap (λ ps. ordered (ps ++ t.raises)) panel.1
-              ∙ after_a_past past t.raises c.requires.past.in_order (subst (λ ps. AreAfter ps t.raises) panel.1 seal.after_past);
+              ∙ ordered_after_all past t.raises (subst (λ ps. AreAfter ps t.raises) panel.1 seal.after_past) ∙ ap (λ ps. ps ++ ordered t.raises) c.requires.past.in_order;
           made = made ∙ sym (length-ordered t.raises);
           workers = ap (λ (r : Sealed). r.workers) seal.record_of ∙ panel.2;
           seats = ap (λ (r : Sealed). r.seats) seal.record_of ∙ d.seats;
@@ -89,6 +96,7 @@ returns g c =
         at_rest = record {
           master = t;
           rounds_are = subst (λ (s : Shown). EndsAtRest net c.args.plan s t c.in_ok-journal.field-0.rounds) opened d.at_rest;
+          visits_are = omega (arith, d.visits, ap (λ (u : Shown). u.taken) opened);
           paid_is = d.settled.paid ∙ sym least_paid;
         };
       };

@@ -1,15 +1,14 @@
-use Rattle.std.proofs.Common.{◌≡◌, ℕ, ◌+◌, ◌-◌, ◌*◌, ◌<◌, ◌≤◌, length, sum_by}
+use Rattle.std.proofs.Common.{◌≡◌, ◌+◌, ◌-◌, ◌*◌, ◌≤◌, length, sum_by}
 use Rattle.settle.specs.Between.{HaveGrownAlike, IsBack, raises_by}
 use Rattle.settle.specs.Offices.{AreOffices}
-use Rattle.settle.specs.Rounds.{crew_at}
+use Rattle.settle.proofs.Returned.{AreFirst}
 use Rattle.settle.proofs.teams.close_workers.Given as goal
 
 abbrev pub invariant-loop-worker : goal.invariant-loop-worker
 invariant-loop-worker l = record {
   table : l.master.table ≡ l.fn.master.table;
   back : IsBack l.board.workers l.board.net l.fn.master.shows l.fn.workers.items l.master.shows (length l.workers.items);
-  items : (i : ℕ) → i < length l.workers.items → crew_at l.workers.items i ≡ crew_at l.fn.workers.items i;
-  few : length l.workers.items ≤ length l.fn.workers.items;
+  left : AreFirst l.fn.workers.items l.workers.items;
   offices : AreOffices l.board.net l.board.workers (l.board.workers - length l.workers.items) l.offices.items;
   noted : HaveGrownAlike l.fn.journal.raises l.journal.raises l.fn.master.shows.raises l.master.shows.raises;
   visits : l.master.shows.taken ≡ l.fn.master.shows.taken + l.visits;

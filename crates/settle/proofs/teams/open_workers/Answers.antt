@@ -1,13 +1,13 @@
 use Rattle.std.proofs.Common.{◌≡◌, ℕ, ◌+◌, ◌-◌, [], ◌∷◌, ◌++◌, sym, ap, ◌∙◌, subst, arith}
 use Rattle.pay_words.specs.declared.view.Shown.{Shown}
-use Rattle.pay_words.specs.Views.{HoldsAllOf, OwesNoRing, handed, holds, without}
-use Rattle.pay_words.specs.Views.{Place}
+use Rattle.pay_words.specs.Views.{HoldsAllOf, OwesNoRing, Place, handed, holds, without}
 use Rattle.bank_worker.specs.Views.{Crew, desks_held}
 use Rattle.settle.specs.Between.{crew_of}
-use Rattle.settle.proofs.Handed.{first_net, first_master, first_seats, first_handed, first_holds, first_more, crews_more, handed_holds, handed_quiet}
-use Rattle.settle.specs.Offices.{AreOffices}
-use Rattle.settle.proofs.Offices.{count_left, office_taken, serves_seat, none_left}
+use Rattle.settle.proofs.Handed.{first_handed, first_holds, first_more, first_rest, crews_more, handed_holds, handed_quiet}
+use Rattle.settle.specs.Offices.{AreOffices, Serves}
+use Rattle.settle.proofs.Offices.{office_taken, serves_seat, none_left}
 use Rattle.settle.proofs.teams.open_workers.Goals as goal
+use Rattle.settle.proofs.teams.open_workers.Goals.{In-Some}
 
 pub hand-requires : goal.hand-requires
 hand-requires c =
@@ -17,36 +17,46 @@ hand-requires c =
     let inv = c.loop-number.invariant in
     let b = c.requires.between in
     record {
-      master = (inv.table ∙ c.requires.table, ap (λ (u : Shown). u.net) inv.rest ∙ first_net w n s ∙ b.net_is ∙ c.requires.net);
-      is_the_master = ap (λ (u : Shown). u.master) inv.rest ∙ first_master w n s ∙ b.master;
+      master = (inv.table ∙ c.requires.table, inv.net ∙ b.net_is ∙ c.requires.net);
+      is_the_master = ap (λ (u : Shown). u.master) inv.rest ∙ (first_rest w n s).master ∙ b.master;
       worker = omega (arith, c.requires.workers.2);
       banks = subst (λ (k : ℕ). HoldsAllOf k n c.loop-number.master.shows) c.requires.workers.2 (subst (HoldsAllOf w n) (sym inv.rest) (first_holds w n n s b.holds_all (omega arith)));
-      seats = omega (arith, ap (λ (u : Shown). u.seats) inv.rest, first_seats w n s, c.requires.seats);
+      seats = omega (arith, ap (λ (u : Shown). u.seats) inv.rest, (first_rest w n s).seats, c.requires.seats);
     }
+
+-- what the next worker is handed, and its office
+shown : (c : In-Some) → c.in_ok-seat.seat.shows ≡ handed c.args.workers c.loop-number.number c.args.master.now.shows
+shown c =
+    let w = c.args.workers in
+    let n = c.loop-number.number in
+    c.in_ok-seat.ensures.seat.1
+    ∙ ap (λ k. handed k n c.loop-number.master.shows) (sym c.requires.workers.2)
+    ∙ ap (handed w n) c.loop-number.invariant.rest
+    ∙ first_handed w n n c.args.master.now.shows
+
+taken : (c : In-Some) → AreOffices c.args.net.now c.args.workers (c.args.workers - (c.loop-number.number + 1)) c.pop.new.self.items
+    × Serves c.args.net.now c.args.workers c.loop-number.number c.in-Some.office
+taken c =
+    let w = c.args.workers in
+    let n = c.loop-number.number in
+    let count : w - n ≡ w - (n + 1) + 1 = omega arith in
+    office_taken c.args.net.now w (w - (n + 1)) n c.loop-number.offices.items c.pop.new.self.items c.in-Some.office
+    (subst (λ m. AreOffices c.args.net.now w m c.loop-number.offices.items) count c.loop-number.invariant.offices) c.in-Some.ensures.items (omega arith)
 
 pub with-requires : goal.with-requires
 with-requires c =
-    let s = c.args.master.now.shows in
     let net = c.args.net.now in
     let w = c.args.workers in
     let n = c.loop-number.number in
-    let inv = c.loop-number.invariant in
     let b = c.requires.between in
-    let seat = c.in_ok-seat.seat in
-    let shown : seat.shows ≡ handed w n s =
-    c.in_ok-seat.ensures.seat.1
-    ∙ ap (λ k. handed k n c.loop-number.master.shows) (sym c.requires.workers.2)
-    ∙ ap (handed w n) inv.rest
-    ∙ first_handed w n n s in
+    let at = (goal.at.with-requires c).In-Some in
+    let here = shown at in
     record {
-      office = serves_seat net seat.shows w n c.in-Some.office (sym b.net_is ∙ sym (ap (λ (u : Shown). u.net) shown))
-          (λ k lt. ap (λ (u : Shown). holds u k) shown ∙ handed_holds net w n s k b.net_is lt)
-          (office_taken net w (w - (n + 1)) n c.loop-number.offices.items c.pop.new.self.items c.in-Some.office
-          (subst (λ m. AreOffices net w m c.loop-number.offices.items) (count_left w n (omega arith)) inv.offices)
-          c.in-Some.ensures.items (omega arith)).1;
-      not_the_master = ap (λ (u : Shown). u.master) shown;
-      no_raise = ap (λ (u : Shown). u.raises) shown;
-      no_rings = subst OwesNoRing (sym shown) (handed_quiet net w n s b);
+      office = serves_seat net c.in_ok-seat.seat.shows w n c.in-Some.office (sym b.net_is ∙ sym (ap (λ (u : Shown). u.net) here))
+          (λ k lt. ap (λ (u : Shown). holds u k) here ∙ handed_holds net w n c.args.master.now.shows k b.net_is lt) (taken at).1;
+      not_the_master = ap (λ (u : Shown). u.master) here;
+      no_raise = ap (λ (u : Shown). u.raises) here;
+      no_rings = subst OwesNoRing (sym here) (handed_quiet net w n c.args.master.now.shows b);
     }
 
 pub loop-number-preserved : goal.loop-number-preserved
@@ -57,27 +67,21 @@ loop-number-preserved c =
     let inv = c.loop-number.invariant in
     let seat = c.in_ok-seat.seat in
     let table = c.args.board.now.table in
-    let shown : seat.shows ≡ handed w n s =
-    c.in_ok-seat.ensures.seat.1
-    ∙ ap (λ k. handed k n c.loop-number.master.shows) (sym c.requires.workers.2)
-    ∙ ap (handed w n) inv.rest
-    ∙ first_handed w n n s in
-    let taken = office_taken c.args.net.now w (w - (n + 1)) n c.loop-number.offices.items c.pop.new.self.items c.in-Some.office
-    (subst (λ m. AreOffices c.args.net.now w m c.loop-number.offices.items) (count_left w n (omega arith)) inv.offices)
-    c.in-Some.ensures.items (omega arith) in
+    let at = (goal.at.loop-number-preserved c).In-Some in
     let made : c.with.result ≡ crew_of w table s n =
     c.with.ensures
-    ∙ ap (λ i. let k : Crew = record { seat = seat; desks = desks_held seat.shows; worker = i; visits = 0; journal = [] } in k) taken.1.worker
-    ∙ ap (λ (u : Shown). let k : Crew = record { seat = record { table = seat.table; shows = u }; desks = desks_held u; worker = n; visits = 0; journal = [] } in k) shown
+    ∙ ap (λ i. let k : Crew = record { seat = seat; desks = desks_held seat.shows; worker = i; visits = 0; journal = [] } in k) (taken at).1.worker
+    ∙ ap (λ (u : Shown). let k : Crew = record { seat = record { table = seat.table; shows = u }; desks = desks_held u; worker = n; visits = 0; journal = [] } in k) (shown at)
     ∙ ap (λ (t : Place). let k : Crew = record { seat = record { table = t; shows = handed w n s }; desks = desks_held (handed w n s); worker = n; visits = 0; journal = [] } in k) c.in_ok-seat.ensures.seat.0 in
     record {
       table = c.hand.ensures.table ∙ inv.table;
+      net = ap (λ (u : Shown). u.net) c.in_ok-seat.ensures.rest ∙ inv.net;
       rest =
           c.in_ok-seat.ensures.rest
           ∙ ap (λ k. without k n c.loop-number.master.shows) (sym c.requires.workers.2)
           ∙ ap (without w n) inv.rest
           ∙ sym (first_more w n s);
-      offices = taken.0;
+      offices = (taken at).0;
       crew =
           c.in_ok-push.ensures.items
           ∙ ap (λ (k : Crew). c.loop-number.crew.items ++ k ∷ []) made
@@ -87,20 +91,3 @@ loop-number-preserved c =
 
 pub returns-clause-offices : goal.returns-clause-offices
 returns-clause-offices c = none_left c.args.net.now c.args.workers c.loop-number.number c.loop-number.offices.items (omega arith) c.loop-number.invariant.offices
-
-pub returns-in_err-seat-clause-net : goal.returns-in_err-seat-clause-net
-returns-in_err-seat-clause-net c =
-    let net_of = λ (u : Shown). u.net in
-    let inv = c.loop-number.invariant in
-    ap net_of c.in_err-seat.ensures.unchanged ∙ ap net_of inv.rest ∙ first_net c.args.workers c.loop-number.number c.args.master.now.shows
-
-pub returns-in_err-push-clause-net : goal.returns-in_err-push-clause-net
-returns-in_err-push-clause-net c =
-    let net_of = λ (u : Shown). u.net in
-    let inv = c.loop-number.invariant in
-    ap net_of c.in_ok-seat.ensures.rest ∙ ap net_of inv.rest ∙ first_net c.args.workers c.loop-number.number c.args.master.now.shows
-
-pub returns-clause-net : goal.returns-clause-net
-returns-clause-net c =
-    let net_of = λ (u : Shown). u.net in
-    ap net_of c.loop-number.invariant.rest ∙ first_net c.args.workers c.loop-number.number c.args.master.now.shows

@@ -10,7 +10,7 @@ use Rattle.settle.specs.Between.{HaveGrownAlike, IsBetween, crews, raises_by}
 use Rattle.settle.specs.Offices.{AreOffices}
 use Rattle.settle.specs.Rounds.{AreReady, AreRounded}
 use Rattle.settle.proofs.AllDown.{idle_between}
-use Rattle.settle.proofs.Handed.{crews_ready, first_net, first_master, first_seats, first_raises, first_taken, length-crews}
+use Rattle.settle.proofs.Handed.{IsRest, crews_ready, first_rest, length-crews}
 use Rattle.settle.proofs.Rounded.{few_in_round, of_board, between_again, all_divide, all_seen, none_fell, none_rose, some_raise, some_rose}
 use Rattle.settle.proofs.teams.round.Goals as goal
 
@@ -43,7 +43,7 @@ close_workers-requires g c =
     let news = c.work_all.new.workers.items in
     let olds = crews w board.table s w in
     let rounded = subst (λ os. AreRounded c.args.plan.sweeps c.in-Raised.units os news) c.in_ok-workers.ensures.crews c.in-Raised.ensures.rounded in
-    let rest = c.in_ok-workers.ensures.rest in
+    let rest = subst (IsRest w s) (sym c.in_ok-workers.ensures.rest) (first_rest w w s) in
     record {
       workers = (
         subst (λ n. 1 ≤ n) c.requires.ready.workers_are c.requires.ready.limits.some_workers,
@@ -52,8 +52,8 @@ close_workers-requires g c =
       );
       network = subst IsNetwork c.requires.ready.net_is c.requires.ready.between.network;
       master = (
-        (c.open_workers.ensures.table ∙ c.requires.ready.table_is, ap (λ (u : Shown). u.net) rest ∙ first_net w w s ∙ c.requires.ready.between.net_is ∙ c.requires.ready.net_is),
-        ap (λ (u : Shown). u.master) rest ∙ first_master w w s ∙ c.requires.ready.between.master,
+        (c.open_workers.ensures.table ∙ c.requires.ready.table_is, rest.net ∙ c.requires.ready.between.net_is ∙ c.requires.ready.net_is),
+        rest.master ∙ c.requires.ready.between.master,
       );
       offices = c.in_ok-workers.ensures.offices;
       crew = of_board board net s w c.args.plan.sweeps c.in-Raised.units news c.requires.ready.net_is c.requires.ready.workers_are c.requires.ready.limits.some_workers c.requires.ready.limits.few_sweeps c.requires.ready.between rounded;
@@ -71,7 +71,7 @@ returns g c =
     let m = c.open_workers.new.master.shows in
     let t = c.close_workers.new.master.shows in
     let rounded = subst (λ os. AreRounded sweeps units os news) c.in_ok-workers.ensures.crews c.in-Raised.ensures.rounded in
-    let rest = c.in_ok-workers.ensures.rest in
+    let rest = subst (IsRest w s) (sym c.in_ok-workers.ensures.rest) (first_rest w w s) in
     let back = c.in_ok-visits.ensures.back in
     let over = c.clock-clock.ensures.over in
     let here = c.requires.ready.net_is in
@@ -80,7 +80,7 @@ returns g c =
     let few = c.requires.ready.limits.few_sweeps in
     let same_net : t.net ≡ net = back.net_is ∙ sym here in
     let again : IsBetween net t = between_again board net s w sweeps units news here c.requires.ready.workers_are some few between rounded m t over back
-    (back.master ∙ ap (λ (u : Shown). u.master) rest ∙ first_master w w s ∙ between.master) in
+    (back.master ∙ rest.master ∙ between.master) in
     record {
       table = c.close_workers.ensures.table ∙ c.open_workers.ensures.table;
       net = c.close_workers.ensures.net ∙ c.open_workers.ensures.net;
@@ -94,16 +94,15 @@ returns g c =
         none_rose = none_rose board net s w sweeps units news here c.requires.ready.workers_are some few between rounded m t over back;
         divide = all_divide board net s w sweeps units news here c.requires.ready.workers_are some few between rounded m t over back;
         seen = all_seen board net s w sweeps units news here c.requires.ready.workers_are some few between rounded m t over back;
-        visits_are = c.in_ok-visits.ensures.visits ∙ ap (λ k. k + c.in_ok-visits.visits) (ap (λ (u : Shown). u.taken) rest ∙ first_taken w w s);
+        visits_are = c.in_ok-visits.ensures.visits ∙ ap (λ k. k + c.in_ok-visits.visits) rest.taken;
         visits_by_banks = subst (λ k. k ≤ sweeps * length net.banks) (sym c.in_ok-visits.ensures.sum)
             (few_in_round board net s w sweeps units news here c.requires.ready.workers_are some few between rounded);
         raises =
-            let before : length m.raises ≡ length s.raises = ap (λ (u : Shown). length u.raises) rest ∙ ap length (first_raises w w s) in
-            added_raises units s t (sum_by raises_by news) (c.in_ok-visits.ensures.raises ∙ ap (λ k. k + sum_by raises_by news) before)
+            added_raises units s t (sum_by raises_by news) (c.in_ok-visits.ensures.raises ∙ ap (λ rs. length rs + sum_by raises_by news) rest.raises)
             (some_raise board net s w sweeps units news here c.requires.ready.workers_are some few between rounded);
-        seats = back.seats ∙ ap (λ (u : Shown). u.seats) rest ∙ first_seats w w s;
+        seats = back.seats ∙ rest.seats;
         paid_low = subst (λ (n : Net). IsAtMost t.paid (least n)) same_net c.clock-clock.ensures.paid_below_least;
         sights_low = subst (λ (n : Net). IsAtMost t.sights (least n)) same_net c.clock-clock.ensures.sights_below_least;
       };
-      noted = subst (λ rs. HaveGrownAlike c.args.journal.now.raises c.close_workers.new.journal.raises rs t.raises) (ap (λ (u : Shown). u.raises) rest ∙ first_raises w w s) c.in_ok-visits.ensures.noted;
+      noted = subst (λ rs. HaveGrownAlike c.args.journal.now.raises c.close_workers.new.journal.raises rs t.raises) rest.raises c.in_ok-visits.ensures.noted;
     }
