@@ -23,7 +23,7 @@ use Rattle.net_csv.specs.declared.layout.Version.{Version}
 use Rattle.net_csv.specs.declared.layout.Version.TheVariants as version
 use Rattle.net_csv.proofs.Networks.{are_read, with_file-keeps, network_of_ok, network_of_read}
 use Rattle.net_csv.proofs.KeptNames.{network_of_names}
-use Rattle.net_csv.proofs.Rows.{one_added, rows-pass, rows-end, file-below}
+use Rattle.net_csv.proofs.Rows.{one_row, rows-pass, rows-end, file-below}
 use Rattle.net_csv.proofs.PrintedRecords.{ArePlain, IsRow, AreRows, read_printed}
 use Rattle.net_csv.proofs.BackFacts.{IsBackDebt, IsBackName, bank_back, debt_back, name_back}
 use Rattle.net_csv.proofs.BackRows.{IsKeptRow, SaysAll, bank_row, debt_row, bank_read_back, debt_read_back}
@@ -67,8 +67,8 @@ module _ (X : Type 0) (l : Layout) (fields_of : X → Fields) (so_far : List X �
   rows_back (x ∷ rest) done row e =
       let kept = printed.kept done rest x e in
       let fields = trimmed_fields (fields_of x) in
-      let one = one_added l (so_far done) (so_far (done ++ x ∷ [])) row fields (ap is_blank kept.trimmed ∙ kept.full)
-      (ap (λ f. with_row l (so_far done) (row, f)) kept.trimmed ∙ printed.read done rest x row e) in
+      let one = one_row l (so_far done) row fields (ap is_blank kept.trimmed ∙ kept.full)
+      ∙ ap (λ f. with_row l (so_far done) (row, f)) kept.trimmed ∙ printed.read done rest x row e in
       rows-pass l (so_far done) (so_far (done ++ x ∷ [])) row fields (map trimmed_fields (map fields_of rest)) one
       ∙ rows_back rest (done ++ x ∷ []) (row + 1) (moved all done rest x e)
       ∙ ap (λ xs. Ok (so_far xs)) (append_assoc done (x ∷ []) rest)

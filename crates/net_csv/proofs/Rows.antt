@@ -1,5 +1,5 @@
 -- A file read row by row.
-use Rattle.std.proofs.Common.{◌≡◌, ◌∙◌, ℕ, suc, ◌+◌, ◌≤◌, not, Bool, true, false, length, map, List, [], ◌∷◌, ◌++◌, Result, Ok, Err, refl, ap, arith}
+use Rattle.std.proofs.Common.{◌≡◌, ◌↔◌, ◌∙◌, ℕ, suc, ◌+◌, ◌≤◌, not, Bool, true, false, length, map, List, [], ◌∷◌, ◌++◌, Result, Ok, Err, refl, ap, arith}
 use Rattle.std.specs.List.{enumerate_from}
 use Rattle.std.proofs.lemmas.List.{length-map}
 use Rattle.std.proofs.lemmas.List.Elements.{filter-append}
@@ -41,17 +41,21 @@ pub none_added : (l : Layout) (net : Net) (row : ℕ) (fields : Fields) → is_b
 unfolding read_rows
 none_added l net row fields blank = rw blank refl
 
--- another adds what its row says
-pub one_added : (l : Layout) (net next : Net) (row : ℕ) (fields : Fields) → is_blank fields ≡ false
-    → with_row l net (row, fields) ≡ Ok next → read_rows l net (rows_from row (fields ∷ [])) ≡ Ok next
+-- another is what its row says
+pub one_row : (l : Layout) (net : Net) (row : ℕ) (fields : Fields) → is_blank fields ≡ false
+    → read_rows l net (rows_from row (fields ∷ [])) ≡ with_row l net (row, fields)
 unfolding read_rows
-one_added l net next row fields full e = rw full (ap (λ (r : Result Net Fault). and_then r (λ (n : Net). Ok n)) e)
+one_row l net row fields full = rw full (by (with_row l net (row, fields)))
+  where
+    by : (r : Result Net Fault) → and_then r (λ (n : Net). Ok n) ≡ r
+    by (Ok n) = refl
+    by (Err f) = refl
 
--- or has the fault of its row
-pub one_refused : (l : Layout) (net : Net) (row : ℕ) (fields : Fields) (f : Fault) → is_blank fields ≡ false
-    → with_row l net (row, fields) ≡ Err f → read_rows l net (rows_from row (fields ∷ [])) ≡ Err f
-unfolding read_rows
-one_refused l net row fields f full e = rw full (ap (λ (r : Result Net Fault). and_then r (λ (n : Net). Ok n)) e)
+-- a row has the fault of what it gives
+pub fault_of_row : {A B E : Type 0} (r : Result A E) (f : A → B) (e : E)
+    → (and_then r (λ a. Ok (f a)) ≡ Err e) ↔ (r ≡ Err e)
+fault_of_row (Ok a) f e = (λ h. cc, λ h. cc)
+fault_of_row (Err d) f e = (λ h. cc, λ h. cc)
 
 -- what the first record says, and then the others
 rows-next : (l : Layout) (net : Net) (row : ℕ) (fields : Fields) (rest : List Fields)

@@ -3,7 +3,7 @@ ghost use Rattle.csv.specs.Records.{fields_of};
 ghost use Rattle.net_check.specs.declared.fault.Fault.{Fault};
 ghost use Rattle.net_csv.specs.Reading.{bank_in_row, trimmed_fields, with_row};
 ghost use Rattle.net_csv.specs.declared.layout.Layout.{Layout};
-ghost use Rattle.std.specs.Prelude.{◌≡◌, Ok, Err, IfOk, OnOk, IsErrOf};
+ghost use Rattle.std.specs.Prelude.{◌≡◌, ◌↔◌, Ok, Err, IfOk, OnOk, IsErrOf};
 
 use crate::layout::Version;
 use crate::records::{fault, four_fields, three_fields};
@@ -12,7 +12,8 @@ use csv::ByteRecord;
 use net_check::{FaultKind, FileKind, ReadNet, check_bank};
 use std::alloc::Global;
 
-/// Adds the bank of a record that is not blank to a network.
+/// Adds the bank of a record that is not blank to a network. `Refused` comes exactly where there is
+/// a fault, `Mem` only where there is none.
 pub(crate) fn add_bank(
     alloc: Global,
     net: &mut Network,
@@ -24,7 +25,7 @@ pub(crate) fn add_bank(
         OnOk result (with_row (Layout.Banks version) net.old (row, said) ≡ Ok net.new) }
     ensures refused { let said = trimmed_fields (fields_of fields.now) in
         (f : Fault) → IsErrOf result (ReadNet.Refused f)
-        → with_row (Layout.Banks version) net.old (row, said) ≡ Err f }
+        ↔ (with_row (Layout.Banks version) net.old (row, said) ≡ Err f) }
 {
     let bank = bank_of(alloc, net, version, row, fields)?;
     match net.add_bank(bank) {
@@ -46,7 +47,7 @@ fn bank_of(
     ensures new { IfOk result (IsNewBank net.now) }
     ensures refused { let said = trimmed_fields (fields_of fields.now) in
         (f : Fault) → IsErrOf result (ReadNet.Refused f)
-        → bank_in_row version net.now (row, said) ≡ Err f }
+        ↔ (bank_in_row version net.now (row, said) ≡ Err f) }
 {
     if net.banks() >= MAX_BANKS {
         return Err(ReadNet::Refused(fault(FileKind::Banks, row, FaultKind::TooMany)));

@@ -3,20 +3,21 @@ ghost use Rattle.csv.specs.Records.{fields_of};
 ghost use Rattle.net_check.specs.declared.fault.Fault.{Fault};
 ghost use Rattle.net_csv.specs.Reading.{debt_in_row, trimmed_fields, with_row};
 ghost use Rattle.net_csv.specs.declared.layout.Layout.{Layout};
-ghost use Rattle.std.specs.Prelude.{◌≡◌, Ok, Err, IfOk, OnOk, IsErrOf};
+ghost use Rattle.std.specs.Prelude.{◌≡◌, ◌↔◌, Ok, Err, IfOk, OnOk, IsErrOf};
 
 use crate::records::{fault, four_fields};
 use clr_net::{Debt, MAX_DEBTS, Network};
 use csv::ByteRecord;
 use net_check::{Fault, FaultKind, FileKind, ReadNet, check_debt};
 
-/// Adds the debt of a record that is not blank to a network.
+/// Adds the debt of a record that is not blank to a network. `Refused` comes exactly where there is
+/// a fault, `Mem` only where there is none.
 pub(crate) fn add_debt(net: &mut Network, row: u32, fields: &ByteRecord) -> Result<(), ReadNet>
     ensures read { let said = trimmed_fields (fields_of fields.now) in
         OnOk result (with_row Layout.Debts net.old (row, said) ≡ Ok net.new) }
     ensures refused { let said = trimmed_fields (fields_of fields.now) in
         (f : Fault) → IsErrOf result (ReadNet.Refused f)
-        → with_row Layout.Debts net.old (row, said) ≡ Err f }
+        ↔ (with_row Layout.Debts net.old (row, said) ≡ Err f) }
 {
     match debt_of(net, row, fields) {
         Ok(debt) => match net.add_debt(debt) {

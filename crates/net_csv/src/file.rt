@@ -5,7 +5,7 @@ ghost use Rattle.net_check.specs.declared.fault.FileKind.TheVariants as file;
 ghost use Rattle.net_csv.specs.Left.{IsReading, records_left, trimmed_left};
 ghost use Rattle.net_csv.specs.Reading.{banks_header, below_header, read_rows, rows_from, rows_of, trimmed_fields};
 ghost use Rattle.net_csv.specs.Reading.{version_of, with_banks_of, with_debts_of};
-ghost use Rattle.std.specs.Prelude.{◌≡◌, ◌≤◌, ◌∷◌, [], length, Ok, Err, IfOk, OnOk, IsErrOf};
+ghost use Rattle.std.specs.Prelude.{◌≡◌, ◌≤◌, ◌↔◌, ◌∷◌, [], length, Ok, Err, IfOk, OnOk, IsErrOf};
 
 use crate::banks::add_bank;
 use crate::debts::add_debt;
@@ -89,7 +89,8 @@ fn add_rows(
     Ok(())
 }
 
-// Adds the bank or the debt of one record to a network. A blank record has none.
+// Adds the bank or the debt of one record to a network. A blank record has none. `Refused` comes
+// exactly where there is a fault.
 fn add_record(
     alloc: Global,
     net: &mut Network,
@@ -100,7 +101,8 @@ fn add_record(
     ensures read { let rows = rows_from row (trimmed_fields (fields_of fields.now) ∷ []) in
         OnOk result (read_rows layout net.old rows ≡ Ok net.new) }
     ensures refused { let rows = rows_from row (trimmed_fields (fields_of fields.now) ∷ []) in
-        (f : Fault) → IsErrOf result (ReadNet.Refused f) → read_rows layout net.old rows ≡ Err f }
+        (f : Fault) → IsErrOf result (ReadNet.Refused f)
+        ↔ (read_rows layout net.old rows ≡ Err f) }
 {
     if is_blank(fields) {
         return Ok(());

@@ -2,7 +2,10 @@ ghost use Rattle.clr_net.specs.Limits.{IsOfKind};
 ghost use Rattle.clr_net.specs.Net.{is_debt_of, is_of_kind, numbers};
 ghost use Rattle.csv.specs.Records.{fields_of};
 ghost use Rattle.net_check.specs.Field.{trimmed_field};
+ghost use Rattle.net_check.specs.Record.{fault_at};
 ghost use Rattle.net_check.specs.declared.fault.Fault.{Fault};
+ghost use Rattle.net_check.specs.declared.fault.FaultKind.TheVariants as kind;
+ghost use Rattle.net_check.specs.declared.fault.FileKind.TheVariants as file;
 ghost use Rattle.net_csv.specs.Left.{IsReading, records_left, trimmed_left};
 ghost use Rattle.net_csv.specs.Reading.{is_blank as are_blank, rows_from, trimmed_fields};
 ghost use Rattle.raise_journal.specs.ReadJournal.{added, closed_early_at};
@@ -11,7 +14,7 @@ ghost use Rattle.raise_journal.specs.ReadJournal.{raise_from, raise_in_row, rais
 ghost use Rattle.net_check.specs.declared.TheConstants.{MAX_JOURNAL_BYTES};
 ghost use Rattle.std.specs.List.{list_all, list_any};
 ghost use Rattle.std.specs.Option.{option_map};
-ghost use Rattle.std.specs.Prelude.{◌≡◌, ◌≢◌, ◌<◌, ◌≤◌, ◌∷◌, [], false, length, position};
+ghost use Rattle.std.specs.Prelude.{◌≡◌, ◌≢◌, ◌<◌, ◌≤◌, ◌↔◌, ◌∷◌, [], false, length, position};
 ghost use Rattle.std.specs.Prelude.{All, Ok, Err};
 ghost use Rattle.std.specs.Prelude.{IfErr, IfNone, IfOk, IfSome, OnOk, IsErrOf, MatchOption};
 
@@ -38,6 +41,8 @@ pub fn read_journal(alloc: Global, net: &Network, bytes: &[u8]) -> Result<Journa
     ensures journal { IfOk result (λ journal. journal_of net.now bytes.now ≡ Ok journal.raises) }
     ensures refused { (f : Fault) → IsErrOf result (ReadNet.Refused f)
         → journal_of net.now bytes.now ≡ Err f }
+    ensures size { MAX_JOURNAL_BYTES < length bytes.now
+        → IsErrOf result (ReadNet.Refused (fault_at file.Journal 0 kind.FileSize)) }
     ensures debts { IfOk result
         (λ journal. All (λ r. r.debt.0 < length net.now.debts) journal.raises) }
 {
@@ -134,7 +139,8 @@ fn closed_early(raises: usize, row: u32) -> Fault
     }
 }
 
-// Adds the raise of one record to a journal. A blank record has none.
+// Adds the raise of one record to a journal. A blank record has none. `Refused` comes exactly where
+// there is a fault.
 fn add_raise(
     net: &Network,
     row: u32,
@@ -145,7 +151,8 @@ fn add_raise(
         (added net.now journal.old.raises row (trimmed_fields (fields_of fields.now))
         ≡ Ok journal.new.raises) }
     ensures refused { (f : Fault) → IsErrOf result (ReadNet.Refused f)
-        → added net.now journal.old.raises row (trimmed_fields (fields_of fields.now)) ≡ Err f }
+        ↔ (added net.now journal.old.raises row (trimmed_fields (fields_of fields.now))
+        ≡ Err f) }
     ensures debts { All (λ r. r.debt.0 < length net.now.debts) journal.old.raises
         → OnOk result (All (λ r. r.debt.0 < length net.now.debts) journal.new.raises) }
 {

@@ -18,7 +18,7 @@ use Rattle.net_check.specs.declared.fault.FaultKind.{FaultKind}
 use Rattle.net_check.specs.declared.fault.FaultKind.TheVariants as fault
 use Rattle.net_check.specs.declared.fault.FileKind.TheVariants as file
 use Rattle.net_check.specs.declared.fault.ReadNet.{ReadNet}
-use Rattle.stress.specs.Reading.{loss_in, read_losses, scenario_in, scenario_in_row, next_scenario, read_all, scenarios_in, fault_in}
+use Rattle.stress.specs.Reading.{loss_in, read_losses, named_cut, scenario_in, scenario_in_row, next_scenario, read_all, scenarios_in, fault_in}
 use Rattle.stress.specs.Shape.{Parts, as_loss, as_parts, array_or_none, has_only, up_to}
 use Rattle.stress.specs.Shocks.{IsScenarioOf, HasLossesInLimit, is_of_bank}
 use Rattle.stress.specs.declared.TheConstants.{MAX_CUT, MAX_LOSS, MAX_SCENARIOS}
@@ -130,14 +130,12 @@ scenario_is net value s h =
     Ok (record { name = p.name; cut = cut; losses = losses }) in
     let after_cut : Parts → ℕ → Result Scenario FaultKind = λ p cut.
     and_then (read_losses net [] p.losses) (made p cut) in
-    let after_name : Parts → Result Scenario FaultKind = λ p.
-    and_then (ok_or (up_to MAX_CUT p.cut) fault.Limit) (after_cut p) in
     let after_shape : Parts → Result Scenario FaultKind = λ p.
-    fault_unless (is_name p.name) fault.Name (after_name p) in
+    and_then (named_cut p) (after_cut p) in
     let (p, _, shaped) = and_then-ok (ok_or (as_parts value) fault.Shape) after_shape s h in
-    let (_, named) = fault_unless-ok (is_name p.name) fault.Name (after_name p) s shaped in
-    let (cut, limit, rest) = and_then-ok (ok_or (up_to MAX_CUT p.cut) fault.Limit) (after_cut p)
-    s named in
+    let (cut, named, rest) = and_then-ok (named_cut p) (after_cut p) s shaped in
+    let (_, limit) = fault_unless-ok (is_name p.name) fault.Name
+    (ok_or (up_to MAX_CUT p.cut) fault.Limit) cut named in
     let (losses, read, is) = and_then-ok (read_losses net [] p.losses) (made p cut) s rest in
     let good = losses_are net p.losses [] losses (none_are net) read in
     let same : (let x : Scenario = record { name = p.name; cut = cut; losses = losses } in x) ≡ s =

@@ -15,7 +15,7 @@ use Rattle.net_check.specs.declared.fault.Fault.{Fault}
 use Rattle.net_check.specs.declared.fault.FaultKind.{FaultKind}
 use Rattle.net_check.specs.declared.fault.FaultKind.TheVariants as fault
 use Rattle.net_check.specs.declared.fault.FileKind.TheVariants as file
-use Rattle.stress.specs.Shape.{as_loss, as_parts, array_or_none, has_only, up_to}
+use Rattle.stress.specs.Shape.{Parts, as_loss, as_parts, array_or_none, has_only, up_to}
 use Rattle.stress.specs.Shocks.{is_of_bank}
 use Rattle.stress.specs.declared.TheConstants.{MAX_SCENARIOS, MAX_CUT, MAX_LOSS}
 use Rattle.stress.specs.declared.scenario.Loss.{Loss}
@@ -37,14 +37,21 @@ read_losses net before no_items = Ok before
 read_losses net before (item value rest) =
     and_then (loss_in net before value) (λ l. read_losses net (before ++ l ∷ []) rest)
 
+-- the cut of a scenario, whose name is judged before it
+abbrev pub named_cut : Parts → Result ℕ FaultKind
+named_cut p = fault_unless (is_name p.name) fault.Name (ok_or (up_to MAX_CUT p.cut) fault.Limit)
+
+-- what a value says before its losses: its shape, its name and its cut
+abbrev pub head_in : Data → Result ℕ FaultKind
+head_in value = and_then (ok_or (as_parts value) fault.Shape) named_cut
+
 -- the scenario that a value is: its shape, its name, its cut and its losses
 abbrev pub scenario_in : Net → Data → Result Scenario FaultKind
 scenario_in net value =
     and_then (ok_or (as_parts value) fault.Shape) (λ p.
-    fault_unless (is_name p.name) fault.Name (
-    and_then (ok_or (up_to MAX_CUT p.cut) fault.Limit) (λ cut.
+    and_then (named_cut p) (λ cut.
     and_then (read_losses net [] p.losses) (λ losses.
-    Ok (record { name = p.name; cut = cut; losses = losses })))))
+    Ok (record { name = p.name; cut = cut; losses = losses }))))
 
 -- a fault of a scenario, or of the document, which is row 0
 abbrev pub fault_in : ℕ → FaultKind → Fault

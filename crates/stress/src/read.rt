@@ -2,17 +2,19 @@ ghost use Rattle.net_check.specs.declared.fault.Fault.{Fault};
 ghost use Rattle.net_check.specs.declared.fault.FaultKind.{FaultKind};
 ghost use Rattle.std.specs.Prelude.{◌≡◌, [], Ok, Err, IfOk, IsErrOf};
 ghost use Rattle.std.specs.List.{All};
-ghost use Rattle.stress.specs.Reading.{loss_in, read_all as read_all_of, read_losses as read_losses_of};
+ghost use Rattle.stress.specs.Reading.{fault_in, head_in, loss_in, named_cut, read_all as read_all_of};
+ghost use Rattle.stress.specs.Reading.{read_losses as read_losses_of};
 ghost use Rattle.stress.specs.Reading.{scenario_in, scenario_in_row as scenario_in_row_of};
 ghost use Rattle.stress.specs.Reading.{scenarios_in, scenarios_of};
 ghost use Rattle.stress.specs.Shocks.{HasLossesInLimit, IsScenarioOf};
+ghost use Rattle.stress.specs.Views.{parts_seen};
 ghost use Rattle.toml.specs.View.{items_view, table_view, view};
 
 use crate::document::{document_of, fault};
 use crate::scenario::{Loss, Losses, Scenario};
-use crate::shape::{has_only, loss_parts, parts_of, up_to};
+use crate::shape::{Parts, has_only, loss_parts, parts_of, up_to};
 use crate::{MAX_CUT, MAX_LOSS, MAX_SCENARIOS};
-use clr_net::{Name, NameFault, Network};
+use clr_net::{Name, Network};
 use net_check::{FaultKind, FileKind, ReadNet};
 use std::alloc::Global;
 use toml::{Table, Value};
@@ -94,6 +96,8 @@ fn scenario_in_row(
     ensures read { IfOk result (λ s. scenario_in_row_of net.now row (view value.now) ≡ Ok s) }
     ensures refused { (f : Fault) → IsErrOf result (ReadNet.Refused f)
         → scenario_in_row_of net.now row (view value.now) ≡ Err f }
+    ensures head { (k : FaultKind) → head_in (view value.now) ≡ Err k
+        → IsErrOf result (ReadNet.Refused (fault_in row k)) }
 {
     match scenario_from(alloc, net, value) {
         Ok(scenario) => Ok(scenario),
@@ -102,29 +106,40 @@ fn scenario_in_row(
     }
 }
 
-// The scenario that a value is.
+// The scenario that a value is. Faults of its shape, its name and its cut are found before memory
+// is taken.
 fn scenario_from(alloc: Global, net: &Network, value: &Value) -> Result<Scenario, Stop>
     ensures read { IfOk result (λ s. scenario_in net.now (view value.now) ≡ Ok s) }
     ensures refused { (k : FaultKind) → IsErrOf result (Stop.Fault k)
         → scenario_in net.now (view value.now) ≡ Err k }
+    ensures head { (k : FaultKind) → head_in (view value.now) ≡ Err k
+        → IsErrOf result (Stop.Fault k) }
 {
     let Some(parts) = parts_of(value) else {
         return Err(Stop::Fault(FaultKind::Shape));
     };
-    let name = match Name::of(alloc, parts.name.as_bytes()) {
-        Ok(name) => name,
-        Err(NameFault::Bad) => return Err(Stop::Fault(FaultKind::Name)),
-        Err(NameFault::Mem) => return Err(Stop::Mem),
+    let cut = match cut_of(parts) {
+        Ok(cut) => cut,
+        Err(kind) => return Err(Stop::Fault(kind)),
     };
-    let Some(cut) = up_to(MAX_CUT, parts.cut) else {
-        return Err(Stop::Fault(FaultKind::Limit));
+    let Ok(name) = Name::of(alloc, parts.name.as_bytes()) else {
+        return Err(Stop::Mem);
     };
     let losses = read_losses(alloc, net, parts.losses)?;
-    Ok(Scenario {
-        name,
-        cut: cut as u32,
-        losses,
-    })
+    Ok(Scenario { name, cut, losses })
+}
+
+// The cut of a scenario, whose name is judged before it. Takes no memory.
+fn cut_of(parts: Parts<'_>) -> Result<u32, FaultKind>
+    ensures { result ≡ named_cut (parts_seen parts.entry) }
+{
+    if !Name::accepts(parts.name.as_bytes()) {
+        return Err(FaultKind::Name);
+    }
+    match up_to(MAX_CUT, parts.cut) {
+        Some(cut) => Ok(cut as u32),
+        None => Err(FaultKind::Limit),
+    }
 }
 
 // The losses that these values are.

@@ -4,9 +4,9 @@ use Rattle.clear_report.specs.Journals.{NamesBankOf}
 use Rattle.clear_top.proofs.judge.judge_by.Goals as goal
 
 pub lawful_text-requires : goal.lawful_text-requires
-lawful_text-requires c = c.replay_with-verdict.ensures.over
+lawful_text-requires c = c.replay_with-verdict.ensures.verdict.over
 
 pub reject-requires : goal.reject-requires
 reject-requires c =
-    subst (NamesBankOf c.args.net.now) (sym c.replay_with-verdict.ensures.verdict)
+    subst (NamesBankOf c.args.net.now) (sym c.replay_with-verdict.ensures.verdict.told)
     (verdict_names_bank c.args.net.now c.args.journal.now)

@@ -7,10 +7,10 @@ pub returns-in-Some-clause-refused : goal.returns-in-Some-clause-refused
 returns-in-Some-clause-refused c =
     let banks = c.args.net.now.banks in
     let room : nat_lt (length banks) MAX_BANKS ≡ true = lt-ltb (length banks) MAX_BANKS (omega arith) in
-    λ f e. rw (c.in-One.is, room, c.in-Some.ensures) ((c.check_bank.ensures.refused f).0 e)
+    λ f. rw (c.in-One.is, room, c.in-Some.ensures) (c.check_bank.ensures.refused f)
 
 pub returns-in-Some-four_fields-clause-refused : goal.returns-in-Some-four_fields-clause-refused
 returns-in-Some-four_fields-clause-refused c =
     let banks = c.args.net.now.banks in
     let room : nat_lt (length banks) MAX_BANKS ≡ true = lt-ltb (length banks) MAX_BANKS (omega arith) in
-    λ f e. rw (c.in-Two.is, room, c.in-Some-four_fields.ensures) ((c.check_bank-in-Some-four_fields.ensures.refused f).0 e)
+    λ f. rw (c.in-Two.is, room, c.in-Some-four_fields.ensures) (c.check_bank-in-Some-four_fields.ensures.refused f)

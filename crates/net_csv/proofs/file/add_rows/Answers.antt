@@ -29,7 +29,7 @@ returns-in_err-add_record-clause-refused c = λ f e.
     let p = err_from_is_err_and c.from_residual-in_err-add_record.result c.from_residual-in_err-add_record.ensures.1 in
     c.rows.invariant.same
     ∙ ap (λ (left : List (List (List ℕ))). read_rows c.args.layout c.rows.net (rows_from (c.rows.row + 1) (map trimmed_fields left))) next
-    ∙ rows-stop c.args.layout c.rows.net (c.rows.row + 1) first rest f (c.in_err-add_record.ensures.refused f (let told = p.1 in let same = p.2 in cc e))
+    ∙ rows-stop c.args.layout c.rows.net (c.rows.row + 1) first rest f ((c.in_err-add_record.ensures.refused f).0 (let told = p.1 in let same = p.2 in cc e))
 
 pub returns-clause-read : goal.returns-clause-read
 returns-clause-read c =

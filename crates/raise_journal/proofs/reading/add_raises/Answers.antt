@@ -72,4 +72,4 @@ returns-in_err-add_raise-clause-refused c = λ f e.
     c.rows.invariant.same
     ∙ ap (λ (left : List (List (List ℕ))). read_raises c.args.net.now c.rows.journal.raises (rows_from (c.rows.row + 1) (map trimmed_fields left))) next
     ∙ raises-stop c.args.net.now c.rows.journal.raises (c.rows.row + 1) first rest f
-    (sym c.is_closing.ensures ∙ c.if-is_closing.false) (c.in_err-add_raise.ensures.refused f (let told = p.1 in let same = p.2 in cc e))
+    (sym c.is_closing.ensures ∙ c.if-is_closing.false) ((c.in_err-add_raise.ensures.refused f).0 (let told = p.1 in let same = p.2 in cc e))
