@@ -1,0 +1,11 @@
+use Rattle.std.proofs.Common.{sym, subst}
+use Rattle.clr_net.specs.Net.{Net}
+use Rattle.clr_net.specs.Samples.{chain}
+use Rattle.settle.specs.Runs.{CanGoOn}
+use Rattle.run_tests.proofs.runs.run_again.Goals as goal
+
+pub run_richer-requires-clause-past : goal.run_richer-requires-clause-past
+run_richer-requires-clause-past g c κs within =
+    let made = c.in_ok-before.before.sealed.journal in
+    subst (λ rs. CanGoOn chain rs) (sym c.journal.ensures)
+    (subst (λ (n : Net). CanGoOn n made) c.in_ok-poorer.ensures c.in_ok-before.ensures.settled.can_go_on)
