@@ -1,9 +1,9 @@
 //! The work on a job, by its task.
 ghost use Rattle.clear_top.specs.Ending.{IsUsable};
-ghost use Rattle.clear_top.specs.Meaning.{ComesTo};
+ghost use Rattle.clear_top.specs.Meaning.{ComesTo, Rescues};
 ghost use Rattle.clear_top.specs.Sources.{source_of};
 ghost use Rattle.clear_words.specs.Limits.{IsJob};
-ghost use Rattle.std.specs.Prelude.{IfOk};
+ghost use Rattle.std.specs.Prelude.{◌≡◌, ◌<◌, IfOk, length};
 
 use crate::clear::Clearer;
 use crate::judge::judge;
@@ -14,7 +14,7 @@ use crate::saving::save;
 use crate::scenarios::report_scenarios;
 use clear_words::{Job, Task};
 use clr_edge::Gate;
-use clr_net::Mem;
+use clr_net::{Mem, Network};
 use std::alloc::Global;
 use std::thread::Threads;
 
@@ -31,24 +31,38 @@ pub fn work<R: Threads + Sync, G: Gate + Sync>(
     ensures { IfOk result (ComesTo job.now.task job.now input) }
 {
     let clearer = Clearer::of(rt, alloc, job, gate);
-    let Input {
-        net,
-        scenarios,
-        journal,
-        bank,
-    } = input;
     match job.task {
-        Task::Check => check(alloc, &net),
-        Task::Clear => clearer.report(net, job),
-        Task::Central => clear_centrally(alloc, &net),
-        Task::Defaults => clearer.report(net, job),
-        Task::Stress => report_scenarios(&clearer, &net, scenarios.as_slice()),
-        Task::Replay => judge(alloc, &net, journal.as_slice()),
-        Task::Gen => clearer.report(net, job),
-        Task::Convert => convert(alloc, &net),
-        Task::Bounds => clearer.report(net, job),
-        Task::Rescue => save(&clearer, net, bank),
-        Task::Compress => cancel_cycles(alloc, &net),
-        Task::Costs => clear_with_costs(alloc, &net, job.keep),
+        Task::Check => check(alloc, &input.net),
+        Task::Clear => clearer.report(net_of(input), job),
+        Task::Central => clear_centrally(alloc, &input.net),
+        Task::Defaults => clearer.report(net_of(input), job),
+        Task::Stress => report_scenarios(&clearer, &input.net, input.scenarios.as_slice()),
+        Task::Replay => judge(alloc, &input.net, input.journal.as_slice()),
+        Task::Gen => clearer.report(net_of(input), job),
+        Task::Convert => convert(alloc, &input.net),
+        Task::Bounds => clearer.report(net_of(input), job),
+        Task::Rescue => save_bank(&clearer, input),
+        Task::Compress => cancel_cycles(alloc, &input.net),
+        Task::Costs => clear_with_costs(alloc, &input.net, job.keep),
     }
+}
+
+// The network of an input.
+fn net_of(input: Input) -> Network
+    ensures { result ≡ input.net }
+{
+    let Input { net, .. } = input;
+    net
+}
+
+// Saves the bank of an input.
+fn save_bank<R: Threads + Sync, G: Gate + Sync>(
+    clearer: &Clearer<'_, R, G>,
+    input: Input,
+) -> Result<Outcome, Mem>
+    requires { input.bank < length input.net.banks }
+    ensures { IfOk result (Rescues input.net clearer.now.plan input.bank) }
+{
+    let bank = input.bank;
+    save(clearer, net_of(input), bank)
 }

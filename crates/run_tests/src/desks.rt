@@ -4,8 +4,8 @@ use net_samples::{add_classed, add_ruled};
 use std::alloc::Global;
 use std::test::Fail;
 
-// The rule of A, its claims and their classes, its cash, its outside claim and what it receives; and
-// what it would pay.
+// The rule of A, its claims and their classes, its cash, its outside claim and what it receives;
+// and what it would pay.
 type Case = (RuleKind, [u64; 3], [u8; 3], [u64; 3], [u64; 3]);
 
 const CASES: [Case; 14] = [

@@ -1,5 +1,8 @@
+ghost use Rattle.std.specs.Prelude.{◌≤◌};
+
 use crate::gates::new_meeting;
 use crate::nets::{Sample, net_of};
+use clr_edge::Gate;
 use clr_net::{Mem, Network};
 use settle::{Plan, settle, settle_alone};
 use std::alloc::Global;
@@ -10,6 +13,26 @@ use std::thread::Threads;
 // Whether a run may start threads, its workers, the round in which those that have a visit meet,
 // how many each of them waits for, and how many do not wait in vain.
 type Case = (bool, u32, u64, u64, u64);
+
+// Runs on the network, with threads of its own or without.
+fn run_by<R: Threads + Sync, G: Gate + Sync>(
+    rt: &R,
+    alloc: Global,
+    net: &Network,
+    threads: bool,
+    plan: Plan,
+    gate: &G,
+) -> Result<(), Mem>
+    requires workers { (1 ≤ plan.workers) × (plan.workers ≤ 64) }
+    requires sweeps { (1 ≤ plan.sweeps) × (plan.sweeps ≤ 1000) }
+{
+    if threads {
+        settle(rt, alloc, net, plan, gate)?;
+    } else {
+        settle_alone(rt, alloc, net.copy(alloc)?, plan, gate)?;
+    }
+    Ok(())
+}
 
 // How many do not wait in vain in a run on the network.
 fn met_in<R: Threads + Sync>(
@@ -23,11 +46,7 @@ fn met_in<R: Threads + Sync>(
         workers: workers.clamp(1, 64),
         sweeps: 1,
     };
-    if threads {
-        settle(rt, alloc, net, plan, &gate)?;
-    } else {
-        settle_alone(rt, alloc, net.copy(alloc)?, plan, &gate)?;
-    }
+    run_by(rt, alloc, net, threads, plan, &gate)?;
     Ok(gate.met.load(Ordering::SeqCst))
 }
 

@@ -23,8 +23,8 @@ fn add_long_ring(alloc: Global, net: &mut Network) -> Result<(), Mem> {
     add_debt(net, 1, 0, 150)
 }
 
-// Adds 700 banks of nothing, but that the bank 6 owes the bank 2 a unit and the bank 7 owes the bank
-// 3 one. Each of both pairs is of one worker, where there are one, two or four.
+// Adds 700 banks of nothing, but that the bank 6 owes the bank 2 a unit and the bank 7 owes the
+// bank 3 one. Each of both pairs is of one worker, where there are one, two or four.
 fn add_two_pairs(alloc: Global, net: &mut Network) -> Result<(), Mem> {
     for number in 0..700_u32 {
         let name = [b'A' + (number / 32) as u8, b'A' + (number % 32) as u8];

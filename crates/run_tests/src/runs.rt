@@ -1,3 +1,4 @@
+ghost use Rattle.clr_net.specs.Samples.{chain as chain_net};
 ghost use Rattle.std.specs.Prelude.{◌≡◌, ◌<◌, ◌≤◌, All, length};
 ghost use Rattle.settle.specs.Between.{IsBetween};
 ghost use Rattle.settle.specs.Runs.{CanGoOn};
@@ -423,8 +424,8 @@ fn a_bank_passes_the_gate_before_it_looks(rt: HostRuntime) -> Result<(), Fail> {
     Ok(())
 }
 
-// A network, workers and sweeps; the rounds, visits, raises and seats of a run; and the calls of its
-// gate, those of a first visit, and those of a wrong one.
+// A network, workers and sweeps; the rounds, visits, raises and seats of a run; and the calls of
+// its gate, those of a first visit, and those of a wrong one.
 type Counted = (Sample, u32, u32, [u64; 4], [u64; 3]);
 
 // On the long ring there are two visits in each of 150 rounds and one in the last, numbered anew in
@@ -486,7 +487,23 @@ fn run_from<R: Threads + Sync, G: Gate + Sync>(
     Ok(told_of(&settled))
 }
 
-// A run on the chain from what a run left where B had less.
+// A run from these raises on the chain where B has more.
+fn run_richer<R: Threads + Sync, G: Gate + Sync>(
+    rt: &R,
+    alloc: Global,
+    workers: u32,
+    past: &[Raise],
+    gate: &G,
+) -> Result<Told, Mem>
+    requires past { CanGoOn chain_net past.now }
+    requires workers { (1 ≤ workers) × (workers ≤ 64) }
+{
+    let mut net = chain(alloc)?;
+    net.set_cash(BankId(1), 2);
+    run_from(rt, alloc, &net, workers, past, gate)
+}
+
+// The same, from what a run left where B had less.
 fn run_again<R: Threads + Sync, G: Gate + Sync>(
     rt: &R,
     alloc: Global,
@@ -497,9 +514,7 @@ fn run_again<R: Threads + Sync, G: Gate + Sync>(
 {
     let poorer = chain(alloc)?;
     let before = settle_owned(rt, alloc, poorer, ALONE, &OpenGate)?;
-    let mut net = chain(alloc)?;
-    net.set_cash(BankId(1), 2);
-    run_from(rt, alloc, &net, workers, before.sealed.journal(), gate)
+    run_richer(rt, alloc, workers, before.sealed.journal(), gate)
 }
 
 #[test]
@@ -563,8 +578,8 @@ fn is_cleared<R: Threads + Sync>(
     Ok(all)
 }
 
-// The same of a network of so many banks that divide by all six rules in turn, with debts of several
-// classes, and owe outside.
+// The same of a network of so many banks that divide by all six rules in turn, owe outside, and
+// have debts of several classes.
 fn woven_is_cleared<R: Threads + Sync>(rt: &R, alloc: Global, banks: u32) -> Result<bool, Mem> {
     let net = woven(alloc, banks)?;
     let wanted = central(alloc, &net)?;
@@ -581,7 +596,7 @@ fn all_are_cleared<R: Threads + Sync>(rt: &R, alloc: Global) -> Result<bool, Mem
 }
 
 #[test]
-fn generated_networks_are_cleared_by_any_number_of_workers(rt: HostRuntime) -> Result<(), Fail> {
+fn woven_networks_are_cleared_by_any_number_of_workers(rt: HostRuntime) -> Result<(), Fail> {
     let all = all_are_cleared(&rt, rt.alloc())?;
     assert!(rt; all);
     Ok(())

@@ -41,8 +41,9 @@ impl Gate for Meeting {
     }
 }
 
-// A line on two banks without debts, a file of scenarios, the first visits that are skipped, for how
-// many the others wait, and how many do not do so in vain. Each worker has one first visit in a run.
+// A line on two banks without debts, a file of scenarios, the first visits that are skipped, for
+// how many the others wait, and how many do not do so in vain. Each worker has one first visit in a
+// run.
 type Case<'a> = (&'a str, &'a str, u64, u64, u64);
 
 const CASES: [Case<'static>; 4] = [

@@ -1,15 +1,11 @@
-use Rattle.std.proofs.Common.{◌≡◌, ap, sym, ◌∙◌, subst}
-use Rattle.clr_net.specs.Net.{Net, with_cash}
+use Rattle.std.proofs.Common.{sym, subst}
+use Rattle.clr_net.specs.Net.{Net}
 use Rattle.clr_net.specs.Samples.{chain}
-use Rattle.pay_words.specs.Traces.{start_of}
-use Rattle.rescue.proofs.MoreCash.{belongs_added}
 use Rattle.settle.specs.Runs.{CanGoOn}
 use Rattle.run_tests.proofs.runs.run_again.Goals as goal
 
-pub run_from-requires-clause-past : goal.run_from-requires-clause-past
-run_from-requires-clause-past g c κs within =
+pub run_richer-requires-clause-past : goal.run_richer-requires-clause-past
+run_richer-requires-clause-past g c κs within =
     let made = c.in_ok-before.before.sealed.journal in
-    let richer : c.set_cash.new.self ≡ with_cash chain 1 2 = c.set_cash.ensures ∙ ap (λ (n : Net). with_cash n 1 2) c.in_ok-net.ensures in
-    let old : CanGoOn chain made = subst (λ (n : Net). CanGoOn n made) c.in_ok-poorer.ensures c.in_ok-before.ensures.settled.can_go_on in
-    subst (λ (n : Net). CanGoOn n c.journal.result.now) (sym richer)
-    (subst (λ rs. CanGoOn (with_cash chain 1 2) rs) (sym c.journal.ensures) (belongs_added chain 1 1 (start_of chain made) made old))
+    subst (λ rs. CanGoOn chain rs) (sym c.journal.ensures)
+    (subst (λ (n : Net). CanGoOn n made) c.in_ok-poorer.ensures c.in_ok-before.ensures.settled.can_go_on)
