@@ -3,6 +3,7 @@ and words, late rows, no debts. Each run ends with 0, and its text is that of be
 import random
 import sys
 import unittest
+from unittest import mock
 
 from common import ROOT, Case
 
@@ -12,6 +13,8 @@ from networks import RULES, generated, judge_compression, judge_journal, scenari
 
 Bank, Debt, Net, Scenario = model.Bank, model.Debt, model.Net, model.Scenario
 CASH, OUTSIDE, CLAIM = 10**12, 10**11, 10**6
+# The most bytes that a file may have, but for a journal.
+LARGEST = 8_388_608
 PLANS = [["--workers", "1"], [], ["--workers", "9", "--sweeps", "1000"], ["--workers", "17"], ["--workers", "33", "--sweeps", "2"], ["--workers", "64"]]
 
 
@@ -43,6 +46,12 @@ def greatest_net():
     debts = [Debt(0, 1, 1, CLAIM), Debt(0, 5, 9, CLAIM), Debt(1, 2, 9, CLAIM), Debt(6, 7, 5, CLAIM), Debt(6, 0, 5, CLAIM), Debt(2, 3, 1, CLAIM), Debt(3, 4, 2, 7),
              Debt(4, 5, 2, 4), Debt(4, 6, 2, 4), Debt(4, 6, 9, CLAIM), Debt(5, 0, 1, 20), Debt(7, 6, 1, 0), Debt(1, 0, 3, CLAIM)]
     return Net(banks, debts)
+
+
+def column_net():
+    """1,000 banks with names of 64 bytes and the greatest cash, that owe the most outside. All owe one of them in each class."""
+    banks = [Bank(f"{i:064}", CASH, RULES[i % 6], OUTSIDE) for i in range(1000)]
+    return Net(banks, [Debt(i, 0, c, 1_112) for i in range(1, 1000) for c in range(1, 10)])
 
 
 class Extremes(Case):
@@ -124,6 +133,17 @@ class Extremes(Case):
             text = f"rescue,{net.banks[i].name},{sum_added}\nshort,{lacks(sum_added - 1)}\n\n" + model.payments_text(richer, model.least(richer))
             self.same(text, "rescue", "--bank", net.banks[i].name)
 
+    def test_greatest_sums(self):
+        net = column_net()
+        scenarios = [Scenario("n" * 64, 0, [(i, CASH - i) for i in range(1000)]), Scenario("cut", 1000, [])]
+        # Known beforehand: all pays who kept the cash, and nothing who lost some.
+        with mock.patch.object(model, "least", lambda net, *_, **__: [debt.claim * (net.banks[debt.debtor].cash == CASH) for debt in net.debts]):
+            self.every_task(net, scenarios, [999], keeps=(0,), plans=PLANS[1:2])
+        # Who has nothing lacks the most that anybody can owe.
+        net = Net([Bank(f"bank {i}", 0, "order", OUTSIDE) for i in range(11)], [Debt(0, i, 9, CLAIM) for i in range(1, 11)])
+        self.write(net)
+        self.same(f"rescue,bank 0,{OUTSIDE + 10 * CLAIM}\nshort,1\n\n" + model.payments_text(net, [CLAIM] * 10), "rescue", "--bank", "bank 0")
+
     def test_without_debts(self):
         banks = [Bank("n" * 64, CASH, "order", OUTSIDE), Bank("B", 3, "adams", 5), Bank("C", 0, "equal", 0)]
         self.every_task(Net(banks, []), [Scenario("all", 1000, [(1, 2), (0, CASH)])], [0, 1, 2], plans=PLANS[:2])
@@ -148,8 +168,9 @@ class Extremes(Case):
         self.assertIsNone(judge_journal(net, low, journal))
         with self.subTest(task="compress", what="a chain"):
             self.assertIsNone(judge_compression(net, self.printed("compress", *self.files)))
-        self.same("rescue,bank 1,1\nshort,1\n\n" + model.payments_text(net, [2] + low[1:]), "rescue", "--bank", "bank 1")
-        for size, claim, cls in ((1000, 5, 9), (200, 1, 3), (4, 7, 1), (3, 7, 9)):
+        for bank, paid in ((1, [2] + low[1:]), (999, [2] * 999)):
+            self.same(f"rescue,bank {bank},1\nshort,1\n\n" + model.payments_text(net, paid), "rescue", "--bank", f"bank {bank}")
+        for size, claim, cls in ((1000, 5, 9), (200, 1, 3), (10, CLAIM, 5), (4, 7, 1), (3, 7, 9)):
             net = Net([Bank(f"bank {i}", 0, RULES[i % 6], 0) for i in range(size + (size < 5))], [Debt(i, (i + 1) % size, cls, claim) for i in range(size)])
             self.write(net)
             with self.subTest(task="compress", what=f"a ring of {size}"):
@@ -177,6 +198,13 @@ class Extremes(Case):
             self.assertGreater(raises, 100_000)
             self.same(f"lawful,{raises}\n\n{payments}", "replay", "--journal", self.file("journal.csv", journal))
         self.same(payments, "central")
+        scenarios = [Scenario(f"{i}", 0, []) for i in range(2)]
+        block = payments + model.defaults_text(net, low)
+        self.same("\n".join(f"scenario,{i}\n{block}" for i in range(2)), "stress", "--scenarios", self.file("s.toml", scenarios_toml(net, scenarios)))
+        with mock.patch.object(model, "least", lambda *_: low):
+            self.same(model.costs_text(net, 1000), "costs", "--keep", 1000)
+        with self.subTest(task="compress"):
+            self.assertIsNone(judge_compression(net, self.printed("compress", *self.files)))
         bounds = "debtor,creditor,class,claim,least,greatest\n" + "".join(
             f"{','.join(map(str, model.debt_fields(net, debt)))},{debt.claim},{paid},{paid}\n" for debt, paid in zip(net.debts, low))
         self.same(bounds + f"\nbank,wave,gridlock,equity\n{'n' * 64},0,no,1\nB,0,no,0\nC,1,no,0\n", "bounds")
@@ -197,34 +225,51 @@ class Extremes(Case):
 
     def test_late_rows(self):
         net = greatest_net()
-        toml = self.file("s.toml", "# " + "x" * 200_000 + "\n" + scenarios_toml(net, [Scenario("a", 0, [(0, 1)])]))
+        scenarios = [Scenario("a", 0, [(0, 1)])]
+        toml = "# " + "x" * 200_000 + "\n" + scenarios_toml(net, scenarios)
+        toml = self.file("s.toml", "\n" * (LARGEST - len(toml.encode())) + toml)
         low = model.least(net)
         raises = [(4294967295, x, to) for x, to in enumerate(low) if to]
         self.write(net)
         made, raises = len(raises), model.journal_text(net, raises, 99)
-        wide = lambda text, count: text.replace("\n", "\n" + ("," * 70 + "\n") * 2 + ",\n" * count, 1) + '""\n' + "," * 300 + "\n"
-        for count in (0, 1_100, 60_500):
-            files = ["--banks", self.file("b.csv", wide(model.banks_text(net, True), count)), "--debts", self.file("d.csv", wide(model.debts_text(net), count))]
-            self.same(model.check_text(net), "check", files=files)
-            self.same(model.payments_text(net, low), "clear", files=files)
-            self.same(model.stress_text(net, [Scenario("a", 0, [(0, 1)])]), "stress", "--scenarios", toml, files=files)
-            with self.subTest(task="replay", count=count):
-                journal = self.file("j.csv", wide(raises, count))
-                self.same(f"lawful,{made}\n\n{model.payments_text(net, low)}", "replay", "--journal", journal, files=files)
+        payments = model.payments_text(net, low)
+        texts = [(model.check_text(net), "check"), (model.banks_text(net, True), "convert"), (payments, "clear"), (payments, "central"),
+                 (model.defaults_text(net, low), "defaults"), (model.bounds_text(net), "bounds"), (model.costs_text(net, 500), "costs", "--keep", 500),
+                 (model.rescue_text(net, 0), "rescue", "--bank", net.banks[0].name), (model.stress_text(net, scenarios), "stress", "--scenarios", toml)]
+
+        def late(text, size):
+            """The text with blank records after its header and at its end, with so many bytes or as few as it has then."""
+            text = text.replace("\n", "\n" + ("," * 70 + "\n") * 2, 1) + '""\n' + "," * 300 + "\n"
+            room = max(0, size - len(text.encode()))
+            return text.replace("\n", "\n" + ",\n" * (room // 2), 1) + "\n" * (room % 2)
+
+        for size in (0, 4_000, LARGEST):
+            files = ["--banks", self.file("b.csv", late(model.banks_text(net, True), size)), "--debts", self.file("d.csv", late(model.debts_text(net), size))]
+            for text, task, *more in texts:
+                self.same(text, task, *more, files=files)
+            with self.subTest(task="compress", size=size):
+                self.assertIsNone(judge_compression(net, self.printed("compress", *files)))
+            with self.subTest(task="replay", size=size):
+                journal = self.file("j.csv", late(raises, size))
+                self.same(f"lawful,{made}\n\n{payments}", "replay", "--journal", journal, files=files)
 
     def test_long_lists_of_words(self):
         net = greatest_net()
         low = model.least(net)
         self.write(net)
+        # Names of files as long as the system takes them: 4,095 bytes.
         folder = self.folder
-        for _ in range(12):
+        while (room := 4094 - len(bytes(folder))) > 255:
             folder = folder / ("é" * 100)
             folder.mkdir()
-        long = [folder / ("b" * 255), folder / ("😀" * 63)]
+        long = [folder / (letter * (room // len(letter.encode()))) for letter in ("b", "😀", "s", "j")]
         long[0].write_text(model.banks_text(net, True))
         long[1].write_text(model.debts_text(net))
-        third = folder / ("s" * 250)
+        third = long[2]
         third.write_text(scenarios_toml(net, [Scenario("a", 1, [])]))
+        journal = long[3]
+        raises = [(0, x, to) for x, to in enumerate(low) if to]
+        journal.write_text(model.journal_text(net, raises, 1))
         files = ["--banks", long[0], "--debts", long[1]]
         more = ["--workers", f"{64:020}", "--sweeps", f"{1000:020}"]
         payments = model.payments_text(net, low)
@@ -234,9 +279,12 @@ class Extremes(Case):
             self.same(model.stress_text(net, [Scenario("a", 1, [])]), "stress", "--scenarios", third, *plan, files=files)
             self.same(model.rescue_text(net, 0), "rescue", "--bank", net.banks[0].name, *plan, files=files)
             self.same(model.gen_text(generated(5, 7, 20)), "gen", "--seed", "5", "--size", "7", "--tries", "20", *plan, files=[])
-        for task in ("check", "central", "convert", "compress", "defaults", "bounds"):
+        keep = ["--keep", f"{1000:020}"]
+        for task, *plan in (["check"], ["central"], ["convert"], ["compress"], ["defaults", *more], ["bounds", *more], ["costs", *keep]):
             with self.subTest(task=task):
-                self.assertEqual(self.printed(task, *files, "--"), self.printed(task, *self.files))
+                self.assertEqual(self.printed(task, *files, *plan, "--"), self.printed(task, *self.files, *plan))
+        with self.subTest(task="replay"):
+            self.assertEqual(self.printed("replay", *files, "--journal", journal, "--"), f"lawful,{len(raises)}\n\n{payments}")
 
 
 if __name__ == "__main__":

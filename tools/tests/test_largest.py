@@ -42,11 +42,13 @@ class Largest(Case):
     def text(self, task, *more):
         return self.printed(task, *self.files, *more)
 
-    def same(self, told, wanted, about):
-        """Compares long texts without a long message."""
-        if told != wanted:
-            lines = [pair for pair in zip(told.split("\n"), wanted.split("\n")) if pair[0] != pair[1]]
-            self.fail(f"{about}: {len(told)} bytes in place of {len(wanted)}; first {lines[:1]}")
+    def same(self, wanted, task, *more, cut=lambda text: text):
+        """Compares long texts, or what is cut from them, without a long message, and goes on."""
+        with self.subTest(task=task, more=[str(word) for word in more]):
+            told = cut(self.text(task, *more))
+            if told != wanted:
+                lines = [pair for pair in zip(told.split("\n"), wanted.split("\n")) if pair[0] != pair[1]]
+                self.fail(f"{task}: {len(told)} bytes in place of {len(wanted)}; first {lines[:1]}")
 
     def test_small_claims_beside_the_model(self):
         net = small_claims(random.Random("largest"))
@@ -55,29 +57,29 @@ class Largest(Case):
         payments = model.payments_text(net, low)
         self.assertTrue(200 < sum(model.state(net, low, i) != "sound" for i in range(BANKS)) < 900)
         for words in (["--workers", "1"], [], ["--workers", "3", "--sweeps", "7"], ["--workers", "64"]):
-            self.same(self.text("clear", *words), payments, f"clear {words}")
-        self.same(self.text("central"), payments, "central")
-        self.same(self.text("check"), model.check_text(net), "check")
-        self.same(self.text("convert"), model.banks_text(net, True), "convert")
-        self.same(self.text("defaults"), model.defaults_text(net, low), "defaults")
-        self.same(self.text("bounds"), model.bounds_text(net), "bounds")
-        self.same(self.text("costs", "--keep", "500"), model.costs_text(net, 500), "costs")
+            self.same(payments, "clear", *words)
+        self.same(payments, "central")
+        self.same(model.check_text(net), "check")
+        self.same(model.banks_text(net, True), "convert")
+        self.same(model.defaults_text(net, low), "defaults")
+        self.same(model.bounds_text(net), "bounds")
+        self.same(model.costs_text(net, 500), "costs", "--keep", "500")
         # A bank that lacks little, since the model tries all sums.
         lacks = {i: model.due(net, i) - model.estate(net, low, i) for i in range(BANKS)}
         bank = min((i for i in lacks if lacks[i] > 3), key=lacks.get)
-        self.same(self.text("rescue", "--bank", net.banks[bank].name), model.rescue_text(net, bank), "rescue")
-        self.assertIsNone(judge_compression(net, self.text("compress")))
+        self.same(model.rescue_text(net, bank), "rescue", "--bank", net.banks[bank].name)
+        with self.subTest(task="compress"):
+            self.assertIsNone(judge_compression(net, self.text("compress")))
+        self.stressed(net)
         journal = self.text("clear", "--show", "journal", "--workers", "4")
         self.assertIsNone(judge_journal(net, low, journal))
         raises = journal.count("\n") - 2
-        replayed = self.text("replay", "--journal", self.file("journal.csv", journal))
-        self.same(replayed, f"lawful,{raises}\n\n{payments}", "replay")
+        self.same(f"lawful,{raises}\n\n{payments}", "replay", "--journal", self.file("journal.csv", journal))
         # A journal without its last raise is not complete.
         lines = journal.split("\n")
         done = clearing("replay", *self.files, "--journal", self.file("short.csv", "\n".join(lines[:-3] + lines[-2:])))
         debtor = lines[-3].split(",")[1]
         self.assertEqual((done.returncode, done.stdout), (7, f"unfinished,{debtor}\n".encode()))
-        self.stressed(net)
 
     def stressed(self, net):
         """Scenarios one by one, each as the network that it leaves is cleared."""
@@ -90,7 +92,7 @@ class Largest(Case):
             left = self.file("left.csv", model.banks_text(model.shocked(net, scenario), True))
             files = ["--banks", left, *self.files[2:]]
             blocks.append(f"scenario,{scenario.name}\n" + self.printed("central", *files) + self.printed("defaults", *files))
-        self.same(self.text("stress", "--scenarios", self.file("s.toml", toml)), "\n".join(blocks), "stress")
+        self.same("\n".join(blocks), "stress", "--scenarios", self.file("s.toml", toml))
 
     def test_large_claims_by_another_route(self):
         net = large_claims()
@@ -99,24 +101,27 @@ class Largest(Case):
         paid = [int(line.split(",")[4]) for line in payments.splitlines()[1:]]
         # No list of payments that clears pays more than is owed or there, and money goes nowhere.
         self.assertTrue(all(0 <= units <= debt.claim for units, debt in zip(paid, net.debts)))
-        self.same(payments, model.payments_text(net, paid), "central")
+        self.assertTrue(payments == model.payments_text(net, paid))
         defaults = model.defaults_text(net, paid)
         total = [int(field) for field in defaults.splitlines()[-2].split(",")[1:]]
         self.assertEqual(total[0], sum(bank.cash for bank in net.banks) + sum(paid))
         self.assertGreater(total[5], 100)
-        self.same(self.text("defaults"), defaults, "defaults")
+        self.same(defaults, "defaults")
         for words in (["--workers", "1"], ["--workers", "4", "--sweeps", "3"]):
-            told = self.text("clear", "--show", "both", *words)
-            shown, _, journal = told.partition("\n\n")
-            self.same(shown + "\n", payments, f"clear {words}")
-            raises = journal.count("\n") - 2
-            self.same(self.text("replay", "--journal", self.file("journal.csv", journal)), f"lawful,{raises}\n\n{payments}", "replay")
-            told = self.made("audit.py", *self.files, "--journal", self.file("journal.csv", journal), "--payments", self.file("payments.csv", payments))
-            self.assertIn(f"{raises} raises lawful\nnobody can pay more\npayments same\n", told)
-        bounds = self.text("bounds").partition("\n\n")[0].splitlines()[1:]
-        self.assertEqual([int(line.split(",")[4]) for line in bounds], paid)
-        self.assertTrue(all(int(line.split(",")[4]) <= int(line.split(",")[5]) <= int(line.split(",")[3]) for line in bounds))
-        self.same(self.text("costs", "--keep", "1000").partition("\n\n")[0] + "\n", payments, "costs")
+            with self.subTest(task="journal", words=words):
+                shown, _, journal = self.text("clear", "--show", "both", *words).partition("\n\n")
+                self.assertTrue(shown + "\n" == payments)
+                raises = journal.count("\n") - 2
+                self.same(f"lawful,{raises}\n\n{payments}", "replay", "--journal", self.file("journal.csv", journal))
+                told = self.made("audit.py", *self.files, "--journal", self.file("journal.csv", journal), "--payments", self.file("payments.csv", payments))
+                self.assertIn(f"{raises} raises lawful\nnobody can pay more\npayments same\n", told)
+        with self.subTest(task="bounds"):
+            bounds = self.text("bounds").partition("\n\n")[0].splitlines()[1:]
+            self.assertEqual([int(line.split(",")[4]) for line in bounds], paid)
+            self.assertTrue(all(int(line.split(",")[4]) <= int(line.split(",")[5]) <= int(line.split(",")[3]) for line in bounds))
+        self.same(payments, "costs", "--keep", "1000", cut=lambda text: text.partition("\n\n")[0] + "\n")
+        with self.subTest(task="compress"):
+            self.assertIsNone(judge_compression(net, self.text("compress")))
         # With the sum that saves a bank it is sound, and with a unit less it lacks what is said.
         bank = next(i for i in range(BANKS) if model.due(net, i) > model.estate(net, paid, i))
         first, second, _, shown = self.text("rescue", "--bank", net.banks[bank].name).split("\n", 3)
@@ -127,8 +132,7 @@ class Largest(Case):
             given = [int(line.split(",")[4]) for line in told.splitlines()[1:]]
             self.assertEqual(max(0, model.due(net, bank) - model.estate(model.added(net, bank, units), given, bank)), short)
             if not short:
-                self.same(shown, told, "rescue")
-        self.assertIsNone(judge_compression(net, self.text("compress")))
+                self.assertTrue(shown == told)
 
     def test_a_generated_network_by_its_files(self):
         words = ["--seed", "7", "--size", BANKS, "--tries", DEBTS]
