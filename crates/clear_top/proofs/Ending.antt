@@ -9,7 +9,7 @@ use Rattle.clear_top.specs.Ending.{NoneRose, RunEnds, ShelfCall, SinkCall, SinkR
 use Rattle.clear_top.specs.Ending.{WasPartWritten, WasWritten, Works, WritesText}
 use Rattle.clear_top.specs.Meaning.{Means}
 use Rattle.clear_top.specs.Reading.{Files, Input, reading}
-use Rattle.clear_top.specs.declared.outcome.Outcome.{Outcome}
+use Rattle.clear_top.specs.Outcome.{Outcome}
 use Rattle.clear_top.specs.declared.status.Ended.{Ended}
 use Rattle.clear_top.specs.declared.status.Status.{Status}
 use Rattle.clear_top.specs.declared.status.Status.TheVariants as status

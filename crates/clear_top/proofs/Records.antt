@@ -14,7 +14,7 @@ use Rattle.clear_top.specs.Ending.{AnswersRecord, IfTold, IsFoundUnlawful, JobEn
 use Rattle.clear_top.specs.Ending.{SinkCall, Works, WritesText, has_record}
 use Rattle.clear_top.specs.Meaning.{ComesTo, answer_to}
 use Rattle.clear_top.specs.Reading.{Files, Input}
-use Rattle.clear_top.specs.declared.outcome.Outcome.{Outcome}
+use Rattle.clear_top.specs.Outcome.{Outcome}
 use Rattle.clear_top.specs.declared.status.Ended.{Ended}
 use Rattle.clear_top.specs.declared.status.Status.{Status}
 use Rattle.clear_top.specs.declared.status.Status.TheVariants as status
