@@ -68,7 +68,7 @@ module _ (shelf : ShelfCall) (sink : SinkCall) where
   recorded_by job (status.Unlawful v) sealed (text, works, taken) =
       let is = of_work shelf.files job _ works in
       (λ some. (sym is ∙ some, λ nothing. nothing), λ has. is ∙ has.0)
-  recorded_by job status.WriteFault sealed (ending, text, works, part, rose) =
+  recorded_by job status.WriteFault sealed (ending, text, works, part) =
       let is = of_work shelf.files job _ works in
       (λ some. (sym is ∙ some, λ nothing. nothing), λ has. is ∙ has.0)
   recorded_by job status.Usage sealed ends = absurd ends
