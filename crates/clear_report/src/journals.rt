@@ -1,5 +1,5 @@
 ghost use Rattle.clear_report.specs.Journals.{NamesBankOf, journal_and_rounds, lawful_and_payments};
-ghost use Rattle.raise_journal.specs.Texts.{verdict_line};
+ghost use Rattle.raise_journal.specs.Texts.{rounds_line, verdict_line};
 ghost use Rattle.clr_net.specs.Lines.{line};
 ghost use Rattle.std.specs.Fmt.{decimal};
 ghost use Rattle.std.specs.Prelude.{◌≡◌, ◌<◌, ◌++◌, ◌∷◌, [], All, IfOk, OnOk, length};
@@ -24,6 +24,15 @@ pub fn journal_text(
     ensures { IfOk result (λ text. text.items ≡ journal_and_rounds net.now journal.now rounds) }
 {
     let mut text = print_journal(alloc, net, journal)?;
+    push_number_line(&mut text, "rounds", rounds)?;
+    Ok(text)
+}
+
+/// The line that closes a journal: how many rounds there were. `Mem` for want of memory alone.
+pub fn rounds_text(alloc: Global, rounds: u64) -> Result<Vec<u8>, Mem>
+    ensures { IfOk result (λ text. text.items ≡ rounds_line rounds) }
+{
+    let mut text = Vec::new(alloc);
     push_number_line(&mut text, "rounds", rounds)?;
     Ok(text)
 }

@@ -26,7 +26,7 @@ pub use check::{check_text, totals_text};
 pub use compression::compress_text;
 pub use defaults::default_text;
 pub use heads::line_heads;
-pub use journals::{journal_text, lawful_text, verdict_text};
+pub use journals::{journal_text, lawful_text, rounds_text, verdict_text};
 pub use payments::pay_text;
 pub use rescues::rescue_text;
 pub use scenarios::{scenario_block, scenario_text};

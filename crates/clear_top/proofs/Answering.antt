@@ -4,7 +4,7 @@ use Rattle.clr_net.specs.Net.{Net}
 use Rattle.clear_report.specs.Compression.{compressed_text}
 use Rattle.compress.specs.Compression.{Compression}
 use Rattle.clear_top.specs.Meaning.{IsCompressed, IsPlain}
-use Rattle.clear_top.specs.declared.outcome.Outcome.{Outcome}
+use Rattle.clear_top.specs.Outcome.{Outcome}
 use Rattle.clear_top.specs.declared.status.Status.TheVariants as status
 
 -- a text that is another

@@ -9,7 +9,7 @@ use Rattle.clear_top.specs.Ending.{NoneRose, RunEnds, ShelfCall, SinkCall, SinkR
 use Rattle.clear_top.specs.Ending.{WasPartWritten, WasWritten, Works, WritesText}
 use Rattle.clear_top.specs.Meaning.{Means}
 use Rattle.clear_top.specs.Reading.{Files, Input, reading}
-use Rattle.clear_top.specs.declared.outcome.Outcome.{Outcome}
+use Rattle.clear_top.specs.Outcome.{Outcome}
 use Rattle.clear_top.specs.declared.status.Ended.{Ended}
 use Rattle.clear_top.specs.declared.status.Status.{Status}
 use Rattle.clear_top.specs.declared.status.Status.TheVariants as status
@@ -63,7 +63,7 @@ module _ (shelf : ShelfCall) (sink : SinkCall) where
       let both : Some (Err other) ≡ Some (Err f) = sym (ends.0 told tells) ∙ faulty in
       let same : other ≡ f = cc in
       inl (cc)
-  refuses job status.WriteFault sealed f (s, text, works, part, rose) told tells faulty none_rose =
+  refuses job status.WriteFault sealed f (s, text, works, part) told tells faulty none_rose =
       absurd (no_fault job told works.0 f (works.1 told tells) faulty)
   refuses job status.Mem sealed f ends told tells faulty none_rose = inr refl
 
@@ -93,8 +93,8 @@ module _ (shelf : ShelfCall) (sink : SinkCall) where
   written_by job status.Usage sealed ends told tells = absurd ends
   written_by job (status.ReadFault k) sealed ends told tells = (λ is. absurd is, λ is. absurd (cc))
   written_by job (status.Refused f) sealed ends told tells = (λ is. absurd is, λ is. absurd (cc))
-  written_by job status.WriteFault sealed (s, text, works, part, rose) told tells =
-      (λ is. absurd is, λ is. (s, text, meant shelf.files job _ works told tells, part))
+  written_by job status.WriteFault sealed (s, text, works, part) told tells =
+      (λ is. absurd is, λ is. (s, text, meant shelf.files job _ works told tells, part.0))
   written_by job status.Mem sealed ends told tells = (λ is. absurd is, λ is. absurd (cc))
 
   pub written_is_meant : (job : Job) (e : Ended) → RunEnds shelf sink (Some job) e
@@ -117,8 +117,8 @@ module _ (shelf : ShelfCall) (sink : SinkCall) where
       absurd (none_rose k ends.0.0)
   accepted_by job (status.Refused f) sealed on ends told tells fine none_rose no_rise =
       absurd (no_fault job told on f fine (ends.0 told tells))
-  accepted_by job status.WriteFault sealed on (s, text, works, part, rose) told tells fine none_rose no_rise =
-      absurd (no_rise rose)
+  accepted_by job status.WriteFault sealed on (s, text, works, part) told tells fine none_rose no_rise =
+      absurd (no_rise part.1)
   accepted_by job status.Mem sealed on ends told tells fine none_rose no_rise = inr (refl, ends.0)
 
   pub accepted_is_written : (job : Job) (e : Ended) (on : Input) → RunEnds shelf sink (Some job) e

@@ -25,7 +25,7 @@ use Rattle.clear_top.specs.Meaning.{ComesTo, IsRun, Means, Settles, answer_to, c
 use Rattle.clear_top.specs.Reading.{Files, Input, Read, alone, all_whole, both_whole, contents, in_size}
 use Rattle.clear_top.specs.Reading.{net_in, reading, reading_by, then_read, whole}
 use Rattle.clear_top.specs.Sources.{source_of}
-use Rattle.clear_top.specs.declared.outcome.Outcome.{Outcome}
+use Rattle.clear_top.specs.Outcome.{Outcome}
 use Rattle.clear_top.specs.declared.source.Source.TheVariants as source
 
 -- two files, the network that they give, and that it is all that was read

@@ -11,3 +11,4 @@ pub mod Made
 pub mod Begun
 pub mod Evidence
 pub mod Records
+pub mod Showing

@@ -1,7 +1,7 @@
 -- A sink that takes a text piece by piece.
 use Rattle.std.proofs.Common.{◌≡◌, ℕ, zero, suc, ◌+◌, ◌<◌, ◌≤◌, List, [], ◌∷◌, ◌++◌, length, take}
 use Rattle.std.proofs.Common.{drop, get_or, map, Option, None, Some, refl, sym, ap, ◌∙◌, inl, inr}
-use Rattle.std.proofs.Common.{⊎_elim, append_assoc, length-append, arith, true, false, true≢false}
+use Rattle.std.proofs.Common.{⊎_elim, append_assoc, length-append, arith, subst, true, false, true≢false}
 use Rattle.std.proofs.Common.{Result, Ok, Err}
 use Rattle.std.specs.List.{concat}
 use Rattle.std.specs.Result.{is_err, OnOk, OnErr}
@@ -9,7 +9,7 @@ use Rattle.std.proofs.lemmas.List.{append-nil, get_or-map, length-map, map-appen
 use Rattle.std.proofs.lemmas.List.Folds.{concat-append}
 use Rattle.clr_edge.specs.Faults.{HasRisen}
 use Rattle.clr_edge.specs.Sink.{with_bytes, WritesPart}
-use Rattle.clear_top.specs.Ending.{sink_call}
+use Rattle.clear_top.specs.Ending.{TakesPart, TakesWhole, sink_call}
 use Rattle.clear_top.specs.Message.{TakesText}
 
 -- bytes and then bytes
@@ -44,6 +44,31 @@ part_of_whole old mid new before piece after whole at is part = record {
     take_front [] b k l = absurd (omega arith)
     take_front (x ∷ a) b zero l = refl
     take_front (x ∷ a) b (suc k) l = ap (λ xs. x ∷ xs) (take_front a b k (omega arith))
+
+-- nothing is written yet
+pub with_nothing : (w : Option (List ℕ)) → w ≡ with_bytes w []
+with_nothing None = refl
+with_nothing (Some w) = ap Some (sym (append-nil w))
+
+-- some bytes and then others, at a sink before them, between them and after them
+module _ (old mid new : Option (List ℕ)) (a b c : ℕ) (x y : List ℕ) where
+  pub whole_then_whole : TakesWhole (sink_call old mid a b) x → TakesWhole (sink_call mid new b c) y
+      → TakesWhole (sink_call old new a c) (x ++ y)
+  whole_then_whole first second =
+      (second.0 ∙ ap (λ w. with_bytes w y) first.0 ∙ with_bytes-twice old x y, second.1 ∙ first.1)
+
+  pub whole_then_part : TakesWhole (sink_call old mid a b) x → TakesPart (sink_call mid new b c) y
+      → TakesPart (sink_call old new a c) (x ++ y)
+  whole_then_part first second = (
+    part_of_whole old mid new x y [] (x ++ y) first.0 (ap (λ l. x ++ l) (sym (append-nil y))) second.0,
+    subst (λ n. HasRisen n c) first.1 second.1,
+  )
+
+-- a part of the bytes in front is a part of all
+pub part_in_front : (old new : Option (List ℕ)) (a c : ℕ) (x y : List ℕ) → TakesPart (sink_call old new a c) x
+    → TakesPart (sink_call old new a c) (x ++ y)
+part_in_front old new a c x y part =
+    (part_of_whole old old new [] x y (x ++ y) (with_nothing old) refl part.0, part.1)
 
 -- the pieces up to one, that one, and those after it
 pub pieces_split : (ps : List (List ℕ)) (i : ℕ) → i < length ps
@@ -98,6 +123,11 @@ module _ {A : Type 0} (text : A → List ℕ) (ps : List A) (i : ℕ) (d : A) (l
       → TakesText (sink_call old new a c) (concat (map text ps))
   piece_broken old mid new a b c at no_fall part risen =
       inr (piece_part old mid new at part, risen_since a b c no_fall risen)
+
+-- what holds in any case
+pub on_err : {T E P : Type 0} (r : Result T E) → P → OnErr r P
+on_err (Ok x) p = tt
+on_err (Err e) p = p
 
 pub on_ok_of : {T E P : Type 0} (r : Result T E) → is_err r ≡ false → OnOk r P → P
 on_ok_of (Ok x) e p = p

@@ -14,7 +14,7 @@ use Rattle.clear_top.specs.Ending.{AnswersRecord, IfTold, IsFoundUnlawful, JobEn
 use Rattle.clear_top.specs.Ending.{SinkCall, Works, WritesText, has_record}
 use Rattle.clear_top.specs.Meaning.{ComesTo, answer_to}
 use Rattle.clear_top.specs.Reading.{Files, Input}
-use Rattle.clear_top.specs.declared.outcome.Outcome.{Outcome}
+use Rattle.clear_top.specs.Outcome.{Outcome}
 use Rattle.clear_top.specs.declared.status.Ended.{Ended}
 use Rattle.clear_top.specs.declared.status.Status.{Status}
 use Rattle.clear_top.specs.declared.status.Status.TheVariants as status
@@ -68,7 +68,7 @@ module _ (shelf : ShelfCall) (sink : SinkCall) where
   recorded_by job (status.Unlawful v) sealed (text, works, taken) =
       let is = of_work shelf.files job _ works in
       (λ some. (sym is ∙ some, λ nothing. nothing), λ has. is ∙ has.0)
-  recorded_by job status.WriteFault sealed (ending, text, works, part, rose) =
+  recorded_by job status.WriteFault sealed (ending, text, works, part) =
       let is = of_work shelf.files job _ works in
       (λ some. (sym is ∙ some, λ nothing. nothing), λ has. is ∙ has.0)
   recorded_by job status.Usage sealed ends = absurd ends

@@ -11,7 +11,7 @@ use Rattle.pay_words.specs.Traces.{start_of}
 use Rattle.settle.specs.Runs.{CanGoOn, IsRecordAfter}
 use Rattle.settle.specs.declared.plan.Plan.{Plan}
 use Rattle.clear_top.specs.Meaning.{IsRun, Rescues, rescue_report, rescued_net}
-use Rattle.clear_top.specs.declared.outcome.Outcome.{Outcome}
+use Rattle.clear_top.specs.Outcome.{Outcome}
 use Rattle.clear_top.specs.declared.status.Status.TheVariants as status
 
 -- what a run left may be gone on from in the network with cash added

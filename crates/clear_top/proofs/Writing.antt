@@ -1,6 +1,5 @@
 -- How a run ends whose work came to something.
 use Rattle.std.proofs.Common.{◌≡◌, ◌≢◌, ◌⊎◌, ℕ, List, Option, Ok, refl, subst, inl, inr, ⊎_elim}
-use Rattle.clr_edge.specs.Sink.{with_bytes, WritesPart}
 use Rattle.clr_net.specs.Net.{Net}
 use Rattle.clear_core.specs.declared.event.Raise.{Raise}
 use Rattle.clear_words.specs.declared.job.Job.{Job}
@@ -10,10 +9,10 @@ use Rattle.pay_words.specs.Sealed.{Sealed}
 use Rattle.raise_journal.specs.Verdicts.{judged}
 use Rattle.raise_journal.specs.declared.verdict.Verdict.{Verdict}
 use Rattle.raise_journal.specs.declared.verdict.Verdict.TheVariants as verdict
-use Rattle.clear_top.specs.Ending.{Gives, JobEnds, ShelfCall, SinkCall, SinkRose, WritesNothing}
+use Rattle.clear_top.specs.Ending.{Gives, JobEnds, ShelfCall, SinkCall, TakesPart, TakesWhole, WritesNothing}
 use Rattle.clear_top.specs.Meaning.{ComesTo, answer_to}
 use Rattle.clear_top.specs.Reading.{Input}
-use Rattle.clear_top.specs.declared.outcome.Outcome.{Outcome}
+use Rattle.clear_top.specs.Outcome.{Outcome}
 use Rattle.clear_top.specs.declared.status.Status.{Status}
 use Rattle.clear_top.specs.declared.status.Status.TheVariants as status
 
@@ -64,7 +63,7 @@ work_writes job on s sealed text comes nothing =
 module _ (shelf : ShelfCall) (sink : SinkCall) (job : Job) (on : Input) (gives : Gives shelf.files job (Ok on)) where
   ends_by : (s : Status) (sealed : Option Sealed) (text : List ℕ)
       → ComesTo job.task job on (record { status = s; sealed = sealed; text = text }) → IsWorked s
-      → sink.new ≡ with_bytes sink.old text → JobEnds shelf sink job s sealed
+      → TakesWhole sink text → JobEnds shelf sink job s sealed
   ends_by status.Done sealed text comes worked taken = (text, (on, gives, comes), taken)
   ends_by (status.Unlawful v) sealed text comes worked taken = (text, (on, gives, comes), taken)
   ends_by status.Usage sealed text comes worked taken = absurd (not_worked status.Usage (λ e. absurd (cc)) (λ v e. absurd (cc)) worked)
@@ -76,12 +75,12 @@ module _ (shelf : ShelfCall) (sink : SinkCall) (job : Job) (on : Input) (gives :
   -- the text was written whole
   pub ends_whole : (s : Status) (sealed : Option Sealed) (text : List ℕ)
       → ComesTo job.task job on (record { status = s; sealed = sealed; text = text })
-      → sink.new ≡ with_bytes sink.old text → JobEnds shelf sink job s sealed
+      → TakesWhole sink text → JobEnds shelf sink job s sealed
   ends_whole s sealed text comes taken =
       ends_by s sealed text comes (comes_worked job.task job on (record { status = s; sealed = sealed; text = text }) comes) taken
 
   -- or a part of it, where the sink failed
   pub ends_in_part : (s : Status) (sealed : Option Sealed) (text : List ℕ)
       → ComesTo job.task job on (record { status = s; sealed = sealed; text = text })
-      → WritesPart sink.old sink.new text → SinkRose sink → JobEnds shelf sink job status.WriteFault sealed
-  ends_in_part s sealed text comes part rose = (s, text, (on, gives, comes), part, rose)
+      → TakesPart sink text → JobEnds shelf sink job status.WriteFault sealed
+  ends_in_part s sealed text comes part = (s, text, (on, gives, comes), part)

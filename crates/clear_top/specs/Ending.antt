@@ -19,7 +19,7 @@ use Rattle.clear_top.specs.Sources.{name_in}
 use Rattle.pay_words.specs.Sealed.{Sealed}
 use Rattle.clear_top.specs.Meaning.{ComesTo, Means}
 use Rattle.clear_top.specs.Reading.{Files, Input, reading, whole}
-use Rattle.clear_top.specs.declared.outcome.Outcome.{Outcome}
+use Rattle.clear_top.specs.Outcome.{Outcome}
 use Rattle.clear_top.specs.declared.source.Source.{Source}
 use Rattle.clear_top.specs.declared.source.Source.TheVariants as source
 use Rattle.clear_top.specs.declared.status.Ended.{Ended}
@@ -51,6 +51,15 @@ sink_call old new faults_before faults_after =
 -- the count of faults of the sink rose
 abbrev pub SinkRose : SinkCall → Type 0
 SinkRose sink = HasRisen sink.faults_before sink.faults_after
+
+-- a sink took these bytes whole, and did not fail
+abbrev pub TakesWhole : SinkCall → List ℕ → Type 0
+TakesWhole sink bytes =
+    (sink.new ≡ with_bytes sink.old bytes) × (sink.faults_after ≡ sink.faults_before)
+
+-- a sink took a part of these bytes from their front, and failed
+abbrev pub TakesPart : SinkCall → List ℕ → Type 0
+TakesPart sink bytes = WritesPart sink.old sink.new bytes × SinkRose sink
 
 -- the job has a file of this kind, and the count of faults of its name rose
 abbrev pub RoseAt : ShelfCall → Job → FileKind → Type 0
@@ -133,18 +142,19 @@ Works files job o = (on : Input) × Gives files job (Ok on) × ComesTo job.task 
 abbrev pub IsUntouched : SinkCall → Option Sealed → Type 0
 IsUntouched sink sealed = (sink.new ≡ sink.old) × (sealed ≡ None)
 
--- an outcome of the work, with this status and record, whose text was written whole
+-- an outcome of the work, with this status and record, whose text was written whole, by a sink that
+-- did not fail
 abbrev pub IsWritten : Option Files → SinkCall → Job → Status → Option Sealed → Type 0
 IsWritten files sink job ending sealed =
     (text : List ℕ) × Works files job (record { status = ending; sealed = sealed; text = text })
-    × (sink.new ≡ with_bytes sink.old text)
+    × TakesWhole sink text
 
 -- an outcome of the work, with this record, of whose text a part was written before the sink failed
 abbrev pub IsPartWritten : Option Files → SinkCall → Job → Option Sealed → Type 0
 IsPartWritten files sink job sealed =
     (ending : Status) × (text : List ℕ)
     × Works files job (record { status = ending; sealed = sealed; text = text })
-    × WritesPart sink.old sink.new text × SinkRose sink
+    × TakesPart sink text
 
 -- how the work on a job ends: a row for each status
 abbrev pub JobEnds : ShelfCall → SinkCall → Job → Status → Option Sealed → Type 0
@@ -222,12 +232,12 @@ IsFoundUnlawful told job v =
     (on : Input) × (job.task ≡ task.Replay) × (reading told job ≡ Some (Ok on))
     × ((judged on.net on.journal).verdict ≡ v) × (v ≢ verdict.Lawful)
 
--- what the job comes to, with this status and record, was written whole
+-- what the job comes to, with this status and record, was written whole, by a sink that did not fail
 abbrev pub WasWritten : Files → SinkCall → Job → Ended → Type 0
 WasWritten told sink job e =
     (text : List ℕ)
     × Means told job (record { status = e.status; sealed = e.sealed; text = text })
-    × (sink.new ≡ with_bytes sink.old text)
+    × TakesWhole sink text
 
 -- of what the job comes to, with this record, a part from its front was written
 abbrev pub WasPartWritten : Files → SinkCall → Job → Ended → Type 0

@@ -1,6 +1,7 @@
 pub mod Status
 pub mod Sources
 pub mod Reading
+pub mod Outcome
 pub mod Meaning
 pub mod Evidence
 pub mod Ending

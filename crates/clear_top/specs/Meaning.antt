@@ -38,7 +38,7 @@ use Rattle.stress.specs.Shocks.{shocked}
 use Rattle.stress.specs.declared.scenario.Scenario.{Scenario}
 use Rattle.upper.specs.Bounds.{greatest, waves}
 use Rattle.clear_top.specs.Reading.{Files, Input, reading}
-use Rattle.clear_top.specs.declared.outcome.Outcome.{Outcome}
+use Rattle.clear_top.specs.Outcome.{Outcome}
 use Rattle.clear_top.specs.declared.status.Status.TheVariants as status
 
 -- done, with this text, and without a record

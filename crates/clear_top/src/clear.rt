@@ -8,7 +8,7 @@ ghost use Rattle.settle.specs.Runs.{CanGoOn, IsRecordAfter, IsRecordOf};
 ghost use Rattle.std.specs.Prelude.{◌≡◌, IfOk};
 
 use crate::outcome::Outcome;
-use crate::reports::shown;
+use crate::reports::{Showing, shown};
 use clear_core::Raise;
 use clear_words::Job;
 use clr_edge::Gate;
@@ -89,15 +89,14 @@ impl<'a, R: Threads + Sync, G: Gate + Sync> Clearer<'a, R, G> {
             rounds,
             ..
         } = self.settle(net)?;
-        let text = shown(
+        let Showing { text, closing } = shown(
             self.alloc,
             sealed.net(),
             job,
             paid.as_slice(),
-            sealed.journal(),
             rounds,
         )?;
-        Ok(Outcome::with_record(sealed, text))
+        Ok(Outcome::with_record(sealed, text, closing))
     }
 }
 

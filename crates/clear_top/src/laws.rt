@@ -8,7 +8,7 @@ ghost use Rattle.clear_top.specs.Evidence.{IsEvidence};
 ghost use Rattle.clear_top.specs.Evidence.{ReplaysText, ShowsJournal};
 ghost use Rattle.clear_top.specs.Meaning.{Means};
 ghost use Rattle.clear_top.specs.Reading.{Files, Input, IsReadBack, reading};
-ghost use Rattle.clear_top.specs.declared.outcome.Outcome.{Outcome};
+ghost use Rattle.clear_top.specs.Outcome.{Outcome};
 ghost use Rattle.clear_top.specs.declared.status.Ended.{Ended};
 ghost use Rattle.clear_top.specs.declared.status.Status.{Status};
 ghost use Rattle.clear_words.specs.declared.job.Job.{Job};

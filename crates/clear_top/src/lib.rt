@@ -8,6 +8,7 @@
 mod clear;
 mod judge;
 pub mod laws;
+mod lines;
 mod load;
 mod message;
 mod outcome;

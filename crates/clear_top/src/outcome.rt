@@ -1,12 +1,15 @@
 //! What the work on a job comes to, before it is written.
 ghost use Rattle.clear_report.specs.Words.{empty_line};
+ghost use Rattle.clear_top.specs.Ending.{TakesPart, TakesWhole, sink_call};
 ghost use Rattle.clear_top.specs.Meaning.{IsPlain};
+ghost use Rattle.clear_top.specs.Outcome.{with_journal};
 ghost use Rattle.clear_top.specs.declared.status.Status.{Status};
-ghost use Rattle.clr_edge.specs.Faults.{HasRisen};
-ghost use Rattle.clr_edge.specs.Sink.{with_bytes, WritesPart};
-ghost use Rattle.std.specs.Prelude.{◌≡◌, ◌++◌, ◌≤◌, [], IfOk, OnOk, OnErr, None, Some};
+ghost use Rattle.raise_journal.specs.declared.TheConstants.{ROOM};
+ghost use Rattle.std.specs.Prelude.{◌≡◌, ◌++◌, ◌<◌, ◌≤◌, [], All, IfOk, OnOk, OnErr, None, Some};
+ghost use Rattle.std.specs.Prelude.{length, vec_capacity};
 
-use crate::status::Status;
+use crate::lines::put_raises;
+use crate::status::{Ended, Status};
 use clr_edge::{Sink, SinkFault, put_all};
 use clr_net::Mem;
 use pay_words::Record;
@@ -15,11 +18,35 @@ use std::marker::Model;
 
 /// What the work on a job comes to: how the run ends if the text is written whole, the record of
 /// the board on which its payments were made, and the text.
+///
+/// Contracts see the journal of the record in the text, where it is to be written below it.
 #[derive(Drop)]
 pub struct Outcome {
     pub status: Status,
-    pub sealed: Option<Record>,
+    pub sealed: Option<Kept>,
     pub text: Text,
+}
+
+/// The record of a board, and where its journal is to be written, the line that closes it.
+#[derive(Drop)]
+pub struct Kept {
+    sealed: Record,
+    closing: Option<Text>,
+    ghost debts: { All (λ r. r.debt.0 < length sealed.net.debts) sealed.journal },
+}
+
+impl Model for Outcome {
+    ghost use Rattle.clear_top.specs.Outcome.{Outcome, with_journal};
+    ghost use Rattle.std.specs.Option.{option_map, option_map_or};
+
+    ghost Value = { Outcome };
+
+    ghost view = { λ o. record {
+      status = o.status;
+      sealed = option_map (λ k. k.sealed) o.sealed;
+      text = option_map_or (λ k. with_journal k.sealed.net k.sealed.journal o.text k.closing)
+          o.sealed o.text;
+    } };
 }
 
 impl Outcome {
@@ -41,14 +68,81 @@ impl Outcome {
         Ok(Outcome::of(Text::of(alloc, text)?))
     }
 
-    /// Done, with a record and a text. Takes no memory.
-    pub fn with_record(sealed: Record, text: Text) -> Outcome
-        ensures { result ≡ record { status = Status.Done; sealed = Some sealed; text = text } }
+    /// Done, with a record and a text, and below it the journal of the record, where there is a line
+    /// that closes it. Takes no memory.
+    pub fn with_record(sealed: Record, text: Text, closing: Option<Text>) -> Outcome
+        requires { All (λ r. r.debt.0 < length sealed.net.debts) sealed.journal }
+        ensures { result ≡ record {
+          status = Status.Done;
+          sealed = Some sealed;
+          text = with_journal sealed.net sealed.journal text closing;
+        } }
     {
+        let kept = Kept { sealed, closing };
         Outcome {
             status: Status::Done,
-            sealed: Some(sealed),
+            sealed: Some(kept),
             text,
+        }
+    }
+
+    /// Writes the text, with the lines of a journal through the room. At a fault some bytes from its
+    /// front have been written, but not all, and the count rose. It takes no memory.
+    pub fn put<S: Sink>(&self, sink: &mut S, room: &mut Vec<u8>) -> Result<(), SinkFault>
+        requires { ROOM ≤ vec_capacity room.old }
+        ensures written { OnOk result (TakesWhole
+            (sink_call
+            (S.written sink.old) (S.written sink.new) (S.faults sink.old) (S.faults sink.new))
+            self.now.text) }
+        ensures part { OnErr result (TakesPart
+            (sink_call
+            (S.written sink.old) (S.written sink.new) (S.faults sink.old) (S.faults sink.new))
+            self.now.text) }
+    {
+        match &self.sealed {
+            Some(kept) => kept.put(&self.text, sink, room),
+            None => self.text.put(sink),
+        }
+    }
+
+    /// How a run ends with this status, and with the record.
+    pub fn end(self, status: Status) -> Ended
+        ensures { result ≡ record { status = status; sealed = self.sealed } }
+    {
+        let Outcome { sealed, .. } = self;
+        match sealed {
+            Some(Kept { sealed, .. }) => Ended {
+                status,
+                sealed: Some(sealed),
+            },
+            None => Ended {
+                status,
+                sealed: None,
+            },
+        }
+    }
+}
+
+impl Kept {
+    // Writes a text, and below it the journal, where there is a line that closes it.
+    fn put<S: Sink>(&self, text: &Text, sink: &mut S, room: &mut Vec<u8>) -> Result<(), SinkFault>
+        requires { ROOM ≤ vec_capacity room.old }
+        ensures written { OnOk result (TakesWhole
+            (sink_call
+            (S.written sink.old) (S.written sink.new) (S.faults sink.old) (S.faults sink.new))
+            (with_journal self.now.sealed.net self.now.sealed.journal text.now self.now.closing)) }
+        ensures part { OnErr result (TakesPart
+            (sink_call
+            (S.written sink.old) (S.written sink.new) (S.faults sink.old) (S.faults sink.new))
+            (with_journal self.now.sealed.net self.now.sealed.journal text.now self.now.closing)) }
+    {
+        text.put(sink)?;
+        match &self.closing {
+            Some(closing) => {
+                put_raises(sink, room, self.sealed.net(), self.sealed.journal())?;
+                closing.put(sink)
+            }
+            None => Ok(()),
         }
     }
 }
@@ -116,12 +210,14 @@ impl Text {
     /// Writes the text. At a fault some bytes from its front have been written, but not all, and
     /// the count rose. It takes no memory.
     pub fn put<S: Sink>(&self, sink: &mut S) -> Result<(), SinkFault>
-        ensures written { OnOk result
-            (S.written sink.new ≡ with_bytes (S.written sink.old) self.now) }
-        ensures part { OnErr result
-            (WritesPart (S.written sink.old) (S.written sink.new) self.now) }
-        ensures faults { S.faults sink.old ≤ S.faults sink.new }
-        ensures failed { OnErr result (HasRisen (S.faults sink.old) (S.faults sink.new)) }
+        ensures written { OnOk result (TakesWhole
+            (sink_call
+            (S.written sink.old) (S.written sink.new) (S.faults sink.old) (S.faults sink.new))
+            self.now) }
+        ensures part { OnErr result (TakesPart
+            (sink_call
+            (S.written sink.old) (S.written sink.new) (S.faults sink.old) (S.faults sink.new))
+            self.now) }
     {
         let pieces = self.pieces.as_slice();
         for piece in pieces {

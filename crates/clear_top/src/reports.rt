@@ -1,18 +1,30 @@
 //! What is shown of a network that was cleared by workers on a board.
 ghost use Rattle.clear_core.specs.Clearing.{least};
-ghost use Rattle.clear_top.specs.Meaning.{IsRun, bounds_report, clear_text, defaults_report};
+ghost use Rattle.clear_core.specs.declared.event.Raise.{Raise};
+ghost use Rattle.clear_top.specs.Meaning.{bounds_report, clear_text, defaults_report};
 ghost use Rattle.clear_top.specs.Meaning.{least_standings, shown_of, summary_report};
-ghost use Rattle.std.specs.Prelude.{◌≡◌, IfOk, length};
+ghost use Rattle.clear_top.specs.Outcome.{with_journal};
+ghost use Rattle.clr_net.specs.Lines.{line};
+ghost use Rattle.raise_journal.specs.Texts.{journal_header, rounds_line};
+ghost use Rattle.std.specs.Prelude.{◌≡◌, ◌++◌, IfOk, List, None, Some, length};
 
 use crate::clear::is_network;
 use crate::outcome::Text;
 use cascade::{Standing, defaults};
-use clear_core::Raise;
-use clear_report::{bounds_text, default_text, journal_text, pay_text, summary_text};
+use clear_report::{bounds_text, default_text, pay_text, rounds_text, summary_text};
 use clear_words::{Job, Show, Task};
 use clr_net::{Mem, Network};
+use raise_journal::journal_head;
 use std::alloc::Global;
 use upper::{Upper, upper};
+
+/// What is shown of a run: a text, and where the journal of the record is to be written below it,
+/// the line that closes it.
+#[derive(Drop)]
+pub struct Showing {
+    pub text: Text,
+    pub closing: Option<Text>,
+}
 
 /// What is shown of a run, by the task: a row for each that clears on one board.
 pub fn shown(
@@ -20,19 +32,18 @@ pub fn shown(
     net: &Network,
     job: &Job,
     paid: &[u64],
-    journal: &[Raise],
     rounds: u64,
-) -> Result<Text, Mem>
-    requires paid { paid.now ≡ least net.now }
-    requires run { IsRun net.now journal.now rounds }
-    ensures { IfOk result (λ text.
-        text ≡ shown_of job.now.task job.now.show net.now journal.now rounds) }
+) -> Result<Showing, Mem>
+    requires { paid.now ≡ least net.now }
+    ensures { IfOk result (λ s. (journal : List Raise)
+        → with_journal net.now journal s.text s.closing
+        ≡ shown_of job.now.task job.now.show net.now journal rounds) }
 {
     match job.task {
-        Task::Defaults => Text::of(alloc, defaults_of(alloc, net, paid)?),
-        Task::Gen => Text::of(alloc, summary_of(alloc, net, paid)?),
-        Task::Bounds => Text::of(alloc, bounds_of(alloc, net, paid)?),
-        _ => cleared(alloc, net, job.show, paid, journal, rounds),
+        Task::Defaults => alone(alloc, defaults_of(alloc, net, paid)?),
+        Task::Gen => alone(alloc, summary_of(alloc, net, paid)?),
+        Task::Bounds => alone(alloc, bounds_of(alloc, net, paid)?),
+        _ => cleared(alloc, net, job.show, paid, rounds),
     }
 }
 
@@ -42,24 +53,48 @@ fn cleared(
     net: &Network,
     show: Show,
     paid: &[u64],
-    journal: &[Raise],
     rounds: u64,
-) -> Result<Text, Mem>
-    requires paid { paid.now ≡ least net.now }
-    requires run { IsRun net.now journal.now rounds }
-    ensures { IfOk result (λ text. text ≡ clear_text show net.now journal.now rounds) }
+) -> Result<Showing, Mem>
+    requires { paid.now ≡ least net.now }
+    ensures { IfOk result (λ s. (journal : List Raise)
+        → with_journal net.now journal s.text s.closing
+        ≡ clear_text show net.now journal rounds) }
 {
-    is_network(net);
     match show {
-        Show::Payments => Text::of(alloc, pay_text(alloc, net, paid)?),
-        Show::Journal => Text::of(alloc, journal_text(alloc, net, journal, rounds)?),
+        Show::Payments => alone(alloc, pay_text(alloc, net, paid)?),
+        Show::Journal => above_journal(alloc, Text::empty(alloc), rounds),
         Show::Both => {
             let mut text = Text::of(alloc, pay_text(alloc, net, paid)?)?;
             text.add_line(alloc)?;
-            text.add(journal_text(alloc, net, journal, rounds)?)?;
-            Ok(text)
+            above_journal(alloc, text, rounds)
         }
     }
+}
+
+// A text alone.
+fn alone(alloc: Global, piece: Vec<u8>) -> Result<Showing, Mem>
+    ensures { IfOk result (λ s. s ≡ record { text = piece.items; closing = None }) }
+{
+    Ok(Showing {
+        text: Text::of(alloc, piece)?,
+        closing: None,
+    })
+}
+
+// A text, and below it a journal of so many rounds.
+fn above_journal(alloc: Global, text: Text, rounds: u64) -> Result<Showing, Mem>
+    ensures { IfOk result (λ s. s ≡ record {
+      text = text ++ line journal_header;
+      closing = Some (rounds_line rounds);
+    }) }
+{
+    let mut text = text;
+    text.add(Vec::from_slice(alloc, journal_head())?)?;
+    let closing = Text::of(alloc, rounds_text(alloc, rounds)?)?;
+    Ok(Showing {
+        text,
+        closing: Some(closing),
+    })
 }
 
 // How the banks stand under the least payments.

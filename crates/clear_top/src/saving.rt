@@ -54,7 +54,7 @@ fn save_after<R: Threads + Sync, G: Gate + Sync>(
     let saved = added(alloc, net, bank, found.added)?;
     let Settled { paid, sealed, .. } = clearer.go_on(saved, past)?;
     let text = saved_text(alloc, net, bank, &found, paid.as_slice())?;
-    Ok(Outcome::with_record(sealed, text))
+    Ok(Outcome::with_record(sealed, text, None))
 }
 
 // The text of what was found, with the payments.

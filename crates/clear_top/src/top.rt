@@ -9,11 +9,11 @@ ghost use Rattle.std.specs.Prelude.{◌≡◌, false};
 
 use crate::load::load;
 use crate::message::tell;
-use crate::outcome::Outcome;
 use crate::status::{Ended, Status};
 use crate::work::work;
 use clear_words::{Job, WordsFault, read_words};
 use clr_edge::{Gate, Shelf, Sink};
+use raise_journal::ROOM;
 use std::alloc::Global;
 use std::thread::Threads;
 
@@ -74,7 +74,8 @@ fn without_record(status: Status) -> Ended
     }
 }
 
-// Carries out a job: reads its files, does the task, and writes its text.
+// Carries out a job: reads its files, does the task, and writes its text, for which the room is
+// taken before the first byte is written.
 fn carry_out<R: Threads + Sync, F: Shelf, O: Sink, G: Gate + Sync>(
     rt: &R,
     alloc: Global,
@@ -99,16 +100,14 @@ fn carry_out<R: Threads + Sync, F: Shelf, O: Sink, G: Gate + Sync>(
     let Ok(outcome) = work(rt, alloc, job, input, gate) else {
         return without_record(Status::Mem);
     };
-    let Outcome {
-        status,
-        sealed,
-        text,
-    } = outcome;
-    match text.put(out) {
-        Ok(()) => Ended { status, sealed },
-        Err(_) => Ended {
-            status: Status::WriteFault,
-            sealed,
-        },
+    let Ok(mut room) = Vec::with_capacity(alloc, ROOM) else {
+        return without_record(Status::Mem);
+    };
+    match outcome.put(out, &mut room) {
+        Ok(()) => {
+            let status = outcome.status;
+            outcome.end(status)
+        }
+        Err(_) => outcome.end(Status::WriteFault),
     }
 }

@@ -1,7 +1,7 @@
 ghost use Rattle.clr_edge.specs.Faults.{HasRisen};
 ghost use Rattle.clr_edge.specs.MemSink.{empty_sink, is_refused, taken_of, with_put, with_fault};
 ghost use Rattle.clr_edge.specs.Sink.{with_bytes};
-ghost use Rattle.std.specs.Prelude.{◌≡◌, ◌<◌, ◌≤◌, Some, length, take, is_err, IfOk, OnErr};
+ghost use Rattle.std.specs.Prelude.{◌≡◌, ◌<◌, ◌≤◌, Some, length, take, is_err, IfOk, OnOk, OnErr};
 
 use crate::{Sink, SinkFault};
 use clr_net::Mem;
@@ -77,6 +77,7 @@ impl Sink for MemSink {
             (λ n. Some self.new.bytes ≡ with_bytes (Some self.old.bytes) (take n piece.now)) }
         ensures unwritten { OnErr result (Some self.new.bytes ≡ Some self.old.bytes) }
         ensures faults { self.old.faults ≤ self.new.faults }
+        ensures well { OnOk result (self.new.faults ≡ self.old.faults) }
         ensures failed { OnErr result (HasRisen self.old.faults self.new.faults) }
 
         // It fails exactly where it is to, and else takes as much as it may.

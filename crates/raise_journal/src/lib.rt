@@ -12,10 +12,16 @@ mod replaying;
 mod verdict;
 
 pub use gathering::{gather, in_order};
-pub use printing::print_journal;
+pub use printing::{journal_head, print_journal, print_raises};
 pub use reading::read_journal;
 pub use replaying::{replay, replay_with};
 pub use verdict::Verdict;
+
+/// The most raises that are printed into a room at once.
+pub const MAX_AT_ONCE: usize = 256;
+
+/// The bytes of a room for the lines of so many raises.
+pub const ROOM: usize = 65_536;
 
 /// The most raises of a journal that is read.
 pub const MAX_RAISES: usize = 10_000_000;

@@ -1,18 +1,43 @@
--- What a text of payments and of a journal asks for holds of a run.
-use Rattle.std.proofs.Common.{length, ◌∙◌, ap}
-use Rattle.clear_top.proofs.Runs.{least_places, raises_in_range}
+-- What a text of payments asks for holds of a run, and a journal stands below it.
+use Rattle.std.proofs.Common.{◌≡◌, ℕ, List, ◌++◌, Some, IfOk, length, append_assoc, sym, ◌∙◌, ap, subst}
+use Rattle.std.specs.List.{flat_map}
+use Rattle.clr_net.specs.Lines.{line}
+use Rattle.clr_net.specs.Net.{Net}
+use Rattle.clear_core.specs.Clearing.{least}
+use Rattle.clear_core.specs.declared.event.Raise.{Raise}
+use Rattle.clear_report.specs.Text.{payments_text}
+use Rattle.clear_report.specs.Words.{empty_line}
+use Rattle.clear_top.specs.Meaning.{clear_text}
+use Rattle.clear_top.specs.Outcome.{with_journal}
+use Rattle.clear_words.specs.declared.show.Show.TheVariants as show
+use Rattle.raise_journal.specs.Texts.{journal_header, raise_line, rounds_line}
+use Rattle.clear_top.proofs.Runs.{least_places}
+use Rattle.clear_top.proofs.Showing.{shows}
 use Rattle.clear_top.proofs.reports.cleared.Goals as goal
 
 pub pay_text-requires : goal.pay_text-requires
-pay_text-requires c = ap length c.requires.paid ∙ least_places c.args.net.now
+pay_text-requires c = ap length c.requires ∙ least_places c.args.net.now
 
 pub pay_text-requires-in-Both : goal.pay_text-requires-in-Both
-pay_text-requires-in-Both c = ap length c.requires.paid ∙ least_places c.args.net.now
+pay_text-requires-in-Both c = ap length c.requires ∙ least_places c.args.net.now
 
-pub journal_text-requires : goal.journal_text-requires
-journal_text-requires c =
-    raises_in_range c.args.net.now c.is_network.ensures c.args.journal.now c.requires.run.lawful
+-- payments with a journal below an empty line
+both : (net : Net) (rounds : ℕ) (text above : List ℕ) → text ≡ above ++ empty_line → above ≡ payments_text net (least net)
+    → (journal : List Raise) → with_journal net journal (text ++ line journal_header) (Some (rounds_line rounds))
+    ≡ clear_text show.Both net journal rounds
+both net rounds text above is above_is journal =
+    let body = line journal_header ++ flat_map (raise_line net) journal in
+    let closing = rounds_line rounds in
+    ap (λ l. l ++ closing) (append_assoc text (line journal_header) (flat_map (raise_line net) journal))
+    ∙ append_assoc text body closing
+    ∙ ap (λ t. t ++ (body ++ closing)) (is ∙ ap (λ p. p ++ empty_line) above_is)
 
-pub journal_text-requires-in-Both : goal.journal_text-requires-in-Both
-journal_text-requires-in-Both c =
-    raises_in_range c.args.net.now c.is_network.ensures c.args.journal.now c.requires.run.lawful
+pub returns-in_ok-add_line-in-Both : goal.returns-in_ok-add_line-in-Both
+returns-in_ok-add_line-in-Both c =
+    let net = c.args.net.now in
+    let r = c.above_journal-in-Both.result in
+    subst (λ s. IfOk r (λ t. (journal : List Raise) → with_journal net journal t.text t.closing ≡ clear_text s net journal c.args.rounds)) (sym c.in-Both.is)
+    (shows r net (c.add_line.new.self ++ line journal_header) (Some (rounds_line c.args.rounds))
+    (λ journal. clear_text show.Both net journal c.args.rounds) c.above_journal-in-Both.ensures
+    (both net c.args.rounds c.add_line.new.self c.in_ok-text-in-Both.text c.in_ok-add_line-in-Both.ensures
+    (c.in_ok-text-in-Both.ensures ∙ c.in_ok-pay_text-in-Both.ensures ∙ ap (payments_text net) c.requires)))

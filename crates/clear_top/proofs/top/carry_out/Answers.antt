@@ -1,28 +1,45 @@
 -- What the work came to was written, whole or in part.
-use Rattle.clear_top.specs.Ending.{shelf_call, sink_call}
+use Rattle.std.proofs.Common.{◌≡◌, sym, ap, ◌∙◌, subst}
+use Rattle.clear_top.specs.Ending.{JobEnds, WritesNothing, shelf_call, sink_call}
+use Rattle.clear_top.specs.Outcome.{Outcome}
+use Rattle.clear_top.specs.declared.status.Ended.{Ended}
 use Rattle.clear_top.proofs.Writing.{ends_in_part, ends_whole, work_writes}
 use Rattle.clear_top.proofs.top.carry_out.Goals as goal
+use Rattle.clear_top.proofs.top.carry_out.Given.{Over}
+use Rattle.clear_top.proofs.top.carry_out.Goals.{After-drop-room}
+
+-- the status and the record are those of the outcome
+ended : (g : Over) (c : After-drop-room g) → c.end.result
+    ≡ record { status = c.in-Ok-work.outcome.status; sealed = c.in-Ok-work.outcome.sealed }
+ended g c =
+    let with_record : Outcome → Ended = λ o. record { status = o.status; sealed = c.in-Ok-work.outcome.sealed } in
+    c.end.ensures ∙ ap with_record c.outcome.view_is
 
 pub returns-in-Ok-put-clause-ends : goal.returns-in-Ok-put-clause-ends
 returns-in-Ok-put-clause-ends g c =
     let outcome = c.in-Ok-work.outcome in
-    ends_whole
-    (shelf_call (g.F.Shelf.files c.args.files.now) (g.F.Shelf.faults c.args.files.now) (g.F.Shelf.faults c.load.new.files))
-    (sink_call (g.O.Sink.written c.args.out.now) (g.O.Sink.written c.put.new.sink) (g.O.Sink.faults c.args.out.now) (g.O.Sink.faults c.put.new.sink))
-    c.args.job.now c.in-Ok.input c.in-Ok.ensures.input outcome.status outcome.sealed outcome.text c.in-Ok-work.ensures
-    c.in-Ok-put.ensures.written
+    let shelf = shelf_call (g.F.Shelf.files c.args.files.now) (g.F.Shelf.faults c.args.files.now) (g.F.Shelf.faults c.load.new.files) in
+    let sink = sink_call (g.O.Sink.written c.args.out.now) (g.O.Sink.written c.put.new.sink) (g.O.Sink.faults c.args.out.now) (g.O.Sink.faults c.put.new.sink) in
+    subst (λ (e : Ended). JobEnds shelf sink c.args.job.now e.status e.sealed) (sym (ended g c))
+    (ends_whole shelf sink c.args.job.now c.in-Ok.input c.in-Ok.ensures.input outcome.status outcome.sealed outcome.text c.in-Ok-work.ensures
+    c.in-Ok-put.ensures.written)
 
 pub returns-clause-ends : goal.returns-clause-ends
 returns-clause-ends g c =
     let outcome = c.in-Ok-work.outcome in
-    ends_in_part
-    (shelf_call (g.F.Shelf.files c.args.files.now) (g.F.Shelf.faults c.args.files.now) (g.F.Shelf.faults c.load.new.files))
-    (sink_call (g.O.Sink.written c.args.out.now) (g.O.Sink.written c.put.new.sink) (g.O.Sink.faults c.args.out.now) (g.O.Sink.faults c.put.new.sink))
-    c.args.job.now c.in-Ok.input c.in-Ok.ensures.input outcome.status outcome.sealed outcome.text c.in-Ok-work.ensures
-    c.in-Err-put.ensures.part c.in-Err-put.ensures.failed
+    let shelf = shelf_call (g.F.Shelf.files c.args.files.now) (g.F.Shelf.faults c.args.files.now) (g.F.Shelf.faults c.load.new.files) in
+    let sink = sink_call (g.O.Sink.written c.args.out.now) (g.O.Sink.written c.put.new.sink) (g.O.Sink.faults c.args.out.now) (g.O.Sink.faults c.put.new.sink) in
+    subst (λ (e : Ended). JobEnds shelf sink c.args.job.now e.status e.sealed) (sym c.end-in-Err-put.ensures)
+    (ends_in_part shelf sink c.args.job.now c.in-Ok.input c.in-Ok.ensures.input outcome.status outcome.sealed outcome.text c.in-Ok-work.ensures
+    c.in-Err-put.ensures.part)
 
 -- what was to be written is a status of work
 pub returns-in-Ok-put-clause-untouched : goal.returns-in-Ok-put-clause-untouched
-returns-in-Ok-put-clause-untouched g c =
+returns-in-Ok-put-clause-untouched g c = λ nothing.
     let outcome = c.in-Ok-work.outcome in
-    λ nothing. absurd (work_writes c.args.job.now c.in-Ok.input outcome.status outcome.sealed outcome.text c.in-Ok-work.ensures nothing)
+    absurd (work_writes c.args.job.now c.in-Ok.input outcome.status outcome.sealed outcome.text c.in-Ok-work.ensures
+    (subst (λ (e : Ended). WritesNothing e.status) (ended g c) nothing))
+
+pub returns-clause-untouched : goal.returns-clause-untouched
+returns-clause-untouched g c = λ nothing.
+    absurd (subst (λ (e : Ended). WritesNothing e.status) c.end-in-Err-put.ensures nothing)

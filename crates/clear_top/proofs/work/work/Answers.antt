@@ -8,7 +8,7 @@ use Rattle.clear_top.specs.Ending.{IsUsable}
 use Rattle.clear_top.specs.Meaning.{ComesTo, Settles, plan_of, shown_of}
 use Rattle.clear_top.specs.Reading.{Input}
 use Rattle.clear_top.specs.Sources.{source_of}
-use Rattle.clear_top.specs.declared.outcome.Outcome.{Outcome}
+use Rattle.clear_top.specs.Outcome.{Outcome}
 use Rattle.clear_top.specs.declared.source.Source.TheVariants as source
 use Rattle.settle.specs.declared.plan.Plan.{Plan}
 use Rattle.stress.specs.Shocks.{IsScenarioOf}

@@ -1,66 +1,46 @@
 -- The pieces that were written whole, and of one piece a part.
-use Rattle.std.proofs.Common.{◌≡◌, ℕ, List, map, [], refl, Option, Some, None, Result, Ok, Err, sym, ap, ◌∙◌, subst, arith}
+use Rattle.std.proofs.Common.{◌≡◌, List, map, refl, Result, Ok, Err, ap, ◌∙◌, subst, arith}
 use Rattle.std.specs.List.{concat}
 use Rattle.std.specs.Result.{OnErr}
-use Rattle.std.proofs.lemmas.List.{append-nil, length-map, take_all}
+use Rattle.std.proofs.lemmas.List.{length-map, take_all}
+use Rattle.clr_edge.specs.Faults.{HasRisen}
 use Rattle.clr_edge.specs.Sink.{with_bytes, WritesPart}
-use Rattle.clear_top.proofs.Pieces.{piece_part, piece_taken, risen_since}
+use Rattle.clear_top.specs.Ending.{TakesPart, sink_call}
+use Rattle.clear_top.proofs.Pieces.{on_err, piece_part, piece_taken, with_nothing}
 use Rattle.clear_top.proofs.outcome.Text.put.Goals as goal
 
--- nothing is written yet
-with_nothing : (w : Option (List ℕ)) → w ≡ with_bytes w []
-with_nothing None = refl
-with_nothing (Some w) = ap Some (sym (append-nil w))
-
--- what holds in any case
-on_err : {T E P : Type 0} (r : Result T E) → P → OnErr r P
-on_err (Ok x) p = tt
-on_err (Err e) p = p
-
 pub loop-piece-init : goal.loop-piece-init
-loop-piece-init g c = record {
-  taken = with_nothing (g.S.Sink.written c.args.sink.now);
-  no_fall = omega arith;
-}
+loop-piece-init g c = (with_nothing (g.S.Sink.written c.args.sink.now), refl)
 
 pub loop-piece-preserved : goal.loop-piece-preserved
 loop-piece-preserved g c =
-    let pieces = c.as_slice-pieces.result.now in
-    record {
-      taken = piece_taken (λ piece. piece.items) pieces c.loop-piece.piece-index _ c.loop-piece-test.true _ _ _
-          c.loop-piece.invariant.taken
-          (c.in_ok-put_all.ensures.written ∙ ap (with_bytes (g.S.Sink.written c.loop-piece.sink)) (c.as_slice.ensures.value ∙ ap (λ v. v.items) c.piece-item.is));
-      no_fall = omega (arith, c.loop-piece.invariant.no_fall, c.in_ok-put_all.ensures.faults);
-    }
+    let pieces = c.as_slice-pieces.result.now in (
+      piece_taken (λ piece. piece.items) pieces c.loop-piece.piece-index _ c.loop-piece-test.true _ _ _
+          c.loop-piece.invariant.0
+          (c.in_ok-put_all.ensures.written ∙ ap (with_bytes (g.S.Sink.written c.loop-piece.sink)) (c.as_slice.ensures.value ∙ ap (λ v. v.items) c.piece-item.is)),
+      c.in_ok-put_all.ensures.well ∙ c.loop-piece.invariant.1,
+    )
 
 pub returns-in_err-put_all-clause-part : goal.returns-in_err-put_all-clause-part
 returns-in_err-put_all-clause-part g c =
     let start = g.S.Sink.written c.args.sink.now in
     let mid = g.S.Sink.written c.loop-piece.sink in
     let end = g.S.Sink.written c.put_all.new.sink in
-    on_err c.from_residual.result
-    (subst (WritesPart start end) (ap (λ ps. concat (map (λ piece. piece.items) ps)) c.as_slice-pieces.ensures.value ∙ c.self.view_is)
-    (piece_part (λ piece. piece.items) c.as_slice-pieces.result.now c.loop-piece.piece-index _ c.loop-piece-test.true start mid end
-    c.loop-piece.invariant.taken
-    (subst (WritesPart mid end) (c.as_slice.ensures.value ∙ ap (λ v. v.items) c.piece-item.is) c.in_err-put_all.ensures.part)))
-
-pub returns-in_err-put_all-clause-failed : goal.returns-in_err-put_all-clause-failed
-returns-in_err-put_all-clause-failed g c =
-    on_err c.from_residual.result
-    (risen_since _ _ _ c.loop-piece.invariant.no_fall c.in_err-put_all.ensures.failed)
-
-pub returns-in_err-put_all-clause-faults : goal.returns-in_err-put_all-clause-faults
-returns-in_err-put_all-clause-faults g c =
-    omega (arith, c.loop-piece.invariant.no_fall, c.in_err-put_all.ensures.faults)
+    on_err c.from_residual.result (
+      subst (WritesPart start end) (ap (λ ps. concat (map (λ piece. piece.items) ps)) c.as_slice-pieces.ensures.value ∙ c.self.view_is)
+          (piece_part (λ piece. piece.items) c.as_slice-pieces.result.now c.loop-piece.piece-index _ c.loop-piece-test.true start mid end
+          c.loop-piece.invariant.0
+          (subst (WritesPart mid end) (c.as_slice.ensures.value ∙ ap (λ v. v.items) c.piece-item.is) c.in_err-put_all.ensures.part)),
+      subst (λ n. HasRisen n (g.S.Sink.faults c.put_all.new.sink)) c.loop-piece.invariant.1 c.in_err-put_all.ensures.failed,
+    )
 
 pub returns-clause-written : goal.returns-clause-written
 returns-clause-written g c =
     let start = g.S.Sink.written c.args.sink.now in
-    let texts = map (λ piece. piece.items) c.as_slice-pieces.result.now in
-    c.loop-piece.invariant.taken
-    ∙ ap (λ ts. with_bytes start (concat ts)) (take_all c.loop-piece.piece-index texts
-    (omega (arith, length-map c.as_slice-pieces.result.now (λ piece. piece.items), c.loop-piece-test.false)))
-    ∙ ap (with_bytes start) (ap (λ ps. concat (map (λ piece. piece.items) ps)) c.as_slice-pieces.ensures.value ∙ c.self.view_is)
-
-pub returns-clause-faults : goal.returns-clause-faults
-returns-clause-faults g c = omega (arith, c.loop-piece.invariant.no_fall)
+    let texts = map (λ piece. piece.items) c.as_slice-pieces.result.now in (
+      c.loop-piece.invariant.0
+          ∙ ap (λ ts. with_bytes start (concat ts)) (take_all c.loop-piece.piece-index texts
+          (omega (arith, length-map c.as_slice-pieces.result.now (λ piece. piece.items), c.loop-piece-test.false)))
+          ∙ ap (with_bytes start) (ap (λ ps. concat (map (λ piece. piece.items) ps)) c.as_slice-pieces.ensures.value ∙ c.self.view_is),
+      c.loop-piece.invariant.1,
+    )

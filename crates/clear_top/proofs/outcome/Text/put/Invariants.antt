@@ -1,11 +1,11 @@
-use Rattle.std.proofs.Common.{◌≡◌, ◌≤◌, map, take}
+use Rattle.std.proofs.Common.{map, take}
 use Rattle.std.specs.List.{concat}
-use Rattle.clr_edge.specs.Sink.{with_bytes}
+use Rattle.clear_top.specs.Ending.{TakesWhole, sink_call}
 use Rattle.clear_top.proofs.outcome.Text.put.Given as goal
 
+-- the pieces before this one have been written
 abbrev pub invariant-loop-piece : goal.invariant-loop-piece
-invariant-loop-piece g l = record {
-  taken : g.S.Sink.written l.sink ≡ with_bytes (g.S.Sink.written l.initial.sink)
-      (concat (take l.piece-index (map (λ piece. piece.items) l.pieces)));
-  no_fall : g.S.Sink.faults l.initial.sink ≤ g.S.Sink.faults l.sink;
-}
+invariant-loop-piece g l =
+    let sink = g.S.Sink in
+    TakesWhole (sink_call (sink.written l.initial.sink) (sink.written l.sink) (sink.faults l.initial.sink) (sink.faults l.sink))
+    (concat (take l.piece-index (map (λ piece. piece.items) l.pieces)))

@@ -1,0 +1,20 @@
+use Rattle.std.proofs.Common.{◌-◌, ◌≤◌, length, take, vec_capacity}
+use Rattle.std.specs.List.{flat_map}
+use Rattle.raise_journal.specs.Texts.{raise_line}
+use Rattle.raise_journal.specs.declared.TheConstants.{ROOM}
+use Rattle.clear_top.specs.Ending.{TakesWhole, sink_call}
+use Rattle.clear_top.proofs.lines.put_raises.Given as goal
+
+-- the lines before this place have been written, and the room is no smaller
+abbrev pub invariant-loop-done : goal.invariant-loop-done
+invariant-loop-done g l =
+    let sink = g.S.Sink in
+    record {
+      within : l.done ≤ length l.raises;
+      room : ROOM ≤ vec_capacity l.room;
+      written : TakesWhole (sink_call (sink.written l.fn.sink) (sink.written l.sink) (sink.faults l.fn.sink) (sink.faults l.sink))
+          (flat_map (raise_line l.net) (take l.done l.raises));
+    }
+
+abbrev pub decreases-loop-done : goal.decreases-loop-done
+decreases-loop-done g l = length l.raises - l.done

@@ -1,0 +1,40 @@
+//! The lines of a journal, written from where it stands.
+ghost use Rattle.clear_top.specs.Ending.{TakesPart, TakesWhole, sink_call};
+ghost use Rattle.raise_journal.specs.Texts.{raise_line};
+ghost use Rattle.raise_journal.specs.declared.TheConstants.{ROOM};
+ghost use Rattle.std.specs.List.{flat_map};
+ghost use Rattle.std.specs.Prelude.{◌<◌, ◌≤◌, All, OnOk, OnErr, length, vec_capacity};
+
+use clear_core::Raise;
+use clr_edge::{Sink, SinkFault, put_all};
+use clr_net::Network;
+use raise_journal::{MAX_AT_ONCE, print_raises};
+
+/// Writes the lines of some raises through a room, as many at once as it holds. At a fault some
+/// bytes from their front have been written, but not all, and the count rose. It takes no memory.
+pub fn put_raises<S: Sink>(
+    sink: &mut S,
+    room: &mut Vec<u8>,
+    net: &Network,
+    raises: &[Raise],
+) -> Result<(), SinkFault>
+    requires debts { All (λ r. r.debt.0 < length net.now.debts) raises.now }
+    requires room { ROOM ≤ vec_capacity room.old }
+    ensures written { OnOk result (TakesWhole
+        (sink_call
+        (S.written sink.old) (S.written sink.new) (S.faults sink.old) (S.faults sink.new))
+        (flat_map (raise_line net.now) raises.now)) }
+    ensures part { OnErr result (TakesPart
+        (sink_call
+        (S.written sink.old) (S.written sink.new) (S.faults sink.old) (S.faults sink.new))
+        (flat_map (raise_line net.now) raises.now)) }
+{
+    let mut done = 0;
+    while done < raises.len() {
+        let count = (raises.len() - done).min(MAX_AT_ONCE);
+        print_raises(room, net, &raises[done..done + count]);
+        put_all(sink, room.as_slice())?;
+        done += count;
+    }
+    Ok(())
+}
