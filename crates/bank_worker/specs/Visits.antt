@@ -99,7 +99,7 @@ pub record IsVisited (desk : BankView) (n : ℕ) (old new : Crew) : Type 0 where
   pub notes : Notes desk old new
   pub rings : RingsAll desk old.seat.shows new.seat.shows
 
--- the bell of the bank b is down: it was taken before, and where nothing is pending the floor was seen
+-- the bell of the bank b is down: it was taken before, and the floor was seen if nothing is pending
 pub record IsDown (s : Shown) (b : ℕ) : Type 0 where
   pub taken : is_marked s.fresh b ≡ false
   pub seen : IsCalm s b → HasSeenFloor s b

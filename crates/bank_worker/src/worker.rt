@@ -1,10 +1,10 @@
 ghost use Rattle.bank_worker.specs.Rings.{AreMarksBelow, AreMarksUpTo, creditors_of};
 ghost use Rattle.bank_worker.specs.Offices.{IsOfficeFor};
 ghost use Rattle.bank_worker.specs.Views.{desk_at, desks_held, banks_held};
-ghost use Rattle.bank_worker.specs.Visits.{AreDown, AreNoted, AreSettled, IsAllCalm, IsDown, IsRounded};
-ghost use Rattle.bank_worker.specs.Visits.{IsSameCrew, IsSameSeat, IsStopped, IsVisited, LooksOnce, MayRest};
-ghost use Rattle.bank_worker.specs.Visits.{PaysOut, RingsAll};
-ghost use Rattle.bank_worker.specs.Visits.{VisitsByBells, WhenMem, WhenRaised};
+ghost use Rattle.bank_worker.specs.Visits.{AreDown, AreNoted, AreSettled, IsAllCalm, IsDown};
+ghost use Rattle.bank_worker.specs.Visits.{IsRounded, IsSameCrew, IsSameSeat, IsStopped, IsVisited};
+ghost use Rattle.bank_worker.specs.Visits.{LooksOnce, MayRest, PaysOut, RingsAll, VisitsByBells};
+ghost use Rattle.bank_worker.specs.Visits.{WhenMem, WhenRaised};
 ghost use Rattle.clear_core.specs.Buffers.{HasRoom};
 ghost use Rattle.bank_desk.specs.Desks.{desk_of, target};
 ghost use Rattle.clr_net.specs.Limits.{IsNetwork};
@@ -326,8 +326,8 @@ impl Worker {
         }
     }
 
-    // The next place from this one on where a sweep stops: in a sweep over all desks the first whose
-    // bell is up, else the first that is called; or a place past all desks.
+    // The next place from this one on where a sweep stops: in a sweep over all desks that of the
+    // first whose bell is up, else that of the first that is called; or a place past all desks.
     fn next(&mut self, board: &Board, whole: bool, from: usize) -> usize
         requires seat { IsAt board.now self.old.seat }
         requires from { from ≤ length self.old.desks }
