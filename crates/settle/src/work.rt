@@ -9,8 +9,8 @@ use clr_edge::Gate;
 use pay_words::Board;
 use std::thread::{Threads, join_mut};
 
-// A round of each of these workers, down to one. Where they go `beside` one another each half of the
-// list has a thread of its own; else one half goes after the other, in this thread.
+// A round of each of these workers, down to one. Where they go `beside` one another each half of
+// the list has a thread of its own; else one half goes after the other, in this thread.
 #[cycle(halves)]
 pub(crate) fn work<R: Threads + Sync, G: Gate + Sync>(
     rt: &R,
