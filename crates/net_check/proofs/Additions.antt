@@ -2,7 +2,8 @@
 use Rattle.std.proofs.Common.{◌≡◌, ℕ, ◌+◌, ◌<◌, ◌==◌, not, nat_le, true, false, List, [], ◌∷◌, length, Option, Some, None, Result, Ok, Err, IfOk, refl, sym, ap, ◌∙◌, subst, eq-eqb}
 use Rattle.std.specs.List.{list_any}
 use Rattle.std.specs.Option.{ok_or}
-use Rattle.std.proofs.lemmas.Bool.{leb-true, true≢false}
+use Rattle.std.proofs.lemmas.Bool.{leb-true, not-true, true≢false}
+use Rattle.clr_net.proofs.OfKind.{new_kind}
 use Rattle.clr_net.specs.Name.{is_name}
 use Rattle.clr_net.specs.Net.{Net, units_owed, has_name, is_debt_of}
 use Rattle.clr_net.specs.Limits.{IsNewBank, IsNewDebt}
@@ -17,7 +18,7 @@ use Rattle.net_check.specs.declared.fault.Fault.{Fault}
 use Rattle.net_check.specs.declared.fault.FileKind.{FileKind}
 use Rattle.net_check.specs.declared.fault.FaultKind.{FaultKind}
 use Rattle.net_check.specs.declared.fault.FaultKind.TheVariants as fault
-use Rattle.net_check.proofs.Passed.{fault_unless-ok, and_then-ok, ok_or-ok, number_up_to-ok, outside_in-ok, bank_in-ok, class_in-some, not-from_true, new_name, new_kind}
+use Rattle.net_check.proofs.Passed.{fault_unless-ok, and_then-ok, ok_or-ok, number_up_to-ok, outside_in-ok, bank_in-ok, class_in-some, new_name}
 
 -- what the fields of a record passed that give a bank
 pub record IsGiven (net : Net) (name cash : List ℕ) (outside : Option (List ℕ)) (b : Bank) : Type 0 where
@@ -44,7 +45,7 @@ new_bank-given net name cash rule outside b h =
     record {
       name_is = sym (ap (λ (x : Bank). x.name) same);
       named = named.0;
-      new = not-from_true (list_any (has_name name) net.banks) is_new.0;
+      new = not-true (list_any (has_name name) net.banks) is_new.0;
       cash_is = the_cash.1 ∙ ap (λ (x : Bank). Ok x.cash) same;
       outside_is = owed.1 ∙ ap (λ (x : Bank). Ok x.outside) same;
     }
@@ -108,11 +109,11 @@ debt_from-ok net (debtor ∷ creditor ∷ class ∷ claim ∷ []) d h l =
       owed_in_limit = leb-true (units_owed net + n) MAX_OWED in_total.0;
       debtor_known = bank_in-ok net debtor a the_debtor.1;
       creditor_known = bank_in-ok net creditor b the_creditor.1;
-      between_two_banks = λ e. true≢false (sym (eq-eqb a b e) ∙ not-from_true (a == b) two_banks.0);
+      between_two_banks = λ e. true≢false (sym (eq-eqb a b e) ∙ not-true (a == b) two_banks.0);
       class_at_least_1 = in_class.0;
       class_in_limit = in_class.1;
       claim_in_limit = number_up_to-ok MAX_CLAIM claim n the_claim.1;
-      only_of_its_kind = new_kind a b c net.debts (not-from_true (list_any (is_debt_of a b c) net.debts) is_new.0);
+      only_of_its_kind = new_kind net a b c false (sym (not-true (list_any (is_debt_of a b c) net.debts) is_new.0));
     })
 debt_from-ok net (debtor ∷ creditor ∷ class ∷ claim ∷ more ∷ fields) d h l = cc
 

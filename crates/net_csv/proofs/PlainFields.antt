@@ -4,7 +4,7 @@ use Rattle.std.specs.List.{list_all, list_any}
 use Rattle.std.specs.Char.{is_ascii_digit}
 use Rattle.std.specs.Fmt.{decimal}
 use Rattle.std.specs.Str.{is_utf8, chars}
-use Rattle.std.proofs.lemmas.Bool.{and_parts, ne_eqb, le-leb, leb-true}
+use Rattle.std.proofs.lemmas.Bool.{and_parts, ne_eqb, le-leb, leb-true, not-true}
 use Rattle.std.proofs.lemmas.Fmt.{decimal_by_steps, decimal_nonempty, length-decimal-le}
 use Rattle.std.proofs.lemmas.List.Folds.{list_all-append}
 use Rattle.std.proofs.lemmas.Str.{IsUtf8-from_is_utf8, chars-encodes}
@@ -15,7 +15,6 @@ use Rattle.clr_net.specs.Name.{is_name, is_control, may_stand_in_name}
 use Rattle.clr_net.specs.declared.TheConstants.{MAX_NAME_BYTES}
 use Rattle.net_check.specs.Field.{is_space_or_tab, trimmed_start, trimmed_field, number_after, number_in}
 use Rattle.net_check.specs.declared.TheConstants.{MAX_DIGITS}
-use Rattle.net_check.proofs.Passed.{not-from_true}
 use Rattle.net_check.proofs.Fields.{trimmed_start-stops, trimmed_end-stops}
 
 -- a byte that calls for no quotes
@@ -46,7 +45,7 @@ plain_char c may = by (ltb c 128) (ltb c 2048) (ltb c 65536) refl
     low =
         let quote = and_parts (not (is_control c) && not (c == 44)) (not (c == 34)) may in
         let comma = and_parts (not (is_control c)) (not (c == 44)) quote.0 in
-        let control = not-from_true (is_control c) comma.0 in
+        let control = not-true (is_control c) comma.0 in
         plain_byte c (λ e. absurd (cc (rw e at comma.1))) (λ e. absurd (cc (rw e at quote.1)))
         (λ e. absurd (cc (rw e at control))) (λ e. absurd (cc (rw e at control)))
 

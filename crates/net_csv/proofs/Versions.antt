@@ -1,5 +1,5 @@
 -- The version of the banks file of a network, by what all its banks owe outside the network.
-use Rattle.std.proofs.Common.{◌≡◌, ◌∙◌, ◌==◌, Bool, Result, Ok, Err, IfOk, sym, ap, if◌then◌else◌}
+use Rattle.std.proofs.Common.{◌≡◌, ◌∙◌, ◌==◌, Bool, sym, ap, if◌then◌else◌}
 use Rattle.std.proofs.lemmas.List.Folds.{sum_by-zero}
 use Rattle.clr_net.specs.Net.{Net, all_outside}
 use Rattle.net_csv.specs.Printing.{version_for}
@@ -9,8 +9,3 @@ use Rattle.net_csv.specs.declared.layout.Version.TheVariants as version
 pub version_by_total : (net : Net) (t : Bool) → (all_outside net == 0) ≡ t → version_for net ≡ (if t then version.One else version.Two)
 version_by_total net t e =
     ap (λ (b : Bool). if b then version.One else version.Two) (sym (sum_by-zero (λ b. b.outside) net.banks) ∙ e)
-
--- of a value that is there, what follows from what is known of it
-pub if_ok_weaker : {A E : Type 0} {P Q : A → Type 0} (r : Result A E) → ((a : A) → P a → Q a) → IfOk r P → IfOk r Q
-if_ok_weaker (Ok a) each h = each a h
-if_ok_weaker (Err e) each h = tt

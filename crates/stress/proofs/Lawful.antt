@@ -1,18 +1,18 @@
 -- The scenarios that are read are scenarios of the network.
-use Rattle.std.proofs.Common.{◌≡◌, ◌≢◌, ℕ, zero, suc, ◌+◌, ◌<◌, ◌≤◌, not, nat_le, nat_lt, Bool, true, false, cond, ℤ, pos, negsuc, List, [], ◌∷◌, ◌++◌, length, codes, position, Some, None, Result, Ok, Err, Vec, Global, true≢false, refl, sym, ◌∙◌, subst, arith, eq-eqb}
+use Rattle.std.proofs.Common.{◌≡◌, ◌≢◌, ℕ, zero, suc, ◌+◌, ◌<◌, ◌≤◌, not, nat_le, nat_lt, false, ℤ, pos, negsuc, List, [], ◌∷◌, ◌++◌, length, codes, position, Some, Result, Ok, Err, Vec, Global, true≢false, sym, ◌∙◌, subst, arith, eq-eqb}
 use Rattle.std.specs.List.{All, AllPairs, list_any}
 use Rattle.std.specs.Option.{ok_or}
 use Rattle.std.specs.Result.{IfOk}
-use Rattle.std.proofs.lemmas.Bool.{leb-true, or_parts}
+use Rattle.std.proofs.lemmas.Bool.{leb-true, not-true, or_parts}
+use Rattle.std.proofs.lemmas.Option.{cond_some}
 use Rattle.std.proofs.lemmas.List.Elements.{All-push}
 use Rattle.std.proofs.lemmas.List.Quantifiers.{all_pairs_push}
 use Rattle.toml.specs.Data.{Data, Items, no_items, item, Members, get_member}
 use Rattle.clr_net.proofs.BankNames.{named_there}
 use Rattle.clr_net.specs.Name.{is_name}
 use Rattle.clr_net.specs.Net.{Net, has_name}
-use Rattle.net_check.proofs.Passed.{and_then-ok, fault_unless-ok, ok_or-ok, not-from_true}
+use Rattle.net_check.proofs.Passed.{and_then-ok, fault_unless-ok, in_row-ok, ok_or-ok}
 use Rattle.net_check.specs.Checks.{and_then, fault_unless}
-use Rattle.net_check.specs.Record.{in_row}
 use Rattle.net_check.specs.declared.fault.Fault.{Fault}
 use Rattle.net_check.specs.declared.fault.FaultKind.{FaultKind}
 use Rattle.net_check.specs.declared.fault.FaultKind.TheVariants as fault
@@ -44,11 +44,9 @@ not_listed bank (m ∷ losses) none (suc k) d l =
 
 -- a number up to a limit is
 up_to-some : (limit : ℕ) (z : ℤ) (n : ℕ) → up_to limit z ≡ Some n → n ≤ limit
-up_to-some limit (pos m) n h = is_up_to (nat_le m limit) (leb-true m limit) h
-  where
-    is_up_to : (b : Bool) → (b ≡ true → m ≤ limit) → cond b (Some m) None ≡ Some n → n ≤ limit
-    is_up_to true small h = let same : m ≡ n = cc in subst (λ n. n ≤ limit) same (small refl)
-    is_up_to false small h = absurd (cc)
+up_to-some limit (pos m) n h =
+    let (small, same) = cond_some (nat_le m limit) m n h in
+    omega (arith, leb-true m limit small)
 up_to-some limit (negsuc m) n h = absurd (cc)
 
 -- a loss that is read is of a bank of the network that none before it is of, and in its limit
@@ -83,7 +81,7 @@ loss_in-ok net before value l h =
     (
     record {
       known = (named_there net p.0 bank (ok_or-ok found fault.UnknownBank bank named)).0;
-      new = not-from_true (list_any (is_of_bank bank) before) unlisted;
+      new = not-true (list_any (is_of_bank bank) before) unlisted;
       in_limit = up_to-some MAX_LOSS p.1 amount
           (ok_or-ok (up_to MAX_LOSS p.1) fault.Limit amount limit);
     })
@@ -149,12 +147,6 @@ scenario_is net value s h =
     subst (IsRead net) {x = record { name = p.name; cut = cut; losses = losses }} same
     (is_of, good.in_limit)
 
--- a row with a scenario has no fault
-in_row-ok : {A : Type 0} (row : ℕ) (r : Result A FaultKind) (a : A)
-    → in_row file.Scenarios row r ≡ Ok a → r ≡ Ok a
-in_row-ok row (Ok x) a h = cc
-in_row-ok row (Err k) a h = cc
-
 -- so all scenarios that are read have it
 all_are : (net : Net) (values : Items) (before after : List Scenario) → All (IsRead net) before
     → read_all net before values ≡ Ok after → All (IsRead net) after
@@ -167,7 +159,7 @@ all_are net (item value rest) before after good h =
     (λ s. read_all net (before ++ s ∷ []) rest) after h in
     let (_, told) = fault_unless-ok (nat_lt (length before) MAX_SCENARIOS)
     (fault_in row fault.TooMany) (scenario_in_row net row value) s is in
-    let read = scenario_is net value s (in_row-ok row (scenario_in net value) s told) in
+    let read = scenario_is net value s (in_row-ok file.Scenarios row (scenario_in net value) s told) in
     all_are net rest (before ++ s ∷ []) after (All-push (IsRead net) before s good read) more
 
 -- those of a document too
