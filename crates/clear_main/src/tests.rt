@@ -43,13 +43,17 @@ fn a_file_of_the_folder_is_fetched_up_to_one_byte_past_the_limit(
     Ok(())
 }
 
+// What a stream with this room answers to two pieces.
+fn put_twice(room: &mut [u8]) -> [Result<usize, SinkFault>; 2] {
+    let mut sink = StdSink::new(room);
+    [sink.put(b"A,B,1,10"), sink.put(b",10")]
+}
+
 #[test]
 fn a_stream_takes_a_part_of_a_piece_and_fails_where_it_takes_nothing(rt: HostRuntime) {
     let mut room = [0; 5];
-    let mut sink = StdSink::new(room.as_mut_slice());
-    assert_eq!(rt; sink.put(b"A,B,1,10"), Ok(5));
-    assert_eq!(rt; sink.put(b",10"), Err(SinkFault));
-    assert_eq!(rt; room, *b"A,B,1");
+    let told = put_twice(&mut room);
+    assert_eq!(rt; (told, room), ([Ok(5), Err(SinkFault)], *b"A,B,1"));
 }
 
 // Whether a refusal for this cause ends with this code and writes this message.

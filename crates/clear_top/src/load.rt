@@ -5,8 +5,10 @@ ghost use Rattle.clear_top.specs.Ending.{shelf_call};
 ghost use Rattle.clear_top.specs.Reading.{alone};
 ghost use Rattle.clear_top.specs.Sources.{has_files, source_of, third_kind};
 ghost use Rattle.clear_top.specs.declared.source.Source.{Source};
+ghost use Rattle.clear_top.specs.declared.status.Status.{Status};
 ghost use Rattle.clear_words.specs.Limits.{IsJob};
 ghost use Rattle.clr_edge.specs.Faults.{NoneFalls};
+ghost use Rattle.net_gen.specs.Generated.{generated};
 ghost use Rattle.std.specs.Prelude.{◌≡◌, IfOk, IfErr, Ok, Some, false, true};
 
 use crate::source::{Source, source_of};
@@ -74,11 +76,20 @@ pub fn load<F: Shelf>(alloc: Global, job: &Job, files: &mut F) -> Result<Input, 
         Source::FilesAndScenarios => load_scenarios(alloc, job, files),
         Source::FilesAndJournal => load_journal(alloc, job, files),
         Source::FilesAndBank => load_bank(alloc, job, files),
-        Source::Generated => {
-            let net = generate(alloc, job.seed, job.size, job.tries)?;
-            Ok(of_network(alloc, net))
-        }
+        Source::Generated => load_generated(alloc, job),
     }
+}
+
+// The network that the numbers of a job make.
+fn load_generated(alloc: Global, job: &Job) -> Result<Input, Status>
+    requires job { IsJob job.now }
+    requires generated { source_of job.now.task ≡ Source.Generated }
+    ensures input { IfOk result (λ input.
+        input ≡ alone (generated job.now.seed job.now.size job.now.tries)) }
+    ensures stopped { IfErr result (λ s. s ≡ Status.Mem) }
+{
+    let net = generate(alloc, job.seed, job.size, job.tries)?;
+    Ok(of_network(alloc, net))
 }
 
 // The network of both files.
