@@ -1,5 +1,5 @@
 -- What a run of settle comes to, and the lists that its reports are made of.
-use Rattle.std.proofs.Common.{◌≡◌, ℕ, ◌+◌, ◌<◌, ◌≤◌, List, length, sum, All, Result, Ok, Err, IfOk, Vec, Global, sym, ap, ◌∙◌, subst, arith}
+use Rattle.std.proofs.Common.{◌≡◌, ℕ, ◌+◌, ◌≤◌, List, length, sum, All, Result, Ok, Err, IfOk, Vec, Global, sym, ap, ◌∙◌, subst, arith}
 use Rattle.std.proofs.lemmas.List.{length-append}
 use Rattle.std.proofs.lemmas.List.FromFn.{length-map-range_with_len}
 use Rattle.std.proofs.lemmas.Result.{IfOk-weaker}
@@ -7,14 +7,11 @@ use Rattle.clr_net.specs.Limits.{IsNetwork}
 use Rattle.clr_net.specs.Net.{Net}
 use Rattle.cascade.specs.Standings.{standing, standings}
 use Rattle.cascade.specs.declared.standing.Standing.{Standing}
-use Rattle.clear_core.proofs.Lawful.{stands_in_range}
 use Rattle.clear_core.proofs.Least.{least_clears}
 use Rattle.clear_core.proofs.Pay.{length-pay}
 use Rattle.clear_core.specs.Clearing.{Clears, least}
 use Rattle.clear_core.specs.declared.event.Raise.{Raise}
-use Rattle.raise_journal.proofs.Lawful.{lawful_is, lawful_pays_least}
-use Rattle.raise_journal.specs.Verdicts.{judged}
-use Rattle.raise_journal.specs.declared.verdict.Verdict.TheVariants as verdict
+use Rattle.raise_journal.proofs.Lawful.{lawful_pays_least}
 use Rattle.pay_words.proofs.Lawful.{sum-least_le}
 use Rattle.settle.specs.Runs.{IsSettled}
 use Rattle.settle.specs.declared.plan.Plan.{Plan}
@@ -37,12 +34,6 @@ pub as_many_in : {E : Type 0} (net : Net) (P : List ℕ) (r : Result (Vec Standi
     → IfOk r (λ all. all.items ≡ standings net P) → IfOk r (λ all. length all.items ≡ length net.banks)
 as_many_in net P (Ok all) is = ap length is ∙ as_many_standings net P
 as_many_in net P (Err e) is = tt
-
--- the raises of a lawful journal are of debts of the network
-pub raises_in_range : (net : Net) → IsNetwork net → (rs : List Raise)
-    → (judged net rs).verdict ≡ verdict.Lawful → All (λ r. r.debt.0 < length net.debts) rs
-raises_in_range net network rs lawful =
-    stands_in_range net rs ((lawful_is net rs network).0 lawful).0
 
 -- what was settled, from whatever past, is a run
 run_of : (net : Net) → IsNetwork net → (past : List Raise) (plan : Plan) (s : Settled) → IsSettled net past plan s

@@ -1,11 +1,9 @@
 -- The pieces that were written whole, and of one piece a part.
-use Rattle.std.proofs.Common.{◌≡◌, List, map, refl, Result, Ok, Err, ap, ◌∙◌, subst, arith}
+use Rattle.std.proofs.Common.{map, refl, ap, ◌∙◌, subst, arith}
 use Rattle.std.specs.List.{concat}
-use Rattle.std.specs.Result.{OnErr}
 use Rattle.std.proofs.lemmas.List.{length-map, take_all}
 use Rattle.clr_edge.specs.Faults.{HasRisen}
 use Rattle.clr_edge.specs.Sink.{with_bytes, WritesPart}
-use Rattle.clear_top.specs.Ending.{TakesPart, sink_call}
 use Rattle.clear_top.proofs.Pieces.{on_err, piece_part, piece_taken, with_nothing}
 use Rattle.clear_top.proofs.outcome.Text.put.Goals as goal
 
