@@ -23,13 +23,13 @@ use std::marker::Model;
 #[derive(Drop)]
 pub struct Outcome {
     pub status: Status,
-    pub sealed: Option<Kept>,
+    pub sealed: Option<Recorded>,
     pub text: Text,
 }
 
 /// The record of a board, and where its journal is to be written, the line that closes it.
 #[derive(Drop)]
-pub struct Kept {
+pub struct Recorded {
     sealed: Record,
     closing: Option<Text>,
     ghost debts: { All (λ r. r.debt.0 < length sealed.net.debts) sealed.journal },
@@ -78,10 +78,10 @@ impl Outcome {
           text = with_journal sealed.net sealed.journal text closing;
         } }
     {
-        let kept = Kept { sealed, closing };
+        let recorded = Recorded { sealed, closing };
         Outcome {
             status: Status::Done,
-            sealed: Some(kept),
+            sealed: Some(recorded),
             text,
         }
     }
@@ -100,7 +100,7 @@ impl Outcome {
             self.now.text) }
     {
         match &self.sealed {
-            Some(kept) => kept.put(&self.text, sink, room),
+            Some(recorded) => recorded.put(&self.text, sink, room),
             None => self.text.put(sink),
         }
     }
@@ -111,7 +111,7 @@ impl Outcome {
     {
         let Outcome { sealed, .. } = self;
         match sealed {
-            Some(Kept { sealed, .. }) => Ended {
+            Some(Recorded { sealed, .. }) => Ended {
                 status,
                 sealed: Some(sealed),
             },
@@ -123,7 +123,7 @@ impl Outcome {
     }
 }
 
-impl Kept {
+impl Recorded {
     // Writes a text, and below it the journal, where there is a line that closes it.
     fn put<S: Sink>(&self, text: &Text, sink: &mut S, room: &mut Vec<u8>) -> Result<(), SinkFault>
         requires { ROOM ≤ vec_capacity room.old }

@@ -8,7 +8,7 @@ use Rattle.raise_journal.specs.Texts.{raise_line}
 use Rattle.clear_top.specs.Ending.{TakesPart, TakesWhole, sink_call}
 use Rattle.clear_top.specs.Outcome.{with_journal}
 use Rattle.clear_top.proofs.Pieces.{on_err, part_in_front, whole_then_part, whole_then_whole}
-use Rattle.clear_top.proofs.outcome.Kept.put.Goals as goal
+use Rattle.clear_top.proofs.outcome.Recorded.put.Goals as goal
 
 -- a text with a journal below it
 laid : (n net : Net) (j journal : List Raise) (text closing : List ℕ) (below : Option (List ℕ))
