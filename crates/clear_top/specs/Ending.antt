@@ -232,7 +232,8 @@ IsFoundUnlawful told job v =
     (on : Input) × (job.task ≡ task.Replay) × (reading told job ≡ Some (Ok on))
     × ((judged on.net on.journal).verdict ≡ v) × (v ≢ verdict.Lawful)
 
--- what the job comes to, with this status and record, was written whole, by a sink that did not fail
+-- what the job comes to, with this status and record, was written whole, by a sink that did not
+-- fail
 abbrev pub WasWritten : Files → SinkCall → Job → Ended → Type 0
 WasWritten told sink job e =
     (text : List ℕ)

@@ -68,8 +68,8 @@ impl Outcome {
         Ok(Outcome::of(Text::of(alloc, text)?))
     }
 
-    /// Done, with a record and a text, and below it the journal of the record, where there is a line
-    /// that closes it. Takes no memory.
+    /// Done, with a record and a text, and below it the journal of the record, where there is a
+    /// line that closes it. Takes no memory.
     pub fn with_record(sealed: Record, text: Text, closing: Option<Text>) -> Outcome
         requires { All (λ r. r.debt.0 < length sealed.net.debts) sealed.journal }
         ensures { result ≡ record {
@@ -86,8 +86,8 @@ impl Outcome {
         }
     }
 
-    /// Writes the text, with the lines of a journal through the room. At a fault some bytes from its
-    /// front have been written, but not all, and the count rose. It takes no memory.
+    /// Writes the text, with the lines of a journal through the room. At a fault some bytes from
+    /// its front have been written, but not all, and the count rose. It takes no memory.
     pub fn put<S: Sink>(&self, sink: &mut S, room: &mut Vec<u8>) -> Result<(), SinkFault>
         requires { ROOM ≤ vec_capacity room.old }
         ensures written { OnOk result (TakesWhole

@@ -28,8 +28,8 @@ pub trait Sink {
         ensures failed { OnErr result (HasRisen (faults self.old) (faults self.new)) };
 }
 
-/// Writes all bytes, and the sink does not fail. `SinkFault` is a fault of the sink: some bytes from
-/// the front have been written then, but not all, and the count rose. It takes no memory.
+/// Writes all bytes, and the sink does not fail. `SinkFault` is a fault of the sink: some bytes
+/// from the front have been written then, but not all, and the count rose. It takes no memory.
 pub fn put_all<S: Sink>(sink: &mut S, bytes: &[u8]) -> Result<(), SinkFault>
     ensures written { OnOk result
         (S.written sink.new ≡ with_bytes (S.written sink.old) bytes.now) }
