@@ -1,4 +1,5 @@
 """Runs of the program, started directly: for bench/compare.py and bench/allocations.py."""
+import contextlib
 import os
 import pathlib
 import signal
@@ -15,6 +16,8 @@ class Runner:
 
     def too_long(self, *_):
         if self.running:
+            # It may have ended meanwhile, where this process itself was stopped for long.
+        with contextlib.suppress(ProcessLookupError):
             os.kill(self.running, signal.SIGKILL)
 
     def run(self, words, environment=os.environ):
