@@ -16,9 +16,9 @@ class Runner:
 
     def too_long(self, *_):
         if self.running:
-            # It may have ended meanwhile, where this process itself was stopped for long.
-        with contextlib.suppress(ProcessLookupError):
-            os.kill(self.running, signal.SIGKILL)
+                # It may have ended meanwhile, where this process itself was stopped for long.
+            with contextlib.suppress(ProcessLookupError):
+                os.kill(self.running, signal.SIGKILL)
 
     def run(self, words, environment=os.environ):
         """The status of a run, less than 0 where a signal ended it, its output and its messages."""
