@@ -16,7 +16,7 @@ class Runner:
 
     def too_long(self, *_):
         if self.running:
-                # It may have ended meanwhile, where this process itself was stopped for long.
+            # It may have ended meanwhile, where this process itself was stopped for long.
             with contextlib.suppress(ProcessLookupError):
                 os.kill(self.running, signal.SIGKILL)
 
