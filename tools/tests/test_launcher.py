@@ -11,25 +11,23 @@ import unittest
 from common import ROOT, Case
 
 TOOLCHAIN = """#!/bin/sh
-echo "$(basename "$PWD"): $*" >>"$CALLS"
-prove() {
-    stamp=$REPOSITORY/crates/$1/out/rlib/stamp
-    if [ -f "$stamp" ]; then return; fi
-    sleep "${SLOW:-0}"
-    mkdir -p "${stamp%/*}"
-    : >"$stamp"
-    echo "crate $1: modules loaded=0 checked=1"
-    echo "logic=proved functions=1"
-}
+name=$(basename "$PWD")
+echo "$name: $*" >>"$CALLS"
 case "$*" in
-"all check --jobs "*)
-    for name in low left right top clear_main; do
-        if [ "$name" = top ]; then sleep "${LONG:-0}"; fi
-        echo "== $name"
-        if [ "$name" = left ]; then echo "rt: left: begins with what a check kept in /elsewhere/crates/left"; fi
-        prove "$name"
-    done ;;
-"lib --jobs "*) prove "$(basename "$PWD")" ;;
+"lib --jobs "*)
+    for below in $(sed -n "s/^$name: *\\([^#]*\\).*/\\1/p" ../../crates.txt); do
+        [ -f "../$below/out/rlib/stamp" ] || { echo "$name lacks $below"; exit 1; }
+    done
+    if [ -f out/rlib/stamp ]; then exit 0; fi
+    mkdir -p out/rlib out/incremental
+    : >out/incremental/begun
+    echo "$name begins $(date +%s%N)" >>"$TIMES"
+    sleep "${SLOW:-0}"
+    if [ "$name" = "$LONG" ]; then sleep 60; fi
+    if [ "$name" = "$WRONG" ]; then echo "$name is not proved"; exit 1; fi
+    echo "$name ends $(date +%s%N)" >>"$TIMES"
+    : >out/rlib/stamp
+    echo "crate $name: modules loaded=0 checked=1" ;;
 "run -- check "*)
     [ -z "$FAULTY" ] || exit 1
     { echo '#!/bin/sh'; echo 'echo "$*" here'; sed 's/^/# /' src/main.rt; } >out/clear_main
@@ -44,6 +42,7 @@ class Launcher(Case):
         super().setUp()
         self.folder.chmod(0o755)
         self.calls = self.file("calls", "")
+        self.times = self.file("times", "")
         (self.folder / "bin").mkdir()
         self.rt = self.folder / "bin/rt"
         self.rt.write_text(TOOLCHAIN)
@@ -53,12 +52,13 @@ class Launcher(Case):
             for part in ("src", "specs", "proofs", "out"):
                 (self.root / "crates" / name / part).mkdir(parents=True)
             (self.root / "crates" / name / "src/main.rt").write_text(f"fn {name}() {{}}\n")
-        (self.root / "crates.txt").write_text("low:\nleft: low # and no other\nright: low\ntop: left right\nclear_main: top\n")
+        (self.root / "crates.txt").write_text(
+            "low:\nleft: low # and no other\nright: low\ntop: left right\nclear_main: top\ntests: low top\n")
         shutil.copy(ROOT / "clearing", self.root / "clearing")
 
     def run_at(self, root, *words, path=True, **more):
         environment = {"PATH": (f"{self.folder}/bin:" if path else "") + "/usr/bin:/bin", "CALLS": str(self.calls),
-                       "REPOSITORY": str(root), "CLEARING_JOBS": "2", **more}
+                       "TIMES": str(self.times), "CLEARING_JOBS": "2", **more}
         prefix = []
         if os.geteuid() == 0 and more.get("READER"):
             prefix = ["setpriv", "--reuid=65534", "--regid=65534", "--clear-groups"]
@@ -88,17 +88,39 @@ class Launcher(Case):
     def steps(self):
         return [line.removesuffix(" -- check --banks data/banks.csv --debts data/debts.csv") for line in self.calls.read_text().splitlines()]
 
-    def test_a_crate_that_all_others_wait_for_has_all_jobs(self):
-        began = time.monotonic()
-        # Side by side the last library would be begun with one job, and take long: it is gone on with by itself.
-        done = self.run_at(self.root, LONG="60")
+    def test_crates_that_do_not_stand_on_each_other_are_proved_side_by_side(self):
+        done = self.run_at(self.root, SLOW="2")
         self.assertEqual(done.returncode, 0, done.stderr)
+        # A crate that all others wait for has all jobs; and the tests are no part of the program.
         steps = self.steps()
-        # On a busy machine the second of the two before it may be left as well.
-        if "right: lib --jobs 2" in steps:
-            steps.remove("right: lib --jobs 2")
-        self.assertEqual(steps, ["low: lib --jobs 2", "a folder: all check --jobs 2", "top: lib --jobs 2", "clear_main: run"])
-        self.assertLess(time.monotonic() - began, 30)
+        self.assertEqual(steps[0], "low: lib --jobs 2")
+        self.assertEqual(sorted(steps[1:3]), ["left: lib --jobs 1", "right: lib --jobs 1"])
+        self.assertEqual(steps[3:], ["top: lib --jobs 2", "clear_main: run"])
+        at = {tuple(line.split()[:2]): int(line.split()[2]) for line in self.times.read_text().splitlines()}
+        self.assertLess(at["left", "begins"], at["right", "ends"])
+        self.assertLess(at["right", "begins"], at["left", "ends"])
+        # What was proved stands in the repository, and no copy of it elsewhere.
+        for name in NAMES[:-1]:
+            self.assertTrue((self.root / "crates" / name / "out/rlib/stamp").exists(), name)
+        self.assertFalse((self.root / "crates/clear_main/out/build.parts").exists())
+
+    def test_a_crate_that_is_not_proved_ends_the_build(self):
+        began = time.monotonic()
+        done = self.run_at(self.root, WRONG="left", LONG="right", SLOW="1")
+        self.assertEqual((done.returncode, done.stdout), (8, ""))
+        # The crate beside it is ended, and does not hold the build up.
+        self.assertLess(time.monotonic() - began, 40)
+        self.ends()
+        self.assertIn("the build failed", done.stderr)
+        log = (self.root / "crates/clear_main/out/build.log").read_text()
+        self.assertIn("left is not proved\nfailed left\n", log)
+        self.assertNotIn("top: lib", self.calls.read_text())
+        # What was proved is kept, and what was begun.
+        self.assertTrue((self.root / "crates/low/out/rlib/stamp").exists())
+        self.assertTrue((self.root / "crates/left/out/incremental/begun").exists())
+        self.calls.write_text("")
+        self.assertEqual(self.run_at(self.root).returncode, 0)
+        self.assertEqual(self.times.read_text().count("low begins"), 1)
 
     def test_one_job_is_enough_for_one_processor(self):
         self.run_at(self.root, CLEARING_JOBS="1")
@@ -108,9 +130,10 @@ class Launcher(Case):
         for name in ("low", "left"):
             (self.root / "crates" / name / "out/rlib").mkdir()
             (self.root / "crates" / name / "out/rlib/stamp").write_text("")
-        done = self.run_at(self.root, LONG="60", SLOW="2")
+        done = self.run_at(self.root, SLOW="2")
+        self.assertIn("\nclearing: 2 of 5 crates are proved", done.stderr)
         self.assertIn("\nclearing: 3 of 5 crates are proved", done.stderr)
-        self.assertNotIn("logic=", done.stderr)
+        self.assertEqual([line.split()[0] for line in self.times.read_text().splitlines()], ["right", "right", "top", "top"])
 
     def test_a_source_that_changes_is_built(self):
         source = self.built() / "crates/low/src/main.rt"
@@ -186,7 +209,7 @@ class Launcher(Case):
 
     def going(self):
         """A build that goes on for long, in a session of its own."""
-        environment = {"PATH": f"{self.folder}/bin:/usr/bin:/bin", "CALLS": str(self.calls), "REPOSITORY": str(self.root),
+        environment = {"PATH": f"{self.folder}/bin:/usr/bin:/bin", "CALLS": str(self.calls), "TIMES": str(self.times),
                        "CLEARING_JOBS": "2", "SLOW": "30"}
         going = subprocess.Popen([str(self.root / "clearing")], env=environment, stderr=subprocess.PIPE, encoding="utf-8",
                                  start_new_session=True)
@@ -209,6 +232,21 @@ class Launcher(Case):
         self.assertEqual(going.returncode, 8, message)
         self.assertIn("the build was interrupted", message)
         self.ends()
+        # What was begun stands in the repository again.
+        self.assertTrue((self.root / "crates/low/out/incremental/begun").exists())
+
+    def test_what_a_killed_build_left_is_gone_on_with(self):
+        going = self.going()
+        os.killpg(going.pid, signal.SIGKILL)
+        for path in pathlib.Path("/proc").glob("[0-9]*/cmdline"):
+            if str(self.root).encode() in self.text_of(path) or str(self.rt).encode() in self.text_of(path):
+                os.kill(int(path.parent.name), signal.SIGKILL)
+        going.wait(timeout=20)
+        going.stderr.close()
+        self.assertFalse((self.root / "crates/low/out").exists())
+        (next(self.root.glob("crates/clear_main/out/build.parts/*/crates/low/out/rlib")) / "stamp").write_text("")
+        self.assertEqual(self.run_at(self.root).returncode, 0)
+        self.assertNotIn("low ends", self.times.read_text())
 
     def test_it_ends_also_where_nobody_reads_what_is_said(self):
         going = self.going()
