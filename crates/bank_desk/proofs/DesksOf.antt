@@ -1,17 +1,19 @@
 -- What a desk takes from its network: it is in the limits, and depends on no other bank.
-use Rattle.std.proofs.Common.{◌≡◌, ℕ, ◌<◌, ◌≤◌, All, List, Option, [], sum, length, ap, sym, subst, ◌∙◌, arith}
-use Rattle.std.specs.Prelude.{slice_get, Some}
-use Rattle.std.specs.Option.{option_map_or}
+use Rattle.std.proofs.Common.{◌≡◌, ℕ, ◌<◌, ◌≤◌, All, List, Option, [], map, sum, length, refl, ap, sym, subst, ◌∙◌, arith}
+use Rattle.std.specs.Prelude.{slice_get, None, Some}
+use Rattle.std.specs.Option.{option_map, option_map_or}
+use Rattle.std.proofs.lemmas.Option.{slice_get-map}
 use Rattle.clr_net.specs.declared.TheConstants.{MAX_CLAIM, MAX_CLASS}
 use Rattle.clr_net.specs.declared.bank.Bank.{Bank}
 use Rattle.clr_net.specs.declared.debt.Debt.{Debt}
+use Rattle.clr_net.specs.declared.rule.RuleKind.{RuleKind}
 use Rattle.clr_net.specs.declared.rule.RuleKind.TheVariants as kind
 use Rattle.clr_net.specs.Division.{AreClasses}
 use Rattle.clr_net.specs.Limits.{IsNetwork}
-use Rattle.clr_net.specs.Net.{Net, cash_of, outside_of, row, column, claims_of, classes_of}
+use Rattle.clr_net.specs.Net.{Net, cash_of, of_cash, outside_of, rule_of, row, column, claims_of, classes_of}
 use Rattle.clr_net.proofs.RowsAndColumns.{length-claims_of, length-classes_of, sum-claims_of_le, classes_of_are}
 use Rattle.clear_core.proofs.Rows.{claims_in_limit}
-use Rattle.bank_desk.specs.Desks.{BankView, IsSound, desk_of}
+use Rattle.bank_desk.specs.Desks.{BankView, IsSound, desk_of, with_cash_in}
 
 -- the limits of a network are those of each of its desks
 pub desk_of_is_sound : (net : Net) (i : ℕ) → IsNetwork net → i < length net.banks → IsSound (desk_of net i)
@@ -69,3 +71,41 @@ pub desk_of_own_bank : (net other : Net) (i : ℕ) → slice_get net.banks i ≡
     → desk_of net i ≡ desk_of other i
 desk_of_own_bank net other i own debts =
     ap (λ o. desk_among i o net.debts) own ∙ ap (desk_among i (slice_get other.banks i)) debts
+
+-- what a bank has beside its cash stays where its cash is taken away
+beside_cash : {A : Type 0} (f : Bank → A) (d : A) (own : Option Bank) → ((b : Bank) → f (of_cash 0 b) ≡ f b)
+    → option_map_or f (option_map (of_cash 0) own) d ≡ option_map_or f own d
+beside_cash f d None same = refl
+beside_cash f d (Some b) same = same b
+
+-- so it is the same at banks that differ in their cash alone
+alike_beside_cash : {A : Type 0} (f : Bank → A) (d : A) (banks others : List Bank) (i : ℕ) → ((b : Bank) → f (of_cash 0 b) ≡ f b)
+    → map (of_cash 0) others ≡ map (of_cash 0) banks → option_map_or f (slice_get banks i) d ≡ option_map_or f (slice_get others i) d
+alike_beside_cash f d banks others i same alike =
+    sym (beside_cash f d (slice_get banks i) same)
+    ∙ ap (λ o. option_map_or f o d) (sym (slice_get-map (of_cash 0) banks i) ∙ ap (λ bs. slice_get bs i) (sym alike) ∙ slice_get-map (of_cash 0) others i)
+    ∙ beside_cash f d (slice_get others i) same
+
+-- what the bank i knows that has this cash, outside claim and rule, among these debts
+abbrev known : ℕ → ℕ → ℕ → RuleKind → List Debt → BankView
+known i cash outside rule debts =
+    let net : Net = record { banks = []; debts = debts } in
+    record {
+      bank = i;
+      cash = cash;
+      outside = outside;
+      rule = rule;
+      debts_out = row net i;
+      claims = claims_of net i;
+      classes = classes_of net i;
+      debts_in = column net i;
+    }
+
+-- a desk with the cash of another network that differs in cash alone is of that network
+pub desk_of_other_cash : (net other : Net) (i : ℕ) → map (of_cash 0) other.banks ≡ map (of_cash 0) net.banks → other.debts ≡ net.debts
+    → with_cash_in other (desk_of net i) ≡ desk_of other i
+desk_of_other_cash net other i alike debts =
+    let cash = cash_of other i in
+    ap (λ n. known i cash n (rule_of net i) net.debts) (alike_beside_cash (λ b. b.outside) 0 net.banks other.banks i (λ b. refl) alike)
+    ∙ ap (λ r. known i cash (outside_of other i) r net.debts) (alike_beside_cash (λ b. b.rule) kind.Order net.banks other.banks i (λ b. refl) alike)
+    ∙ ap (known i cash (outside_of other i) (rule_of other i)) (sym debts)

@@ -32,6 +32,10 @@ desk_of net i = record {
   debts_in = column net i;
 }
 
+-- the same desk, with the cash that its bank has in this network
+abbrev pub with_cash_in : Net → BankView → BankView
+with_cash_in net desk = record desk { cash = cash_of net desk.bank }
+
 -- what the bank's rule gives each debt that it owes, where it receives r units
 abbrev pub target : BankView → ℕ → List ℕ
 target desk r = share desk.rule desk.claims desk.classes (spendable desk.cash desk.outside r)

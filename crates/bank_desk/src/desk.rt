@@ -1,6 +1,6 @@
 ghost use Rattle.bank_desk.specs.Desks.{IsSound, desk_of, target as target_of};
 ghost use Rattle.clr_net.specs.Net.{numbers};
-ghost use Rattle.clr_net.specs.declared.TheConstants.{MAX_OWED};
+ghost use Rattle.clr_net.specs.declared.TheConstants.{MAX_CASH, MAX_OWED};
 ghost use Rattle.std.specs.Prelude.{◌≡◌, ◌<◌, ◌≤◌, IfOk, length};
 
 use clear_core::{lay_out_row, spendable};
@@ -69,6 +69,14 @@ impl Desk {
         ensures sound { IsSound self.now }
     {
         self.bank
+    }
+
+    /// Changes the cash of the bank, in units, and nothing else. Takes no memory.
+    pub fn set_cash(&mut self, cash: u64)
+        requires { cash ≤ MAX_CASH }
+        ensures { self.new ≡ record self.old { cash = cash } }
+    {
+        self.cash = cash;
     }
 
     /// The debts that the bank owes, in file order.

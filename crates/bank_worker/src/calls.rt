@@ -30,7 +30,9 @@ impl Calls {
 
     /// Forgets all calls.
     pub fn clear(&mut self) {
-        self.words = [0; WORDS];
+        if self.alone {
+            self.words = [0; WORDS];
+        }
     }
 
     /// Calls the desk of a bank that the only worker rang, which is in the place of the bank.

@@ -1,7 +1,9 @@
-ghost use Rattle.bank_desk.specs.Desks.{desk_of};
+ghost use Rattle.bank_desk.specs.Desks.{desk_of, with_cash_in};
 ghost use Rattle.bank_worker.specs.Offices.{banks_of_worker};
 ghost use Rattle.bank_worker.specs.Views.{banks_of, desk_at};
-ghost use Rattle.std.specs.Prelude.{◌≡◌, ◌<◌, ◌≤◌, IfOk, length, map};
+ghost use Rattle.clr_net.specs.Net.{cash_of as cash_in};
+ghost use Rattle.clr_net.specs.declared.TheConstants.{MAX_CASH};
+ghost use Rattle.std.specs.Prelude.{◌≡◌, ◌<◌, ◌≤◌, All, IfOk, length, map};
 
 use bank_desk::Desk;
 use clr_net::{BankId, Mem, Network};
@@ -46,6 +48,15 @@ impl Desks {
         Ok(Desks { desks, banks })
     }
 
+    /// Gives each desk the cash that its bank has in a network, and changes nothing else. Takes no
+    /// memory.
+    pub fn set_cash(&mut self, net: &Network)
+        requires { All (λ d. d.bank < length net.now.banks) self.old }
+        ensures { self.new ≡ map (with_cash_in net.now) self.old }
+    {
+        set_cash_of(self.desks.as_mut_slice(), net);
+    }
+
     /// How many there are.
     pub fn len(&self) -> usize
         ensures { result ≡ length self.now }
@@ -67,4 +78,24 @@ impl Desks {
     {
         self.banks.as_slice()
     }
+}
+
+// Gives each of these desks the cash that its bank has in a network.
+fn set_cash_of(desks: &mut [Desk], net: &Network)
+    requires { All (λ d. d.bank < length net.now.banks) desks.old }
+    ensures { desks.new ≡ map (with_cash_in net.now) desks.old }
+{
+    for desk in desks.iter_mut() {
+        desk.set_cash(cash_of(net, desk.bank()));
+    }
+}
+
+// The cash of a bank, in units.
+fn cash_of(net: &Network, bank: BankId) -> u64
+    requires { bank.0 < length net.now.banks }
+    ensures cash { result ≡ cash_in net.now bank.0 }
+    ensures few { result ≤ MAX_CASH }
+{
+    prove!(bank.0 < net.banks());
+    net.bank(bank).cash
 }

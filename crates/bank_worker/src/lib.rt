@@ -2,7 +2,7 @@
 //! makes a bank pay what its rule gives from its cash and from what the worker has just seen paid
 //! to it, less what it owes outside the network.
 //!
-//! A [`Worker`] takes the bell of each of its banks in turn, and visits those whose bell was up.
+//! A [`Worker`] goes over its banks in turn, takes each bell that is up, and visits the bank.
 //! Whatever the other workers do meanwhile, after a round each of its banks pays its rule's
 //! division at what the worker last saw, and each debt to them was seen at least at the floor.
 #![tactic(auto)]

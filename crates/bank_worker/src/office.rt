@@ -1,16 +1,21 @@
+ghost use Rattle.bank_desk.specs.Desks.{with_cash_in};
 ghost use Rattle.bank_worker.specs.Offices.{IsOfficeFor, banks_of_worker};
 ghost use Rattle.bank_worker.specs.Rings.{AreMarksUpTo, creditors_of};
-ghost use Rattle.clear_core.specs.Buffers.{HasRoom};
-ghost use Rattle.std.specs.Prelude.{◌≡◌, ◌^◌, ◌≤◌, IfOk, length};
+ghost use Rattle.std.specs.Prelude.{◌≡◌, ◌^◌, ◌<◌, ◌≤◌, [], All, IfOk, length, map, vec_capacity};
 
 use crate::calls::Calls;
 use crate::desks::Desks;
-use clr_net::{BankId, DebtId, Mem, Network};
+use clear_core::{Journal, Raise, longest_row};
+use clr_net::{DebtId, Mem, Network};
 use std::alloc::Global;
 use std::marker::Model;
+use std::mem;
 
 // As many visits are counted before all marks are taken away.
 const MANY_VISITS: u64 = 1 << 62;
+
+// The room of so many raises is kept for the next seat.
+const FEW_RAISES: usize = 64;
 
 /// What a worker has beside its seat, and keeps from round to round: a desk for each of its banks
 /// in file order, the creditor of each debt, a mark for each bank, and room for what the bank that
@@ -19,6 +24,13 @@ const MANY_VISITS: u64 = 1 << 62;
 pub struct Office {
     pub(crate) desks: Desks,
     pub(crate) worker: u32,
+    pub(crate) tools: Box<Tools>,
+}
+
+/// What an office has beside its desks. It stays in its place in memory, so that little is moved
+/// where an office is taken up or left.
+#[derive(Drop)]
+pub(crate) struct Tools {
     // The creditor of each debt, in file order.
     pub(crate) creditors: Vec<u32>,
     // For each bank the number of the last visit that rang it, or 0. Visits are counted over all
@@ -30,6 +42,8 @@ pub struct Office {
     pub(crate) targets: Vec<u64>,
     // The desks that are called.
     pub(crate) calls: Calls,
+    // Room for the raises of the next seat.
+    pub(crate) raises: Vec<Raise>,
 }
 
 impl Model for Office {
@@ -42,12 +56,12 @@ impl Model for Office {
     ghost view = { λ o. record {
       desks = o.desks;
       worker = o.worker;
-      creditors = o.creditors.items;
-      marks = vec_len o.marks;
-      room = vec_capacity o.targets;
+      creditors = o.tools.value.creditors.items;
+      marks = vec_len o.tools.value.marks;
+      room = vec_capacity o.tools.value.targets;
     } };
 
-    ghost invariant = { λ o. AreMarksUpTo o.counted o.marks.items };
+    ghost invariant = { λ o. AreMarksUpTo o.tools.value.counted o.tools.value.marks.items };
 }
 
 impl Office {
@@ -58,15 +72,62 @@ impl Office {
             (λ o. IsOfficeFor net.now (banks_of_worker net.now workers worker) o) }
         ensures worker { IfOk result (λ o. o.worker ≡ worker) }
     {
-        Ok(Office {
-            desks: Desks::of(alloc, net, worker, workers)?,
-            worker,
+        let desks = Desks::of(alloc, net, worker, workers)?;
+        let tools = Tools {
             creditors: creditors(alloc, net)?,
             marks: no_marks(alloc, net.banks() as usize)?,
             counted: 0,
             targets: Vec::with_capacity(alloc, longest_row(net))?,
             calls: Calls::none(workers),
+            raises: Vec::new(alloc),
+        };
+        let tools = Box::new(alloc, tools)?;
+        Ok(Office {
+            desks,
+            worker,
+            tools,
         })
+    }
+
+    /// Gives each desk the cash that its bank has in a network, and changes nothing else: an office
+    /// then serves a network that differs from its own in the cash of its banks alone. Takes no
+    /// memory, and costs a walk over the desks.
+    pub fn set_cash(&mut self, net: &Network)
+        requires { All (λ d. d.bank < length net.now.banks) self.old.desks }
+        ensures { self.new ≡ record self.old {
+          desks = map (with_cash_in net.now) self.old.desks;
+        } }
+    {
+        self.desks.set_cash(net);
+    }
+
+    /// Keeps the room that a short journal took, for the raises of the next seat.
+    pub fn keep(&mut self, journal: Journal)
+        ensures { self.new ≡ self.old }
+    {
+        let raises = journal.into_raises();
+        if raises.len() <= FEW_RAISES {
+            self.tools.raises = raises;
+        }
+    }
+}
+
+impl Tools {
+    /// Makes ready for another seat, and gives it a journal of no raise. Takes no memory.
+    pub(crate) fn begin(&mut self, alloc: Global) -> Journal
+        requires { AreMarksUpTo self.old.counted self.old.marks.items }
+        ensures journal { result.raises ≡ [] }
+        ensures marks { AreMarksUpTo self.new.counted self.new.marks.items }
+        ensures low { self.new.counted ≤ 2 ^ 62 }
+        ensures as_many { length self.new.marks.items ≡ length self.old.marks.items }
+        ensures creditors { self.new.creditors.items ≡ self.old.creditors.items }
+        ensures room { vec_capacity self.new.targets ≡ vec_capacity self.old.targets }
+    {
+        self.counted = begin_again(&mut self.marks, self.counted);
+        self.calls.clear();
+        let mut raises = mem::replace(&mut self.raises, Vec::new(alloc));
+        raises.clear();
+        Journal::of(raises)
     }
 }
 
@@ -79,17 +140,6 @@ fn creditors(alloc: Global, net: &Network) -> Result<Vec<u32>, Mem>
         creditors.push_reserved(net.debt(DebtId(number)).creditor.0);
     }
     Ok(creditors)
-}
-
-// The length of the longest row.
-fn longest_row(net: &Network) -> usize
-    ensures { HasRoom net.now result }
-{
-    let mut longest = 0;
-    for number in 0..net.banks() {
-        longest = longest.max(net.row(BankId(number)).len());
-    }
-    longest
 }
 
 // As many marks of no visit.

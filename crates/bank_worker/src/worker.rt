@@ -17,7 +17,7 @@ ghost use Rattle.std.specs.Prelude.{vec_capacity, vec_len};
 use crate::calls::Calls;
 use crate::desks::Desks;
 use crate::looks::look_at_all;
-use crate::office::{Office, begin_again};
+use crate::office::{Office, Tools};
 use crate::raises::raise_all;
 use crate::rings::ring_all;
 use crate::visit::Visit;
@@ -47,17 +47,7 @@ pub struct Worker {
     worker: u32,
     visits: u64,
     journal: Journal,
-    // The creditor of each debt, in file order.
-    creditors: Vec<u32>,
-    // For each bank the number of the last visit that rang it, or 0. Visits are counted over all
-    // seats of the office.
-    marks: Vec<u64>,
-    // The number of the last visit.
-    counted: u64,
-    // What the bank that is visited should pay on each of its debts.
-    targets: Vec<u64>,
-    // The desks that are called.
-    calls: Calls,
+    tools: Box<Tools>,
 }
 
 impl Model for Worker {
@@ -81,7 +71,8 @@ impl Model for Worker {
       worker = w.worker;
       visits = w.visits;
       journal = w.journal.raises;
-    }) w.creditors.items w.marks.items w.counted (vec_capacity w.targets) };
+    }) w.tools.value.creditors.items w.tools.value.marks.items w.tools.value.counted
+        (vec_capacity w.tools.value.targets) };
 }
 
 impl Worker {
@@ -137,25 +128,16 @@ impl Worker {
         let Office {
             desks,
             worker,
-            creditors,
-            mut marks,
-            counted,
-            targets,
-            mut calls,
+            mut tools,
         } = office;
-        let counted = begin_again(&mut marks, counted);
-        calls.clear();
+        let journal = tools.begin(alloc);
         Worker {
             seat,
             desks,
             worker,
             visits: 0,
-            journal: Journal::empty(alloc),
-            creditors,
-            marks,
-            counted,
-            targets,
-            calls,
+            journal,
+            tools,
         }
     }
 
@@ -196,8 +178,9 @@ impl Worker {
             × (self.new.journal ≡ self.old.journal)) }
     {
         self.visits += 1;
-        self.counted += 1;
         gate.at(self.worker, self.visits);
+        let tools = &mut *self.tools;
+        tools.counted += 1;
         let desk = self.desks.at(place);
         let Ok(()) = self.journal.reserve(desk.debts_out().len()) else {
             return Visit::Mem;
@@ -207,17 +190,17 @@ impl Worker {
             &mut self.seat,
             desk,
             &mut self.journal,
-            self.creditors.as_slice(),
-            &mut self.marks,
-            &mut self.targets,
-            &mut self.calls,
-            self.counted,
+            tools.creditors.as_slice(),
+            &mut tools.marks,
+            &mut tools.targets,
+            &mut tools.calls,
+            tools.counted,
         );
         Visit::Raised(units)
     }
 
-    /// Goes over the desks in order, so many times: takes each desk's bell, and visits the desk
-    /// where it was up. The only worker of a board goes, after the first time, over those desks
+    /// Goes over the desks in order, so many times: looks for the next bell that is up, takes it,
+    /// and visits its desk. The only worker of a board goes, after the first time, over those desks
     /// alone whose bells it rang itself, if there are any; among several each sweep goes over all
     /// desks, since another may have rung a bell. Ends early after a sweep over all desks that
     /// found no bell up. Answers the units of all visits, or `Mem` at the first visit that answers
@@ -238,7 +221,7 @@ impl Worker {
         prove!(desks <= MAX_BANKS as usize);
         let mut units = 0;
         for number in 0..sweeps {
-            let whole = number == 0 || self.calls.is_empty();
+            let whole = number == 0 || self.tools.calls.is_empty();
             let visits = self.visits;
             match self.sweep(board, whole, gate) {
                 Visit::Raised(more) => units += more,
@@ -275,21 +258,13 @@ impl Worker {
             desks,
             worker,
             journal,
-            creditors,
-            marks,
-            counted,
-            targets,
-            calls,
+            tools,
             ..
         } = self;
         let office = Office {
             desks,
             worker,
-            creditors,
-            marks,
-            counted,
-            targets,
-            calls,
+            tools,
         };
         (seat, journal, office)
     }
@@ -337,7 +312,7 @@ impl Worker {
             → AreDown self.old.seat.shows self.old.desks from result }
     {
         if !whole {
-            return self.calls.next(false, from);
+            return self.tools.calls.next(false, from);
         }
         first_up(board, &mut self.seat, self.desks.banks(), from)
     }
@@ -369,7 +344,7 @@ impl Worker {
         let bank = self.bank(place);
         let up = board.take(&mut self.seat, bank);
         if up {
-            self.calls.end(place);
+            self.tools.calls.end(place);
         }
         up
     }

@@ -21,5 +21,5 @@ pub use event::{Event, Illegal, Raise};
 pub use journal::Journal;
 pub use quiet::{first_unquiet, is_quiet};
 pub use receipts::{estate_of, receipts_of, spend, spendable};
-pub use scratch::{Scratch, lay_out_row};
+pub use scratch::{Scratch, lay_out_row, longest_row};
 pub use state::{State, allowed_of};

@@ -168,9 +168,12 @@ impl Scratch {
     }
 }
 
-// The length of the longest row.
-fn longest_row(net: &Network) -> usize
-    ensures { HasRoom net.now result }
+/// The length of the longest row of a network: the least room that holds the row of each bank.
+///
+/// Costs a walk over all banks. Takes no memory.
+pub fn longest_row(net: &Network) -> usize
+    ensures room { HasRoom net.now result }
+    ensures no_more { (room : ℕ) → HasRoom net.now room → result ≤ room }
 {
     let mut longest = 0;
     for number in 0..net.banks() {

@@ -1,6 +1,5 @@
 pub mod ClaimsText
 pub mod Lines
 pub mod Begun
-pub mod Adding
 pub mod Standings
 pub mod Verdicts

@@ -5,7 +5,7 @@ ghost use Rattle.std.specs.List.{flat_map};
 ghost use Rattle.std.specs.Prelude.{◌≡◌, ◌++◌, length, IfOk, OnOk};
 
 use crate::line::{name, push_number_line, push_row, state_word};
-use crate::sums::totals_of;
+use crate::sums::{Stands, defaults_of, totals_of};
 use cascade::Standing;
 use clr_net::{BankId, Mem, Network};
 use itoa::Buffer;
@@ -77,8 +77,7 @@ fn push_standing(
     let s = standing;
     let state = state_word(s.health).as_bytes();
     if outside {
-        let numbers = [s.estate, s.outside_paid, s.paid, s.owed, s.equity];
-        push_row(text, name, &numbers, state)
+        push_row(text, name, &s.numbers(), state)
     } else {
         push_row(text, name, &[s.estate, s.paid, s.owed, s.equity], state)
     }
@@ -88,18 +87,13 @@ fn push_standing(
 fn push_total(text: &mut Vec<u8>, outside: bool, standings: &[Standing]) -> Result<(), Mem>
     ensures { OnOk result (text.new.items ≡ text.old.items ++ total_line outside standings.now) }
 {
-    let t = totals_of(standings);
+    let numbers = totals_of(standings);
     let mut digits = Buffer::new();
-    let defaults = digits.format(t.defaults).as_bytes();
+    let defaults = digits.format(defaults_of(standings)).as_bytes();
     if outside {
-        let numbers = [t.estate, t.outside_paid, t.paid, t.owed, t.equity];
         push_row(text, b"total", &numbers, defaults)
     } else {
-        push_row(
-            text,
-            b"total",
-            &[t.estate, t.paid, t.owed, t.equity],
-            defaults,
-        )
+        let [estate, _, paid, owed, equity] = numbers;
+        push_row(text, b"total", &[estate, paid, owed, equity], defaults)
     }
 }

@@ -3,7 +3,7 @@ ghost use Rattle.std.specs.Prelude.{◌≡◌, IfOk};
 
 use crate::check::push_totals;
 use crate::line::push_number_line;
-use crate::sums::{sum_of, totals_of};
+use crate::sums::{defaults_of, sum_of, totals_of};
 use cascade::Standing;
 use clr_net::{Mem, Network};
 use std::alloc::Global;
@@ -21,11 +21,11 @@ pub fn summary_text(
 ) -> Result<Vec<u8>, Mem>
     ensures { IfOk result (λ text. text.items ≡ summary_lines net.now paid.now standings.now) }
 {
-    let totals = totals_of(standings);
+    let [.., equity] = totals_of(standings);
     let mut text = Vec::new(alloc);
     push_totals(&mut text, net)?;
     push_number_line(&mut text, "paid", sum_of(paid))?;
-    push_number_line(&mut text, "defaults", totals.defaults)?;
-    push_number_line(&mut text, "equity", totals.equity)?;
+    push_number_line(&mut text, "defaults", defaults_of(standings))?;
+    push_number_line(&mut text, "equity", equity)?;
     Ok(text)
 }

@@ -5,7 +5,7 @@ ghost use Rattle.std.specs.Prelude.{◌≡◌, ◌++◌, length, IfOk, OnOk};
 
 use crate::line::{name, push_below, push_number_line, push_row, state_word};
 use crate::payments::pay_text;
-use crate::sums::cost_totals_of;
+use crate::sums::{Stands, defaults_of, totals_of};
 use clr_net::{BankId, Mem, Network};
 use costs::CostStanding;
 use itoa::Buffer;
@@ -55,21 +55,15 @@ fn push_banks(text: &mut Vec<u8>, net: &Network, standings: &[CostStanding]) -> 
 fn push_standing(text: &mut Vec<u8>, name: &[u8], standing: CostStanding) -> Result<(), Mem>
     ensures { OnOk result (text.new.items ≡ text.old.items ++ cost_line name.now standing) }
 {
-    let s = standing;
-    let numbers = [s.estate, s.lost, s.outside_paid, s.paid, s.equity];
-    push_row(text, name, &numbers, state_word(s.health).as_bytes())
+    let state = state_word(standing.health).as_bytes();
+    push_row(text, name, &standing.numbers(), state)
 }
 
 // Appends the line of the sums over all banks, and of how many are in default.
 fn push_total(text: &mut Vec<u8>, standings: &[CostStanding]) -> Result<(), Mem>
     ensures { OnOk result (text.new.items ≡ text.old.items ++ cost_total_line standings.now) }
 {
-    let t = cost_totals_of(standings);
-    let numbers = [t.estate, t.lost, t.outside_paid, t.paid, t.equity];
-    push_row(
-        text,
-        b"total",
-        &numbers,
-        Buffer::new().format(t.defaults).as_bytes(),
-    )
+    let mut digits = Buffer::new();
+    let defaults = digits.format(defaults_of(standings)).as_bytes();
+    push_row(text, b"total", &totals_of(standings), defaults)
 }

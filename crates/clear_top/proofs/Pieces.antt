@@ -51,7 +51,7 @@ with_nothing None = refl
 with_nothing (Some w) = ap Some (sym (append-nil w))
 
 -- some bytes and then others, at a sink before them, between them and after them
-module _ (old mid new : Option (List ℕ)) (a b c : ℕ) (x y : List ℕ) where
+module _ (old : Option (List ℕ)) {mid new : Option (List ℕ)} {a b c : ℕ} (x y : List ℕ) where
   pub whole_then_whole : TakesWhole (sink_call old mid a b) x → TakesWhole (sink_call mid new b c) y
       → TakesWhole (sink_call old new a c) (x ++ y)
   whole_then_whole first second =
@@ -65,9 +65,9 @@ module _ (old mid new : Option (List ℕ)) (a b c : ℕ) (x y : List ℕ) where
   )
 
 -- a part of the bytes in front is a part of all
-pub part_in_front : (old new : Option (List ℕ)) (a c : ℕ) (x y : List ℕ) → TakesPart (sink_call old new a c) x
+pub part_in_front : {old new : Option (List ℕ)} {a c : ℕ} {x : List ℕ} (y : List ℕ) → TakesPart (sink_call old new a c) x
     → TakesPart (sink_call old new a c) (x ++ y)
-part_in_front old new a c x y part =
+part_in_front {old} {new} {a} {c} {x} y part =
     (part_of_whole old old new [] x y (x ++ y) (with_nothing old) refl part.0, part.1)
 
 -- the pieces up to one, that one, and those after it

@@ -1,5 +1,5 @@
 -- What a task works on, and the files of a job by their kind.
-use Rattle.std.specs.Prelude.{◌≡◌, ℕ, Bool, true, false, List, Option, Some, None}
+use Rattle.std.specs.Prelude.{◌≡◌, ◌⊎◌, ℕ, Bool, true, false, List, Option, Some, None}
 use Rattle.clear_words.specs.declared.job.Job.{Job}
 use Rattle.clear_words.specs.declared.task.Task.{Task}
 use Rattle.clear_words.specs.declared.task.Task.TheVariants as task
@@ -22,6 +22,12 @@ source_of task.Bounds = source.Files
 source_of task.Rescue = source.FilesAndBank
 source_of task.Compress = source.Files
 source_of task.Costs = source.Files
+
+-- a task that has no workers: what it shows is computed alone
+abbrev pub HasNoWorkers : Task → Type 0
+HasNoWorkers t =
+    (t ≡ task.Check) ⊎ ((t ≡ task.Central) ⊎ ((t ≡ task.Replay)
+    ⊎ ((t ≡ task.Convert) ⊎ ((t ≡ task.Compress) ⊎ (t ≡ task.Costs)))))
 
 -- whether a source has a banks file and a debts file
 abbrev pub has_files : Source → Bool

@@ -4,16 +4,18 @@ ghost use Rattle.clear_top.specs.Meaning.{IsRun, Settles, plan_of, shown_of};
 ghost use Rattle.clear_words.specs.Limits.{IsJob};
 ghost use Rattle.clr_net.specs.Limits.{IsNetwork};
 ghost use Rattle.settle.specs.Drives.{IsPlan};
+ghost use Rattle.settle.specs.Offices.{AreOffices, AreOfficesButCash};
 ghost use Rattle.settle.specs.Runs.{CanGoOn, IsRecordAfter, IsRecordOf};
-ghost use Rattle.std.specs.Prelude.{◌≡◌, IfOk};
+ghost use Rattle.std.specs.Prelude.{◌≡◌, IfOk, OnOk};
 
 use crate::outcome::Outcome;
 use crate::reports::{Showing, shown};
+use bank_worker::Office;
 use clear_core::Raise;
 use clear_words::Job;
 use clr_edge::Gate;
 use clr_net::{Mem, Network};
-use settle::{Plan, Settled, settle_alone, settle_owned, settle_owned_from};
+use settle::{Plan, Settled, offices_of, settle_alone, settle_owned, settle_owned_from};
 use std::alloc::Global;
 use std::thread::Threads;
 
@@ -58,12 +60,24 @@ impl<'a, R: Threads + Sync, G: Gate + Sync> Clearer<'a, R, G> {
     }
 
     /// Clears a network as [`Clearer::settle`] does, and starts no thread: for a thread that works
-    /// beside others. `Mem` is want of memory.
-    pub fn settle_alone(&self, net: Network) -> Result<Settled, Mem>
+    /// beside others. The workers go at offices of a network that differs in cash alone. `Mem` is
+    /// want of memory.
+    pub fn settle_alone(&self, net: Network, offices: &mut Vec<Office>) -> Result<Settled, Mem>
+        requires offices { AreOfficesButCash net self.now.plan.workers offices.old.items }
         ensures paid { IfOk result (λ s. s.paid ≡ least net) }
         ensures record_is { IfOk result (λ s. IsRecordOf net self.now.plan s.rounds s.sealed) }
+        ensures offices { OnOk result
+            (AreOffices net self.now.plan.workers self.now.plan.workers offices.new.items) }
     {
-        settle_alone(self.rt, self.alloc, net, self.plan, self.gate)
+        settle_alone(self.rt, self.alloc, net, self.plan, self.gate, offices)
+    }
+
+    /// The offices of the workers on a network. `Mem` is want of memory.
+    pub fn offices(&self, net: &Network) -> Result<Vec<Office>, Mem>
+        ensures { IfOk result (λ os.
+            AreOffices net.now self.now.plan.workers self.now.plan.workers os.items) }
+    {
+        offices_of(self.alloc, net, self.plan.workers)
     }
 
     /// Clears a network from what the raises of a past left on its debts.

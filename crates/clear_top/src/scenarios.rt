@@ -4,6 +4,7 @@ ghost use Rattle.clear_report.specs.Blocks.{scenario_block, stress_text};
 ghost use Rattle.clear_report.specs.Text.{AreHeadsOf, payments_text};
 ghost use Rattle.clear_top.specs.Meaning.{IsPlain, block_of, defaults_report};
 ghost use Rattle.settle.specs.Drives.{IsPlan};
+ghost use Rattle.settle.specs.Offices.{AreOffices};
 ghost use Rattle.std.specs.Prelude.{◌≡◌, ◌++◌, ◌≤◌, All, IfOk, length, map};
 ghost use Rattle.std.specs.Thread.{IsSync};
 ghost use Rattle.stress.specs.Shocks.{IsOfOtherCash, IsScenarioOf};
@@ -11,6 +12,7 @@ ghost use Rattle.stress.specs.Shocks.{IsOfOtherCash, IsScenarioOf};
 use crate::clear::Clearer;
 use crate::outcome::{Outcome, Text};
 use crate::reports::defaults_of;
+use bank_worker::Office;
 use clear_report::{line_heads, scenario_block};
 use clr_edge::Gate;
 use clr_net::{Mem, Name, Network};
@@ -115,7 +117,8 @@ fn both(front: Vec<Vec<u8>>, back: Vec<Vec<u8>>) -> Result<Vec<Vec<u8>>, Mem>
     Ok(all)
 }
 
-// The blocks of some scenarios, which are cleared one after another, on one copy of the network.
+// The blocks of some scenarios, which are cleared one after another, on one copy of the network and
+// by workers at the same offices.
 fn blocks_in_turn<R: Threads + Sync, G: Gate + Sync>(
     clearer: &Clearer<'_, R, G>,
     net: &Network,
@@ -129,31 +132,38 @@ fn blocks_in_turn<R: Threads + Sync, G: Gate + Sync>(
 {
     let mut all = Vec::with_capacity(clearer.alloc, scenarios.len())?;
     let mut copy = net.copy(clearer.alloc)?;
+    let mut offices = clearer.offices(&copy)?;
     for scenario in scenarios {
-        let (text, left) = block(clearer, net, heads, copy, scenario)?;
+        let (text, left) = block(clearer, net, heads, copy, &mut offices, scenario)?;
         all.push(text)?;
         copy = left;
     }
     Ok(all)
 }
 
-// The block of one scenario, and the copy of the network on which it was cleared.
+// The block of one scenario, and the copy of the network on which it was cleared, by workers at
+// the offices of that copy.
 fn block<R: Threads + Sync, G: Gate + Sync>(
     clearer: &Clearer<'_, R, G>,
     net: &Network,
     heads: &[Vec<u8>],
     copy: Network,
+    offices: &mut Vec<Office>,
     scenario: &Scenario,
 ) -> Result<(Vec<u8>, Network), Mem>
     requires heads { AreHeadsOf net.now heads.now }
     requires alike { IsOfOtherCash net.now copy }
+    requires offices { AreOffices copy clearer.now.plan.workers clearer.now.plan.workers
+        offices.old.items }
     requires scenario { IsScenarioOf net.now scenario.now }
     ensures text { IfOk result (λ r. r.0.items ≡ block_of net.now scenario.now) }
     ensures alike { IfOk result (λ r. IsOfOtherCash net.now r.1) }
+    ensures offices { IfOk result (λ r. AreOffices r.1 clearer.now.plan.workers
+        clearer.now.plan.workers offices.new.items) }
 {
     let mut left = copy;
     shock_again(net, scenario, &mut left);
-    let Settled { paid, sealed, .. } = clearer.settle_alone(left)?;
+    let Settled { paid, sealed, .. } = clearer.settle_alone(left, offices)?;
     let text = block_text(
         clearer.alloc,
         sealed.net(),

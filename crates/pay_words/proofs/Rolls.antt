@@ -1,5 +1,5 @@
 -- A store of the roll word by the master keeps the rule of a board.
-use Rattle.std.proofs.Common.{◌≡◌, ◌≢◌, ℕ, ◌+◌, ◌<◌, ◌≤◌, length, set, true, refl, sym, ◌∙◌, arith, length-set, get_or-set_same, get_or-set_other}
+use Rattle.std.proofs.Common.{◌≡◌, ◌≢◌, ℕ, ◌+◌, ◌<◌, ◌≤◌, ◌++◌, length, set, true, refl, sym, ◌∙◌, arith, length-set, get_or-set_same, get_or-set_other}
 use Rattle.std.specs.Prelude.{slice_index}
 use mathlib.Core.Option.{some, none}
 use lib.ListN.{get_elem?}
@@ -12,9 +12,11 @@ use Rattle.pay_words.proofs.Views.{rule, fits_set, sits_set}
 use Rattle.pay_words.proofs.Rung.{rung_same}
 use Rattle.std.proofs.Common.{subst}
 
--- a seat that is not the master's suits whatever the roll word is, and however many seats there are
-pub other_roll : (d : Deed) (k : Ledger) (roll count now many j : ℕ) (u : View) → j ≢ k.chief → Suits d k roll count j u → Suits d k now many j u
-other_roll d k roll count now many j u apart f = record {
+-- a seat suits another roll word and as many seats as there are then, where it leads by them
+suits_anew : (d : Deed) (k : Ledger) (roll count now many id : ℕ) (v : View) (n : ℕ)
+    → (v.shown.master ≡ true → (id ≡ k.chief) × (k.base ≡ d.past ++ v.shown.raises) × (n ≡ now) × (many ≤ v.shown.seats + 1) × (v.shown.seats + 1 ≤ n))
+    → Suits d k roll count id v → Suits d k now many id (record v { rolled = n })
+suits_anew d k roll count now many id v n leads f = record {
   net_is = f.net_is;
   sound = f.sound;
   mine = f.mine;
@@ -28,27 +30,17 @@ other_roll d k roll count now many j u apart f = record {
   past_by_clock = f.past_by_clock;
   late = f.late;
   clock_low = f.clock_low;
-  leads = λ e. absurd (apart (f.leads e).0);
+  leads = leads;
 }
 
-module _ (d : Deed) (k : Ledger) (roll count id : ℕ) (v : View) (now : ℕ) where
-  rolled_suits : v.shown.seats + 1 ≤ now → Suits d k roll count id v → Suits d k now count id (record v { rolled = now })
-  rolled_suits room f = record {
-    net_is = f.net_is;
-    sound = f.sound;
-    mine = f.mine;
-    pays = f.pays;
-    told = f.told;
-    only = f.only;
-    stood = f.stood;
-    floor = f.floor;
-    seen_by_clock = f.seen_by_clock;
-    paid_by_clock = f.paid_by_clock;
-    past_by_clock = f.past_by_clock;
-    late = f.late;
-    clock_low = f.clock_low;
-    leads = λ e. let l = f.leads e in (l.0, l.1, refl, l.3, room);
-  }
+-- a seat that is not the master's suits whatever the roll word is, and however many seats there are
+pub other_roll : (d : Deed) (k : Ledger) (roll count now many j : ℕ) (u : View) → j ≢ k.chief → Suits d k roll count j u → Suits d k now many j u
+other_roll d k roll count now many j u apart f = suits_anew d k roll count now many j u u.rolled (λ e. absurd (apart (f.leads e).0)) f
+
+-- the master suits the roll word that it has stored
+rolled_suits : (d : Deed) (k : Ledger) (roll count id : ℕ) (v : View) (now : ℕ) → v.shown.seats + 1 ≤ now → Suits d k roll count id v
+    → Suits d k now count id (record v { rolled = now })
+rolled_suits d k roll count id v now room f = suits_anew d k roll count now count id v now (λ e. let l = f.leads e in (l.0, l.1, refl, l.3, room)) f
 
 pub rolls : (d : Deed) (slots id : ℕ) (me : Me (Unit {0}) View) (n : ℕ) → me.0.live ≡ true → me.0.shown.master ≡ true → me.0.shown.seats + 1 ≤ n
     → Allows (rule d) slots id me 0 (λ _. n) (λ _. Rolls (step slots 0 n 0 none) me n)

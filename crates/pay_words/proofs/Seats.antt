@@ -73,6 +73,10 @@ raises_by d slots id me x to word e on fits may =
     subst (λ (n : ℕ). Allows (rule d) slots id me (x + 1) (λ _. n) (λ _. Raises (step slots (x + 1) n 0 none) me n)) (sym e)
     (raises d slots id me x to on fits may)
 
+-- a seat is over the network of its board, seen from within
+pub net_within : (s t : Chair) (b c : Panel) → s ≡ t → b ≡ c → t.shows.net ≡ c.net → s.shows.net ≡ b.net
+net_within s t b c e f same = ap (λ (x : Chair). x.shows.net) e ∙ same ∙ sym (ap (λ (x : Panel). x.net) f)
+
 -- what is asked of a seat and its board, seen from within
 pub may_within : (b c : Panel) (s t : Chair) (x to : ℕ) → b ≡ c → s ≡ t → MayRaise c.net t.shows x to → MayRaise b.net s.shows x to
 may_within b c s t x to e f may = subst (λ (y : Panel × Chair). MayRaise y.0.net y.1.shows x to) (λ i. (sym e i, sym f i)) may
@@ -120,13 +124,13 @@ module _ (v w : View) (p q : Purse) (clock their_clock seats their_seats : ℕ) 
   pub list_there : q.worker < length p.lists
   list_there = omega (arith, (g.at_worker plain).worker, workers, (f.at_master chief).lists)
 
--- seats of one board have as many workers
-pub same_workers : (s t u v : Chair) (place : Place) → s ≡ t → u ≡ v → t.table ≡ place → v.table ≡ place → u.table.workers ≡ s.table.workers
-same_workers s t u v place e f g h = ap (λ (x : Chair). x.table.workers) f ∙ ap (λ (x : Place). x.workers) (h ∙ sym g) ∙ sym (ap (λ (x : Chair). x.table.workers) e)
+-- a seat has as many workers as the board
+pub as_many : (s t : Chair) (place : Place) → s ≡ t → t.table ≡ place → s.table.workers ≡ place.workers
+as_many s t place e g = ap (λ (x : Chair). x.table.workers) e ∙ ap (λ (x : Place). x.workers) g
 
--- and as many as the board
-pub as_many : (s t : Chair) (b c : Panel) → s ≡ t → b ≡ c → t.table ≡ c.table → s.table.workers ≡ b.table.workers
-as_many s t b c e f g = ap (λ (x : Chair). x.table.workers) e ∙ ap (λ (x : Place). x.workers) g ∙ sym (ap (λ (x : Panel). x.table.workers) f)
+-- so seats of one board have as many
+pub same_workers : (s t u v : Chair) (place : Place) → s ≡ t → u ≡ v → t.table ≡ place → v.table ≡ place → u.table.workers ≡ s.table.workers
+same_workers s t u v place e f g h = as_many u v place f h ∙ sym (as_many s t place e g)
 
 -- the master once it has left a number in the roll word
 pub kept_rolled : (v : View) (p : Purse) (clock seats n : ℕ) → IsKeptIn v p clock seats → IsKeptIn (record v { rolled = n }) p clock seats

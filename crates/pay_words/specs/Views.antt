@@ -19,13 +19,11 @@ pub record Place : Type 0 where
   pub id : TableId
   pub workers : ℕ
 
--- a board: at which table, its network, the raises that were made before it, and the number of its
--- workers
+-- a board: at which table, its network, and the raises that were made before it
 pub record Panel : Type 0 where
   pub table : Place
   pub net : Net
   pub past : List Raise
-  pub workers : ℕ
 
 -- a seat: at which table, and what it shows
 pub record Chair : Type 0 where

@@ -31,7 +31,7 @@ use std::mem;
 /// once, each by a seat.
 ///
 /// Contracts see its network, its past, which are the raises that were made before it, and its
-/// number of workers.
+/// place, which has its number of workers.
 #[derive(Drop)]
 pub struct Board {
     table: Table<(), View, Seat<(), Deed>, Clearing, Global>,
@@ -51,7 +51,6 @@ impl Model for Board {
       table = record { id = b.table.shared.table_id; workers = b.workers };
       net = b.table.shared.key.me.0.net;
       past = b.table.shared.key.me.0.past;
-      workers = b.workers;
     } };
 
     ghost invariant = { λ b. IsLaidOut b.table.shared.key.me.0.net b.table.shared.table_id.words
@@ -74,7 +73,7 @@ impl Board {
         requires workers { (1 ≤ workers) × (workers ≤ 64) }
         requires belongs { Belongs net.now start.now past.now }
         ensures board { IfOk result (λ r. (r.0.net ≡ net.now) × (r.0.past ≡ past.now)
-            × (r.0.workers ≡ workers)) }
+            × (r.0.table.workers ≡ workers)) }
         ensures master { IfOk result (λ r. (r.1.table ≡ r.0.table)
             × (r.1.shows ≡ opening net.now start.now)) }
     {
@@ -94,7 +93,7 @@ impl Board {
         requires belongs { Belongs net.now start.now past.now }
         requires deed { C.deed ≡ record { net = net.now; past = past.now } }
         ensures board { IfOk result (λ r. (r.0.net ≡ net.now) × (r.0.past ≡ past.now)
-            × (r.0.workers ≡ workers)) }
+            × (r.0.table.workers ≡ workers)) }
         ensures master { IfOk result (λ r. (r.1.table ≡ r.0.table)
             × (r.1.shows ≡ opening net.now start.now)) }
     {
@@ -263,14 +262,14 @@ impl Board {
     pub fn hand(&self, alloc: Global, master: &mut PaySeat, worker: u32) -> Result<PaySeat, Mem>
         requires master { IsAt self.now master.old }
         requires is_the_master { master.old.shows.master ≡ true }
-        requires worker { worker < self.now.workers }
-        requires banks { HoldsAllOf self.now.workers worker master.old.shows }
+        requires worker { worker < self.now.table.workers }
+        requires banks { HoldsAllOf self.now.table.workers worker master.old.shows }
         requires seats { master.old.shows.seats < 4294967295 }
         ensures table { master.new.table ≡ master.old.table }
         ensures rest { OnOk result (master.new.shows
-            ≡ without self.now.workers worker master.old.shows) }
+            ≡ without self.now.table.workers worker master.old.shows) }
         ensures seat { IfOk result (λ s. (s.table ≡ self.now.table)
-            × (s.shows ≡ handed self.now.workers worker master.old.shows)) }
+            × (s.shows ≡ handed self.now.table.workers worker master.old.shows)) }
         ensures unchanged { OnErr result (master.new.shows ≡ master.old.shows) }
     {
         self.hand_out::<Brand>(alloc, master, worker)
@@ -285,15 +284,15 @@ impl Board {
     ) -> Result<PaySeat, Mem>
         requires master { IsAt self.now master.old }
         requires is_the_master { master.old.shows.master ≡ true }
-        requires worker { worker < self.now.workers }
-        requires banks { HoldsAllOf self.now.workers worker master.old.shows }
+        requires worker { worker < self.now.table.workers }
+        requires banks { HoldsAllOf self.now.table.workers worker master.old.shows }
         requires seats { master.old.shows.seats < 4294967295 }
-        requires chosen { (C.workers ≡ self.now.workers) × (C.worker ≡ worker) }
+        requires chosen { (C.workers ≡ self.now.table.workers) × (C.worker ≡ worker) }
         ensures table { master.new.table ≡ master.old.table }
         ensures rest { OnOk result (master.new.shows
-            ≡ without self.now.workers worker master.old.shows) }
+            ≡ without self.now.table.workers worker master.old.shows) }
         ensures seat { IfOk result (λ s. (s.table ≡ self.now.table)
-            × (s.shows ≡ handed self.now.workers worker master.old.shows)) }
+            × (s.shows ≡ handed self.now.table.workers worker master.old.shows)) }
         ensures unchanged { OnErr result (master.new.shows ≡ master.old.shows) }
     {
         self.table
@@ -398,7 +397,7 @@ impl Board {
           net = self.net;
           journal = ordered (self.past ++ master.shows.raises);
           made = length master.shows.raises;
-          workers = self.workers;
+          workers = self.table.workers;
           seats = master.shows.seats;
         } }
     {

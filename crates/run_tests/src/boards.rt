@@ -15,7 +15,7 @@ pub(crate) fn new_board(alloc: Global, net: &Network, workers: u32) -> Result<(B
     requires workers { (1 ≤ workers) × (workers ≤ 64) }
     requires debts { length net.now.debts ≡ 2 }
     ensures board { IfOk result (λ r. (r.0.net ≡ net.now) × (r.0.past ≡ [])
-        × (r.0.workers ≡ workers)) }
+        × (r.0.table.workers ≡ workers)) }
     ensures master { IfOk result (λ r. (r.1.table ≡ r.0.table)
         × (r.1.shows ≡ opening net.now (start_of net.now []))) }
 {

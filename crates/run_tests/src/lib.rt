@@ -15,6 +15,8 @@ mod nets;
 #[cfg(test)]
 mod runs;
 #[cfg(test)]
+mod shocks;
+#[cfg(test)]
 mod words;
 #[cfg(test)]
 mod workers;

@@ -4,7 +4,7 @@ use crate::gates::new_meeting;
 use crate::nets::{Sample, net_of};
 use clr_edge::Gate;
 use clr_net::{Mem, Network};
-use settle::{Plan, settle, settle_alone};
+use settle::{Plan, offices_of, settle, settle_alone};
 use std::alloc::Global;
 use std::sync::atomic::Ordering;
 use std::test::Fail;
@@ -29,7 +29,8 @@ fn run_by<R: Threads + Sync, G: Gate + Sync>(
     if threads {
         settle(rt, alloc, net, plan, gate)?;
     } else {
-        settle_alone(rt, alloc, net.copy(alloc)?, plan, gate)?;
+        let mut offices = offices_of(alloc, net, plan.workers)?;
+        settle_alone(rt, alloc, net.copy(alloc)?, plan, gate, &mut offices)?;
     }
     Ok(())
 }

@@ -209,7 +209,7 @@ fn asked_after<R: Threads + Sync, G: Gate + Sync>(
     gate: &G,
     rounds: u32,
 ) -> Result<[bool; 2], Mem>
-    requires board { (net.now ≡ board.now.net) × (board.now.workers ≡ workers) }
+    requires board { (net.now ≡ board.now.net) × (board.now.table.workers ≡ workers) }
     requires master { (master.old.table ≡ board.now.table) × IsBetween net.now master.old.shows }
     requires rounds { (rounds ≤ 10) × (master.old.shows.seats ≡ 0) }
     requires workers { (1 ≤ workers) × (workers ≤ 64) }

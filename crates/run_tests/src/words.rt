@@ -102,7 +102,7 @@ fn raise_beside_look<R: Threads + Sync>(
 fn two_seats(alloc: Global, net: &Network) -> Result<(Board, PaySeat, PaySeat, PaySeat), Mem>
     requires debts { length net.now.debts ≡ 2 }
     ensures board { IfOk result (λ r. (r.0.net ≡ net.now) × (r.0.past ≡ [])
-        × (r.0.workers ≡ 2)) }
+        × (r.0.table.workers ≡ 2)) }
     ensures master { IfOk result (λ r. IsAt r.0 r.1 × (r.1.shows.master ≡ true)
         × (r.1.shows.seats ≡ 2) × (r.1.shows.raises ≡ [])) }
     ensures first { IfOk result (λ r. (r.2.table ≡ r.0.table)
@@ -275,7 +275,7 @@ fn payments_flow_down_a_chain(rt: HostRuntime) -> Result<(), Fail> {
 // both workers back.
 fn after_one_raise(alloc: Global, net: &Network) -> Result<(Board, PaySeat), Mem>
     requires net { net.now ≡ ring_net }
-    ensures board { IfOk result (λ r. (r.0.net ≡ net.now) × (r.0.workers ≡ 2)) }
+    ensures board { IfOk result (λ r. (r.0.net ≡ net.now) × (r.0.table.workers ≡ 2)) }
     ensures master { IfOk result (λ r. IsAt r.0 r.1 × (r.1.shows.master ≡ true)
         × (r.1.shows.seats ≡ 2)) }
     ensures banks { IfOk result (λ r. HoldsAll r.1.shows) }

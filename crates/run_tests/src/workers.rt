@@ -37,7 +37,7 @@ fn rounds_on<R: Threads + Sync>(
     sweeps: u32,
     rounds: usize,
 ) -> Result<Told, Mem>
-    requires board { (net.now ≡ board.now.net) × (board.now.workers ≡ 1) }
+    requires board { (net.now ≡ board.now.net) × (board.now.table.workers ≡ 1) }
     requires master { (master.old.table ≡ board.now.table) × IsBetween net.now master.old.shows }
     requires rounds { (rounds ≤ 6) × (master.old.shows.seats ≡ 0) }
     requires sweeps { (1 ≤ sweeps) × (sweeps ≤ 1000) }
@@ -228,7 +228,7 @@ fn visits_on(
     gate: &FirstVisits,
 ) -> Result<Visits, Mem>
     requires net { (net.now ≡ chain_net) × (board.now.net ≡ chain_net) }
-    requires workers { board.now.workers ≡ 3 }
+    requires workers { board.now.table.workers ≡ 3 }
     requires master { (master.old.table ≡ board.now.table)
         × (master.old.shows ≡ opening chain_net (start_of chain_net [])) }
 {

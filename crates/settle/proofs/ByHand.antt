@@ -97,19 +97,19 @@ opened_stands net past network = record {
 
 -- the seats of the last k workers are back
 back_last : (board : Panel) (w : ℕ) (m : Shown) (ws : List Crew) → length ws ≡ w → m.net ≡ board.net → IsNetwork board.net → AreOfBoard board ws
-    → (k : ℕ) → k ≤ w → IsBack board.workers board.net m ws (with_last ws w k m) (w - k)
+    → (k : ℕ) → k ≤ w → IsBack board.table.workers board.net m ws (with_last ws w k m) (w - k)
 back_last board w m ws as_many here network crew zero le =
     let e : length ws ≡ w - 0 = omega (arith, as_many) in
-    subst (IsBack board.workers board.net m ws m) e (back_none board.workers board.net m ws here)
+    subst (IsBack board.table.workers board.net m ws m) e (back_none board.table.workers board.net m ws here)
 back_last board w m ws as_many here network crew (suc k) le =
     let i = w - suc k in
     let next : w - k ≡ i + 1 = omega (arith, le) in
     let cur = with_last ws w k m in
-    let before = subst (IsBack board.workers board.net m ws cur) next (back_last board w m ws as_many here network crew k (omega (arith, le))) in
+    let before = subst (IsBack board.table.workers board.net m ws cur) next (back_last board w m ws as_many here network crew k (omega (arith, le))) in
     back_more board m cur ws i (crew i (omega (arith, as_many, le))) before (known_banks board.net network)
 
 -- after a round of all workers, once all seats are back, the board stands between two rounds again
-pub stands_again : (board : Panel) (net : Net) (plan : Plan) (units : ℕ) (s : Shown) (ws : List Crew) → net ≡ board.net → plan.workers ≡ board.workers → IsPlan plan → IsBetween net s
+pub stands_again : (board : Panel) (net : Net) (plan : Plan) (units : ℕ) (s : Shown) (ws : List Crew) → net ≡ board.net → plan.workers ≡ board.table.workers → IsPlan plan → IsBetween net s
     → AreRounded plan.sweeps units (crews plan.workers board.table s plan.workers) ws → IsBetween net (after_round plan.workers ws s)
 stands_again board net plan units s ws here workers limits between rounded =
     let w = plan.workers in
@@ -120,6 +120,6 @@ stands_again board net plan units s ws here workers limits between rounded =
     let network : IsNetwork board.net = subst IsNetwork here between.network in
     let back = back_last board w m ws as_many net_is network crew w (omega arith) in
     let t = with_last ws w w m in
-    let all_back : IsBack board.workers board.net m ws t 0 = subst (IsBack board.workers board.net m ws t) (omega arith) back in
+    let all_back : IsBack board.table.workers board.net m ws t 0 = subst (IsBack board.table.workers board.net m ws t) (omega arith) back in
     between_again board net s w plan.sweeps units ws here workers limits.some_workers limits.few_sweeps between rounded m t (over_last ws w w m (over_first w w s between.over)) all_back
     (all_back.master ∙ (first_rest w w s).master ∙ between.master)

@@ -10,3 +10,4 @@ pub mod Finished
 pub mod AllDown
 pub mod Limits
 pub mod ByHand
+pub mod OtherCash

@@ -62,9 +62,9 @@ seat_serves net s workers i o here held office worker = record {
 
 -- a worker of the board holds its banks
 pub held_by : (board : Panel) (i : ℕ) (w : Crew) → IsOfBoard board i w → (b : ℕ) → b < length board.net.banks
-    → holds w.seat.shows b ≡ is_of_worker board.workers i b
+    → holds w.seat.shows b ≡ is_of_worker board.table.workers i b
 held_by board i w own b lt =
-    ap (λ bs. is_marked bs b) own.banks ∙ tabled_at (length board.net.banks) (is_of_worker board.workers i) b false lt
+    ap (λ bs. is_marked bs b) own.banks ∙ tabled_at (length board.net.banks) (is_of_worker board.table.workers i) b false lt
 
 -- no office is left once all workers have theirs
 pub none_left : (net : Net) (w n : ℕ) (os : List OfficeView) → w ≤ n → AreOffices net w (w - n) os → os ≡ []

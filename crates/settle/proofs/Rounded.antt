@@ -42,7 +42,7 @@ lists_equal_sums d f [] (y ∷ ys) l h = absurd (omega (arith, l))
 lists_equal_sums d f (x ∷ xs) [] l h = absurd (omega (arith, l))
 lists_equal_sums d f (x ∷ xs) (y ∷ ys) l h = omega (arith, sum_by-cons f x xs, sum_by-cons f y ys, h 0 (omega arith), lists_equal_sums d f xs ys (omega (arith, l)) (λ k lk. h (suc k) (omega (arith, lk))))
 
-module _ (board : Panel) (net : Net) (s : Shown) (w sweeps n : ℕ) (news : List Crew) (here : net ≡ board.net) (workers : w ≡ board.workers) (some : 1 ≤ w) (few_sweeps : sweeps ≤ 1000)
+module _ (board : Panel) (net : Net) (s : Shown) (w sweeps n : ℕ) (news : List Crew) (here : net ≡ board.net) (workers : w ≡ board.table.workers) (some : 1 ≤ w) (few_sweeps : sweeps ≤ 1000)
     (between : IsBetween net s) (rounded : AreRounded sweeps n (crews w board.table s w) news) where
   as_many : length news ≡ w
   as_many = rounded.as_many ∙ length-crews w board.table s w
@@ -148,9 +148,9 @@ module _ (board : Panel) (net : Net) (s : Shown) (w sweeps n : ℕ) (news : List
     not_fallen x lx = (made_round (b % w) worker_of).rounded.none_fell x (omega (arith, lx, ap (λ (m : Net). length m.debts) between.net_is))
 
   -- once all seats are back
-  module _ (m t : Shown) (over : IsOver t) (back : IsBack board.workers board.net m news t 0) where
+  module _ (m t : Shown) (over : IsOver t) (back : IsBack board.table.workers board.net m news t 0) where
     back' : IsBack w net m news t 0
-    back' = subst (λ (k : ℕ). IsBack k net m news t 0) (sym workers) (subst (λ (n : Net). IsBack board.workers n m news t 0) (sym here) back)
+    back' = subst (λ (k : ℕ). IsBack k net m news t 0) (sym workers) (subst (λ (n : Net). IsBack board.table.workers n m news t 0) (sym here) back)
 
     lw : (b : ℕ) → b % w < length news
     lw b = omega (arith, as_many)

@@ -15,7 +15,7 @@ use Rattle.settle.specs.declared.plan.Plan.{Plan}
 pub record MayRound (board : Panel) (net : Net) (plan : Plan) (master : Chair) (os : List OfficeView)
     : Type 0 where
   pub limits : IsPlan plan
-  pub workers_are : plan.workers ≡ board.workers
+  pub workers_are : plan.workers ≡ board.table.workers
   pub net_is : net ≡ board.net
   pub table_is : master.table ≡ board.table
   pub between : IsBetween net master.shows
@@ -29,6 +29,6 @@ pub record MayDrive (board : Panel) (net : Net) (past : List Raise) (plan : Plan
   pub limits : IsPlan plan
   pub net_is : net ≡ board.net
   pub past_is : past ≡ board.past
-  pub workers_are : plan.workers ≡ board.workers
+  pub workers_are : plan.workers ≡ board.table.workers
   pub table_is : master.table ≡ board.table
   pub opened : master.shows ≡ opening net (start_of net past)

@@ -56,7 +56,8 @@ pub record IsOfBoard (board : Panel) (i : ℕ) (w : Crew) : Type 0 where
   pub at : IsAt board w.seat
   pub worker : w.worker ≡ i
   pub not_the_master : w.seat.shows.master ≡ false
-  pub banks : w.seat.shows.banks ≡ tabled (length board.net.banks) (is_of_worker board.workers i)
+  pub banks : w.seat.shows.banks
+      ≡ tabled (length board.net.banks) (is_of_worker board.table.workers i)
   pub no_rings : OwesNoRing w.seat.shows
   pub by_bells : w.visits ≡ w.seat.shows.taken
   pub few_visits : w.visits ≤ 1000000

@@ -1,9 +1,11 @@
 ghost use Rattle.settle.specs.Asks.{MayDrive};
 ghost use Rattle.settle.specs.Drives.{IsBelowLeast, IsDriven};
-ghost use Rattle.std.specs.Prelude.{◌≡◌, IfOk};
+ghost use Rattle.settle.specs.Offices.{AreOffices};
+ghost use Rattle.std.specs.Prelude.{◌≡◌, IfOk, OnOk};
 
 use crate::plan::{Driven, Plan};
 use crate::teams::{add_all, calls_two_workers, offices_of, round};
+use bank_worker::Office;
 use clear_core::{Journal, Raise};
 use clr_edge::Gate;
 use clr_net::{MAX_BANKS, Mem, Network};
@@ -40,13 +42,26 @@ pub fn drive<R: Threads + Sync, G: Gate + Sync>(
     ensures driven { IfOk result
         (IsDriven net.now past.now plan master.old.shows master.new.shows) }
 {
-    let driven = drive_on(rt, alloc, net, plan, past, board, master, gate, true);
+    let _clock = master.clock();
+    let mut offices = offices_of(alloc, net, plan.workers)?;
+    let driven = drive_on(
+        rt,
+        alloc,
+        net,
+        plan,
+        past,
+        board,
+        master,
+        gate,
+        &mut offices,
+        true,
+    );
     let _clock = master.clock();
     driven
 }
 
-// The rounds themselves. Where it is not to start `threads`, the workers always go one after
-// another.
+// The rounds themselves, by workers at these offices. Where it is not to start `threads`, they go
+// one after another always.
 pub(crate) fn drive_on<R: Threads + Sync, G: Gate + Sync>(
     rt: &R,
     alloc: Global,
@@ -56,11 +71,14 @@ pub(crate) fn drive_on<R: Threads + Sync, G: Gate + Sync>(
     board: &Board,
     master: &mut PaySeat,
     gate: &G,
+    offices: &mut Vec<Office>,
     threads: bool,
 ) -> Result<Driven, Mem>
     requires ready { MayDrive board.now net.now past.now plan master.old }
+    requires offices { AreOffices net.now plan.workers plan.workers offices.old.items }
     ensures table { master.new.table ≡ master.old.table }
     ensures net { master.new.shows.net ≡ net.now }
+    ensures offices { OnOk result (AreOffices net.now plan.workers plan.workers offices.new.items) }
     ensures driven { IfOk result
         (IsDriven net.now past.now plan master.old.shows master.new.shows) }
 {
@@ -68,7 +86,6 @@ pub(crate) fn drive_on<R: Threads + Sync, G: Gate + Sync>(
     add_all(&mut journal, past)?;
     let _clock = master.clock();
     prove!(net.banks() <= MAX_BANKS);
-    let mut offices = offices_of(alloc, net, plan.workers)?;
     let mut rounds = 0;
     let mut visits = 0;
     let mut many = false;
@@ -83,7 +100,7 @@ pub(crate) fn drive_on<R: Threads + Sync, G: Gate + Sync>(
             master,
             gate,
             &mut journal,
-            &mut offices,
+            offices,
             beside,
         )?;
         rounds += 1;

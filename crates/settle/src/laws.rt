@@ -25,7 +25,7 @@ pub fn opened_boards_stand_between_rounds()
 /// calls.
 pub fn boards_stand_between_rounds_after_each()
     ensures { (board : Panel) (net : Net) (plan : Plan) (units : ℕ) (s : Shown) (ws : List Crew)
-        → net ≡ board.net → plan.workers ≡ board.workers → IsPlan plan → IsBetween net s
+        → net ≡ board.net → plan.workers ≡ board.table.workers → IsPlan plan → IsBetween net s
         → AreRounded plan.sweeps units (crews plan.workers board.table s plan.workers) ws
         → IsBetween net (after_round plan.workers ws s) }
 {}

@@ -2,11 +2,14 @@ ghost use Rattle.pay_words.specs.Ends.{values};
 ghost use Rattle.pay_words.specs.Traces.{start_of};
 ghost use Rattle.pay_words.specs.Words.{unpaid as unpaid_word};
 ghost use Rattle.settle.specs.Drives.{IsPlan};
+ghost use Rattle.settle.specs.Offices.{AreOffices, AreOfficesButCash};
 ghost use Rattle.settle.specs.Runs.{CanGoOn, IsRecordOf, IsSettled, IsWithin};
-ghost use Rattle.std.specs.Prelude.{◌≡◌, ◌<◌, [], All, IfOk, length, replicate};
+ghost use Rattle.std.specs.Prelude.{◌≡◌, ◌<◌, [], All, IfOk, OnOk, length, replicate};
 
 use crate::drives::drive_on;
 use crate::plan::{Driven, Plan};
+use crate::teams::{move_offices, offices_of};
+use bank_worker::Office;
 use clear_core::Raise;
 use clr_edge::Gate;
 use clr_net::{Amounts, MAX_BANKS, Mem, Network};
@@ -63,8 +66,9 @@ pub fn settle_owned<R: Threads + Sync, G: Gate + Sync>(
 }
 
 /// Clears a network as [`settle_owned`] does, and starts no thread: all workers go one after another
-/// in the calling thread, for a caller whose own threads are at work already. `Mem` is want of
-/// memory.
+/// in the calling thread, for a caller whose own threads are at work already. They go at offices of
+/// an earlier network, which differs in the cash of its banks alone, and leave them as offices of
+/// this one. `Mem` is want of memory.
 #[tactic(auto, using(crate::proofs::Finished::record_first, crate::proofs::Finished::bounds_first))]
 pub fn settle_alone<R: Threads + Sync, G: Gate + Sync>(
     rt: &R,
@@ -72,14 +76,18 @@ pub fn settle_alone<R: Threads + Sync, G: Gate + Sync>(
     net: Network,
     plan: Plan,
     gate: &G,
+    offices: &mut Vec<Office>,
 ) -> Result<Settled, Mem>
     requires plan { IsPlan plan }
+    requires offices { AreOfficesButCash net plan.workers offices.old.items }
     ensures settled { IfOk result (IsSettled net [] plan) }
     ensures record_is { IfOk result (λ s. IsRecordOf net plan s.rounds s.sealed) }
     ensures bounds { IfOk result (λ s.
         IsWithin net plan s.rounds s.visits (length s.sealed.journal)) }
+    ensures offices { OnOk result (AreOffices net plan.workers plan.workers offices.new.items) }
 {
-    run_on(rt, alloc, net, plan, &[], gate, false)
+    move_offices(offices.as_mut_slice(), &net);
+    run_on(rt, alloc, net, plan, &[], gate, offices, false)
 }
 
 /// Clears a network as [`settle`] does, from what the raises of a past left on its debts: those of
@@ -114,10 +122,11 @@ pub fn settle_owned_from<R: Threads + Sync, G: Gate + Sync>(
     requires past { CanGoOn net past.now }
     ensures settled { IfOk result (IsSettled net past.now plan) }
 {
-    run_on(rt, alloc, net, plan, past, gate, true)
+    let mut offices = offices_of(alloc, &net, plan.workers)?;
+    run_on(rt, alloc, net, plan, past, gate, &mut offices, true)
 }
 
-// The run itself, which may start threads or not.
+// The run itself, by workers at these offices, which may start threads or not.
 fn run_on<R: Threads + Sync, G: Gate + Sync>(
     rt: &R,
     alloc: Global,
@@ -125,11 +134,14 @@ fn run_on<R: Threads + Sync, G: Gate + Sync>(
     plan: Plan,
     past: &[Raise],
     gate: &G,
+    offices: &mut Vec<Office>,
     threads: bool,
 ) -> Result<Settled, Mem>
     requires plan { IsPlan plan }
     requires past { CanGoOn net past.now }
+    requires offices { AreOffices net plan.workers plan.workers offices.old.items }
     ensures settled { IfOk result (IsSettled net past.now plan) }
+    ensures offices { OnOk result (AreOffices net plan.workers plan.workers offices.new.items) }
 {
     prove!(net.banks() <= MAX_BANKS);
     let mut payments = payments_after(alloc, &net, past)?;
@@ -147,6 +159,7 @@ fn run_on<R: Threads + Sync, G: Gate + Sync>(
         &board,
         &mut master,
         gate,
+        offices,
         threads,
     )?;
     let sealed = board.seal(master, payments.as_mut_slice(), net, journal);

@@ -1,20 +1,18 @@
-ghost use Rattle.bank_worker.specs.Visits.{WhenRaised};
 ghost use Rattle.clr_net.specs.Limits.{IsNetwork};
 ghost use Rattle.pay_words.specs.Views.{IsAt};
 ghost use Rattle.settle.specs.Asks.{MayRound};
 ghost use Rattle.settle.specs.Bells.{IsIdle};
 ghost use Rattle.settle.specs.Between.{AreOfBoard, HaveGrownAlike, IsBack, IsBetween, IsRoundOf};
 ghost use Rattle.settle.specs.Between.{crews, raises_by, without_first};
-ghost use Rattle.settle.specs.Offices.{AreOffices};
-ghost use Rattle.settle.specs.Rounds.{AreReady, AreRounded};
-ghost use Rattle.std.specs.Prelude.{◌≡◌, ◌+◌, ◌*◌, ◌++◌, ◌^◌, ◌<◌, ◌≤◌, ℕ, [], IfOk, OnOk, length, sum_by, true, vec_len};
+ghost use Rattle.settle.specs.Offices.{AreOffices, with_cash_of};
+ghost use Rattle.std.specs.Prelude.{◌≡◌, ◌+◌, ◌++◌, ◌<◌, ◌≤◌, [], All, IfOk, OnOk, length, map, sum_by, true, vec_len};
 
 use crate::plan::Plan;
 use crate::work::work;
 use bank_worker::{Office, Visit, Worker};
 use clear_core::{Journal, Raise};
 use clr_edge::Gate;
-use clr_net::{BankId, Mem, Network};
+use clr_net::{BankId, MAX_BANKS, Mem, Network};
 use pay_words::{Board, PaySeat};
 use std::alloc::Global;
 use std::thread::Threads;
@@ -31,6 +29,18 @@ pub fn offices_of(alloc: Global, net: &Network, workers: u32) -> Result<Vec<Offi
     Ok(offices)
 }
 
+// Makes the offices of a network those of another, which differs in the cash of its banks alone.
+pub(crate) fn move_offices(offices: &mut [Office], net: &Network)
+    requires { All (λ o. All (λ d. d.bank < length net.now.banks) o.desks) offices.old }
+    ensures network { IsNetwork net.now }
+    ensures offices { offices.new ≡ map (with_cash_of net.now) offices.old }
+{
+    prove!(net.banks() <= MAX_BANKS);
+    for office in offices.iter_mut() {
+        office.set_cash(net);
+    }
+}
+
 // Hands a seat to each worker, from the first one on, which takes it to its office.
 fn open_workers(
     alloc: Global,
@@ -40,7 +50,7 @@ fn open_workers(
     master: &mut PaySeat,
     offices: &mut Vec<Office>,
 ) -> Result<Vec<Worker>, Mem>
-    requires workers { (1 ≤ workers) × (workers ≤ 64) × (workers ≡ board.now.workers) }
+    requires workers { (1 ≤ workers) × (workers ≤ 64) × (workers ≡ board.now.table.workers) }
     requires net { net.now ≡ board.now.net }
     requires offices { AreOffices net.now workers workers offices.old.items }
     requires table { master.old.table ≡ board.now.table }
@@ -74,30 +84,31 @@ fn close_workers(
     offices: &mut Vec<Office>,
 ) -> Result<u64, Mem>
     requires offices { offices.old.items ≡ [] }
-    requires workers { (1 ≤ board.now.workers) × (board.now.workers ≤ 64)
-        × (vec_len workers ≡ board.now.workers) }
+    requires workers { (1 ≤ board.now.table.workers) × (board.now.table.workers ≤ 64)
+        × (vec_len workers ≡ board.now.table.workers) }
     requires network { IsNetwork board.now.net }
     requires master { IsAt board.now master.old × (master.old.shows.master ≡ true) }
     requires crew { AreOfBoard board.now workers.items }
     ensures table { master.new.table ≡ master.old.table }
     ensures net { master.new.shows.net ≡ master.old.shows.net }
-    ensures back { OnOk result (IsBack board.now.workers board.now.net master.old.shows
+    ensures back { OnOk result (IsBack board.now.table.workers board.now.net master.old.shows
         workers.items master.new.shows 0) }
     ensures noted { OnOk result (HaveGrownAlike journal.old.raises journal.new.raises
         master.old.shows.raises master.new.shows.raises) }
     ensures visits { IfOk result (λ n. master.new.shows.taken ≡ master.old.shows.taken + n) }
     ensures sum { IfOk result (λ n. n ≡ sum_by (λ w. w.visits) workers.items) }
-    ensures offices { OnOk result (AreOffices board.now.net board.now.workers board.now.workers
-        offices.new.items) }
+    ensures offices { OnOk result (AreOffices board.now.net board.now.table.workers
+        board.now.table.workers offices.new.items) }
     ensures raises { OnOk result (length master.new.shows.raises
         ≡ length master.old.shows.raises + sum_by raises_by workers.items) }
 {
     let mut visits = 0;
     while let Some(worker) = workers.pop() {
         visits += worker.visits();
-        let (seat, made, office) = worker.leave();
+        let (seat, made, mut office) = worker.leave();
         board.take_back(master, seat);
         add_all(journal, made.as_slice())?;
+        office.keep(made);
         offices.push(office)?;
     }
     Ok(visits)
@@ -114,26 +125,8 @@ pub(crate) fn add_all(journal: &mut Journal, raises: &[Raise]) -> Result<(), Mem
     Ok(())
 }
 
-// The rounds of these workers, side by side or one after another.
-fn work_all<R: Threads + Sync, G: Gate + Sync>(
-    rt: &R,
-    board: &Board,
-    sweeps: u32,
-    gate: &G,
-    workers: &mut Vec<Worker>,
-    beside: bool,
-) -> Visit
-    requires sweeps { (1 ≤ sweeps) × (sweeps ≤ 1000) }
-    requires some { (1 ≤ length workers.old.items) × (length workers.old.items ≤ 64) }
-    requires ready { AreReady board.now workers.old.items }
-    ensures rounded { WhenRaised result (λ n.
-        AreRounded sweeps n workers.old.items workers.new.items) }
-{
-    work(rt, board, sweeps, gate, workers.as_mut_slice(), beside)
-}
-
-/// Whether two workers have a bell up, by one look at each bell. No clause can say it: any thread may
-/// ring a bell at any time.
+/// Whether two workers have a bell up, by one look at each bell. No clause can say it: any thread
+/// may ring a bell at any time.
 pub fn calls_two_workers(net: &Network, board: &Board, workers: u32) -> bool
     requires workers { 1 ≤ workers }
     requires net { net.now ≡ board.now.net }
@@ -185,7 +178,7 @@ pub fn round<R: Threads + Sync, G: Gate + Sync>(
         master.old.shows.raises master.new.shows.raises) }
 {
     let mut workers = open_workers(alloc, net, plan.workers, board, master, offices)?;
-    let Visit::Raised(units) = work_all(rt, board, plan.sweeps, gate, &mut workers, beside) else {
+    let Visit::Raised(units) = work(rt, board, plan.sweeps, gate, &mut workers, beside) else {
         return Err(Mem);
     };
     let visits = close_workers(board, master, workers, journal, offices)?;

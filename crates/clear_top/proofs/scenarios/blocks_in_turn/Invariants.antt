@@ -1,4 +1,5 @@
 use Rattle.std.proofs.Common.{◌≡◌, map, take}
+use Rattle.settle.specs.Offices.{AreOffices}
 use Rattle.stress.specs.Shocks.{IsOfOtherCash}
 use Rattle.clear_top.specs.Meaning.{block_of}
 use Rattle.clear_top.proofs.scenarios.blocks_in_turn.Given as goal
@@ -8,4 +9,5 @@ abbrev pub invariant-loop-scenario : goal.invariant-loop-scenario
 invariant-loop-scenario g l = record {
   so_far : map (λ block. block.items) l.all.items ≡ map (block_of l.net) (take l.scenario-index l.scenarios);
   alike : IsOfOtherCash l.net l.copy;
+  offices : AreOffices l.copy l.clearer.plan.workers l.clearer.plan.workers l.offices.items;
 }

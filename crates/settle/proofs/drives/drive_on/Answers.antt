@@ -14,7 +14,7 @@ loop-rounds-init g c =
     let noted : c.add_all.new.journal.raises ≡ past = c.in_ok-add_all.ensures ∙ ap (λ rs. rs ++ past) c.empty-journal.ensures in
     record {
       table = refl;
-      offices = c.in_ok-offices.ensures;
+      offices = c.requires.offices;
       driven = subst (λ rs. DrivenTo c.args.net.now past c.args.plan s s rs 0 0) (sym noted)
           (driven_none c.banks.ensures.network opened (subst (λ (n : Net). IsAtMost s.paid (least n)) (ap (λ (u : Shown). u.net) opened) c.clock-clock.ensures.paid_below_least));
     }

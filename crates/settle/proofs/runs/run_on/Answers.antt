@@ -69,6 +69,7 @@ returns g c =
     let opened : c.in_ok-board.master.shows ≡ opening net (start_of net past) = c.in_ok-board.ensures.master.1 ∙ ap (opening net) (c.as_slice.ensures.value ∙ c.in_ok-payments.ensures) in
     let made : c.seal-sealed.result.made ≡ length t.raises = ap (λ (r : Sealed). r.made) seal.record_of in
     record {
+      offices = c.in_ok-journal.ensures.offices;
       settled = record {
         paid = least_paid;
         verdict = (lawful_is net journal network).1 (belongs.stands, subst (Clears net) (sym (replays ∙ least_paid)) (least_clears net));

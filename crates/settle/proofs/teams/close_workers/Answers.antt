@@ -42,7 +42,7 @@ loop-worker-preserved c =
     let m = c.loop-worker.master.shows in
     let n = length rest in
     let net = c.args.board.now.net in
-    let k = c.args.board.now.workers in
+    let k = c.args.board.now.table.workers in
     let inv = c.loop-worker.invariant in
     let is = c.in-Some.ensures.items in
     let h = last (goal.at.loop-worker-preserved c).In-Some in
@@ -62,7 +62,7 @@ loop-worker-preserved c =
           let before = subst (λ m. AreOffices net k (k - m) c.loop-worker.offices.items) h.more inv.offices in
           let after = office_more net k (k - (n + 1)) n c.loop-worker.offices.items c.leave-seat.result.2 before (omega arith) serves in
           let count : k - (n + 1) + 1 ≡ k - n = omega arith in
-          subst (AreOffices net k (k - n)) (sym c.in_ok-push.ensures.items)
+          subst (AreOffices net k (k - n)) (sym (c.in_ok-push.ensures.items ∙ ap (λ o. c.loop-worker.offices.items ++ o ∷ []) c.keep.ensures))
           (subst (λ m. AreOffices net k m (c.loop-worker.offices.items ++ c.leave-seat.result.2 ∷ [])) count after);
       noted = grown_more c.args.journal.now.raises c.loop-worker.journal.raises c.add_all.new.journal.raises s.raises m.raises c.take_back.new.master.shows.raises (crew_at ws n).seat.shows.raises
           inv.noted (c.in_ok-add_all.ensures ∙ ap (λ rs. c.loop-worker.journal.raises ++ rs) made) (ap (λ (u : Shown). u.raises) shown);

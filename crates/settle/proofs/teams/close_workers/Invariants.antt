@@ -7,9 +7,9 @@ use Rattle.settle.proofs.teams.close_workers.Given as goal
 abbrev pub invariant-loop-worker : goal.invariant-loop-worker
 invariant-loop-worker l = record {
   table : l.master.table ≡ l.fn.master.table;
-  back : IsBack l.board.workers l.board.net l.fn.master.shows l.fn.workers.items l.master.shows (length l.workers.items);
+  back : IsBack l.board.table.workers l.board.net l.fn.master.shows l.fn.workers.items l.master.shows (length l.workers.items);
   left : AreFirst l.fn.workers.items l.workers.items;
-  offices : AreOffices l.board.net l.board.workers (l.board.workers - length l.workers.items) l.offices.items;
+  offices : AreOffices l.board.net l.board.table.workers (l.board.table.workers - length l.workers.items) l.offices.items;
   noted : HaveGrownAlike l.fn.journal.raises l.journal.raises l.fn.master.shows.raises l.master.shows.raises;
   visits : l.master.shows.taken ≡ l.fn.master.shows.taken + l.visits;
   sum : l.visits + sum_by (λ w. w.visits) l.workers.items ≡ sum_by (λ w. w.visits) l.fn.workers.items;

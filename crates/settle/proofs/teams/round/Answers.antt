@@ -1,5 +1,9 @@
-use Rattle.std.proofs.Common.{◌≡◌, ◌≢◌, ℕ, ◌+◌, ◌*◌, ◌≤◌, length, sym, ap, ◌∙◌, subst, arith}
+use Rattle.std.proofs.Common.{◌≡◌, ◌≢◌, ℕ, ◌+◌, ◌*◌, ◌≤◌, List, length, sym, ap, ◌∙◌, subst, arith}
+use Rattle.std.proofs.lemmas.List.{with_items_is}
 use Rattle.std.specs.Prelude.{sum_by}
+use Rattle.std.specs.Global.{Vec}
+use Rattle.std.specs.Vec.{with_items}
+use Rattle.bank_worker.specs.Views.{Crew}
 use Rattle.bank_worker.specs.Visits.{AddsRaises}
 use Rattle.clr_net.specs.Amounts.{IsAtMost}
 use Rattle.clr_net.specs.Limits.{IsNetwork}
@@ -18,21 +22,28 @@ use Rattle.settle.proofs.teams.round.Goals as goal
 added_raises : (n : ℕ) (s t : Shown) (k : ℕ) → length t.raises ≡ length s.raises + k → (n ≢ 0 → 1 ≤ k) → AddsRaises n s t
 added_raises n s t k e some = (omega (arith, e), λ d. omega (arith, e, some d))
 
-pub work_all-requires-clause-some : goal.work_all-requires-clause-some
-work_all-requires-clause-some g c κs within =
-    let w = c.args.plan.workers in
-    let s = c.args.master.now.shows in
-    let board = c.args.board.now in
-    let made = c.in_ok-workers.ensures.crews in
-    let many = sym (ap length made ∙ length-crews w board.table s w) in
-    (subst (λ n. 1 ≤ n) many c.requires.ready.limits.some_workers, subst (λ n. n ≤ 64) many c.requires.ready.limits.few_workers)
+-- the workers as they stand in their list after the round
+all_back : (sweeps n : ℕ) (v : Vec Crew) (lent olds news : List Crew) → lent ≡ v.items → v.items ≡ olds → AreRounded sweeps n lent news
+    → AreRounded sweeps n olds (with_items v news).items
+all_back sweeps n v lent olds news e f h =
+    subst (AreRounded sweeps n olds) (sym (with_items_is v news (omega (arith, h.as_many, ap length e, v.ok)))) (subst (λ os. AreRounded sweeps n os news) (e ∙ f) h)
 
-pub work_all-requires-clause-ready : goal.work_all-requires-clause-ready
-work_all-requires-clause-ready g c κs within =
+pub work-requires-clause-some : goal.work-requires-clause-some
+work-requires-clause-some g c κs within =
     let w = c.args.plan.workers in
     let s = c.args.master.now.shows in
     let board = c.args.board.now in
-    subst (AreReady board) (sym c.in_ok-workers.ensures.crews) (crews_ready board c.args.net.now w s w c.requires.ready.net_is c.requires.ready.between)
+    let lent = ap length c.deref_mut.ensures.value in
+    let made = ap length c.in_ok-workers.ensures.crews in
+    let many = length-crews w board.table s w in
+    (omega (arith, lent, made, many, c.requires.ready.limits.some_workers), omega (arith, lent, made, many, c.requires.ready.limits.few_workers))
+
+pub work-requires-clause-ready : goal.work-requires-clause-ready
+work-requires-clause-ready g c κs within =
+    let w = c.args.plan.workers in
+    let s = c.args.master.now.shows in
+    let board = c.args.board.now in
+    subst (AreReady board) (sym (c.deref_mut.ensures.value ∙ c.in_ok-workers.ensures.crews)) (crews_ready board c.args.net.now w s w c.requires.ready.net_is c.requires.ready.between)
 
 pub close_workers-requires : goal.close_workers-requires
 close_workers-requires g c =
@@ -40,15 +51,14 @@ close_workers-requires g c =
     let s = c.args.master.now.shows in
     let board = c.args.board.now in
     let net = c.args.net.now in
-    let news = c.work_all.new.workers.items in
-    let olds = crews w board.table s w in
-    let rounded = subst (λ os. AreRounded c.args.plan.sweeps c.in-Raised.units os news) c.in_ok-workers.ensures.crews c.in-Raised.ensures.rounded in
+    let news = (with_items c.in_ok-workers.workers c.work.new.workers).items in
+    let rounded = all_back c.args.plan.sweeps c.in-Raised.units c.in_ok-workers.workers _ _ _ c.deref_mut.ensures.value c.in_ok-workers.ensures.crews c.in-Raised.ensures.rounded in
     let rest = subst (IsRest w s) (sym c.in_ok-workers.ensures.rest) (first_rest w w s) in
     record {
       workers = (
         subst (λ n. 1 ≤ n) c.requires.ready.workers_are c.requires.ready.limits.some_workers,
         subst (λ n. n ≤ 64) c.requires.ready.workers_are c.requires.ready.limits.few_workers,
-        omega (arith, rounded.as_many, length-crews w board.table s w, c.requires.ready.workers_are, c.work_all.new.workers.ok),
+        omega (arith, ap length c.in_ok-workers.ensures.crews, length-crews w board.table s w, c.requires.ready.workers_are, c.in_ok-workers.workers.ok),
       );
       network = subst IsNetwork c.requires.ready.net_is c.requires.ready.between.network;
       master = (
@@ -67,10 +77,10 @@ returns g c =
     let net = c.args.net.now in
     let sweeps = c.args.plan.sweeps in
     let units = c.in-Raised.units in
-    let news = c.work_all.new.workers.items in
+    let news = (with_items c.in_ok-workers.workers c.work.new.workers).items in
     let m = c.open_workers.new.master.shows in
     let t = c.close_workers.new.master.shows in
-    let rounded = subst (λ os. AreRounded sweeps units os news) c.in_ok-workers.ensures.crews c.in-Raised.ensures.rounded in
+    let rounded = all_back sweeps units c.in_ok-workers.workers _ _ _ c.deref_mut.ensures.value c.in_ok-workers.ensures.crews c.in-Raised.ensures.rounded in
     let rest = subst (IsRest w s) (sym c.in_ok-workers.ensures.rest) (first_rest w w s) in
     let back = c.in_ok-visits.ensures.back in
     let over = c.clock-clock.ensures.over in
@@ -87,7 +97,7 @@ returns g c =
       idle = idle_between net t again;
       between = again;
       offices = subst (λ k. AreOffices net k k c.close_workers.new.offices.items) (sym c.requires.ready.workers_are)
-          (subst (λ (m : Net). AreOffices m board.workers board.workers c.close_workers.new.offices.items) (sym here) c.in_ok-visits.ensures.offices);
+          (subst (λ (m : Net). AreOffices m board.table.workers board.table.workers c.close_workers.new.offices.items) (sym here) c.in_ok-visits.ensures.offices);
       round = record {
         none_fell = none_fell board net s w sweeps units news here c.requires.ready.workers_are some few between rounded m t over back;
         some_rose = some_rose board net s w sweeps units news here c.requires.ready.workers_are some few between rounded m t over back;

@@ -5,6 +5,7 @@ use Rattle.pay_words.specs.Ends.{Ends}
 use Rattle.pay_words.specs.Views.{Panel, Chair, HoldsAll}
 use Rattle.pay_words.specs.Words.{unpaid, payment_of}
 use Rattle.pay_words.proofs.Ends.{closes, copied}
+use Rattle.pay_words.proofs.Seats.{net_within}
 use Rattle.pay_words.proofs.board.Board.close.Goals as goal
 
 pub loop-i-preserved : goal.loop-i-preserved
@@ -19,7 +20,7 @@ loop-i-preserved c =
 ended : (c : goal.After-drop-master-inside-3) → Ends c.args.self.net c.args.self.past c.args.master.shows c.loop-i.into
 ended c =
     let d = c.self.inside.table.shared.key.me.0 in
-    let own = ap (λ (s : Chair). s.shows.net) c.master.view_is ∙ c.requires.master.1 ∙ sym (ap (λ (p : Panel). p.net) c.self.view_is) in
+    let own = net_within _ _ _ _ c.master.view_is c.self.view_is c.requires.master.1 in
     let all = subst (λ (s : Chair). HoldsAll s.shows) (sym c.master.view_is) c.requires.banks in
     let chief = ap (λ (s : Chair). s.shows.master) c.master.view_is ∙ c.requires.is_the_master in
     let closed = closes d _ c.master.inside.seat.me.0 _ _ c.master.invariant.1.live chief all c.close_with-closed.ensures.values.2 in

@@ -25,8 +25,7 @@ split_seat-seat-requires g c =
 pub index_mut-requires : goal.index_mut-requires
 index_mut-requires g c =
     let all = (c.master.invariant.1.at_master (ap (λ (s : Chair). s.shows.master) c.master.view_is ∙ c.requires.is_the_master)).lists in
-    let own = as_many _ _ _ _ c.master.view_is c.self.view_is c.requires.master.0 in
-    omega (arith, all, own, c.requires.worker, ap (λ (p : Panel). p.workers) c.self.view_is, c.master.inside.lists.ok.0)
+    omega (arith, all, as_many _ _ _ c.master.view_is c.requires.master.0, c.requires.worker, c.master.inside.lists.ok.0)
 
 pub invariant_of-result : goal.invariant_of-result
 invariant_of-result g c =
@@ -34,8 +33,8 @@ invariant_of-result g c =
     let n = c.master.inside.seats + 2 in
     let lists = c.master.inside.lists.items in
     let chief = ap (λ (s : Chair). s.shows.master) c.master.view_is ∙ c.requires.is_the_master in
-    let own = as_many _ _ _ _ c.master.view_is c.self.view_is c.requires.master.0 in
-    let named = own ∙ ap (λ (p : Panel). p.workers) c.self.view_is in
+    let named = as_many _ _ _ c.master.view_is c.requires.master.0 in
+    let own = named ∙ sym (ap (λ (p : Panel). p.table.workers) c.self.view_is) in
     let all = holds_within _ _ c.master.inside.workers _ c.args.worker c.args.worker c.master.view_is named refl c.requires.banks in
     let low : c.args.worker < c.master.inside.workers = omega (arith, named, c.requires.worker) in
     let here = kept_handed c.args.worker _ _ _ _ (kept_rolled _ _ _ _ n c.master.invariant.1) chief low all in
@@ -55,7 +54,7 @@ invariant_of-master g c =
     let v = c.master.inside.seat.me.0 in
     let n = c.master.inside.seats + 2 in
     let chief = ap (λ (s : Chair). s.shows.master) c.master.view_is ∙ c.requires.is_the_master in
-    let named = as_many _ _ _ _ c.master.view_is c.self.view_is c.requires.master.0 ∙ ap (λ (p : Panel). p.workers) c.self.view_is in
+    let named = as_many _ _ _ c.master.view_is c.requires.master.0 in
     let here = kept_without c.args.worker _ _ _ _ (kept_rolled _ _ _ _ n c.master.invariant.1) chief in
     let told = c.split_seat-seat.ensures.2 in
     let view : rest_of c.master.inside.workers c.args.worker (record v { rolled = n }) ≡ c.split_seat-seat.new.seat.me.0 =

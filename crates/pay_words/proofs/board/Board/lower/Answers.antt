@@ -3,15 +3,15 @@ use Rattle.atomic_table.specs.Table.{Me}
 use Rattle.pay_words.specs.declared.view.View.{View}
 use Rattle.pay_words.specs.Kept.{TakeTells, after_take}
 use Rattle.pay_words.specs.Seats.{IsKeptIn, purse}
-use Rattle.pay_words.specs.Views.{Panel, Chair, holds}
+use Rattle.pay_words.specs.Views.{Chair, holds}
 use Rattle.pay_words.proofs.Rings.{bank_held, takes}
-use Rattle.pay_words.proofs.Seats.{bell_place, kept_take}
+use Rattle.pay_words.proofs.Seats.{bell_place, kept_take, net_within}
 use Rattle.pay_words.proofs.board.Board.lower.Goals as goal
 
 pub swap-requires : goal.swap-requires
 swap-requires c =
     let laid = c.self.invariant.0 in
-    let over = ap (λ (s : Chair). s.shows.net) c.seat.view_is ∙ c.requires.seat.1 ∙ sym (ap (λ (p : Panel). p.net) c.self.view_is) in
+    let over = net_within _ _ _ _ c.seat.view_is c.self.view_is c.requires.seat.1 in
     let net = c.self.inside.table.shared.key.me.0.net in
     let place = bell_place net net c.self.inside.debts c.args.bank.0 laid.debts_are refl in
     let held = subst (λ (s : Chair). holds s.shows c.args.bank.0 ≡ true) (sym c.seat.view_is) c.requires.held in
@@ -20,7 +20,7 @@ swap-requires c =
 
 pub invariant_of-seat : goal.invariant_of-seat
 invariant_of-seat c =
-    let over = ap (λ (s : Chair). s.shows.net) c.seat.view_is ∙ c.requires.seat.1 ∙ sym (ap (λ (p : Panel). p.net) c.self.view_is) in
+    let over = net_within _ _ _ _ c.seat.view_is c.self.view_is c.requires.seat.1 in
     let told = c.swap.ensures.2 c.args.bank.0 (bell_place _ _ c.self.inside.debts c.args.bank.0 c.self.invariant.0.debts_are over) in (
       ap (λ (m : Me (Unit {0}) View). m.1) told.0 ∙ c.seat.invariant.0,
       subst (λ (m : Me (Unit {0}) View). IsKeptIn m.0 (purse c.seat.inside.own c.seat.inside.lists.items c.seat.inside.debtors.items c.seat.inside.workers c.seat.inside.worker) c.seat.inside.clock c.seat.inside.seats) (sym told.0)
@@ -29,12 +29,12 @@ invariant_of-seat c =
 
 pub returns-clause-taken : goal.returns-clause-taken
 returns-clause-taken c =
-    let over = ap (λ (s : Chair). s.shows.net) c.seat.view_is ∙ c.requires.seat.1 ∙ sym (ap (λ (p : Panel). p.net) c.self.view_is) in
+    let over = net_within _ _ _ _ c.seat.view_is c.self.view_is c.requires.seat.1 in
     let told = c.swap.ensures.2 c.args.bank.0 (bell_place _ _ c.self.inside.debts c.args.bank.0 c.self.invariant.0.debts_are over) in
     ap (λ (m : Me (Unit {0}) View). m.0.shown) told.0 ∙ ap (λ (s : Chair). after_take s.shows c.args.bank.0 c.swap.result) c.seat.view_is
 
 pub returns-clause-tells : goal.returns-clause-tells
 returns-clause-tells c =
-    let over = ap (λ (s : Chair). s.shows.net) c.seat.view_is ∙ c.requires.seat.1 ∙ sym (ap (λ (p : Panel). p.net) c.self.view_is) in
+    let over = net_within _ _ _ _ c.seat.view_is c.self.view_is c.requires.seat.1 in
     let told = c.swap.ensures.2 c.args.bank.0 (bell_place _ _ c.self.inside.debts c.args.bank.0 c.self.invariant.0.debts_are over) in
     subst (λ (s : Chair). TakeTells s.shows c.args.bank.0 c.swap.result) c.seat.view_is told.1

@@ -5,8 +5,8 @@ use Rattle.clr_net.specs.Net.{Net}
 use Rattle.pay_words.specs.declared.view.View.{View}
 use Rattle.pay_words.specs.Kept.{showing}
 use Rattle.pay_words.specs.Seats.{IsKeptIn, purse}
-use Rattle.pay_words.specs.Views.{Chair, Panel, IsSound, raised}
-use Rattle.pay_words.proofs.Seats.{payment_in_limit, clock_in_limit, kept_raise, own_there, raises_by, may_within}
+use Rattle.pay_words.specs.Views.{Chair, IsSound, raised}
+use Rattle.pay_words.proofs.Seats.{clock_in_limit, kept_raise, may_within, net_within, own_there, payment_in_limit, raises_by}
 use Rattle.pay_words.proofs.board.Board.raise.Goals as goal
 
 pub word-requires : goal.word-requires
@@ -23,7 +23,7 @@ store-requires c =
 pub set-requires : goal.set-requires
 set-requires c =
     let may = may_within _ _ _ _ c.args.debt.0 c.args.to c.self.view_is c.seat.view_is (record { debt = c.requires.debt; not_the_master = c.requires.not_the_master; debtor = c.requires.debtor; more = c.requires.more; within = c.requires.within }) in
-    let over = ap (λ (s : Chair). s.shows.net) c.seat.view_is ∙ c.requires.seat.1 ∙ sym (ap (λ (p : Panel). p.net) c.self.view_is) in
+    let over = net_within _ _ _ _ c.seat.view_is c.self.view_is c.requires.seat.1 in
     (own_there _ _ _ _ c.seat.invariant.1 _ over c.args.debt.0 c.args.to may).0
 
 pub invariant_of-seat : goal.invariant_of-seat

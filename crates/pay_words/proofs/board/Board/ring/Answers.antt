@@ -2,15 +2,15 @@ use Rattle.std.proofs.Common.{◌∙◌, ap, refl, sym, subst, rules, arith}
 use Rattle.atomic_table.specs.Table.{Me}
 use Rattle.pay_words.specs.declared.view.View.{View}
 use Rattle.pay_words.specs.Seats.{IsKeptIn, purse}
-use Rattle.pay_words.specs.Views.{Panel, Chair, OwesRing, rung}
+use Rattle.pay_words.specs.Views.{Chair, OwesRing, rung}
 use Rattle.pay_words.proofs.Rings.{bank_of_ring, rings}
-use Rattle.pay_words.proofs.Seats.{bell_place, kept_rung}
+use Rattle.pay_words.proofs.Seats.{bell_place, kept_rung, net_within}
 use Rattle.pay_words.proofs.board.Board.ring.Goals as goal
 
 pub store-requires : goal.store-requires
 store-requires c =
     let laid = c.self.invariant.0 in
-    let over = ap (λ (s : Chair). s.shows.net) c.seat.view_is ∙ c.requires.seat.1 ∙ sym (ap (λ (p : Panel). p.net) c.self.view_is) in
+    let over = net_within _ _ _ _ c.seat.view_is c.self.view_is c.requires.seat.1 in
     let net = c.self.inside.table.shared.key.me.0.net in
     let place = bell_place net net c.self.inside.debts c.args.bank.0 laid.debts_are refl in
     let owes = subst (λ (s : Chair). OwesRing s.shows c.args.bank.0) (sym c.seat.view_is) c.requires.owes in
@@ -19,7 +19,7 @@ store-requires c =
 
 pub invariant_of-seat : goal.invariant_of-seat
 invariant_of-seat c =
-    let over = ap (λ (s : Chair). s.shows.net) c.seat.view_is ∙ c.requires.seat.1 ∙ sym (ap (λ (p : Panel). p.net) c.self.view_is) in
+    let over = net_within _ _ _ _ c.seat.view_is c.self.view_is c.requires.seat.1 in
     let told = c.store.ensures.2 c.args.bank.0 (bell_place _ _ c.self.inside.debts c.args.bank.0 c.self.invariant.0.debts_are over) in (
       ap (λ (m : Me (Unit {0}) View). m.1) told ∙ c.seat.invariant.0,
       subst (λ (m : Me (Unit {0}) View). IsKeptIn m.0 (purse c.seat.inside.own c.seat.inside.lists.items c.seat.inside.debtors.items c.seat.inside.workers c.seat.inside.worker) c.seat.inside.clock c.seat.inside.seats) (sym told)
@@ -28,6 +28,6 @@ invariant_of-seat c =
 
 pub returns-clause-rung : goal.returns-clause-rung
 returns-clause-rung c =
-    let over = ap (λ (s : Chair). s.shows.net) c.seat.view_is ∙ c.requires.seat.1 ∙ sym (ap (λ (p : Panel). p.net) c.self.view_is) in
+    let over = net_within _ _ _ _ c.seat.view_is c.self.view_is c.requires.seat.1 in
     let told = c.store.ensures.2 c.args.bank.0 (bell_place _ _ c.self.inside.debts c.args.bank.0 c.self.invariant.0.debts_are over) in
     ap (λ (m : Me (Unit {0}) View). m.0.shown) told ∙ ap (λ (s : Chair). rung s.shows c.args.bank.0) c.seat.view_is

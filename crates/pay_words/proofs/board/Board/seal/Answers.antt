@@ -19,6 +19,6 @@ pub returns-clause-record_of : goal.returns-clause-record_of
 returns-clause-record_of c =
     let past : c.self.inside.past ≡ length c.args.self.past = c.self.invariant.1 ∙ ap (λ (p : Panel). length p.past) c.self.view_is in
     let made : length c.as_slice.result.now - c.self.inside.past ≡ length c.args.master.shows.raises = omega (arith, counted _ _ _ _ (c.as_slice.ensures ∙ c.requires.journal) past) in
-    let workers = ap (λ (p : Panel). p.workers) c.self.view_is in
+    let workers = ap (λ (p : Panel). p.table.workers) c.self.view_is in
     let seats = c.master.invariant.1.seats_are ∙ ap (λ (s : Chair). s.shows.seats) c.master.view_is in
     λ i. record { net = c.requires.net i; journal = c.requires.journal i; made = made i; workers = workers i; seats = seats i }

@@ -2,9 +2,9 @@ use Rattle.std.proofs.Common.{◌∙◌, set, ap, sym, subst, rules, arith}
 use Rattle.atomic_table.specs.Table.{Me}
 use Rattle.pay_words.specs.declared.view.View.{View}
 use Rattle.pay_words.specs.Seats.{IsKeptIn, purse}
-use Rattle.pay_words.specs.Views.{Panel, Chair, OwesNoRing}
+use Rattle.pay_words.specs.Views.{Chair, OwesNoRing}
 use Rattle.pay_words.proofs.Joins.{joins}
-use Rattle.pay_words.proofs.Seats.{kept_both, list_there, same_workers}
+use Rattle.pay_words.proofs.Seats.{kept_both, list_there, net_within, same_workers}
 use Rattle.pay_words.proofs.board.Board.take_back.Goals as goal
 
 pub join_seat-requires : goal.join_seat-requires
@@ -24,8 +24,8 @@ join_seat-requires c = (
 
 pub index_mut-requires : goal.index_mut-requires
 index_mut-requires c =
-    let own = ap (λ (s : Chair). s.shows.net) c.master.view_is ∙ c.requires.master.1 ∙ sym (ap (λ (p : Panel). p.net) c.self.view_is) in
-    let theirs = ap (λ (s : Chair). s.shows.net) c.seat.view_is ∙ c.requires.seat.1 ∙ sym (ap (λ (p : Panel). p.net) c.self.view_is) in
+    let own = net_within _ _ _ _ c.master.view_is c.self.view_is c.requires.master.1 in
+    let theirs = net_within _ _ _ _ c.seat.view_is c.self.view_is c.requires.seat.1 in
     let workers = same_workers _ _ _ _ _ c.master.view_is c.seat.view_is c.requires.master.0 c.requires.seat.0 in
     let there = list_there _ _ _ _ _ _ _ _ c.master.invariant.1 c.seat.invariant.1
     (theirs ∙ sym own) (ap (λ (s : Chair). s.shows.master) c.master.view_is ∙ c.requires.is_the_master)
@@ -34,8 +34,8 @@ index_mut-requires c =
 
 pub invariant_of-master : goal.invariant_of-master
 invariant_of-master c =
-    let own = ap (λ (s : Chair). s.shows.net) c.master.view_is ∙ c.requires.master.1 ∙ sym (ap (λ (p : Panel). p.net) c.self.view_is) in
-    let theirs = ap (λ (s : Chair). s.shows.net) c.seat.view_is ∙ c.requires.seat.1 ∙ sym (ap (λ (p : Panel). p.net) c.self.view_is) in
+    let own = net_within _ _ _ _ c.master.view_is c.self.view_is c.requires.master.1 in
+    let theirs = net_within _ _ _ _ c.seat.view_is c.self.view_is c.requires.seat.1 in
     let workers = same_workers _ _ _ _ _ c.master.view_is c.seat.view_is c.requires.master.0 c.requires.seat.0 in
     let kept = kept_both _ _ _ _ _ _ _ _ c.master.invariant.1 c.seat.invariant.1 (theirs ∙ sym own)
     (ap (λ (s : Chair). s.shows.master) c.master.view_is ∙ c.requires.is_the_master)
