@@ -104,6 +104,19 @@ class Launcher(Case):
             self.assertTrue((self.root / "crates" / name / "out/rlib/stamp").exists(), name)
         self.assertFalse((self.root / "crates/clear_main/out/build.parts").exists())
 
+    def test_the_crate_on_which_the_build_waits_has_half_of_the_jobs(self):
+        for name in ("one", "two", "three"):
+            for part in ("src", "specs", "proofs"):
+                (self.root / "crates" / name / part).mkdir(parents=True)
+            (self.root / "crates" / name / "src/main.rt").write_text("")
+        (self.root / "crates.txt").write_text(
+            "low:\none:\ntwo:\nthree:\nleft: low\nright: low\ntop: left right one two three\nclear_main: top\n")
+        self.assertEqual(self.run_at(self.root, CLEARING_JOBS="4", SLOW="2").returncode, 0)
+        # Four may be begun: the lowest of the longest way has two jobs, and two others have one each.
+        steps = self.steps()
+        self.assertIn("low: lib --jobs 2", steps[:3])
+        self.assertEqual([step.split(": ")[1] for step in sorted(steps[:3])].count("lib --jobs 1"), 2)
+
     def test_a_crate_that_is_not_proved_ends_the_build(self):
         began = time.monotonic()
         done = self.run_at(self.root, WRONG="left", LONG="right", SLOW="1")
