@@ -128,10 +128,10 @@ module _ (all : List Account) (ds : List Debt) (i : ℕ) (u : Account) (cash : �
       let there : slice_get (set all i (of_account_cash cash u)) i ≡ Some c = ap (slice_get (set all i (of_account_cash cash u))) (sym e) ∙ here in
       let same : of_account_cash cash u ≡ c = cc in
       let old = kept i u at in
-      rw e (subst (IsAccountOf (with_cash (net_of all ds) i cash) i) same (record { row = old.row; column = old.column; owed = old.owed })))
+      rw e (subst (IsAccountOf (with_cash (net_of all ds) i cash) i) same (record { row = old.row; row_keys = old.row_keys; column = old.column; column_keys = old.column_keys; owed = old.owed })))
       (λ (ne : k ≡ i → ⊥).
       let old = kept k c (sym (slice_get-set_other all i k (of_account_cash cash u) ne) ∙ here) in
-      record { row = old.row; column = old.column; owed = old.owed })
+      record { row = old.row; row_keys = old.row_keys; column = old.column; column_keys = old.column_keys; owed = old.owed })
       (cases_eq k i)
 
   pub cash_within : (names : List (List ℕ)) (total money senior : ℕ) → AreKept all ds names total money senior → u.bank.cash ≤ money

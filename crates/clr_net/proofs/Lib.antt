@@ -18,5 +18,6 @@ pub mod CashSet
 pub mod AccountReads
 pub mod BankNames
 pub mod OfKind
+pub mod Keys
 pub mod NameTests
 pub mod LowerClaims

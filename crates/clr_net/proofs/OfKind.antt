@@ -91,12 +91,6 @@ module _ (net : Net) (debtor creditor class : ℕ) where
       (sym (number_at ids (numbers ids) k i refl l).1)
       ∙ ap (λ o. option_map_or (is_debt_of debtor creditor class) o false) at ∙ sym e
 
-  -- a debt of the list that passes settles the answer
-  pub one_passes : (ids : List DebtId) (k : ℕ) → k < length ids
-      → is_of_kind net debtor creditor class (get_or (numbers ids) k 0) ≡ true
-      → list_any (is_of_kind net debtor creditor class) (numbers ids) ≡ true
-  one_passes ids k l e = list_any_at (is_of_kind net debtor creditor class) (numbers ids) k 0 (omega (arith, length-map ids (λ id. id.0))) e
-
   -- one more that does not pass
   pub none_yet : (ids : List DebtId) (k : ℕ) → k < length ids
       → is_of_kind net debtor creditor class (get_or (numbers ids) k 0) ≡ false

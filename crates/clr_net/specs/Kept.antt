@@ -1,6 +1,7 @@
 -- How the type `Network` keeps its banks and debts: the accounts of the banks, the index of names,
 -- and the totals.
 use Rattle.std.specs.Prelude.{◌≡◌, ◌≢◌, ℕ, ◌<◌, List, length, map, sum, slice_get, Some}
+use Rattle.clr_net.specs.Keys.{row_keys, column_keys}
 use Rattle.clr_net.specs.Limits.{IsNetwork}
 use Rattle.clr_net.specs.Net.{Net, name_of, numbers, row, column}
 use Rattle.clr_net.specs.Net.{claims_of, units_owed, all_cash, all_outside}
@@ -22,8 +23,10 @@ HaveOwnNames net = (i j : ℕ) → i < length net.banks → j < i → name_of ne
 
 -- what the account of the bank i holds beside the bank
 pub record IsAccountOf (net : Net) (i : ℕ) (c : Account) : Type 0 where
-  pub row : numbers c.row.items ≡ row net i
-  pub column : numbers c.column.items ≡ column net i
+  pub row : numbers c.row.ids.items ≡ row net i
+  pub row_keys : c.row.keys.items ≡ row_keys net i
+  pub column : numbers c.column.ids.items ≡ column net i
+  pub column_keys : c.column.keys.items ≡ column_keys net i
   pub owed : c.owed ≡ sum (claims_of net i)
 
 -- accounts, debts, names and totals that make one network

@@ -6,6 +6,7 @@ pub mod Claims
 pub mod Division
 pub mod Cases
 pub mod Samples
+pub mod Keys
 pub mod Accounts
 pub mod Kept
 pub mod AmountsLent

@@ -1,22 +1,21 @@
 ghost use Rattle.clr_net.specs.declared.account.Account.{Account};
-ghost use Rattle.clr_net.specs.Accounts.{shown, owing, owed_one_more, entered, HasRowRoom, HasColumnRoom, HaveRoom};
-ghost use Rattle.std.specs.Prelude.{◌≡◌, ◌≢◌, ◌+◌, ◌<◌, ◌^◌, map, slice_get};
-ghost use Rattle.std.specs.Prelude.{vec_len, vec_capacity, IfOk, OnOk, Some};
+ghost use Rattle.clr_net.specs.declared.TheConstants.{MAX_BANKS};
+ghost use Rattle.clr_net.specs.Accounts.{shown, owing, owed_one_more, entered, HasRoom, HaveRoom};
+ghost use Rattle.std.specs.Prelude.{◌≡◌, ◌≢◌, ◌+◌, ◌<◌, ◌≤◌, ◌^◌, map, slice_get};
+ghost use Rattle.std.specs.Prelude.{vec_len, IfOk, OnOk, Some};
 
 use crate::Mem;
 use crate::bank::Bank;
-use crate::debt::{BankId, DebtId};
+use crate::debt::{BankId, Debt, DebtId};
+use crate::debt_list::{DebtList, key_of};
 use std::alloc::Global;
-
-// How many debts a list of debts gets room for at once, when it gets its first.
-const FIRST_ROOM: usize = 32;
 
 /// A bank with the debts that it owes, those that are owed to it, and how many units it owes.
 #[derive(Drop)]
 pub struct Account {
     pub bank: Bank,
-    pub row: Vec<DebtId>,
-    pub column: Vec<DebtId>,
+    pub row: DebtList,
+    pub column: DebtList,
     pub owed: u64,
 }
 
@@ -27,8 +26,8 @@ impl Account {
     {
         Ok(Account {
             bank: self.bank.copy(alloc)?,
-            row: Vec::from_slice(alloc, self.row.as_slice())?,
-            column: Vec::from_slice(alloc, self.column.as_slice())?,
+            row: self.row.copy(alloc)?,
+            column: self.column.copy(alloc)?,
             owed: self.owed,
         })
     }
@@ -36,44 +35,36 @@ impl Account {
     // Room for one more debt that the bank owes.
     fn reserve_row(&mut self) -> Result<(), Mem>
         ensures shown { shown self.new ≡ shown self.old }
-        ensures ok { OnOk result (HasRowRoom self.new) }
+        ensures ok { OnOk result (HasRoom self.new.row) }
     {
-        reserve_one(&mut self.row)
+        self.row.reserve_one()
     }
 
     // Room for one more debt that is owed to the bank.
     fn reserve_column(&mut self) -> Result<(), Mem>
         ensures shown { shown self.new ≡ shown self.old }
-        ensures ok { OnOk result (HasColumnRoom self.new) }
+        ensures ok { OnOk result (HasRoom self.new.column) }
     {
-        reserve_one(&mut self.column)
+        self.column.reserve_one()
     }
 
-    fn owe(&mut self, id: DebtId, claim: u64)
-        requires room { HasRowRoom self.old }
-        requires fits { self.old.owed + claim < 2 ^ 64 }
-        ensures shown { shown self.new ≡ owing id.0 claim (shown self.old) }
+    fn owe(&mut self, id: DebtId, debt: Debt)
+        requires room { HasRoom self.old.row }
+        requires bank { debt.creditor.0 < MAX_BANKS }
+        requires fits { self.old.owed + debt.claim < 2 ^ 64 }
+        ensures { shown self.new ≡ owing id.0 debt (shown self.old) }
     {
-        self.row.push_reserved(id);
-        self.owed += claim;
+        self.row.add(id, key_of(debt.creditor, debt.class));
+        self.owed += debt.claim;
     }
 
-    fn be_owed(&mut self, id: DebtId)
-        requires { HasColumnRoom self.old }
-        ensures { shown self.new ≡ owed_one_more id.0 (shown self.old) }
+    fn be_owed(&mut self, id: DebtId, debt: Debt)
+        requires room { HasRoom self.old.column }
+        requires bank { debt.debtor.0 < MAX_BANKS }
+        ensures { shown self.new ≡ owed_one_more id.0 debt (shown self.old) }
     {
-        self.column.push_reserved(id);
+        self.column.add(id, key_of(debt.debtor, debt.class));
     }
-}
-
-// Room for one more debt in a list: for many at once where it is empty, since most lists get more.
-fn reserve_one(ids: &mut Vec<DebtId>) -> Result<(), Mem>
-    ensures same { ids.new.items ≡ ids.old.items }
-    ensures ok { OnOk result (vec_len ids.new < vec_capacity ids.new) }
-{
-    let more = if ids.is_empty() { FIRST_ROOM } else { 1 };
-    ids.reserve(more)?;
-    Ok(())
 }
 
 /// Room in the accounts of a debtor and a creditor for one more debt. `Mem` for want of memory
@@ -90,16 +81,16 @@ pub fn make_room(accounts: &mut Vec<Account>, debtor: BankId, creditor: BankId) 
 }
 
 /// Enters a debt into the accounts of its debtor and its creditor, which have room for it.
-pub fn enter(accounts: &mut Vec<Account>, debtor: BankId, creditor: BankId, id: DebtId, claim: u64)
-    requires debtor { debtor.0 < vec_len accounts.old }
-    requires creditor { creditor.0 < vec_len accounts.old }
-    requires two { debtor.0 ≢ creditor.0 }
-    requires room { HaveRoom accounts.old.items debtor.0 creditor.0 }
-    requires fits { (c : Account) → slice_get accounts.old.items debtor.0 ≡ Some c
-        → c.owed + claim < 2 ^ 64 }
-    ensures { map shown accounts.new.items
-        ≡ entered (map shown accounts.old.items) debtor.0 creditor.0 id.0 claim }
+pub fn enter(accounts: &mut Vec<Account>, id: DebtId, debt: Debt)
+    requires few { vec_len accounts.old ≤ MAX_BANKS }
+    requires debtor { debt.debtor.0 < vec_len accounts.old }
+    requires creditor { debt.creditor.0 < vec_len accounts.old }
+    requires two { debt.debtor.0 ≢ debt.creditor.0 }
+    requires room { HaveRoom accounts.old.items debt.debtor.0 debt.creditor.0 }
+    requires fits { (c : Account) → slice_get accounts.old.items debt.debtor.0 ≡ Some c
+        → c.owed + debt.claim < 2 ^ 64 }
+    ensures { map shown accounts.new.items ≡ entered (map shown accounts.old.items) id.0 debt }
 {
-    accounts[debtor.0 as usize].owe(id, claim);
-    accounts[creditor.0 as usize].be_owed(id);
+    accounts[debt.debtor.0 as usize].owe(id, debt);
+    accounts[debt.creditor.0 as usize].be_owed(id, debt);
 }

@@ -11,6 +11,7 @@ mod amounts;
 mod bank;
 mod copying;
 mod debt;
+mod debt_list;
 pub mod laws;
 mod name;
 mod network;

@@ -1,18 +1,19 @@
 ghost use Rattle.clr_net.specs.Name.{is_name};
 ghost use Rattle.clr_net.specs.Limits.{IsNetwork, IsNewDebt, IsNewName, IsNewKind, IsOfKind};
 ghost use Rattle.clr_net.specs.Net.{empty_net, with_bank, with_cash, with_debt, name_of, numbers, row as row_of, column as column_of, claims_of};
-ghost use Rattle.clr_net.specs.Net.{units_owed, all_cash, all_outside, has_name, is_debt_of, is_of_kind};
+ghost use Rattle.clr_net.specs.Net.{units_owed, all_cash, all_outside, has_name, is_debt_of};
 ghost use Rattle.clr_net.specs.declared.TheConstants.{MAX_BANKS, MAX_CASH, MAX_OUTSIDE};
 ghost use Rattle.std.specs.List.{list_any};
 ghost use Rattle.std.specs.Bool.{OnFalse};
 ghost use Rattle.std.specs.Option.{option_map};
-ghost use Rattle.std.specs.Prelude.{◌≡◌, ◌<◌, ◌≤◌, ◌↔◌, Some, All, length, position, slice_get, sum, IfOk, IfErr, OnOk, OnErr, IfSome, IsNone, IsTrue};
+ghost use Rattle.std.specs.Prelude.{◌≡◌, ◌<◌, ◌≤◌, ◌↔◌, Some, length, position, slice_get, sum, IfOk, IfErr, OnOk, OnErr, IfSome, IsNone, IsTrue};
 
 use crate::Mem;
 use crate::account::{Account, enter, make_room};
 use crate::bank::Bank;
 use crate::copying::{copies, index_of};
 use crate::debt::{BankId, Debt, DebtId};
+use crate::debt_list::{DebtList, key_of};
 use indexmap::IndexSet;
 use std::alloc::Global;
 use std::marker::Model;
@@ -86,8 +87,8 @@ impl Network {
         self.outside += bank.outside;
         self.accounts.push_reserved(Account {
             bank,
-            row: Vec::new(alloc),
-            column: Vec::new(alloc),
+            row: DebtList::new(alloc),
+            column: DebtList::new(alloc),
             owed: 0,
         });
         Ok(id)
@@ -103,13 +104,7 @@ impl Network {
         make_room(&mut self.accounts, debt.debtor, debt.creditor)?;
         let id = DebtId(self.debts.len() as u32);
         self.debts.push(debt)?;
-        enter(
-            &mut self.accounts,
-            debt.debtor,
-            debt.creditor,
-            id,
-            debt.claim,
-        );
+        enter(&mut self.accounts, id, debt);
         self.owed += debt.claim;
         Ok(id)
     }
@@ -177,7 +172,7 @@ impl Network {
         requires { bank.0 < length self.now.banks }
         ensures { numbers result.now ≡ row_of self.now bank.0 }
     {
-        self.accounts[bank.0 as usize].row.as_slice()
+        self.accounts[bank.0 as usize].row.ids.as_slice()
     }
 
     /// The debts that are owed to a bank, in file order.
@@ -185,7 +180,7 @@ impl Network {
         requires { bank.0 < length self.now.banks }
         ensures { numbers result.now ≡ column_of self.now bank.0 }
     {
-        self.accounts[bank.0 as usize].column.as_slice()
+        self.accounts[bank.0 as usize].column.ids.as_slice()
     }
 
     /// All units owed.
@@ -233,33 +228,20 @@ impl Network {
     }
 
     /// Whether there is a debt of this debtor, creditor and class. Costs a walk of the debtor's row
-    /// or of the creditor's column, whichever is shorter.
+    /// or of the creditor's column, whichever is shorter, which reads one number of four bytes a
+    /// debt, one after the other.
     pub fn has_debt(&self, debtor: BankId, creditor: BankId, class: u8) -> bool
         requires debtor { debtor.0 < length self.now.banks }
         requires creditor { creditor.0 < length self.now.banks }
         ensures any { result ≡ list_any (is_debt_of debtor.0 creditor.0 class) self.now.debts }
         ensures none { OnFalse result (IsNewKind self.now debtor.0 creditor.0 class) }
     {
-        let row = self.row(debtor);
-        let column = self.column(creditor);
+        let row = &self.accounts[debtor.0 as usize].row;
+        let column = &self.accounts[creditor.0 as usize].column;
         if row.len() <= column.len() {
-            self.is_one_of_kind(row, debtor, creditor, class)
+            row.has_key(key_of(creditor, class))
         } else {
-            self.is_one_of_kind(column, debtor, creditor, class)
+            column.has_key(key_of(debtor, class))
         }
-    }
-
-    // Whether one of some debts is of this debtor, creditor and class.
-    fn is_one_of_kind(&self, ids: &[DebtId], debtor: BankId, creditor: BankId, class: u8) -> bool
-        requires { All (λ x. x < length self.now.debts) (numbers ids.now) }
-        ensures { result
-            ≡ list_any (is_of_kind self.now debtor.0 creditor.0 class) (numbers ids.now) }
-    {
-        for id in ids {
-            if self.debt(*id).is_of(debtor, creditor, class) {
-                return true;
-            }
-        }
-        false
     }
 }

@@ -3,7 +3,7 @@ use Rattle.std.proofs.Common.{◌≡◌, ◌≢◌, ℕ, ◌<◌, List, slice_ge
 use Rattle.std.proofs.lemmas.List.{length-set}
 use Rattle.std.proofs.lemmas.Option.{slice_get_read}
 use Rattle.std.proofs.lemmas.Result.{on_ok_weaker}
-use Rattle.clr_net.specs.Accounts.{shown, HasRowRoom, HasColumnRoom, HaveRoom}
+use Rattle.clr_net.specs.Accounts.{shown, HasRoom, HaveRoom}
 use Rattle.clr_net.specs.declared.account.Account.{Account}
 use Rattle.clr_net.proofs.ChangedAt.{map-set_alike, slice_get-set_other, slice_get-set_same}
 use Rattle.clr_net.proofs.account.make_room.Goals as goal
@@ -29,18 +29,18 @@ returns-clause-shown c =
 
 -- two writes, of an account with room in its row and of one with room in its column
 have_room : (all : List Account) (d e : ℕ) (r q : Account) → d ≢ e → d < length all → e < length all
-    → HasRowRoom r → HasColumnRoom q → HaveRoom (set (set all d r) e q) d e
+    → HasRoom r.row → HasRoom q.column → HaveRoom (set (set all d r) e q) d e
 have_room all d e r q two ld le row column = record {
   row = λ c at.
       let at_d : slice_get (set (set all d r) e q) d ≡ Some r =
       slice_get-set_other (set all d r) e d q two ∙ slice_get-set_same all d r ld in
       let same : r ≡ c = cc in
-      subst HasRowRoom same row;
+      subst (λ c. HasRoom c.row) same row;
   column = λ c at.
       let at_e : slice_get (set (set all d r) e q) e ≡ Some q =
       slice_get-set_same (set all d r) e q (omega (arith, length-set all d r, le)) in
       let same : q ≡ c = cc in
-      subst HasColumnRoom same column;
+      subst (λ c. HasRoom c.column) same column;
 }
 
 pub returns-clause-ok : goal.returns-clause-ok

@@ -38,4 +38,4 @@ invariant_of-self-2 c =
     let grown = names_grow net c.self.inside.names.keys c.in-Ok.name c.self.invariant.names (subst (IsNewName net) (sym name) new_name) in
     let names = ap (map (λ k. k.items)) c.in-Ok-insert.ensures.keys ∙ grown ∙ ap (λ n. map (λ k. k.items) c.self.inside.names.keys ++ n ∷ []) name in
     rw (c.push_reserved.ensures.items, c.reserve.ensures.items, names)
-    (AreKept-with_bank _ _ _ _ _ _ _ new c.new.ensures.items c.new-2.ensures.items refl c.self.invariant)
+    (AreKept-with_bank _ _ _ _ _ _ _ new (record { ids = c.new.ensures.ids; keys = c.new.ensures.keys }) (record { ids = c.new-2.ensures.ids; keys = c.new-2.ensures.keys }) refl c.self.invariant)

@@ -40,12 +40,12 @@ enter-requires-clause-fits c x at =
 -- what the accounts show at last
 shows_debt : (all roomy last : List Account) (ds : List Debt) (d : Debt) (n : ℕ)
     → map shown roomy ≡ map shown all → n ≡ length ds
-    → map shown last ≡ entered (map shown roomy) d.debtor.0 d.creditor.0 n d.claim
-    → map shown last ≡ entered (map shown all) d.debtor.0 d.creditor.0 (length ds) d.claim
+    → map shown last ≡ entered (map shown roomy) n d
+    → map shown last ≡ entered (map shown all) (length ds) d
 shows_debt all roomy last ds d n alike at shows =
     shows
-    ∙ ap (λ xs. entered xs d.debtor.0 d.creditor.0 n d.claim) alike
-    ∙ ap (λ n. entered (map shown all) d.debtor.0 d.creditor.0 n d.claim) at
+    ∙ ap (λ xs. entered xs n d) alike
+    ∙ ap (λ n. entered (map shown all) n d) at
 
 pub invariant_of-self-2 : goal.invariant_of-self-2
 invariant_of-self-2 c =

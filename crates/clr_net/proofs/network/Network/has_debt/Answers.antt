@@ -1,35 +1,32 @@
-use Rattle.std.proofs.Common.{◌<◌, All, length, sym, ap, ◌∙◌, subst}
+-- The keys of the shorter list tell, and so whether the kind is new.
+use Rattle.std.proofs.Common.{◌==◌, ap₂, ◌∙◌, subst, arith}
 use Rattle.std.specs.List.{list_any}
-use Rattle.clr_net.specs.Net.{is_of_kind}
-use Rattle.clr_net.proofs.OfKind.{row_tells, column_tells, new_kind}
-use Rattle.clr_net.proofs.RowsAndColumns.{row_in_range, column_in_range}
+use Rattle.clr_net.specs.Limits.{IsNetwork}
+use Rattle.clr_net.proofs.AccountReads.{account_at}
+use Rattle.clr_net.proofs.Keys.{row_keys_tell, column_keys_tell}
+use Rattle.clr_net.proofs.OfKind.{new_kind}
 use Rattle.clr_net.proofs.network.Network.has_debt.Goals as goal
 
-pub is_one_of_kind-requires : goal.is_one_of_kind-requires
-is_one_of_kind-requires c =
-    subst (All (λ x. x < length c.args.self.now.debts)) (sym c.row-row.ensures) (row_in_range c.args.self.now c.args.debtor.0)
+pub returns-then-len-clause-any : goal.returns-then-len-clause-any
+returns-then-len-clause-any c =
+    let network = subst IsNetwork c.self.view_is c.self.invariant.network in
+    let account = account_at c.self.inside c.args.self.now c.self.view_is c.self.invariant c.args.debtor.0 c.index.result.now c.requires.debtor c.index.ensures in
+    c.has_key.ensures
+    ∙ ap₂ (λ sought ks. list_any (λ k. k == sought) ks) c.key_of.ensures account.row_keys
+    ∙ row_keys_tell c.args.self.now network c.args.debtor.0 c.args.creditor.0 c.args.class (omega arith)
 
-pub is_one_of_kind-requires-else-row-column : goal.is_one_of_kind-requires-else-row-column
-is_one_of_kind-requires-else-row-column c =
-    subst (All (λ x. x < length c.args.self.now.debts)) (sym c.column-column.ensures)
-    (column_in_range c.args.self.now c.args.creditor.0)
+pub returns-then-len-clause-none : goal.returns-then-len-clause-none
+returns-then-len-clause-none c =
+    new_kind c.args.self.now c.args.debtor.0 c.args.creditor.0 c.args.class _ (returns-then-len-clause-any c)
 
-pub returns-then-row-column-clause-any : goal.returns-then-row-column-clause-any
-returns-then-row-column-clause-any c =
-    c.is_one_of_kind.ensures
-    ∙ ap (list_any (is_of_kind c.args.self.now c.args.debtor.0 c.args.creditor.0 c.args.class)) c.row-row.ensures
-    ∙ row_tells c.args.self.now c.args.debtor.0 c.args.creditor.0 c.args.class
+pub returns-else-len-clause-any : goal.returns-else-len-clause-any
+returns-else-len-clause-any c =
+    let network = subst IsNetwork c.self.view_is c.self.invariant.network in
+    let account = account_at c.self.inside c.args.self.now c.self.view_is c.self.invariant c.args.creditor.0 c.index-2.result.now c.requires.creditor c.index-2.ensures in
+    c.has_key-else-len.ensures
+    ∙ ap₂ (λ sought ks. list_any (λ k. k == sought) ks) c.key_of-else-len.ensures account.column_keys
+    ∙ column_keys_tell c.args.self.now network c.args.debtor.0 c.args.creditor.0 c.args.class (omega arith)
 
-pub returns-then-row-column-clause-none : goal.returns-then-row-column-clause-none
-returns-then-row-column-clause-none c =
-    new_kind c.args.self.now c.args.debtor.0 c.args.creditor.0 c.args.class _ (returns-then-row-column-clause-any c)
-
-pub returns-else-row-column-clause-any : goal.returns-else-row-column-clause-any
-returns-else-row-column-clause-any c =
-    c.is_one_of_kind-else-row-column.ensures
-    ∙ ap (list_any (is_of_kind c.args.self.now c.args.debtor.0 c.args.creditor.0 c.args.class)) c.column-column.ensures
-    ∙ column_tells c.args.self.now c.args.debtor.0 c.args.creditor.0 c.args.class
-
-pub returns-else-row-column-clause-none : goal.returns-else-row-column-clause-none
-returns-else-row-column-clause-none c =
-    new_kind c.args.self.now c.args.debtor.0 c.args.creditor.0 c.args.class _ (returns-else-row-column-clause-any c)
+pub returns-else-len-clause-none : goal.returns-else-len-clause-none
+returns-else-len-clause-none c =
+    new_kind c.args.self.now c.args.debtor.0 c.args.creditor.0 c.args.class _ (returns-else-len-clause-any c)

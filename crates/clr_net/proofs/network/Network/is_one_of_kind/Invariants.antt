@@ -1,8 +1,0 @@
-use Rattle.std.proofs.Common.{◌≡◌, false, take}
-use Rattle.std.specs.List.{list_any}
-use Rattle.clr_net.specs.Net.{numbers, is_of_kind}
-use Rattle.clr_net.proofs.network.Network.is_one_of_kind.Given as goal
-
-abbrev pub invariant-loop-id : goal.invariant-loop-id
-invariant-loop-id l =
-    list_any (is_of_kind l.self l.fn.debtor.0 l.fn.creditor.0 l.fn.class) (take l.id-index (numbers l.ids)) ≡ false
