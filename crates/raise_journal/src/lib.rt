@@ -11,7 +11,7 @@ mod reading;
 mod replaying;
 mod verdict;
 
-pub use gathering::{gather, in_order};
+pub use gathering::{gather, in_order, merge_in};
 pub use printing::{journal_head, print_journal, print_raises};
 pub use reading::read_journal;
 pub use replaying::{replay, replay_with};

@@ -4,7 +4,9 @@ use clear_core::{Journal, Raise, Scratch};
 use clr_net::{Amounts, BankId, DebtId, Mem, Network};
 use net_check::{Fault, FaultKind, FileKind, ReadNet};
 use net_samples::chain;
-use raise_journal::{Verdict, gather, in_order, print_journal, read_journal, replay, replay_with};
+use raise_journal::{
+    Verdict, gather, in_order, merge_in, print_journal, read_journal, replay, replay_with,
+};
 use std::alloc::Global;
 use std::test::Fail;
 
@@ -183,6 +185,128 @@ fn a_journal_is_put_in_order(rt: HostRuntime) -> Result<(), Fail> {
     let raises = [(2, 0, 7), (1, 1, 3), (2, 0, 6), (1, 0, 9)];
     let rows = [(1, 0, 9), (1, 1, 3), (2, 0, 6), (2, 0, 7)];
     assert!(rt; is_put_in_order(rt.alloc(), &raises, &rows)?);
+    Ok(())
+}
+
+// Whether the raises of two journals are the same.
+fn are_same(one: &Journal, other: &Journal) -> bool {
+    let (one, other) = (one.as_slice(), other.as_slice());
+    one.len() == other.len()
+        && one.iter().zip(other).all(|(raise, same)| is(raise, &(same.stamp, same.debt.0, same.to)))
+}
+
+// The journal with a run of these raises merged into those from a place on.
+fn with_run(alloc: Global, mut journal: Journal, from: usize, run: &[Row]) -> Result<Journal, Mem> {
+    let run = journal_of(alloc, run)?;
+    if from > journal.as_slice().len() {
+        return Err(Mem);
+    }
+    merge_in(alloc, &mut journal, from, run.as_slice())?;
+    Ok(journal)
+}
+
+// Whether runs, merged one after the other behind the first, stand as these rows, and come in order
+// as they do when they stand one after the other.
+fn are_merged(alloc: Global, runs: &[&[Row]; 4], rows: &[Row]) -> Result<bool, Mem> {
+    let from = runs[0].len();
+    let mut journal = Journal::empty(alloc);
+    let mut whole = Vec::new(alloc);
+    for run in runs {
+        let place = if journal.as_slice().is_empty() {
+            0
+        } else {
+            from
+        };
+        journal = with_run(alloc, journal, place, run)?;
+        whole.extend_from_slice(run)?;
+    }
+    let whole = in_order(journal_of(alloc, whole.as_slice())?)?;
+    let merged = are(&journal, rows);
+    Ok(merged && are_same(&in_order(journal)?, &whole))
+}
+
+// Runs, and how they stand once each is merged behind the first.
+const MERGED: [([&[Row]; 4], &[Row]); 6] = [
+    ([&[], &[], &[], &[]], &[]),
+    (
+        [
+            &[(1, 0, 7)],
+            &[(3, 1, 2), (5, 0, 9)],
+            &[],
+            &[(2, 2, 4), (3, 0, 1), (6, 1, 3)],
+        ],
+        &[
+            (1, 0, 7),
+            (2, 2, 4),
+            (3, 0, 1),
+            (3, 1, 2),
+            (5, 0, 9),
+            (6, 1, 3),
+        ],
+    ),
+    // A run wholly below, and one wholly above.
+    (
+        [
+            &[],
+            &[(4, 0, 1), (4, 1, 1)],
+            &[(2, 0, 1), (3, 0, 2)],
+            &[(5, 0, 3), (6, 0, 4)],
+        ],
+        &[
+            (2, 0, 1),
+            (3, 0, 2),
+            (4, 0, 1),
+            (4, 1, 1),
+            (5, 0, 3),
+            (6, 0, 4),
+        ],
+    ),
+    // Ties of stamp, of debt, and of all three.
+    (
+        [
+            &[],
+            &[(2, 0, 5), (2, 1, 1)],
+            &[(2, 0, 5), (2, 0, 6)],
+            &[(2, 0, 4), (2, 1, 1)],
+        ],
+        &[
+            (2, 0, 4),
+            (2, 0, 5),
+            (2, 0, 5),
+            (2, 0, 6),
+            (2, 1, 1),
+            (2, 1, 1),
+        ],
+    ),
+    // What stands before the place is not merged.
+    (
+        [&[(9, 0, 9)], &[(2, 0, 1)], &[(1, 0, 1)], &[(3, 0, 1)]],
+        &[(9, 0, 9), (1, 0, 1), (2, 0, 1), (3, 0, 1)],
+    ),
+    // One that ends below the other begins, and both ways in one run.
+    (
+        [
+            &[(1, 0, 1)],
+            &[(7, 0, 2)],
+            &[(3, 0, 1), (9, 0, 3)],
+            &[(2, 1, 1), (8, 1, 2)],
+        ],
+        &[
+            (1, 0, 1),
+            (2, 1, 1),
+            (3, 0, 1),
+            (7, 0, 2),
+            (8, 1, 2),
+            (9, 0, 3),
+        ],
+    ),
+];
+
+#[test]
+fn runs_are_merged_behind_what_stands(rt: HostRuntime) -> Result<(), Fail> {
+    for (runs, rows) in &MERGED {
+        assert!(rt; are_merged(rt.alloc(), runs, rows)?);
+    }
     Ok(())
 }
 

@@ -1,0 +1,266 @@
+-- Raises that are merged are the same raises, and in order they are the same list.
+use Rattle.std.proofs.Common.{◌≡◌, ◌⊎◌, ℕ, zero, suc, ◌+◌, ◌-◌, ◌<◌, ◌≤◌, not, Bool, true, false, cond, List, [], ◌∷◌, ◌++◌, length, length-append, length-drop, get_or, set, take, drop, refl, sym, ap, ◌∙◌, subst, ⊎_elim, arith, add-one, append_assoc}
+use Rattle.std.proofs.lemmas.List.{append-nil, drop-set, drop_all, drop_at, length-set, take-append-drop, take-set-le, take_all, take_at, take_more}
+use Rattle.std.specs.List.Sorted.{IsPermutation}
+use Rattle.std.proofs.lemmas.List.Sorted.{IsPermutation-refl, IsPermutation-cons, IsPermutation-middle, IsPermutation-append, IsPermutation-append_left, IsPermutation-append_right, IsPermutation-sym, IsPermutation-trans, length_permutation}
+use Rattle.std.proofs.lemmas.Bool.{not-false, not-true}
+use Rattle.clear_core.specs.declared.event.Raise.{Raise}
+use Rattle.clear_core.specs.History.{may_precede, with_raise, ordered}
+use Rattle.clear_core.proofs.Ordered.{InTurn, follows, in_turn}
+use Rattle.clear_core.proofs.OneOrder.{only_order}
+use Rattle.raise_journal.specs.Gathered.{AreInOrder, HasGrownBy, HasMerged}
+
+-- raises in turn, by their places
+turn_at : (rs : List Raise) → InTurn rs → (k : ℕ) (d : Raise) → suc k < length rs → may_precede (get_or rs k d) (get_or rs (suc k) d) ≡ true
+unfolding InTurn
+turn_at [] h k d l = absurd (omega arith)
+turn_at (r ∷ []) h k d l = absurd (omega arith)
+turn_at (r ∷ q ∷ rs) h zero d l = h.0
+turn_at (r ∷ q ∷ rs) h (suc k) d l = turn_at (q ∷ rs) h.1 k d (omega arith)
+
+next_at : (rs : List Raise) → InTurn rs → (k : ℕ) (d : Raise) → k + 1 < length rs → may_precede (get_or rs k d) (get_or rs (k + 1) d) ≡ true
+next_at rs h k d l = subst (λ n. may_precede (get_or rs k d) (get_or rs n d) ≡ true) (sym (add-one k)) (turn_at rs h k d (omega arith))
+
+-- raises in turn up to a place, and from a place on
+turn_front : (xs ys : List Raise) → InTurn (xs ++ ys) → InTurn xs
+unfolding InTurn
+turn_front [] ys h = tt
+turn_front (x ∷ []) ys h = (tt, tt)
+turn_front (x ∷ q ∷ xs) ys h = (h.0, turn_front (q ∷ xs) ys h.1)
+
+turn_back : (xs ys : List Raise) → InTurn (xs ++ ys) → InTurn ys
+unfolding InTurn
+turn_back [] ys h = h
+turn_back (x ∷ xs) ys h = turn_back xs ys h.1
+
+-- raises in turn before others in turn, where the last may precede the first
+turn_joined : (xs : List Raise) (x y : Raise) (ys : List Raise) → InTurn (xs ++ x ∷ []) → may_precede x y ≡ true → InTurn (y ∷ ys) → InTurn (xs ++ x ∷ y ∷ ys)
+unfolding InTurn
+turn_joined [] x y ys h e g = (e, g)
+turn_joined (a ∷ []) x y ys h e g = (h.0, (e, g))
+turn_joined (a ∷ b ∷ xs) x y ys h e g = (h.0, turn_joined (b ∷ xs) x y ys h.1 e g)
+
+-- a raise put in its place, and raises put in order, are the same raises
+put_moves : (r : Raise) (rs : List Raise) → IsPermutation (r ∷ rs) (with_raise r rs)
+put_moves r [] = IsPermutation-refl (r ∷ [])
+put_moves r (q ∷ rs) = by_test (may_precede r q) (put_moves r rs)
+  where
+    by_test : (b : Bool) → IsPermutation (r ∷ rs) (with_raise r rs) → IsPermutation (r ∷ q ∷ rs) (cond b (r ∷ q ∷ rs) (q ∷ with_raise r rs))
+    by_test true h = IsPermutation-refl (r ∷ q ∷ rs)
+    by_test false h = IsPermutation-trans (r ∷ q ∷ rs) (q ∷ r ∷ rs) (q ∷ with_raise r rs) (IsPermutation-middle (r ∷ []) q rs) (IsPermutation-cons q (r ∷ rs) (with_raise r rs) h)
+
+ordered_moves : (rs : List Raise) → IsPermutation rs (ordered rs)
+ordered_moves [] = IsPermutation-refl []
+ordered_moves (r ∷ rs) = IsPermutation-trans (r ∷ rs) (r ∷ ordered rs) (with_raise r (ordered rs)) (IsPermutation-cons r rs (ordered rs) (ordered_moves rs)) (put_moves r (ordered rs))
+
+-- the same raises have one order
+pub ordered_permuted : (rs qs : List Raise) → IsPermutation rs qs → ordered qs ≡ ordered rs
+ordered_permuted rs qs moved =
+    only_order rs (ordered qs) (IsPermutation-trans rs qs (ordered qs) moved (ordered_moves qs))
+    (next_at (ordered qs) (in_turn qs))
+
+-- so it is after others
+pub ordered_moved : (xs rs qs : List Raise) → IsPermutation rs qs → ordered (xs ++ qs) ≡ ordered (xs ++ rs)
+ordered_moved xs rs qs moved = ordered_permuted (xs ++ rs) (xs ++ qs) (IsPermutation-append_right xs rs qs moved)
+
+-- a list that has grown by raises has in order what it has with them at its end
+pub grown_ordered : (old new rs : List Raise) → HasGrownBy old new rs → ordered new ≡ ordered (old ++ rs)
+grown_ordered old new rs h = ap ordered h.is ∙ ordered_moved old rs h.added h.moved
+
+pub grown_longer : (old new rs : List Raise) → HasGrownBy old new rs → length new ≡ length old + length rs
+grown_longer old new rs h = omega (arith, ap length h.is, length-append old h.added, length_permutation rs h.added h.moved)
+
+-- it grows by none, by raises at its end, and by more and more raises
+pub grown_none : (old : List Raise) → HasGrownBy old old []
+grown_none old = record { added = []; is = sym (append-nil old); moved = IsPermutation-refl [] }
+
+pub grown_at_end : (old rs : List Raise) → HasGrownBy old (old ++ rs) rs
+grown_at_end old rs = record { added = rs; is = refl; moved = IsPermutation-refl rs }
+
+pub grown_then : (old mid new rs more : List Raise) → HasGrownBy old mid rs → HasGrownBy mid new more → HasGrownBy old new (rs ++ more)
+grown_then old mid new rs more h g = record {
+  added = h.added ++ g.added;
+  is = g.is ∙ ap (λ xs. xs ++ g.added) h.is ∙ append_assoc old h.added g.added;
+  moved = IsPermutation-append rs h.added more g.added h.moved g.moved;
+}
+
+-- raises merged into what it has grown by so far
+pub grown_merged : (old mid new rs more : List Raise) → HasGrownBy old mid rs → HasMerged mid new (length old) more → HasGrownBy old new (rs ++ more)
+grown_merged old mid new rs more h g =
+    let front : take (length old) mid ≡ old = ap (take (length old)) h.is ∙ take_at old h.added (length old) refl in
+    let back : drop (length old) mid ≡ h.added = ap (drop (length old)) h.is ∙ drop_at old h.added (length old) refl in
+    record {
+      added = g.added;
+      is = g.is ∙ ap (λ xs. xs ++ g.added) front;
+      moved = IsPermutation-trans (rs ++ more) (h.added ++ more) g.added (IsPermutation-append_left more rs h.added h.moved)
+          (subst (λ xs. IsPermutation (xs ++ more) g.added) back g.moved);
+    }
+
+-- raises in turn are in order, and the other way
+turn_in_order : (rs : List Raise) → InTurn rs → AreInOrder rs
+turn_in_order rs h = sym (only_order rs rs (IsPermutation-refl rs) (next_at rs h))
+
+in_order_turn : (rs : List Raise) → AreInOrder rs → InTurn rs
+in_order_turn rs h = subst InTurn h (in_turn rs)
+
+-- a list while it is merged: the old raises that stay, the new ones that are left, and what is
+-- merged of both
+pub record AreParted (whole olds news kept left merged : List Raise) : Type 0 where
+  moved : IsPermutation whole (kept ++ (left ++ merged))
+  turn : InTurn olds → InTurn news → InTurn (kept ++ merged) × InTurn (left ++ merged)
+
+module _ {whole olds news : List Raise} where
+  parted_same : (ks ns ms : List Raise) {kept left merged : List Raise} → AreParted whole olds news kept left merged → kept ≡ ks → left ≡ ns → merged ≡ ms
+      → AreParted whole olds news ks ns ms
+  parted_same ks ns ms {kept} {left} {merged} h e f g =
+      subst (λ xs. AreParted whole olds news ks ns xs) g (subst (λ xs. AreParted whole olds news ks xs merged) f (subst (λ xs. AreParted whole olds news xs left merged) e h))
+
+  -- the last old raise goes before what is merged, where the last new one may precede it
+  part_old : (ks ns ms : List Raise) (x y : Raise) → may_precede y x ≡ true → AreParted whole olds news (ks ++ x ∷ []) (ns ++ y ∷ []) ms
+      → AreParted whole olds news ks (ns ++ y ∷ []) (x ∷ ms)
+  part_old ks ns ms x y e h =
+      let left = ns ++ y ∷ [] in
+      record {
+        moved = IsPermutation-trans whole ((ks ++ x ∷ []) ++ (left ++ ms)) (ks ++ (left ++ x ∷ ms)) h.moved
+            (subst (λ xs. IsPermutation xs (ks ++ (left ++ x ∷ ms))) (sym (append_assoc ks (x ∷ []) (left ++ ms)))
+            (IsPermutation-append_right ks (x ∷ (left ++ ms)) (left ++ x ∷ ms) (IsPermutation-sym (left ++ x ∷ ms) (x ∷ (left ++ ms)) (IsPermutation-middle left x ms))));
+        turn = λ o n.
+            let t = h.turn o n in
+            let first : InTurn (ks ++ x ∷ ms) = subst InTurn (append_assoc ks (x ∷ []) ms) t.0 in
+            (first, subst InTurn (sym (append_assoc ns (y ∷ []) (x ∷ ms))) (turn_joined ns y x ms (turn_front left ms t.1) e (turn_back ks (x ∷ ms) first)));
+      }
+
+  -- the last new raise goes there, where no old one stays, or the last of them may precede it
+  part_new : (ks ns ms : List Raise) (y : Raise) → (InTurn ks → InTurn (y ∷ ms) → InTurn (ks ++ y ∷ ms)) → AreParted whole olds news ks (ns ++ y ∷ []) ms
+      → AreParted whole olds news ks ns (y ∷ ms)
+  part_new ks ns ms y joins h = record {
+    moved = subst (λ xs. IsPermutation whole (ks ++ xs)) (append_assoc ns (y ∷ []) ms) h.moved;
+    turn = λ o n.
+        let t = h.turn o n in
+        let second : InTurn (ns ++ y ∷ ms) = subst InTurn (append_assoc ns (y ∷ []) ms) t.1 in
+        (joins (turn_front ks ms t.0) (turn_back ns (y ∷ ms) second), second);
+  }
+
+-- the places of a list while it is merged: so many old raises stay, and so many new ones are left
+pub record IsMerging (first all rs : List Raise) (kept left : ℕ) : Type 0 where
+  pub many : kept + left ≤ length all
+  pub few : left ≤ length rs
+  pub parted : AreParted first (take (length first - length rs) first) rs (take kept all) (take left rs) (drop (kept + left) all)
+
+-- what a read of a list of raises gives past its end
+abbrev pub no_raise : Raise
+no_raise = record { stamp = 0; debt = record { 0 = 0 }; to = 0 }
+
+-- the last old raise that stays may precede this one, where one stays
+abbrev pub IsPlaced : List Raise → ℕ → Raise → Type 0
+IsPlaced all kept y = (k : ℕ) → kept ≡ k + 1 → may_precede (get_or all k no_raise) y ≡ true
+
+pub placed_first : (all : List Raise) (kept : ℕ) (y : Raise) → kept ≤ 0 → IsPlaced all kept y
+placed_first all kept y none k e = absurd (omega arith)
+
+pub placed_after : (all : List Raise) (kept : ℕ) (y : Raise) → may_precede (get_or all (kept - 1) no_raise) y ≡ true → IsPlaced all kept y
+placed_after all kept y h k e =
+    let same : kept - 1 ≡ k = omega arith in
+    subst (λ n. may_precede (get_or all n no_raise) y ≡ true) same h
+
+-- what a look at two raises says
+pub stands_before : (x y : Raise) (b : Bool) → b ≡ not (may_precede x y) → b ≡ false → may_precede x y ≡ true
+stands_before x y b e f = not-false (may_precede x y) (sym e ∙ f)
+
+pub stands_behind : (x y : Raise) (b : Bool) → b ≡ not (may_precede x y) → b ≡ true → may_precede y x ≡ true
+stands_behind x y b e t = follows x y (not-true (may_precede x y) (sym e ∙ t))
+
+placed_joins : (all ms : List Raise) (kept : ℕ) (y : Raise) → kept ≤ length all → IsPlaced all kept y
+    → InTurn (take kept all) → InTurn (y ∷ ms) → InTurn (take kept all ++ y ∷ ms)
+placed_joins all ms zero y l p h g = g
+placed_joins all ms (suc k) y l p h g =
+    let x = get_or all k no_raise in
+    let is : take (suc k) all ≡ take k all ++ x ∷ [] = ap (λ n. take n all) (sym (add-one k)) ∙ take_more all k no_raise (omega arith) in
+    let front : InTurn (take k all ++ x ∷ []) = subst InTurn is h in
+    subst InTurn (sym (ap (λ xs. xs ++ y ∷ ms) is ∙ append_assoc (take k all) (x ∷ []) (y ∷ ms)))
+    (turn_joined (take k all) x y ms front (p k (omega arith)) g)
+
+-- where merging begins
+pub merging_first : (all rs : List Raise) → drop (length all - length rs) all ≡ rs → IsMerging all all rs (length all - length rs) (length rs)
+merging_first all rs e =
+    let kept = length all - length rs in
+    let count : length all - kept ≡ length rs = omega (arith, ap length e, length-drop kept all) in
+    let end : drop (kept + length rs) all ≡ [] = drop_all (kept + length rs) all (omega (arith, count)) in
+    let news : take (length rs) rs ≡ rs = take_all (length rs) rs (omega arith) in
+    record {
+      many = omega (arith, count);
+      few = omega arith;
+      parted = parted_same {whole = all} {olds = take kept all} {news = rs} (take kept all) (take (length rs) rs) (drop (kept + length rs) all)
+          (record {
+            moved = subst (IsPermutation all) (sym (ap (λ xs. take kept all ++ xs) (append-nil rs ∙ sym e) ∙ take-append-drop kept all)) (IsPermutation-refl all);
+            turn = λ o n. (subst InTurn (sym (append-nil (take kept all))) o, subst InTurn (sym (append-nil rs)) n);
+          })
+          refl (sym news) (sym end);
+    }
+
+-- an old raise moves up, and a new one is put in
+pub merging_old : (first all rs : List Raise) (kept left k m j : ℕ) → IsMerging first all rs kept left → kept ≡ k + 1 → left ≡ m + 1 → j ≡ k + left
+    → may_precede (get_or rs m no_raise) (get_or all k no_raise) ≡ true → IsMerging first (set all j (get_or all k no_raise)) rs k left
+merging_old first all rs kept left k m j h e f g t =
+    let x = get_or all k no_raise in
+    let y = get_or rs m no_raise in
+    let many = h.many in
+    let few = h.few in
+    let ends : kept + left ≡ j + 1 = omega arith in
+    let last : take left rs ≡ take m rs ++ y ∷ [] = ap (λ n. take n rs) f ∙ take_more rs m no_raise (omega arith) in
+    record {
+      many = omega (arith, length-set all j x);
+      few = few;
+      parted = parted_same (take k (set all j x)) (take left rs) (drop (k + left) (set all j x))
+          (part_old (take k all) (take m rs) (drop (j + 1) all) x y t
+          (parted_same (take k all ++ x ∷ []) (take m rs ++ y ∷ []) (drop (j + 1) all) h.parted
+          (ap (λ n. take n all) e ∙ take_more all k no_raise (omega arith)) last (ap (λ n. drop n all) ends)))
+          (sym (take-set-le k all j x (omega arith))) (sym last)
+          (sym (drop-set all j x (omega arith)) ∙ ap (λ n. drop n (set all j x)) g);
+    }
+
+pub merging_new : (first all rs : List Raise) (kept left m j : ℕ) → IsMerging first all rs kept left → left ≡ m + 1 → j ≡ kept + m
+    → IsPlaced all kept (get_or rs m no_raise) → IsMerging first (set all j (get_or rs m no_raise)) rs kept m
+merging_new first all rs kept left m j h f g p =
+    let y = get_or rs m no_raise in
+    let many = h.many in
+    let few = h.few in
+    let ends : kept + left ≡ j + 1 = omega arith in
+    record {
+      many = omega (arith, length-set all j y);
+      few = omega arith;
+      parted = parted_same (take kept (set all j y)) (take m rs) (drop (kept + m) (set all j y))
+          (part_new (take kept all) (take m rs) (drop (j + 1) all) y (placed_joins all (drop (j + 1) all) kept y (omega arith) p)
+          (parted_same (take kept all) (take m rs ++ y ∷ []) (drop (j + 1) all) h.parted
+          refl (ap (λ n. take n rs) f ∙ take_more rs m no_raise (omega arith)) (ap (λ n. drop n all) ends)))
+          (sym (take-set-le kept all j y (omega arith))) refl
+          (sym (drop-set all j y (omega arith)) ∙ ap (λ n. drop n (set all j y)) g);
+    }
+
+-- where no new raise is left
+pub merging_last : (first all rs : List Raise) (kept left : ℕ) → IsMerging first all rs kept left → left ≡ 0
+    → IsPermutation first all × (AreInOrder (take (length first - length rs) first) → AreInOrder rs → AreInOrder all)
+merging_last first all rs kept left h e =
+    let olds = take (length first - length rs) first in
+    let ends : kept + left ≡ kept = omega arith in
+    let none : take left rs ≡ [] = ap (λ n. take n rs) e in
+    let parted : AreParted first olds rs (take kept all) [] (drop kept all) = parted_same (take kept all) [] (drop kept all) h.parted refl none (ap (λ n. drop n all) ends) in
+    let whole : take kept all ++ drop kept all ≡ all = take-append-drop kept all in (
+      subst (IsPermutation first) whole parted.moved,
+      λ o n. turn_in_order all (subst InTurn whole (parted.turn (in_order_turn olds o) (in_order_turn rs n)).0),
+    )
+
+-- new raises that may all stand after the old ones are merged where they are
+pub placed_whole : (all rs : List Raise) (kept : ℕ) → kept ≡ length all - length rs → drop kept all ≡ rs
+    → (length rs ≡ 0) ⊎ IsPlaced all kept (get_or rs 0 no_raise) → AreInOrder (take kept all) → AreInOrder rs → AreInOrder all
+placed_whole all rs kept c e p o n =
+    let count : length all - kept ≡ length rs = omega (arith, ap length e, length-drop kept all) in
+    subst AreInOrder (ap (λ xs. take kept all ++ xs) (sym e) ∙ take-append-drop kept all)
+    (turn_in_order (take kept all ++ rs) (by rs refl p (in_order_turn (take kept all) o) (in_order_turn rs n)))
+  where
+    by : (xs : List Raise) → rs ≡ xs → (length xs ≡ 0) ⊎ IsPlaced all kept (get_or xs 0 no_raise) → InTurn (take kept all) → InTurn xs → InTurn (take kept all ++ xs)
+    by [] f q h g = subst InTurn (sym (append-nil (take kept all))) h
+    by (y ∷ ys) f q h g = ⊎_elim
+        (λ (z : suc (length ys) ≡ 0). absurd (omega arith))
+        (λ (q : IsPlaced all kept y). placed_joins all ys kept y (omega arith) q h g)
+        q
