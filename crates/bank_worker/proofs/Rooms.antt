@@ -1,12 +1,9 @@
 -- What a worker is made with.
 use Rattle.std.proofs.Common.{◌≡◌, ℕ, zero, suc, ◌+◌, ◌<◌, ◌≤◌, Bool, true, false, cond, [], ◌∷◌, ◌++◌, length, map, filter, refl, sym, ap, ◌∙◌, arith, append-nil}
-use Rattle.std.specs.Prelude.{slice_get, Some}
 use Rattle.std.specs.List.{range_with_len}
-use Rattle.std.specs.Option.{option_map_or}
 use Rattle.std.proofs.lemmas.List.{map-append}
 use Rattle.std.proofs.lemmas.List.FromFn.{map-range_with_len_more}
 use Rattle.clr_net.specs.Net.{Net, creditor_of}
-use Rattle.clr_net.specs.declared.debt.Debt.{Debt}
 use Rattle.clr_net.proofs.RangeFilters.{filter_range_more}
 use Rattle.bank_desk.specs.Desks.{desk_of}
 use Rattle.pay_words.specs.declared.view.Shown.{Shown}
@@ -33,11 +30,10 @@ desks_without net p n e =
     ∙ ap (λ b. filter p (range_with_len 0 n) ++ cond b (n ∷ []) []) (sym e)
     ∙ sym (filter_next p n))
 
-pub creditors_with : (net : Net) (n : ℕ) (d : Debt) → slice_get net.debts n ≡ Some d
-    → map (creditor_of net) (range_with_len 0 n) ++ d.creditor.0 ∷ [] ≡ map (creditor_of net) (range_with_len 0 (n + 1))
-creditors_with net n d e =
-    let same : creditor_of net n ≡ d.creditor.0 = ap (λ o. option_map_or (λ (d : Debt). d.creditor.0) o 0) e in
-    ap (λ c. map (creditor_of net) (range_with_len 0 n) ++ c ∷ []) (sym same) ∙ sym (map-range_with_len_more (creditor_of net) 0 n n (omega arith))
+pub creditors_with : (net : Net) (n c : ℕ) → c ≡ creditor_of net n
+    → map (creditor_of net) (range_with_len 0 n) ++ c ∷ [] ≡ map (creditor_of net) (range_with_len 0 (n + 1))
+creditors_with net n c e =
+    ap (λ k. map (creditor_of net) (range_with_len 0 n) ++ k ∷ []) e ∙ sym (map-range_with_len_more (creditor_of net) 0 n n (omega arith))
 
 -- tests that agree on all numbers of a range pass the same of them
 pub filter_agree : (p q : ℕ → Bool) (n m : ℕ) → m ≤ n → ((k : ℕ) → k < n → q k ≡ p k) → filter q (range_with_len 0 m) ≡ filter p (range_with_len 0 m)

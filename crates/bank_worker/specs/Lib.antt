@@ -3,6 +3,8 @@ pub mod Looks
 pub mod Raises
 pub mod Rings
 pub mod Views
+pub mod BankSets
+pub mod Called
 pub mod Visits
 pub mod Staff
 pub mod Offices

@@ -33,6 +33,10 @@ debts_of rs = map (λ r. r.debt.0) rs
 abbrev pub IsRaisedIn : List Raise → ℕ → Type 0
 IsRaisedIn rs x = (j : ℕ) × (j < length rs) × (slice_index (debts_of rs) j ≡ x)
 
+-- each debt that some raises are of is one that more raises are of
+abbrev pub AreRaisedStill : List Raise → List Raise → Type 0
+AreRaisedStill rs more = (x : ℕ) → IsRaisedIn rs x → IsRaisedIn more x
+
 -- the debt x was not raised
 pub record HasSamePay (s t : Shown) (x : ℕ) : Type 0 where
   pub paid : slice_index t.paid x ≡ slice_index s.paid x
@@ -54,6 +58,7 @@ pub record IsRaised (s t : Shown) (xs ts : List ℕ) (n : ℕ) : Type 0 where
   pub one_by_one : t.acts ≡ s.acts ++ map raise_of (debts_of made)
   pub each : (k : ℕ) → k < n → slice_index t.paid (slice_index xs k) ≡ slice_index ts k
   pub others : (x : ℕ) → ((k : ℕ) → k < n → slice_index xs k ≢ x) → HasSamePay s t x
+  pub told : (x : ℕ) → IsRaisedIn made x ⊎ HasSamePay s t x
   pub theirs : (j : ℕ) → j < length made
       → (k : ℕ) × (k < n) × (slice_index xs k ≡ slice_index (debts_of made) j)
   pub in_order : Rises (debts_of made)

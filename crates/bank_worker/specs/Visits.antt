@@ -10,7 +10,7 @@ use Rattle.bank_worker.specs.declared.visit.Visit.{Visit}
 use Rattle.bank_worker.specs.declared.visit.Visit.TheVariants.{Raised, Mem}
 use Rattle.bank_worker.specs.Rising.{Rises}
 use Rattle.bank_worker.specs.Looks.{IsSeenAt, HasSameSight}
-use Rattle.bank_worker.specs.Raises.{HasSamePay, debts_of}
+use Rattle.bank_worker.specs.Raises.{HasSamePay, IsRaisedIn, debts_of}
 use Rattle.bank_worker.specs.Rings.{called_by}
 use Rattle.bank_worker.specs.Views.{Crew, Divides, desk_at, paid_by, paid_by_all}
 
@@ -51,6 +51,11 @@ abbrev pub AddsRaises : ℕ → Shown → Shown → Type 0
 AddsRaises n s t = (length s.raises ≤ length t.raises)
     × (n ≢ 0 → length s.raises + 1 ≤ length t.raises)
 
+-- each debt on which more is paid is one of those that the seat raised
+abbrev pub TellsRaises : Shown → Shown → Type 0
+TellsRaises s t = (x : ℕ) → x < length s.net.debts
+    → IsRaisedIn t.raises x ⊎ (slice_index t.paid x ≡ slice_index s.paid x)
+
 -- the bank's payments rose by n units in all to what its rule gives from its cash and these sights,
 -- less what it owes outside, and no other changed
 pub record PaysOut (desk : BankView) (n : ℕ) (s t : Shown) : Type 0 where
@@ -59,6 +64,7 @@ pub record PaysOut (desk : BankView) (n : ℕ) (s t : Shown) : Type 0 where
   pub none_fell : (x : ℕ) → x < length s.net.debts → slice_index s.paid x ≤ slice_index t.paid x
   pub others : (x : ℕ) → x < length s.net.debts → debtor_of s.net x ≢ desk.bank → HasSamePay s t x
   pub raises : AddsRaises n s t
+  pub told : TellsRaises s t
 
 -- what a visit at the desk does that makes these raises: it looks at the debts to the bank, then
 -- raises, and then rings the creditors that are paid more, each once
@@ -131,6 +137,7 @@ pub record IsRounded (n : ℕ) (old new : Crew) : Type 0 where
   pub calm : IsAllCalm new.seat.shows
   pub no_rings : OwesNoRing new.seat.shows
   pub raises : AddsRaises n old.seat.shows new.seat.shows
+  pub told : TellsRaises old.seat.shows new.seat.shows
 
 -- as many visits as bells were taken, at most so many sweeps over the desks
 pub record VisitsByBells (sweeps : ℕ) (old new : Crew) : Type 0 where

@@ -7,7 +7,7 @@
 //! division at what the worker last saw, and each debt to them was seen at least at the floor.
 #![tactic(auto)]
 
-mod calls;
+mod bank_set;
 mod desks;
 mod looks;
 mod office;
@@ -16,7 +16,7 @@ mod rings;
 mod visit;
 mod worker;
 
-pub use calls::Calls;
+pub use bank_set::BankSet;
 pub use office::Office;
 pub use visit::Visit;
 pub use worker::{SeatBack, Worker};

@@ -1,12 +1,16 @@
 ghost use Rattle.bank_desk.specs.Desks.{with_cash_in};
+ghost use Rattle.clr_net.specs.Net.{creditor_of};
+ghost use Rattle.bank_worker.specs.BankSets.{is_in};
 ghost use Rattle.bank_worker.specs.Offices.{IsOfficeFor, banks_of_worker};
-ghost use Rattle.bank_worker.specs.Rings.{AreMarksUpTo, creditors_of};
-ghost use Rattle.std.specs.Prelude.{◌≡◌, ◌^◌, ◌<◌, ◌≤◌, [], All, IfOk, length, map, vec_capacity};
+ghost use Rattle.bank_worker.specs.Rings.{AreMarksUpTo, creditors_of, is_among};
+ghost use Rattle.clr_net.specs.declared.TheConstants.{MAX_BANKS};
+ghost use Rattle.std.specs.Prelude.{◌≡◌, ◌^◌, ◌<◌, ◌≤◌, ℕ, [], All, IfOk, length, map};
+ghost use Rattle.std.specs.Prelude.{vec_capacity};
 
-use crate::calls::Calls;
+use crate::bank_set::BankSet;
 use crate::desks::Desks;
 use clear_core::{Journal, Raise, longest_row};
-use clr_net::{DebtId, Mem, Network};
+use clr_net::{BankId, DebtId, MAX_BANKS, Mem, Network};
 use std::alloc::Global;
 use std::marker::Model;
 use std::mem;
@@ -31,8 +35,8 @@ pub struct Office {
 /// where an office is taken up or left.
 #[derive(Drop)]
 pub(crate) struct Tools {
-    // The creditor of each debt, in file order.
-    pub(crate) creditors: Vec<u32>,
+    // The creditor of each debt, in file order: in two bytes, since they are read in any order.
+    pub(crate) creditors: Vec<u16>,
     // For each bank the number of the last visit that rang it, or 0. Visits are counted over all
     // seats.
     pub(crate) marks: Vec<u64>,
@@ -40,8 +44,9 @@ pub(crate) struct Tools {
     pub(crate) counted: u64,
     // What the bank that is visited should pay on each of its debts.
     pub(crate) targets: Vec<u64>,
-    // The desks that are called.
-    pub(crate) calls: Calls,
+    // The banks of the desks, and how many workers there are.
+    pub(crate) mine: BankSet,
+    pub(crate) workers: u32,
     // Room for the raises of the next seat.
     pub(crate) raises: Vec<Raise>,
 }
@@ -59,6 +64,8 @@ impl Model for Office {
       creditors = o.tools.value.creditors.items;
       marks = vec_len o.tools.value.marks;
       room = vec_capacity o.tools.value.targets;
+      mine = o.tools.value.mine;
+      workers = o.tools.value.workers;
     } };
 
     ghost invariant = { λ o. AreMarksUpTo o.tools.value.counted o.tools.value.marks.items };
@@ -78,7 +85,8 @@ impl Office {
             marks: no_marks(alloc, net.banks() as usize)?,
             counted: 0,
             targets: Vec::with_capacity(alloc, longest_row(net))?,
-            calls: Calls::none(workers),
+            mine: set_of(desks.banks()),
+            workers,
             raises: Vec::new(alloc),
         };
         let tools = Box::new(alloc, tools)?;
@@ -122,24 +130,45 @@ impl Tools {
         ensures as_many { length self.new.marks.items ≡ length self.old.marks.items }
         ensures creditors { self.new.creditors.items ≡ self.old.creditors.items }
         ensures room { vec_capacity self.new.targets ≡ vec_capacity self.old.targets }
+        ensures mine { (self.new.mine ≡ self.old.mine) × (self.new.workers ≡ self.old.workers) }
     {
         self.counted = begin_again(&mut self.marks, self.counted);
-        self.calls.clear();
         let mut raises = mem::replace(&mut self.raises, Vec::new(alloc));
         raises.clear();
         Journal::of(raises)
     }
 }
 
+// The set of these banks.
+fn set_of(banks: &[u32]) -> BankSet
+    requires { All (λ b. b < MAX_BANKS) banks.now }
+    ensures { (b : ℕ) → is_in result b ≡ is_among banks.now b }
+{
+    let mut set = BankSet::none();
+    for bank in banks {
+        set.add(BankId(*bank));
+    }
+    set
+}
+
 // The creditor of each debt, in file order.
-fn creditors(alloc: Global, net: &Network) -> Result<Vec<u32>, Mem>
+fn creditors(alloc: Global, net: &Network) -> Result<Vec<u16>, Mem>
     ensures { IfOk result (λ creditors. creditors.items ≡ creditors_of net.now) }
 {
     let mut creditors = Vec::with_capacity(alloc, net.debts() as usize)?;
     for number in 0..net.debts() {
-        creditors.push_reserved(net.debt(DebtId(number)).creditor.0);
+        creditors.push_reserved(creditor(net, DebtId(number)));
     }
     Ok(creditors)
+}
+
+// The creditor of a debt: the number of a bank is below that of all banks, which two bytes hold.
+fn creditor(net: &Network, debt: DebtId) -> u16
+    requires { debt.0 < length net.now.debts }
+    ensures { result ≡ creditor_of net.now debt.0 }
+{
+    prove!(net.banks() <= MAX_BANKS);
+    net.debt(debt).creditor.0 as u16
 }
 
 // As many marks of no visit.

@@ -3,20 +3,18 @@ ghost use Rattle.pay_words.specs.Views.{IsAt};
 ghost use Rattle.clr_net.specs.Limits.{IsNetwork};
 ghost use Rattle.std.specs.Prelude.{◌≡◌, length};
 
-use crate::calls::Calls;
 use clear_core::Raise;
 use clr_net::BankId;
 use pay_words::{Board, PaySeat};
 
 // Rings the creditor of each raised debt once, in order. A creditor that was rung is marked with
-// the number of the visit, and its desk is called.
+// the number of the visit.
 pub(crate) fn ring_all(
     board: &Board,
     seat: &mut PaySeat,
     raises: &[Raise],
-    creditors: &[u32],
+    creditors: &[u16],
     marks: &mut [u64],
-    calls: &mut Calls,
     visit: u64,
 )
     requires seat { IsAt board.now seat.old }
@@ -30,10 +28,9 @@ pub(crate) fn ring_all(
     ensures marks { AreMarksUpTo visit marks.new }
 {
     for raise in raises {
-        let creditor = creditors[raise.debt.0 as usize];
+        let creditor = creditors[raise.debt.0 as usize] as u32;
         if marks[creditor as usize] != visit {
             board.ring(seat, BankId(creditor));
-            calls.call(creditor);
             marks[creditor as usize] = visit;
         }
     }

@@ -1,7 +1,11 @@
+ghost use Rattle.bank_worker.specs.BankSets.{is_in};
+ghost use Rattle.bank_worker.specs.Called.{AreCalledOrSettled, AreCalledTo, AreCreditorsIn};
+ghost use Rattle.bank_worker.specs.Called.{KeepsOthers, StayIn};
+ghost use Rattle.bank_worker.specs.Raises.{AreRaisedStill};
 ghost use Rattle.bank_worker.specs.Rings.{AreMarksBelow, AreMarksUpTo, creditors_of};
 ghost use Rattle.bank_worker.specs.Offices.{IsOfficeFor};
 ghost use Rattle.bank_worker.specs.Views.{desk_at, desks_held, banks_held};
-ghost use Rattle.bank_worker.specs.Visits.{AreDown, AreNoted, AreSettled, IsAllCalm, IsDown};
+ghost use Rattle.bank_worker.specs.Visits.{AreDown, AreNoted, IsAllCalm, IsDown};
 ghost use Rattle.bank_worker.specs.Visits.{IsRounded, IsSameCrew, IsSameSeat, IsStopped, IsVisited};
 ghost use Rattle.bank_worker.specs.Visits.{LooksOnce, MayRest, PaysOut, RingsAll, VisitsByBells};
 ghost use Rattle.bank_worker.specs.Visits.{WhenMem, WhenRaised};
@@ -11,10 +15,10 @@ ghost use Rattle.clr_net.specs.Limits.{IsNetwork};
 ghost use Rattle.clr_net.specs.declared.TheConstants.{MAX_BANKS, MAX_OWED};
 ghost use Rattle.pay_words.specs.Views.{IsAt, OwesNoRing, holds, is_of_worker, took};
 ghost use Rattle.std.specs.Prelude.{◌≡◌, ◌+◌, ◌*◌, ◌^◌, ◌<◌, ◌≤◌, ℕ, [], IfErr, IfOk, false};
-ghost use Rattle.std.specs.Prelude.{if◌then◌else◌, length, slice_index, true};
+ghost use Rattle.std.specs.Prelude.{drop, if◌then◌else◌, length, slice_index, true};
 ghost use Rattle.std.specs.Prelude.{vec_capacity, vec_len};
 
-use crate::calls::Calls;
+use crate::bank_set::BankSet;
 use crate::desks::Desks;
 use crate::looks::look_at_all;
 use crate::office::{Office, Tools};
@@ -22,7 +26,7 @@ use crate::raises::raise_all;
 use crate::rings::ring_all;
 use crate::visit::Visit;
 use bank_desk::Desk;
-use clear_core::Journal;
+use clear_core::{Journal, Raise};
 use clr_edge::Gate;
 use clr_net::{BankId, DebtId, MAX_BANKS, Mem, Network};
 use pay_words::{Board, PaySeat};
@@ -71,8 +75,8 @@ impl Model for Worker {
       worker = w.worker;
       visits = w.visits;
       journal = w.journal.raises;
-    }) w.tools.value.creditors.items w.tools.value.marks.items w.tools.value.counted
-        (vec_capacity w.tools.value.targets) };
+    }) w.tools.value.creditors.items w.tools.value.marks.items w.tools.value.mine
+        w.tools.value.counted (vec_capacity w.tools.value.targets) w.tools.value.workers };
 }
 
 impl Worker {
@@ -193,18 +197,15 @@ impl Worker {
             tools.creditors.as_slice(),
             &mut tools.marks,
             &mut tools.targets,
-            &mut tools.calls,
             tools.counted,
         );
         Visit::Raised(units)
     }
 
     /// Goes over the desks in order, so many times: looks for the next bell that is up, takes it,
-    /// and visits its desk. The only worker of a board goes, after the first time, over those desks
-    /// alone whose bells it rang itself, if there are any; among several each sweep goes over all
-    /// desks, since another may have rung a bell. Ends early after a sweep over all desks that
-    /// found no bell up. Answers the units of all visits, or `Mem` at the first visit that answers
-    /// so, and then takes no bell and makes no visit.
+    /// and visits its desk. Ends early after a sweep that found no bell up. Answers the units of
+    /// all visits, or `Mem` at the first visit that answers so, and then takes no bell and makes no
+    /// visit.
     pub fn round<G: Gate>(&mut self, board: &Board, sweeps: u32, gate: &G) -> Visit
         requires seat { IsAt board.now self.old.seat }
         requires sweeps { (1 ≤ sweeps) × (sweeps ≤ 1000) }
@@ -220,14 +221,53 @@ impl Worker {
         let desks = self.desks();
         prove!(desks <= MAX_BANKS as usize);
         let mut units = 0;
-        for number in 0..sweeps {
-            let whole = number == 0 || self.tools.calls.is_empty();
+        for _ in 0..sweeps {
             let visits = self.visits;
-            match self.sweep(board, whole, gate) {
+            match self.sweep(board, gate) {
                 Visit::Raised(more) => units += more,
                 Visit::Mem => return Visit::Mem,
             }
-            if whole && self.visits == visits {
+            if self.visits == visits {
+                break;
+            }
+        }
+        Visit::Raised(units)
+    }
+
+    /// Makes a round as [`round`](Worker::round) does, and looks at the bells of those banks alone
+    /// that are called. A bank that was never visited, or that may not have seen what was paid to
+    /// it before the seat was handed out, is called. Each bank that is rung is called, of whichever
+    /// worker; a bank of the seat is so no more once its bell was found down or was taken.
+    pub fn round_called<G: Gate>(
+        &mut self,
+        board: &Board,
+        sweeps: u32,
+        gate: &G,
+        called: &mut BankSet,
+    ) -> Visit
+        requires seat { IsAt board.now self.old.seat }
+        requires sweeps { (1 ≤ sweeps) × (sweeps ≤ 1000) }
+        requires visits { self.old.visits ≤ 2 ^ 62 }
+        requires idle { OwesNoRing self.old.seat.shows × IsAllCalm self.old.seat.shows
+            × MayRest self.old.seat.shows self.old.desks }
+        requires called { AreCalledOrSettled called.old self.old.seat.shows self.old.desks }
+        ensures same { IsSameCrew self.old self.new }
+        ensures visits { VisitsByBells sweeps self.old self.new }
+        ensures raised { WhenRaised result (λ n. IsRounded n self.old self.new) }
+        ensures few { WhenRaised result (λ n. n ≤ 1000000 * MAX_OWED) }
+        ensures mem { WhenMem result (IsStopped sweeps self.old self.new) }
+        ensures others { KeepsOthers self.old.seat.shows called.old called.new }
+    {
+        let desks = self.desks();
+        prove!(desks <= MAX_BANKS as usize);
+        let mut units = 0;
+        for _ in 0..sweeps {
+            let visits = self.visits;
+            match self.sweep_called(board, gate, called) {
+                Visit::Raised(more) => units += more,
+                Visit::Mem => return Visit::Mem,
+            }
+            if self.visits == visits {
                 break;
             }
         }
@@ -269,17 +309,17 @@ impl Worker {
         (seat, journal, office)
     }
 
-    // One sweep over the desks: over all, or, where all are settled, over those alone that are
-    // called.
-    fn sweep<G: Gate>(&mut self, board: &Board, whole: bool, gate: &G) -> Visit
+    // One sweep over all desks.
+    fn sweep<G: Gate>(&mut self, board: &Board, gate: &G) -> Visit
         requires seat { IsAt board.now self.old.seat }
         requires visits { self.old.visits < 2 ^ 62 + 2 ^ 61 }
         requires idle { IsAllCalm self.old.seat.shows
             × MayRest self.old.seat.shows self.old.desks }
-        requires settled { whole ≡ false → AreSettled self.old.seat.shows self.old.desks }
         ensures same { IsSameCrew self.old self.new }
         ensures visits { VisitsByBells 1 self.old self.new }
         ensures raised { WhenRaised result (λ n. IsRounded n self.old self.new) }
+        ensures still { WhenRaised result (λ n.
+            AreRaisedStill self.old.seat.shows.raises self.new.seat.shows.raises) }
         ensures few { WhenRaised result (λ n. n ≤ length self.old.desks * MAX_OWED) }
         ensures mem { WhenMem result (IsStopped 1 self.old self.new) }
     {
@@ -287,7 +327,7 @@ impl Worker {
         let mut units = 0;
         let mut from = 0;
         'sweep: loop {
-            let place = self.next(board, whole, from);
+            let place = self.next_up(board, from);
             if place >= desks {
                 return Visit::Raised(units);
             }
@@ -301,26 +341,87 @@ impl Worker {
         }
     }
 
-    // The next place from this one on where a sweep stops: in a sweep over all desks that of the
-    // first whose bell is up, else that of the first that is called; or a place past all desks.
-    fn next(&mut self, board: &Board, whole: bool, from: usize) -> usize
+    // One sweep over the desks whose banks are called, in order.
+    fn sweep_called<G: Gate>(&mut self, board: &Board, gate: &G, called: &mut BankSet) -> Visit
+        requires seat { IsAt board.now self.old.seat }
+        requires visits { self.old.visits < 2 ^ 62 + 2 ^ 61 }
+        requires idle { IsAllCalm self.old.seat.shows
+            × MayRest self.old.seat.shows self.old.desks }
+        requires called { AreCalledOrSettled called.old self.old.seat.shows self.old.desks }
+        ensures same { IsSameCrew self.old self.new }
+        ensures visits { VisitsByBells 1 self.old self.new }
+        ensures raised { WhenRaised result (λ n. IsRounded n self.old self.new) }
+        ensures still { WhenRaised result (λ n.
+            AreRaisedStill self.old.seat.shows.raises self.new.seat.shows.raises) }
+        ensures few { WhenRaised result (λ n. n ≤ length self.old.desks * MAX_OWED) }
+        ensures mem { WhenMem result (IsStopped 1 self.old self.new) }
+        ensures others { KeepsOthers self.old.seat.shows called.old called.new }
+    {
+        let desks = self.desks();
+        let mut units = 0;
+        let mut from = 0;
+        'sweep: loop {
+            let place = self.next_called(called, from);
+            if place >= desks {
+                return Visit::Raised(units);
+            }
+            called.remove(self.bank(place));
+            if self.take(board, place) {
+                let before = self.journal.as_slice().len();
+                match self.visit(board, place, gate) {
+                    Visit::Raised(more) => units += more,
+                    Visit::Mem => return Visit::Mem,
+                }
+                self.call_creditors(before, called);
+            }
+            from = place + 1;
+        }
+    }
+
+    // The first place from this one on whose bank has its bell up, or a place past all desks.
+    fn next_up(&mut self, board: &Board, from: usize) -> usize
         requires seat { IsAt board.now self.old.seat }
         requires from { from ≤ length self.old.desks }
         ensures same { self.new ≡ self.old }
         ensures ahead { from ≤ result }
-        ensures down { whole ≡ true
-            → AreDown self.old.seat.shows self.old.desks from result }
+        ensures down { AreDown self.old.seat.shows self.old.desks from result }
     {
-        if !whole {
-            return self.tools.calls.next(false, from);
-        }
         first_up(board, &mut self.seat, self.desks.banks(), from)
+    }
+
+    // The first place from this one on whose bank is called, or a place past all desks.
+    fn next_called(&self, called: &BankSet, from: usize) -> usize
+        requires from { from ≤ length self.now.desks }
+        ensures ahead { from ≤ result }
+        ensures none_before { (k : ℕ) → from ≤ k → k < result → k < length self.now.desks
+            → is_in called.now (desk_at self.now.desks k).bank ≡ false }
+    {
+        let banks = self.desks.banks();
+        if from == banks.len() {
+            return from;
+        }
+        match self.tools.mine.first_in_both(called, banks[from]) {
+            Some(bank) => (bank.0 / self.tools.workers) as usize,
+            None => banks.len(),
+        }
+    }
+
+    /// Calls the creditors of the debts that were raised, from this place of the journal on.
+    pub fn call_creditors(&self, from: usize, called: &mut BankSet)
+        requires { from ≤ length self.now.journal }
+        ensures kept { StayIn called.old called.new }
+        ensures creditors { AreCreditorsIn self.now.seat.shows.net called.new
+            (drop from self.now.journal) }
+    {
+        let (_, made) = self.journal.as_slice().split_at(from);
+        call_all(self.tools.creditors.as_slice(), made, called);
     }
 
     // The bank of a desk.
     fn bank(&self, place: usize) -> BankId
         requires { place < length self.now.desks }
         ensures bank { result.0 ≡ (desk_at self.now.desks place).bank }
+        ensures few { result.0 < MAX_BANKS }
         ensures held { holds self.now.seat.shows result.0 ≡ true }
     {
         let banks = self.desks.banks();
@@ -328,6 +429,7 @@ impl Worker {
     }
 
     // Takes the bell of a desk's bank, and answers whether it was up.
+    #[tactic(auto, using(crate::proofs::Staffed::set_out_kept, crate::proofs::Staffed::same_taken))]
     fn take(&mut self, board: &Board, place: usize) -> bool
         requires seat { IsAt board.now self.old.seat }
         requires place { place < length self.old.desks }
@@ -342,11 +444,7 @@ impl Worker {
             → IsDown self.old.seat.shows (desk_at self.old.desks place).bank }
     {
         let bank = self.bank(place);
-        let up = board.take(&mut self.seat, bank);
-        if up {
-            self.tools.calls.end(place);
-        }
-        up
+        board.take(&mut self.seat, bank)
     }
 }
 
@@ -369,6 +467,22 @@ fn first_up(board: &Board, seat: &mut PaySeat, banks: &[u32], from: usize) -> us
     banks.len()
 }
 
+// Calls the creditors of the debts of these raises. Each of the debts has one; a journal does not
+// say so, and so it is looked for.
+fn call_all(creditors: &[u16], raises: &[Raise], called: &mut BankSet)
+    requires banks { (x : ℕ) → slice_index creditors.now x < MAX_BANKS }
+    ensures kept { StayIn called.old called.new }
+    ensures creditors { AreCalledTo creditors.now called.new raises.now (length raises.now) }
+{
+    let debts = creditors.len();
+    for raise in raises {
+        let debt = raise.debt.0 as usize;
+        if debt < debts {
+            called.add(BankId(creditors[debt] as u32));
+        }
+    }
+}
+
 // Visits the bank of a desk, whose raises have room in the journal. The visit has a number that no
 // mark has yet.
 fn visit_bank(
@@ -376,10 +490,9 @@ fn visit_bank(
     seat: &mut PaySeat,
     desk: &Desk,
     journal: &mut Journal,
-    creditors: &[u32],
+    creditors: &[u16],
     marks: &mut [u64],
     targets: &mut Vec<u64>,
-    calls: &mut Calls,
     visit: u64,
 ) -> u64
     requires seat { IsAt board.now seat.old }
@@ -415,7 +528,7 @@ fn visit_bank(
     let from = journal.as_slice().len();
     let units = raise_all(board, seat, debts, targets.as_slice(), journal);
     let (_, made) = journal.as_slice().split_at(from);
-    ring_all(board, seat, made, creditors, marks, calls, visit);
+    ring_all(board, seat, made, creditors, marks, visit);
     units
 }
 

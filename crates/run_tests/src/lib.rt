@@ -17,6 +17,8 @@ mod runs;
 #[cfg(test)]
 mod shocks;
 #[cfg(test)]
+mod turns;
+#[cfg(test)]
 mod words;
 #[cfg(test)]
 mod workers;

@@ -88,3 +88,16 @@ pub(crate) fn late_chain(alloc: Global, turn: u32) -> Result<Network, Mem>
     add_debt(&mut net, 2 * turn - 1, 2 * turn + 1, 9)?;
     Ok(net)
 }
+
+// A ring of 300 banks, each of which owes the next a unit. The first has one.
+pub(crate) fn wide_ring(alloc: Global) -> Result<Network, Mem> {
+    let mut net = Network::empty(alloc);
+    for number in 0..300_u32 {
+        let name = [b'A' + (number / 32) as u8, b'A' + (number % 32) as u8];
+        add_bank(alloc, &mut net, &name, u64::from(number == 0))?;
+    }
+    for number in 0..300_u32 {
+        add_debt(&mut net, number, (number + 1) % 300, 1)?;
+    }
+    Ok(net)
+}

@@ -6,10 +6,10 @@ ghost use Rattle.std.specs.Prelude.{◌≡◌, ◌<◌, ◌≤◌, [], OnOk, len
 
 use crate::boards::{NONE, first_raises, new_board, take_bells};
 use crate::gates::FirstVisits;
-use bank_worker::{Calls, SeatBack, Visit, Worker};
+use bank_worker::{BankSet, SeatBack, Visit, Worker};
 use clear_core::Journal;
 use clr_edge::OpenGate;
-use clr_net::{DebtId, Mem, Network};
+use clr_net::{BankId, DebtId, Mem, Network};
 use net_samples::{chain, ring};
 use pay_words::{Board, PaySeat};
 use settle::{Plan, offices_of, round};
@@ -50,6 +50,7 @@ fn rounds_on<R: Threads + Sync>(
     let mut told = [(0, 0, 0); 6];
     for number in 0..rounds {
         let before = journal.as_slice().len();
+        let mut called = BankSet::all();
         let (units, visits) = round(
             rt,
             alloc,
@@ -60,6 +61,7 @@ fn rounds_on<R: Threads + Sync>(
             &OpenGate,
             &mut journal,
             &mut offices,
+            &mut called,
             false,
         )?;
         told[number] = (units, visits, journal.as_slice().len() - before);
@@ -283,34 +285,44 @@ fn a_visit_without_memory_leaves_all_as_it_was(rt: HostRuntime) -> Result<(), Fa
     Ok(())
 }
 
-// Where calls of two banks are found, by one worker: from the first place and from the one after
-// the first call; in a sweep over all; once the first call has ended; whether there is a place past
-// them, and none once both have ended.
-fn two_calls() -> ([usize; 4], bool, bool) {
-    let mut calls = Calls::none(1);
-    calls.call(301);
-    calls.call(4);
-    let both = (calls.next(false, 0), calls.next(false, 5));
-    let whole = calls.next(true, 0);
-    calls.end(4);
-    let left = calls.next(false, 0);
-    let past = calls.next(false, 302) >= 1_000;
-    calls.end(301);
-    ([both.0, both.1, whole, left], past, calls.is_empty())
-}
-
-// Whether a worker among several calls none.
-fn calls_none() -> bool {
-    let mut calls = Calls::none(3);
-    calls.call(4);
-    calls.is_empty()
+// Whether from each place on, up to one past all words, the first bank in both sets is the first of
+// these, which stand in order.
+fn finds(one: &BankSet, other: &BankSet, banks: &[u32]) -> bool {
+    for from in 0..1_100 {
+        let mut wanted = None;
+        for bank in banks {
+            if *bank >= from && wanted.is_none() {
+                wanted = Some(BankId(*bank));
+            }
+        }
+        if one.first_in_both(other, from) != wanted {
+            return false;
+        }
+    }
+    true
 }
 
 #[test]
-fn the_only_worker_calls_the_desks_that_it_rang(rt: HostRuntime) -> Result<(), Fail> {
-    assert_eq!(rt;
-        (two_calls(), calls_none()),
-        (([4, 301, 0, 301], true, true), true)
-    );
+fn the_first_bank_in_two_sets_is_found_from_each_place_on(rt: HostRuntime) -> Result<(), Fail> {
+    let all = BankSet::all();
+    let mut called = BankSet::none();
+    let none = finds(&called, &all, &[]);
+    called.add(BankId(999));
+    called.add(BankId(64));
+    called.add(BankId(0));
+    called.add(BankId(127));
+    called.add(BankId(63));
+    called.add(BankId(64));
+    let added = finds(&called, &all, &[0, 63, 64, 127, 999]);
+    let mut mine = BankSet::all();
+    mine.remove(BankId(63));
+    mine.remove(BankId(999));
+    let mine_alone = finds(&called, &mine, &[0, 64, 127]);
+    called.remove(BankId(64));
+    called.remove(BankId(0));
+    called.remove(BankId(1));
+    let removed = finds(&called, &all, &[63, 127, 999]);
+    let in_one_alone = finds(&called, &BankSet::none(), &[]);
+    assert_eq!(rt; [none, added, mine_alone, removed, in_one_alone], [true; 5]);
     Ok(())
 }

@@ -1,6 +1,8 @@
 -- The master while it hands seats to the workers, and the workers that it makes.
-use Rattle.std.proofs.Common.{◌≡◌, ℕ, zero, suc, ◌+◌, ◌<◌, ◌≤◌, ◌++◌, true, false, [], ◌∷◌, length, inl, inr, refl, sym, ap, ◌∙◌, subst, ⊎_elim, arith}
+use Rattle.std.proofs.Common.{◌≡◌, ℕ, zero, suc, ◌+◌, ◌<◌, ◌≤◌, ◌++◌, true, false, List, [], ◌∷◌, length, inl, inr, refl, sym, ap, ◌∙◌, subst, ⊎_elim, arith, eqb-true}
 use Rattle.pay_words.specs.Views.{Place}
+use Rattle.std.proofs.lemmas.Bool.{ne_eqb}
+use Rattle.std.specs.Prelude.{◌%◌}
 use Rattle.std.proofs.lemmas.List.Elements.{All-from_get_or}
 use Rattle.std.proofs.lemmas.List.FromFn.{map-range_with_len_more}
 use Rattle.clr_net.specs.Net.{Net}
@@ -9,10 +11,12 @@ use Rattle.pay_words.specs.declared.view.Shown.{Shown}
 use Rattle.pay_words.specs.Views.{Panel, OwesNoRing, HoldsAll, HoldsAllOf, handed, holds, is_marked, is_of_worker, without}
 use Rattle.pay_words.proofs.Handing.{holds_of_all, holds_of_others}
 use Rattle.pay_words.proofs.Tables.{tabled_at, length-tabled}
-use Rattle.bank_worker.specs.Views.{Divides, desk_at, desks_held}
+use Rattle.bank_worker.specs.Called.{AreCalledOrSettled, IsSettled}
+use Rattle.bank_worker.specs.Views.{Crew, Divides, desk_at, desks_held}
 use Rattle.bank_worker.specs.Visits.{IsAllCalm, MayRest}
 use Rattle.bank_worker.proofs.Manned.{desk_is}
 use Rattle.settle.specs.Between.{IsBetween, crew_of, crews, without_first}
+use Rattle.settle.specs.Calls.{AllCalledOrSettled, AreApart, RestAreSettled}
 use Rattle.settle.specs.Rounds.{AreReady, IsReady, crew_at, no_crew}
 
 -- the master that handed out n seats shows what it showed, but for its banks and seats
@@ -79,3 +83,34 @@ crews_ready board net w s n here h = All-from_get_or (IsReady board) (crews w bo
       calm = handed_calm net w i s h;
       rest = handed_rests net w i s h;
     }))
+
+-- a worker's banks are called, or they are settled as the master shows them
+handed_called : (net : Net) (w i : ℕ) (s : Shown) (called : List ℕ) → IsBetween net s → RestAreSettled net called s
+    → AreCalledOrSettled called (handed w i s) (desks_held (handed w i s))
+handed_called net w i s called h rest k lk out =
+    let d = desk_at (desks_held (handed w i s)) k in
+    let f = desk_is (handed w i s) (desks_held (handed w i s)) k refl lk in
+    let known : d ≡ desk_of net d.bank = f.known ∙ ap (λ (m : Net). desk_of m d.bank) h.net_is in
+    let r : IsSettled s d = subst (IsSettled s) (sym known) (rest d.bank (omega (arith, f.bank, ap (λ (m : Net). length m.banks) h.net_is)) out) in
+    record { divides = r.divides; seen = r.seen }
+
+pub crews_called : (net : Net) (w : ℕ) (table : Place) (s : Shown) (called : List ℕ) → IsBetween net s → RestAreSettled net called s
+    → AllCalledOrSettled called (crews w table s w)
+crews_called net w table s called h rest i li =
+    subst (λ (c : Crew). AreCalledOrSettled called c.seat.shows c.desks) (sym (crew_there w table s w i (omega (arith, li, length-crews w table s w))))
+    (handed_called net w i s called h rest)
+
+-- no worker is handed a bank of another
+pub crews_apart : (net : Net) (w : ℕ) (table : Place) (s : Shown) → IsBetween net s → AreApart (crews w table s w)
+crews_apart net w table s h i j li lj ne k =
+    let size = length-crews w table s w in
+    let ds = desks_held (handed w j s) in
+    subst (λ (c : Crew). (lk : k < length c.desks) → holds (crew_at (crews w table s w) i).seat.shows (desk_at c.desks k).bank ≡ false) (sym (crew_there w table s w j (omega (arith, lj, size))))
+    (λ (lk : k < length ds).
+    let b = (desk_at ds k).bank in
+    let f = desk_is (handed w j s) ds k refl lk in
+    let lb : b < length net.banks = omega (arith, f.bank, ap (λ (m : Net). length m.banks) h.net_is) in
+    let theirs : b % w ≡ j = eqb-true (b % w) j (sym (handed_holds net w j s b h.net_is lb) ∙ f.held) in
+    ap (λ (c : Crew). holds c.seat.shows b) (crew_there w table s w i (omega (arith, li, size)))
+    ∙ handed_holds net w i s b h.net_is lb
+    ∙ ne_eqb (b % w) i (λ e. ne (sym e ∙ theirs)))

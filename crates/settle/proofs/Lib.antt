@@ -11,3 +11,5 @@ pub mod AllDown
 pub mod Limits
 pub mod ByHand
 pub mod OtherCash
+pub mod Calling
+pub mod InTurn

@@ -10,6 +10,7 @@ use Rattle.clear_core.specs.Buffers.{HasRoom}
 use Rattle.bank_desk.specs.Desks.{BankView, desk_of, with_cash_in}
 use Rattle.bank_desk.proofs.DesksOf.{desk_of_other_cash}
 use Rattle.pay_words.specs.Views.{is_of_worker}
+use Rattle.bank_worker.specs.BankSets.{AreSetOut}
 use Rattle.bank_worker.specs.Offices.{IsOfficeFor, OfficeView, banks_of_worker}
 use Rattle.bank_worker.specs.Rings.{creditors_of}
 use Rattle.bank_worker.proofs.Filtered.{filter_passes}
@@ -50,6 +51,7 @@ serves_again net other workers i o network alike debts serves =
         creditors = office.creditors ∙ ap (λ ds. creditors_of (among ds)) (sym debts);
         marks = office.marks ∙ sym size;
         room = subst (λ ds. HasRoom (among ds) o.room) (sym debts) office.room;
+        mine = subst (AreSetOut o.mine o.workers) (sym (same_banks_of net other workers i size)) office.mine;
       };
       worker = serves.worker;
     }

@@ -1,5 +1,5 @@
 -- What a round of all workers leaves, once the seats are back.
-use Rattle.std.proofs.Common.{◌≡◌, ◌≢◌, ℕ, suc, ◌+◌, ◌*◌, ◌<◌, ◌≤◌, true, List, [], ◌∷◌, length, get_or, map, sum, inr, refl, sym, ap, ◌∙◌, subst, ⊎_elim, arith, eq-eqb, eqb-true}
+use Rattle.std.proofs.Common.{◌≡◌, ◌≢◌, ℕ, suc, ◌+◌, ◌*◌, ◌<◌, ◌≤◌, true, true≢false, List, [], ◌∷◌, length, get_or, map, sum, inr, refl, sym, ap, ◌∙◌, subst, ⊎_elim, arith, eq-eqb, eqb-true}
 use Rattle.std.specs.Prelude.{◌%◌, sum_by, slice_index}
 use Rattle.std.proofs.lemmas.Bool.{cases_lt}
 use Rattle.std.proofs.lemmas.List.{get_or-map, get_or_past, length-map}
@@ -11,6 +11,8 @@ use Rattle.clr_net.proofs.Lists.{same_from_sum, sum_rises, sums_agree}
 use Rattle.bank_desk.specs.Desks.{BankView, desk_of}
 use Rattle.pay_words.specs.declared.view.Shown.{Shown}
 use Rattle.pay_words.specs.Views.{Panel, IsOver, handed, holds, is_marked, is_of_worker, tabled}
+use Rattle.bank_worker.specs.BankSets.{is_in}
+use Rattle.bank_worker.specs.Raises.{IsRaisedIn}
 use Rattle.bank_worker.specs.Views.{Crew, Divides, banks_held, desk_at, desks_held, no_desk, paid_by, paid_by_all}
 use Rattle.bank_worker.proofs.Filtered.{filter_finds, row_finds}
 use Rattle.bank_worker.proofs.Manned.{desk_is, few_desks}
@@ -18,6 +20,7 @@ use Rattle.bank_worker.proofs.Sweeping.{divides_kept, few_in_all, paid_by_kept}
 use mathlib.Core.Logic.{dite}
 use native.Mathlib.Decide.{ℕ_discrete}
 use Rattle.settle.specs.Between.{AreOfBoard, IsBack, IsBetween, crew_of, crews, raises_by, shown_by}
+use Rattle.settle.specs.Calls.{HaveCalledFrom, RestAreSettled}
 use Rattle.settle.specs.Rounds.{AreRounded, MadeRound, crew_at, no_crew, paid_by_crew}
 use Rattle.std.specs.List.{range_with_len}
 use Rattle.bank_worker.proofs.Rooms.{banks_of_seat}
@@ -207,6 +210,22 @@ module _ (board : Panel) (net : Net) (s : Shown) (w sweeps n : ℕ) (news : List
           x (omega (arith, lx, ap (λ (m : Net). length m.debts) same)) (ap (λ (m : Net). creditor_of m x) same);
       rest = λ b lb. inr (all_divide b lb);
       floor = λ x lx. back'.floor x lx (omega arith) (lw (debtor_of net x)) ∙ sym (paid_is x lx);
+    }
+
+    -- a bank that is not called has seen all that is paid to it: no debt to it was raised, since the creditors of all raises are called
+    pub rest_settled : (called : List ℕ) → IsBetween net t → HaveCalledFrom 0 net called news → RestAreSettled net called t
+    rest_settled called again calls b lb out = record {
+      divides = all_divide b lb;
+      seen = λ x lt owed.
+          let lx : x < length net.debts = omega (arith, lt, ap (λ (m : Net). length m.debts) back'.net_is) in
+          let here : creditor_of net x ≡ b = ap (λ (m : Net). creditor_of m x) (sym back'.net_is) ∙ owed in
+          let i = debtor_of net x % w in
+          let li = worker_of (debtor_of net x) (debtor x lx) in
+          ⊎_elim
+          (λ (r : IsRaisedIn (crew_at news i).seat.shows.raises x).
+          absurd (true≢false (sym (calls i (omega arith) (lw (debtor_of net x)) x lx r) ∙ ap (is_in called) here ∙ out)))
+          (λ (same : get_or (crew_at news i).seat.shows.paid x 0 ≡ get_or s.paid x 0). omega (arith, again.floor x lx, paid_is x lx, same, all_seen x lx))
+          ((made_round i li).rounded.told x (omega (arith, lx, ap (λ (m : Net). length m.debts) between.net_is)));
     }
 
     -- what a worker's debts are paid more than before

@@ -9,6 +9,7 @@ use Rattle.bank_desk.specs.Desks.{desk_of}
 use Rattle.pay_words.specs.declared.view.Shown.{Shown}
 use Rattle.pay_words.specs.Views.{Panel, IsAt, IsOver, HoldsAll, OwesNoRing, handed, holds, is_of_worker, without, is_marked, tabled}
 use Rattle.clear_core.specs.declared.event.Raise.{Raise}
+use Rattle.raise_journal.specs.Gathered.{HasGrownBy}
 use Rattle.settle.specs.declared.plan.Plan.{Plan}
 use Rattle.settle.specs.Rounds.{crew_at}
 use Rattle.bank_worker.specs.Views.{Crew, Divides, desks_held}
@@ -112,6 +113,6 @@ pub record IsRoundOf (net : Net) (plan : Plan) (units visits : ℕ) (s t : Shown
   pub paid_low : IsAtMost t.paid (least net)
   pub sights_low : IsAtMost t.sights (least net)
 
--- what was added to the one list is what was added to the other
+-- what was added to the one list, in some order, is what was added to the other
 abbrev pub HaveGrownAlike : List Raise → List Raise → List Raise → List Raise → Type 0
-HaveGrownAlike old new from to = (rs : List Raise) × (new ≡ old ++ rs) × (to ≡ from ++ rs)
+HaveGrownAlike old new from to = (rs : List Raise) × HasGrownBy old new rs × (to ≡ from ++ rs)

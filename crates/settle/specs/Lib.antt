@@ -5,4 +5,5 @@ pub mod Runs
 pub mod Offices
 pub mod Bells
 pub mod ByHand
+pub mod Calls
 pub mod Asks

@@ -10,7 +10,15 @@ pub record Serves (net : Net) (workers i : ℕ) (o : OfficeView) : Type 0 where
   pub worker : o.worker ≡ i
 
 abbrev pub no_office : OfficeView
-no_office = record { desks = []; worker = 0; creditors = []; marks = 0; room = 0 }
+no_office = record {
+  desks = [];
+  worker = 0;
+  creditors = [];
+  marks = 0;
+  room = 0;
+  mine = [];
+  workers = 0;
+}
 
 abbrev pub office_at : List OfficeView → ℕ → OfficeView
 office_at os k = slice_index_or os k no_office

@@ -7,10 +7,10 @@ ghost use Rattle.std.specs.Prelude.{◌≡◌, ◌+◌, ◌<◌, IfOk, OnOk, tru
 
 use crate::plan::Plan;
 use crate::teams::round;
-use bank_worker::Office;
+use bank_worker::{BankSet, Office};
 use clear_core::Journal;
 use clr_edge::Gate;
-use clr_net::{BankId, Mem, Network};
+use clr_net::{BankId, MAX_BANKS, Mem, Network};
 use pay_words::{Board, PaySeat};
 use std::alloc::Global;
 use std::thread::Threads;
@@ -61,8 +61,20 @@ pub fn round_and_ask<R: Threads + Sync, G: Gate + Sync>(
     ensures clears { IfOk result (λ down. down ≡ true → Clears net.now master.new.shows.paid) }
     ensures least { IfOk result (λ down. down ≡ true → master.new.shows.paid ≡ least net.now) }
 {
+    prove!(net.banks() <= MAX_BANKS);
+    let mut called = BankSet::all();
     let _raised = round(
-        rt, alloc, net, plan, board, master, gate, journal, offices, true,
+        rt,
+        alloc,
+        net,
+        plan,
+        board,
+        master,
+        gate,
+        journal,
+        offices,
+        &mut called,
+        true,
     )?;
     Ok(nobody_can_pay_more(net, board, master))
 }

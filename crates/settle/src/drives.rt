@@ -4,13 +4,13 @@ ghost use Rattle.settle.specs.Offices.{AreOffices};
 ghost use Rattle.std.specs.Prelude.{◌≡◌, IfOk, OnOk};
 
 use crate::plan::{Driven, Plan};
-use crate::teams::{add_all, calls_two_workers, offices_of, round};
-use bank_worker::Office;
+use crate::teams::{calls_two_workers, offices_of, round};
+use bank_worker::{BankSet, Office};
 use clear_core::{Journal, Raise};
 use clr_edge::Gate;
 use clr_net::{MAX_BANKS, Mem, Network};
 use pay_words::{Board, PaySeat};
-use raise_journal::in_order;
+use raise_journal::{in_order, merge_in};
 use std::alloc::Global;
 use std::thread::Threads;
 
@@ -18,9 +18,11 @@ use std::thread::Threads;
 const MANY_VISITS: u64 = 512;
 
 /// Makes rounds on a board that was just opened, until a round raises nothing. Each round hands a
-/// seat to each worker, lets all workers make their rounds, and takes the seats back. The workers
-/// go side by side in the first round, and after a round of many visits where one look found bells
-/// of two of them up; else they go one after another, since threads cost more than so little work.
+/// seat to each worker, lets all workers make their rounds, and takes the seats back. Several
+/// workers go side by side in the first round, and after a round of many visits where one look
+/// found bells of two of them up; else they go one after another, since threads cost more than so
+/// little work, and look at the bells of those banks alone that were called: the first time all,
+/// and then those that were rung.
 ///
 /// The run ends after the first round that raised nothing; each round before it raised a unit.
 /// After Ok [`nobody_can_pay_more`](crate::nobody_can_pay_more) may be asked. After `Mem` the master
@@ -83,14 +85,16 @@ pub(crate) fn drive_on<R: Threads + Sync, G: Gate + Sync>(
         (IsDriven net.now past.now plan master.old.shows master.new.shows) }
 {
     let mut journal = Journal::empty(alloc);
-    add_all(&mut journal, past)?;
+    merge_in(alloc, &mut journal, 0, past)?;
     let _clock = master.clock();
     prove!(net.banks() <= MAX_BANKS);
     let mut rounds = 0;
     let mut visits = 0;
     let mut many = false;
+    let mut called = BankSet::all();
     loop {
-        let beside = rounds == 0 && threads || many && calls_two_workers(net, board, plan.workers);
+        let beside = plan.workers > 1
+            && (rounds == 0 && threads || many && calls_two_workers(net, board, plan.workers));
         let (units, more) = round(
             rt,
             alloc,
@@ -101,6 +105,7 @@ pub(crate) fn drive_on<R: Threads + Sync, G: Gate + Sync>(
             gate,
             &mut journal,
             offices,
+            &mut called,
             beside,
         )?;
         rounds += 1;

@@ -4,18 +4,25 @@ ghost use Rattle.settle.specs.Asks.{MayRound};
 ghost use Rattle.settle.specs.Bells.{IsIdle};
 ghost use Rattle.settle.specs.Between.{AreOfBoard, HaveGrownAlike, IsBack, IsBetween, IsRoundOf};
 ghost use Rattle.settle.specs.Between.{crews, raises_by, without_first};
+ghost use Rattle.raise_journal.specs.Gathered.{HasMerged};
+ghost use Rattle.settle.specs.Calls.{HaveCalledFrom, RestAreSettled};
 ghost use Rattle.settle.specs.Offices.{AreOffices, with_cash_of};
-ghost use Rattle.std.specs.Prelude.{◌≡◌, ◌+◌, ◌++◌, ◌<◌, ◌≤◌, [], All, IfOk, OnOk, length, map, sum_by, true, vec_len};
+ghost use Rattle.std.specs.Prelude.{◌≡◌, ◌+◌, ◌++◌, ◌<◌, ◌≤◌, ℕ, [], All, IfOk, OnOk};
+ghost use Rattle.std.specs.Prelude.{length, map, sum_by, true, vec_len};
 
 use crate::plan::Plan;
-use crate::work::work;
-use bank_worker::{Office, Visit, Worker};
+use crate::work::work_all;
+use bank_worker::{BankSet, Office, Visit, Worker};
 use clear_core::{Journal, Raise};
 use clr_edge::Gate;
 use clr_net::{BankId, MAX_BANKS, Mem, Network};
 use pay_words::{Board, PaySeat};
+use raise_journal::merge_in;
 use std::alloc::Global;
 use std::thread::Threads;
+
+// Of so many workers the raises are merged.
+const FEW_WORKERS: usize = 8;
 
 /// The offices of all workers, the last worker's first. `Mem` is want of memory.
 pub fn offices_of(alloc: Global, net: &Network, workers: u32) -> Result<Vec<Office>, Mem>
@@ -74,14 +81,17 @@ fn open_workers(
     Ok(crew)
 }
 
-// Takes the seats of the workers back, from the last one on, adds their journals, and keeps their
-// offices. Answers how many visits they made.
+// Takes the seats of the workers back, from the last one on, merges their journals into what was
+// added since the round began, calls the creditors of their raises, and keeps their offices. Answers
+// how many visits they made.
 fn close_workers(
+    alloc: Global,
     board: &Board,
     master: &mut PaySeat,
     mut workers: Vec<Worker>,
     journal: &mut Journal,
     offices: &mut Vec<Office>,
+    called: &mut BankSet,
 ) -> Result<u64, Mem>
     requires offices { offices.old.items ≡ [] }
     requires workers { (1 ≤ board.now.table.workers) × (board.now.table.workers ≤ 64)
@@ -101,28 +111,43 @@ fn close_workers(
         board.now.table.workers offices.new.items) }
     ensures raises { OnOk result (length master.new.shows.raises
         ≡ length master.old.shows.raises + sum_by raises_by workers.items) }
+    ensures called { OnOk result (HaveCalledFrom 0 board.now.net called.new workers.items) }
 {
+    let from = journal.as_slice().len();
+    let count = workers.len();
     let mut visits = 0;
     while let Some(worker) = workers.pop() {
         visits += worker.visits();
+        worker.call_creditors(0, called);
         let (seat, made, mut office) = worker.leave();
         board.take_back(master, seat);
-        add_all(journal, made.as_slice())?;
+        let raises = made.as_slice();
+        add_raises(alloc, journal, from, raises, count)?;
         office.keep(made);
         offices.push(office)?;
     }
     Ok(visits)
 }
 
-// Adds these raises at the end of a journal.
-pub(crate) fn add_all(journal: &mut Journal, raises: &[Raise]) -> Result<(), Mem>
-    ensures { OnOk result (journal.new.raises ≡ journal.old.raises ++ raises.now) }
+// Adds the raises of one of so many workers to those of its round, which stand from this place on.
+// They are merged where the workers are few. Among many each run would move most of the others, and
+// the sort at the end is quicker.
+fn add_raises(
+    alloc: Global,
+    journal: &mut Journal,
+    from: usize,
+    raises: &[Raise],
+    workers: usize,
+) -> Result<(), Mem>
+    requires { from ≤ length journal.old.raises }
+    ensures { OnOk result (HasMerged journal.old.raises journal.new.raises from raises.now) }
 {
-    journal.reserve(raises.len())?;
-    for raise in raises {
-        journal.push(*raise)?;
-    }
-    Ok(())
+    let place = if workers <= FEW_WORKERS {
+        from
+    } else {
+        journal.as_slice().len()
+    };
+    merge_in(alloc, journal, place, raises)
 }
 
 /// Whether two workers have a bell up, by one look at each bell. No clause can say it: any thread
@@ -149,7 +174,12 @@ pub fn calls_two_workers(net: &Network, board: &Board, workers: u32) -> bool
 
 /// A round of all workers, beside one another or one after another: hands a seat to each worker,
 /// lets each make its round at its office, takes the seats back, and adds all raises to the
-/// journal. Answers by how many units payments rose, and how many visits there were.
+/// journal, merged by stamp. Answers by how many units payments rose, and how many visits there
+/// were.
+///
+/// Workers that go one after another look at the bells of those banks alone that are called. A bank
+/// that is not called has seen what is paid to it, and pays its division, before the round and
+/// after it. [`BankSet::all`] will do for any round.
 ///
 /// After Ok the master may begin another round, and
 /// [`nobody_can_pay_more`](crate::nobody_can_pay_more) may be asked. After `Mem`, which is want of
@@ -164,9 +194,11 @@ pub fn round<R: Threads + Sync, G: Gate + Sync>(
     gate: &G,
     journal: &mut Journal,
     offices: &mut Vec<Office>,
+    called: &mut BankSet,
     beside: bool,
 ) -> Result<(u64, u64), Mem>
     requires ready { MayRound board.now net.now plan master.old offices.old.items }
+    requires called { RestAreSettled net.now called.old master.old.shows }
     ensures table { master.new.table ≡ master.old.table }
     ensures net { master.new.shows.net ≡ master.old.shows.net }
     ensures idle { OnOk result (IsIdle net.now master.new.shows) }
@@ -176,12 +208,14 @@ pub fn round<R: Threads + Sync, G: Gate + Sync>(
         IsRoundOf net.now plan r.0 r.1 master.old.shows master.new.shows) }
     ensures noted { OnOk result (HaveGrownAlike journal.old.raises journal.new.raises
         master.old.shows.raises master.new.shows.raises) }
+    ensures called { OnOk result (RestAreSettled net.now called.new master.new.shows) }
 {
     let mut workers = open_workers(alloc, net, plan.workers, board, master, offices)?;
-    let Visit::Raised(units) = work(rt, board, plan.sweeps, gate, &mut workers, beside) else {
+    let Visit::Raised(units) = work_all(rt, board, plan.sweeps, gate, &mut workers, called, beside)
+    else {
         return Err(Mem);
     };
-    let visits = close_workers(board, master, workers, journal, offices)?;
+    let visits = close_workers(alloc, board, master, workers, journal, offices, called)?;
     let _clock = master.clock();
     Ok((units, visits))
 }

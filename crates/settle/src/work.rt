@@ -1,24 +1,74 @@
 ghost use Rattle.bank_worker.specs.Visits.{WhenRaised};
 ghost use Rattle.clr_net.specs.declared.TheConstants.{MAX_OWED};
+ghost use Rattle.settle.specs.Calls.{AllCalledOrSettled, AreApart};
 ghost use Rattle.settle.specs.Rounds.{AreReady, AreRounded};
 ghost use Rattle.std.specs.Prelude.{◌≡◌, ◌+◌, ◌*◌, ◌++◌, ◌^◌, ◌<◌, ◌≤◌, ℕ, length};
 ghost use Rattle.std.specs.Thread.{IsSync};
 
-use bank_worker::{Visit, Worker};
+use bank_worker::{BankSet, Visit, Worker};
 use clr_edge::Gate;
 use pay_words::Board;
 use std::thread::{Threads, join_mut};
 
-// A round of each of these workers, down to one. Where they go `beside` one another each half of
-// the list has a thread of its own; else one half goes after the other, in this thread.
-#[cycle(halves)]
-pub(crate) fn work<R: Threads + Sync, G: Gate + Sync>(
+// A round of each of these workers: beside one another, over all their banks, or one after another,
+// over those that are called. No bank need be called any more once they went beside one another.
+pub(crate) fn work_all<R: Threads + Sync, G: Gate + Sync>(
     rt: &R,
     board: &Board,
     sweeps: u32,
     gate: &G,
     workers: &mut [Worker],
+    called: &mut BankSet,
     beside: bool,
+) -> Visit
+    requires sweeps { (1 ≤ sweeps) × (sweeps ≤ 1000) }
+    requires some { (1 ≤ length workers.old) × (length workers.old ≤ 64) }
+    requires ready { AreReady board.now workers.old }
+    requires called { AllCalledOrSettled called.old workers.old }
+    requires apart { AreApart workers.old }
+    ensures rounded { WhenRaised result (λ n. AreRounded sweeps n workers.old workers.new) }
+{
+    if beside {
+        *called = BankSet::none();
+        work(rt, board, sweeps, gate, workers)
+    } else {
+        in_turn(board, sweeps, gate, workers, called)
+    }
+}
+
+// A round of each of these workers, one after another, over those of their banks that are called.
+fn in_turn<G: Gate>(
+    board: &Board,
+    sweeps: u32,
+    gate: &G,
+    workers: &mut [Worker],
+    called: &mut BankSet,
+) -> Visit
+    requires sweeps { (1 ≤ sweeps) × (sweeps ≤ 1000) }
+    requires few { length workers.old ≤ 64 }
+    requires ready { AreReady board.now workers.old }
+    requires called { AllCalledOrSettled called.old workers.old }
+    requires apart { AreApart workers.old }
+    ensures rounded { WhenRaised result (λ n. AreRounded sweeps n workers.old workers.new) }
+{
+    let mut units = 0;
+    for worker in workers.iter_mut() {
+        match worker.round_called(board, sweeps, gate, called) {
+            Visit::Raised(more) => units += more,
+            Visit::Mem => return Visit::Mem,
+        }
+    }
+    Visit::Raised(units)
+}
+
+// A round of each of these workers, down to one: each half of the list has a thread of its own.
+#[cycle(halves)]
+fn work<R: Threads + Sync, G: Gate + Sync>(
+    rt: &R,
+    board: &Board,
+    sweeps: u32,
+    gate: &G,
+    workers: &mut [Worker],
 ) -> Visit
     requires sweeps { (1 ≤ sweeps) × (sweeps ≤ 1000) }
     requires some { (1 ≤ length workers.old) × (length workers.old ≤ 64) }
@@ -34,31 +84,14 @@ pub(crate) fn work<R: Threads + Sync, G: Gate + Sync>(
         requires { IsSync R.row × IsSync G.row × (1 ≤ sweeps) × (sweeps ≤ 1000)
             × (1 ≤ length front.now) × (length front.now ≤ 64) × AreReady board.now front.now }
         ensures { WhenRaised result (λ n. AreRounded sweeps n front.entry.now front.exit.now) }
-    { work(rt, board, sweeps, gate, front, beside) };
+    { work(rt, board, sweeps, gate, front) };
     let mut high = || -> Visit
         requires { IsSync R.row × IsSync G.row × (1 ≤ sweeps) × (sweeps ≤ 1000)
             × (1 ≤ length back.now) × (length back.now ≤ 64) × AreReady board.now back.now }
         ensures { WhenRaised result (λ n. AreRounded sweeps n back.entry.now back.exit.now) }
-    { work(rt, board, sweeps, gate, back, beside) };
-    let (a, b) = both(rt, &mut low, &mut high, beside);
+    { work(rt, board, sweeps, gate, back) };
+    let (a, b) = join_mut(rt, &mut low, &mut high);
     added(a, b)
-}
-
-// Both calls: in two threads, or one after the other.
-fn both<R: Threads, F: FnMut() -> Visit + Send, G: FnMut() -> Visit>(
-    rt: &R,
-    low: &mut F,
-    high: &mut G,
-    beside: bool,
-) -> (Visit, Visit)
-    requires { F.pre low.old × G.pre high.old }
-    ensures { F.step low.old result.0 low.new × G.step high.old result.1 high.new }
-{
-    if beside {
-        join_mut(rt, low, high)
-    } else {
-        (low(), high())
-    }
 }
 
 // The units of two visits, or want of memory where one of them met it.

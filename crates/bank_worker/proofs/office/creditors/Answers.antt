@@ -12,7 +12,7 @@ pub loop-number-preserved : goal.loop-number-preserved
 loop-number-preserved c = record {
   items =
       c.push_reserved.ensures.items
-      ∙ ap (λ cs. cs ++ c.debt.result.creditor.0 ∷ []) c.loop-number.invariant.items
-      ∙ creditors_with c.args.net.now c.loop-number.number c.debt.result c.debt.ensures;
+      ∙ ap (λ cs. cs ++ c.creditor.result ∷ []) c.loop-number.invariant.items
+      ∙ creditors_with c.args.net.now c.loop-number.number c.creditor.result c.creditor.ensures;
   room = omega (arith, c.push_reserved.ensures.capacity, c.loop-number.invariant.room);
 }

@@ -1,11 +1,16 @@
-use Rattle.std.proofs.Common.{◌≡◌, ◌+◌, ◌-◌, ◌≤◌, ◌++◌, ◌∷◌, [], length, length-append, sym, ap, ◌∙◌, subst, arith, sum_by}
+use Rattle.std.proofs.Common.{◌≡◌, ◌+◌, ◌-◌, ◌≤◌, ◌++◌, ◌∷◌, [], length, length-append, sym, ap, ◌∙◌, subst, arith, rules, sum_by}
 use Rattle.std.proofs.lemmas.List.Sums.{sum_by_push}
 use Rattle.pay_words.specs.declared.view.Shown.{Shown}
 use Rattle.pay_words.specs.Views.{OwesNoRing, rejoined}
+use Rattle.bank_worker.specs.Called.{AreCreditorsIn}
 use Rattle.bank_worker.specs.Views.{Crew}
+use Rattle.clr_net.specs.Net.{Net}
+use Rattle.raise_journal.specs.Gathered.{HasMerged}
 use Rattle.settle.specs.Between.{IsBack, IsOfBoard, raises_by}
+use Rattle.settle.specs.Calls.{HaveCalledFrom}
 use Rattle.settle.specs.Offices.{AreOffices}
 use Rattle.settle.specs.Rounds.{crew_at}
+use Rattle.settle.proofs.Calling.{called_from}
 use Rattle.settle.proofs.Offices.{held_by, office_more, seat_serves}
 use Rattle.settle.proofs.Returned.{IsLast, back_more, grown_more, known_banks, last_of}
 use Rattle.settle.proofs.teams.close_workers.Goals as goal
@@ -50,7 +55,7 @@ loop-worker-preserved c =
     let shown : c.take_back.new.master.shows ≡ rejoined m (crew_at ws n).seat.shows =
     c.take_back.ensures.rejoined ∙ ap (rejoined m) (ap (λ s. s.shows) seat ∙ ap (λ (k : Crew). k.seat.shows) h.is) in
     let back = back_more c.args.board.now s m ws n (subst (IsOfBoard c.args.board.now n) h.is h.own) (subst (IsBack k net s ws m) h.more inv.back) (known_banks net c.requires.network) in
-    let made : c.as_slice.result.now ≡ (crew_at ws n).seat.shows.raises = c.as_slice.ensures ∙ c.leave-seat.ensures.same ∙ ap (λ s. s.shows.raises) seat ∙ ap (λ (k : Crew). k.seat.shows.raises) h.is in
+    let made : c.as_slice-raises.result.now ≡ (crew_at ws n).seat.shows.raises = c.as_slice-raises.ensures ∙ c.leave-seat.ensures.same ∙ ap (λ s. s.shows.raises) seat ∙ ap (λ (k : Crew). k.seat.shows.raises) h.is in
     record {
       table = c.take_back.ensures.table ∙ inv.table;
       back = subst (λ (u : Shown). IsBack k net s ws u n) (sym shown) back;
@@ -64,8 +69,15 @@ loop-worker-preserved c =
           let count : k - (n + 1) + 1 ≡ k - n = omega arith in
           subst (AreOffices net k (k - n)) (sym (c.in_ok-push.ensures.items ∙ ap (λ o. c.loop-worker.offices.items ++ o ∷ []) c.keep.ensures))
           (subst (λ m. AreOffices net k m (c.loop-worker.offices.items ++ c.leave-seat.result.2 ∷ [])) count after);
-      noted = grown_more c.args.journal.now.raises c.loop-worker.journal.raises c.add_all.new.journal.raises s.raises m.raises c.take_back.new.master.shows.raises (crew_at ws n).seat.shows.raises
-          inv.noted (c.in_ok-add_all.ensures ∙ ap (λ rs. c.loop-worker.journal.raises ++ rs) made) (ap (λ (u : Shown). u.raises) shown);
+      noted = grown_more c.args.journal.now.raises c.loop-worker.journal.raises c.add_raises.new.journal.raises s.raises m.raises c.take_back.new.master.shows.raises (crew_at ws n).seat.shows.raises
+          inv.noted
+          (subst (HasMerged c.loop-worker.journal.raises c.add_raises.new.journal.raises (length c.args.journal.now.raises)) made
+          (subst (λ k. HasMerged c.loop-worker.journal.raises c.add_raises.new.journal.raises k c.as_slice-raises.result.now) (ap length c.as_slice-from.ensures) c.in_ok-add_raises.ensures))
+          (ap (λ (u : Shown). u.raises) shown);
+      called = called_from net c.loop-worker.called c.call_creditors.new.called ws n w.journal
+          (subst (λ m. HaveCalledFrom m net c.loop-worker.called ws) h.more inv.called) c.call_creditors.ensures.kept
+          (sym c.leave-seat.ensures.journal ∙ c.leave-seat.ensures.same ∙ ap (λ s. s.shows.raises) seat ∙ ap (λ (k : Crew). k.seat.shows.raises) h.is)
+          (subst (λ (m : Net). AreCreditorsIn m c.call_creditors.new.called w.journal) h.own.at.1 c.call_creditors.ensures.creditors);
       visits = omega (arith, ap (λ (u : Shown). u.taken) shown, inv.visits, c.visits-visits.ensures, h.own.by_bells, ap (λ (k : Crew). k.seat.shows.taken) h.is);
       sum = omega (arith, inv.sum, ap (λ ks. sum_by (λ (k : Crew). k.visits) ks) is, sum_by_push (λ (k : Crew). k.visits) rest w, c.visits-visits.ensures);
       raises = omega (
@@ -79,3 +91,8 @@ loop-worker-preserved c =
       );
       low = omega (arith, h.more, inv.low, c.visits-visits.ensures, h.own.few_visits);
     }
+
+pub returns-clause-called : goal.returns-clause-called
+returns-clause-called c i le li =
+    let none : length c.loop-worker.workers.items ≡ 0 = search rules in
+    c.loop-worker.invariant.called i (omega (arith, none)) li

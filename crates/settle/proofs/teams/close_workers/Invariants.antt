@@ -1,5 +1,6 @@
 use Rattle.std.proofs.Common.{◌≡◌, ◌+◌, ◌-◌, ◌*◌, ◌≤◌, length, sum_by}
 use Rattle.settle.specs.Between.{HaveGrownAlike, IsBack, raises_by}
+use Rattle.settle.specs.Calls.{HaveCalledFrom}
 use Rattle.settle.specs.Offices.{AreOffices}
 use Rattle.settle.proofs.Returned.{AreFirst}
 use Rattle.settle.proofs.teams.close_workers.Given as goal
@@ -11,6 +12,7 @@ invariant-loop-worker l = record {
   left : AreFirst l.fn.workers.items l.workers.items;
   offices : AreOffices l.board.net l.board.table.workers (l.board.table.workers - length l.workers.items) l.offices.items;
   noted : HaveGrownAlike l.fn.journal.raises l.journal.raises l.fn.master.shows.raises l.master.shows.raises;
+  called : HaveCalledFrom (length l.workers.items) l.board.net l.called l.fn.workers.items;
   visits : l.master.shows.taken ≡ l.fn.master.shows.taken + l.visits;
   sum : l.visits + sum_by (λ w. w.visits) l.workers.items ≡ sum_by (λ w. w.visits) l.fn.workers.items;
   raises : length l.master.shows.raises + sum_by raises_by l.workers.items ≡ length l.fn.master.shows.raises + sum_by raises_by l.fn.workers.items;

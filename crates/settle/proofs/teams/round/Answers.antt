@@ -10,12 +10,13 @@ use Rattle.clr_net.specs.Limits.{IsNetwork}
 use Rattle.clr_net.specs.Net.{Net}
 use Rattle.clear_core.specs.Clearing.{least}
 use Rattle.pay_words.specs.declared.view.Shown.{Shown}
-use Rattle.settle.specs.Between.{HaveGrownAlike, IsBetween, crews, raises_by}
+use Rattle.settle.specs.Between.{HaveGrownAlike, IsBetween, raises_by}
+use Rattle.settle.specs.Calls.{AllCalledOrSettled, AreApart, HaveCalledFrom}
 use Rattle.settle.specs.Offices.{AreOffices}
 use Rattle.settle.specs.Rounds.{AreReady, AreRounded}
 use Rattle.settle.proofs.AllDown.{idle_between}
-use Rattle.settle.proofs.Handed.{IsRest, crews_ready, first_rest, length-crews}
-use Rattle.settle.proofs.Rounded.{few_in_round, of_board, between_again, all_divide, all_seen, none_fell, none_rose, some_raise, some_rose}
+use Rattle.settle.proofs.Handed.{IsRest, crews_apart, crews_called, crews_ready, first_rest, length-crews}
+use Rattle.settle.proofs.Rounded.{few_in_round, of_board, between_again, all_divide, all_seen, none_fell, none_rose, rest_settled, some_raise, some_rose}
 use Rattle.settle.proofs.teams.round.Goals as goal
 
 -- so many raises more are raises that were added
@@ -28,8 +29,8 @@ all_back : (sweeps n : ℕ) (v : Vec Crew) (lent olds news : List Crew) → lent
 all_back sweeps n v lent olds news e f h =
     subst (AreRounded sweeps n olds) (sym (with_items_is v news (omega (arith, h.as_many, ap length e, v.ok)))) (subst (λ os. AreRounded sweeps n os news) (e ∙ f) h)
 
-pub work-requires-clause-some : goal.work-requires-clause-some
-work-requires-clause-some g c κs within =
+pub work_all-requires-clause-some : goal.work_all-requires-clause-some
+work_all-requires-clause-some g c κs within =
     let w = c.args.plan.workers in
     let s = c.args.master.now.shows in
     let board = c.args.board.now in
@@ -38,12 +39,25 @@ work-requires-clause-some g c κs within =
     let many = length-crews w board.table s w in
     (omega (arith, lent, made, many, c.requires.ready.limits.some_workers), omega (arith, lent, made, many, c.requires.ready.limits.few_workers))
 
-pub work-requires-clause-ready : goal.work-requires-clause-ready
-work-requires-clause-ready g c κs within =
+pub work_all-requires-clause-ready : goal.work_all-requires-clause-ready
+work_all-requires-clause-ready g c κs within =
     let w = c.args.plan.workers in
     let s = c.args.master.now.shows in
     let board = c.args.board.now in
     subst (AreReady board) (sym (c.deref_mut.ensures.value ∙ c.in_ok-workers.ensures.crews)) (crews_ready board c.args.net.now w s w c.requires.ready.net_is c.requires.ready.between)
+
+pub work_all-requires-clause-called : goal.work_all-requires-clause-called
+work_all-requires-clause-called g c κs within =
+    let w = c.args.plan.workers in
+    let s = c.args.master.now.shows in
+    let called = c.args.called.now in
+    subst (AllCalledOrSettled called) (sym (c.deref_mut.ensures.value ∙ c.in_ok-workers.ensures.crews))
+    (crews_called c.args.net.now w c.args.board.now.table s called c.requires.ready.between c.requires.called)
+
+pub work_all-requires-clause-apart : goal.work_all-requires-clause-apart
+work_all-requires-clause-apart g c κs within =
+    subst AreApart (sym (c.deref_mut.ensures.value ∙ c.in_ok-workers.ensures.crews))
+    (crews_apart c.args.net.now c.args.plan.workers c.args.board.now.table c.args.master.now.shows c.requires.ready.between)
 
 pub close_workers-requires : goal.close_workers-requires
 close_workers-requires g c =
@@ -51,7 +65,7 @@ close_workers-requires g c =
     let s = c.args.master.now.shows in
     let board = c.args.board.now in
     let net = c.args.net.now in
-    let news = (with_items c.in_ok-workers.workers c.work.new.workers).items in
+    let news = (with_items c.in_ok-workers.workers c.work_all.new.workers).items in
     let rounded = all_back c.args.plan.sweeps c.in-Raised.units c.in_ok-workers.workers _ _ _ c.deref_mut.ensures.value c.in_ok-workers.ensures.crews c.in-Raised.ensures.rounded in
     let rest = subst (IsRest w s) (sym c.in_ok-workers.ensures.rest) (first_rest w w s) in
     record {
@@ -77,7 +91,7 @@ returns g c =
     let net = c.args.net.now in
     let sweeps = c.args.plan.sweeps in
     let units = c.in-Raised.units in
-    let news = (with_items c.in_ok-workers.workers c.work.new.workers).items in
+    let news = (with_items c.in_ok-workers.workers c.work_all.new.workers).items in
     let m = c.open_workers.new.master.shows in
     let t = c.close_workers.new.master.shows in
     let rounded = all_back sweeps units c.in_ok-workers.workers _ _ _ c.deref_mut.ensures.value c.in_ok-workers.ensures.crews c.in-Raised.ensures.rounded in
@@ -114,5 +128,7 @@ returns g c =
         paid_low = subst (λ (n : Net). IsAtMost t.paid (least n)) same_net c.clock-clock.ensures.paid_below_least;
         sights_low = subst (λ (n : Net). IsAtMost t.sights (least n)) same_net c.clock-clock.ensures.sights_below_least;
       };
+      called = rest_settled board net s w sweeps units news here c.requires.ready.workers_are some few between rounded m t over back c.close_workers.new.called again
+          (subst (λ (m : Net). HaveCalledFrom 0 m c.close_workers.new.called news) (sym here) c.in_ok-visits.ensures.called);
       noted = subst (λ rs. HaveGrownAlike c.args.journal.now.raises c.close_workers.new.journal.raises rs t.raises) rest.raises c.in_ok-visits.ensures.noted;
     }

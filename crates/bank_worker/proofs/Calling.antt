@@ -1,0 +1,99 @@
+-- The next called bank of a worker, and the creditors that are called.
+use Rattle.std.proofs.Common.{◌≡◌, ℕ, ◌+◌, ◌/◌, ◌<◌, ◌≤◌, Bool, true, false, List, length, get_or, refl, sym, ap, ◌∙◌, subst, ⊎_elim, arith, eq-eqb}
+use Rattle.std.specs.Prelude.{◌==◌, ◌||◌}
+use Rattle.std.proofs.lemmas.List.{get_or_past}
+use Rattle.clear_core.specs.declared.event.Raise.{Raise}
+use Rattle.std.proofs.lemmas.Bool.{cases_lt}
+use Rattle.clr_net.specs.Limits.{IsNetwork}
+use Rattle.clr_net.specs.Net.{Net}
+use Rattle.clr_net.specs.declared.TheConstants.{MAX_BANKS}
+use Rattle.bank_desk.specs.Desks.{BankView}
+use Rattle.pay_words.specs.declared.view.Shown.{Shown}
+use Rattle.pay_words.specs.Views.{holds}
+use Rattle.bank_worker.specs.BankSets.{AreSetOut, HaveNoneInBoth, is_in}
+use Rattle.bank_worker.specs.Called.{AreCalledTo, AreCreditorsIn, StayIn}
+use Rattle.bank_worker.specs.Raises.{debts_of}
+use Rattle.bank_worker.specs.Rings.{creditors_of}
+use Rattle.bank_worker.proofs.Basics.{below_more_cases}
+use Rattle.bank_worker.specs.Rising.{Rises}
+use Rattle.bank_worker.specs.Views.{banks_held, banks_of, desk_at, desks_held}
+use Rattle.bank_worker.proofs.Filtered.{filter_rises}
+use Rattle.bank_worker.proofs.Manned.{bank_at, length_banks}
+use Rattle.bank_worker.proofs.PlacesOfBanks.{banks_of_desks, not_after}
+use Rattle.bank_worker.proofs.Ringing.{creditor_noted, debt_of_raise, length-creditors_of}
+
+-- the banks of a worker's desks, which rise, and of which there is a set
+pub record AreInPlace (banks mine : List ℕ) (workers : ℕ) : Type 0 where
+  pub rise : Rises banks
+  pub out : AreSetOut mine workers banks
+
+-- those of the desks of a seat are so
+pub in_place : (s : Shown) (desks : List BankView) (banks mine : List ℕ) (workers : ℕ) → desks ≡ desks_held s → banks ≡ banks_of desks
+    → AreSetOut mine workers (banks_held s) → AreInPlace banks mine workers
+in_place s desks banks mine workers are banks_are out =
+    let same : banks_held s ≡ banks = sym (banks_are ∙ ap banks_of are ∙ banks_of_desks s.net (banks_held s)) in
+    subst (λ bs. AreInPlace bs mine workers) same (record { rise = filter_rises (holds s) 0 (length s.net.banks); out = out })
+
+-- a bank of the set from one on stands in no earlier place
+pub place_ahead : (banks mine : List ℕ) (workers from b : ℕ) → AreInPlace banks mine workers → from < length banks
+    → get_or banks from 0 ≤ b → is_in mine b ≡ true → from ≤ b / workers
+place_ahead banks mine workers from b h lt ge e =
+    let p = h.out.only b e in
+    let place : b / workers ≡ p.0 = ap (λ n. n / workers) (sym p.2) ∙ (h.out.placed p.0 p.1).1 in
+    ⊎_elim
+    (λ (less : p.0 < from). absurd (omega (arith, p.2, h.rise p.0 from less lt)))
+    (λ (le : from ≤ p.0). omega (arith, place))
+    (cases_lt p.0 from)
+
+-- the banks of earlier places are smaller
+pub before_place : (banks mine : List ℕ) (workers b k : ℕ) → AreInPlace banks mine workers → is_in mine b ≡ true → k < b / workers → get_or banks k 0 < b
+before_place banks mine workers b k h e lt =
+    let p = h.out.only b e in
+    let place : b / workers ≡ p.0 = ap (λ n. n / workers) (sym p.2) ∙ (h.out.placed p.0 p.1).1 in
+    omega (arith, p.2, h.rise k p.0 (omega (arith, place)) p.1)
+
+-- where no bank is in both sets up to some number, none of the banks up to there is called
+pub none_called : (s : Shown) (desks : List BankView) (banks mine called : List ℕ) (workers from k to : ℕ) → desks ≡ desks_held s → banks ≡ banks_of desks
+    → AreInPlace banks mine workers → HaveNoneInBoth mine called (get_or banks from 0) to → from ≤ k → k < length desks
+    → get_or banks k 0 < to → is_in called (desk_at desks k).bank ≡ false
+none_called s desks banks mine called workers from k to are banks_are h none ge l low =
+    let l' : k < length banks = omega (arith, l, length_banks desks banks banks_are) in
+    ap (is_in called) (sym (bank_at s desks banks k are banks_are l).bank)
+    ∙ none (get_or banks k 0) (not_after banks from k h.rise ge l') low (h.out.placed k l').0
+
+-- the creditors that are noted are banks that there may be
+pub known_creditors : (net : Net) (noted : List ℕ) → IsNetwork net → noted ≡ creditors_of net → (x : ℕ) → get_or noted x 0 < MAX_BANKS
+known_creditors net noted network are x = ⊎_elim
+    (λ (lt : x < length noted).
+    let known : x < length net.debts = omega (arith, lt, ap length are, length-creditors_of net) in
+    omega (arith, creditor_noted net noted x are known, (network.each_debt x known).creditor_known, network.banks_in_limit))
+    (λ (ge : length noted ≤ x). omega (arith, get_or_past noted x 0 ge))
+    (cases_lt x (length noted))
+
+-- one bank more in a set
+module _ (old new : List ℕ) (c : ℕ) (e : (b : ℕ) → is_in new b ≡ (is_in old b || (b == c))) where
+  pub stay_in : StayIn old new
+  stay_in b h = e b ∙ ap (λ v. v || (b == c)) h
+
+  last : (v : Bool) → (v || true) ≡ true
+  last true = refl
+  last false = refl
+
+  pub now_in : is_in new c ≡ true
+  now_in = e c ∙ ap (λ v. is_in old c || v) (eq-eqb c c refl) ∙ last (is_in old c)
+
+-- the bank of one raise more
+pub called_more : (noted old new : List ℕ) (rs : List Raise) (n : ℕ) (d : Raise) → n < length rs → AreCalledTo noted old rs n → StayIn old new
+    → ((get_or rs n d).debt.0 < length noted → is_in new (get_or noted (get_or rs n d).debt.0 0) ≡ true) → AreCalledTo noted new rs (n + 1)
+called_more noted old new rs n d lt h stay here x lx j lj at = ⊎_elim
+    (λ (l : j < n). stay (get_or noted x 0) (h x lx j l at))
+    (λ (same : j ≡ n).
+    let e : (get_or rs n d).debt.0 ≡ x = sym (debt_of_raise rs n d lt) ∙ ap (λ i. get_or (debts_of rs) i 0) (sym same) ∙ at in
+    subst (λ y. is_in new (get_or noted y 0) ≡ true) e (here (omega (arith, e, lx))))
+    (below_more_cases j n lj)
+
+-- where the list has the creditor of each debt, all creditors are called
+pub creditors_called : (net : Net) (noted called : List ℕ) (rs : List Raise) → noted ≡ creditors_of net → AreCalledTo noted called rs (length rs) → AreCreditorsIn net called rs
+creditors_called net noted called rs are h x lx raised =
+    subst (λ b. is_in called b ≡ true) (creditor_noted net noted x are lx)
+    (h x (omega (arith, lx, ap length are, length-creditors_of net)) raised.0 raised.1 raised.2)

@@ -1,0 +1,10 @@
+use Rattle.std.proofs.Common.{◌∙◌, ap, arith}
+use Rattle.std.specs.Prelude.{◌==◌, ◌&&◌, not}
+use Rattle.bank_worker.specs.BankSets.{is_in}
+use Rattle.bank_worker.proofs.SetWords.{removed}
+use Rattle.bank_worker.proofs.bank_set.BankSet.remove.Goals as goal
+
+pub returns : goal.returns
+returns c b =
+    removed c.self.inside.words c.args.bank.0 b (omega arith)
+    ∙ ap (λ xs. is_in xs b && not (b == c.args.bank.0)) c.self.view_is

@@ -1,0 +1,11 @@
+use Rattle.std.proofs.Common.{◌∙◌, sym, ap, get_or}
+use Rattle.std.specs.Prelude.{◌==◌, ◌||◌}
+use Rattle.bank_worker.proofs.PlacesOfBanks.{among_more}
+use Rattle.bank_worker.proofs.office.set_of.Goals as goal
+
+pub loop-bank-preserved : goal.loop-bank-preserved
+loop-bank-preserved c b =
+    let x = get_or c.args.banks.now c.loop-bank.bank-index 0 in
+    c.add.ensures b
+    ∙ ap (λ t. t || (b == x)) (c.loop-bank.invariant b)
+    ∙ sym (among_more c.args.banks.now c.loop-bank.bank-index b c.loop-bank-test.true)

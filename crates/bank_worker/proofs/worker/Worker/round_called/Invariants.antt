@@ -1,0 +1,10 @@
+use Rattle.bank_worker.specs.Called.{AreCalledOrSettled, KeepsOthers}
+use Rattle.bank_worker.proofs.Sweeping.{RoundTo}
+use Rattle.bank_worker.proofs.worker.Worker.round_called.Given as goal
+
+abbrev pub invariant-loop : goal.invariant-loop
+invariant-loop g l = record {
+  round : RoundTo l.fn.self l.self l.counter l.units;
+  called : AreCalledOrSettled l.called l.self.seat.shows l.self.desks;
+  others : KeepsOthers l.fn.self.seat.shows l.fn.called l.called;
+}

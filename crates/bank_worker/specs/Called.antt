@@ -1,0 +1,38 @@
+-- What is said of banks that are called, since their bells may be up, and of those that are not.
+use Rattle.std.specs.Prelude.{◌≡◌, ℕ, ◌<◌, true, false, List, length, slice_index}
+use Rattle.clr_net.specs.Net.{Net, creditor_of}
+use Rattle.clear_core.specs.declared.event.Raise.{Raise}
+use Rattle.bank_desk.specs.Desks.{BankView}
+use Rattle.pay_words.specs.declared.view.Shown.{Shown}
+use Rattle.pay_words.specs.Views.{HasSeenFloor, holds}
+use Rattle.bank_worker.specs.BankSets.{is_in}
+use Rattle.bank_worker.specs.Raises.{IsRaisedIn, debts_of}
+use Rattle.bank_worker.specs.Views.{Divides, desk_at}
+
+-- the bank of the desk pays its division at what was last seen, which is at least the floor
+pub record IsSettled (s : Shown) (desk : BankView) : Type 0 where
+  pub divides : Divides s desk
+  pub seen : HasSeenFloor s desk.bank
+
+-- each bank of these desks is called, or it is settled
+abbrev pub AreCalledOrSettled : List ℕ → Shown → List BankView → Type 0
+AreCalledOrSettled called s desks = (k : ℕ) → k < length desks
+    → is_in called (desk_at desks k).bank ≡ false → IsSettled s (desk_at desks k)
+
+-- each bank that was called and that the seat does not hold is called still
+abbrev pub KeepsOthers : Shown → List ℕ → List ℕ → Type 0
+KeepsOthers s old new = (b : ℕ) → holds s b ≡ false → is_in old b ≡ true → is_in new b ≡ true
+
+-- no bank was taken away
+abbrev pub StayIn : List ℕ → List ℕ → Type 0
+StayIn old new = (b : ℕ) → is_in old b ≡ true → is_in new b ≡ true
+
+-- of the first n raises, the bank that a list has for the debt is called
+abbrev pub AreCalledTo : List ℕ → List ℕ → List Raise → ℕ → Type 0
+AreCalledTo creditors called rs n = (x : ℕ) → x < length creditors → (j : ℕ) → j < n
+    → slice_index (debts_of rs) j ≡ x → is_in called (slice_index creditors x) ≡ true
+
+-- the creditor of each debt of these raises is called
+abbrev pub AreCreditorsIn : Net → List ℕ → List Raise → Type 0
+AreCreditorsIn net called rs = (x : ℕ) → x < length net.debts → IsRaisedIn rs x
+    → is_in called (creditor_of net x) ≡ true
