@@ -193,16 +193,28 @@ module _ (d : Deed) (start : List Payment) (network : IsNetwork d.net) (h : Belo
   pub opens_past : IsKept d (opening_words net start) (opening_view d ∷ [])
   opens_past = subst (λ (ps : List Payment). IsKept d (opening_words net start) (record { live = true; rolled = 1; shown = opening net ps } ∷ [])) h.start_is opens
 
+  -- each of the payments is that of the debt's last raise, whatever stands past the end
+  start_ending : (k : ℕ) (p : Payment) → k < length start → get_or start k p ≡ ending (t k)
+  start_ending k p lt =
+      let l : k < n = omega (arith, lt, start_over net start d.past h) in
+      ap (λ (ps : List Payment). get_or ps k p) h.start_is ∙ tabled_at n (λ y. ending (t y)) k p l
+
   -- each of the words fits
   pub start_fits : (k : ℕ) (p : Payment) → k < length start → word_of (get_or start k p) < 18446744073709551616
   start_fits k p lt =
       let l : k < n = omega (arith, lt, start_over net start d.past h) in
-      let at : get_or start k p ≡ ending (t k) = ap (λ (ps : List Payment). get_or ps k p) h.start_is ∙ tabled_at n (λ y. ending (t y)) k p l in
       let value = value_fits net t lawful k l network in
       let stamp = start_low net start d.past h k l in
       let most = total_le net t lawful in
       let limit = network.owed_in_limit in
-      subst (λ (q : Payment). word_of q < 18446744073709551616) (sym at) (omega (arith, value, stamp, most, limit))
+      subst (λ (q : Payment). word_of q < 18446744073709551616) (sym (start_ending k p lt)) (omega (arith, value, stamp, most, limit))
+
+  -- each of the values fits in four bytes
+  pub start_values_fit : (k : ℕ) (p : Payment) → k < length start → (get_or start k p).value < 4294967296
+  start_values_fit k p lt =
+      let l : k < n = omega (arith, lt, start_over net start d.past h) in
+      let value = value_fits net t lawful k l network in
+      subst (λ (q : Payment). q.value < 4294967296) (sym (start_ending k p lt)) (omega (arith, value))
 
   abbrev values : List ℕ
   values = map (λ p. p.value) start

@@ -61,8 +61,8 @@ impl Model for Board {
 impl Board {
     /// A board on which the payments of a past stand, and its master, which holds all banks.
     ///
-    /// `start` is over all debts, in file order. Costs a walk over all debts for each worker, and
-    /// memory for as much.
+    /// `start` is over all debts, in file order. Costs a walk over all debts, and for each worker a
+    /// list of their values, four bytes each.
     pub fn make(
         alloc: Global,
         net: &Network,

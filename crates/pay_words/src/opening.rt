@@ -23,12 +23,13 @@ pub(crate) fn opening_words(
     ensures { IfOk result
         (λ words. words.items ≡ 1 ∷ (map word_of start.now ++ replicate banks 1)) }
 {
-    let mut words = Vec::new(alloc);
-    words.push(1)?;
+    let size = 1 + start.len() + banks;
+    let mut words = Vec::with_capacity(alloc, size)?;
+    words.push_reserved(1);
     for payment in start {
-        words.push(payment.word())?;
+        words.push_reserved(payment.word());
     }
-    words.resize(1 + start.len() + banks, 1)?;
+    words.resize(size, 1)?;
     Ok(words)
 }
 
@@ -48,9 +49,9 @@ pub(crate) fn debtors_of(alloc: Global, net: &Network) -> Result<Vec<u32>, Alloc
     ensures { IfOk result
         (λ debtors. debtors.items ≡ map (debtor_of net.now) (debt_numbers net.now)) }
 {
-    let mut debtors = Vec::new(alloc);
+    let mut debtors = Vec::with_capacity(alloc, net.debts() as usize)?;
     for number in 0..net.debts() {
-        debtors.push(net.debt(DebtId(number)).debtor.0)?;
+        debtors.push_reserved(net.debt(DebtId(number)).debtor.0);
     }
     Ok(debtors)
 }

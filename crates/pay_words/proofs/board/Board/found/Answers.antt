@@ -6,7 +6,7 @@ use Rattle.pay_words.specs.declared.view.View.{View}
 use Rattle.pay_words.specs.Kept.{IsKept, opening_view}
 use Rattle.pay_words.specs.Seats.{IsKeptIn, IsLaidOut, purse}
 use Rattle.pay_words.specs.Words.{word_of}
-use Rattle.pay_words.proofs.Openings.{opening_words, opens_past, start_fits, kept_opening}
+use Rattle.pay_words.proofs.Openings.{opening_words, opens_past, start_fits, start_values_fit, kept_opening}
 use Rattle.pay_words.proofs.Pasts.{start_over}
 use Rattle.pay_words.proofs.board.Board.found.Goals as goal
 
@@ -15,6 +15,9 @@ opening_words-requires-clause-debts g c = omega (arith, start_over _ _ _ c.requi
 
 pub opening_words-requires-clause-fit : goal.opening_words-requires-clause-fit
 opening_words-requires-clause-fit g c = start_fits (record { net = c.args.net.now; past = c.args.past.now }) _ c.banks.ensures.network c.requires.belongs
+
+pub of_each-requires : goal.of_each-requires
+of_each-requires g c = start_values_fit (record { net = c.args.net.now; past = c.args.past.now }) _ c.banks.ensures.network c.requires.belongs
 
 pub of_words-requires : goal.of_words-requires
 of_words-requires g c =

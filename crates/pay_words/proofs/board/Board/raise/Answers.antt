@@ -20,11 +20,16 @@ store-requires c =
     let low : c.args.to ≤ MAX_CLAIM = payment_in_limit _ _ _ _ c.self.invariant.0.network may.debt may.within in
     (search rules, omega (arith, c.self.invariant.0.words_are, may.debt), raises_by _ _ _ _ _ _ _ (c.word.ensures ∙ ap (λ (n : ℕ). (n + 1) * 4294967296 + c.args.to) c.seat.invariant.1.clock_is) c.seat.invariant.1.live (omega (arith, low)) may)
 
-pub set-requires : goal.set-requires
-set-requires c =
+pub set-requires-clause-debt : goal.set-requires-clause-debt
+set-requires-clause-debt c =
     let may = may_within _ _ _ _ c.args.debt.0 c.args.to c.self.view_is c.seat.view_is (record { debt = c.requires.debt; not_the_master = c.requires.not_the_master; debtor = c.requires.debtor; more = c.requires.more; within = c.requires.within }) in
     let over = net_within _ _ _ _ c.seat.view_is c.self.view_is c.requires.seat.1 in
     (own_there _ _ _ _ c.seat.invariant.1 _ over c.args.debt.0 c.args.to may).0
+
+pub set-requires-clause-fits : goal.set-requires-clause-fits
+set-requires-clause-fits c =
+    let may = may_within _ _ _ _ c.args.debt.0 c.args.to c.self.view_is c.seat.view_is (record { debt = c.requires.debt; not_the_master = c.requires.not_the_master; debtor = c.requires.debtor; more = c.requires.more; within = c.requires.within }) in
+    omega (arith, payment_in_limit _ _ _ _ c.self.invariant.0.network may.debt may.within)
 
 pub invariant_of-seat : goal.invariant_of-seat
 invariant_of-seat c =
