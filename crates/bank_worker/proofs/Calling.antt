@@ -1,26 +1,30 @@
 -- The next called bank of a worker, and the creditors that are called.
-use Rattle.std.proofs.Common.{◌≡◌, ℕ, ◌+◌, ◌/◌, ◌<◌, ◌≤◌, Bool, true, false, List, length, get_or, refl, sym, ap, ◌∙◌, subst, ⊎_elim, arith, eq-eqb}
+use Rattle.std.proofs.Common.{◌≡◌, ℕ, ◌+◌, ◌/◌, ◌<◌, ◌≤◌, ◌++◌, Bool, true, false, true≢false, List, [], append_assoc, append-nil, drop, length, get_or, refl, sym, ap, ◌∙◌, subst, ⊎_elim, arith, eq-eqb}
 use Rattle.std.specs.Prelude.{◌==◌, ◌||◌}
 use Rattle.std.proofs.lemmas.List.{get_or_past}
+use Rattle.std.proofs.Math.Seq.{drop-append_seam}
 use Rattle.clear_core.specs.declared.event.Raise.{Raise}
 use Rattle.std.proofs.lemmas.Bool.{cases_lt}
 use Rattle.clr_net.specs.Limits.{IsNetwork}
-use Rattle.clr_net.specs.Net.{Net}
+use Rattle.clr_net.specs.Net.{Net, creditor_of}
 use Rattle.clr_net.specs.declared.TheConstants.{MAX_BANKS}
 use Rattle.bank_desk.specs.Desks.{BankView}
 use Rattle.pay_words.specs.declared.view.Shown.{Shown}
-use Rattle.pay_words.specs.Views.{holds}
+use Rattle.pay_words.specs.Views.{holds, is_marked}
 use Rattle.bank_worker.specs.BankSets.{AreSetOut, HaveNoneInBoth, is_in}
-use Rattle.bank_worker.specs.Called.{AreCalledTo, AreCreditorsIn, StayIn}
-use Rattle.bank_worker.specs.Raises.{debts_of}
+use Rattle.bank_worker.specs.Called.{AreCalledOrSettled, AreCalledTo, AreCreditorsIn, CallsOthers, KeepsOthers, StayIn}
+use Rattle.bank_worker.specs.Raises.{IsRaisedIn, debts_of}
 use Rattle.bank_worker.specs.Rings.{creditors_of}
 use Rattle.bank_worker.proofs.Basics.{below_more_cases}
 use Rattle.bank_worker.specs.Rising.{Rises}
-use Rattle.bank_worker.specs.Views.{banks_held, banks_of, desk_at, desks_held}
+use Rattle.bank_worker.specs.Views.{Crew, banks_held, banks_of, desk_at, desks_held}
+use Rattle.bank_worker.specs.Visits.{IsSameCrew, IsSameSeat, Notes}
 use Rattle.bank_worker.proofs.Filtered.{filter_rises}
-use Rattle.bank_worker.proofs.Manned.{bank_at, length_banks}
+use Rattle.bank_worker.proofs.Manned.{bank_at, desk_is, length_banks}
 use Rattle.bank_worker.proofs.PlacesOfBanks.{banks_of_desks, not_after}
+use Rattle.bank_worker.proofs.Raising.{raised_in_either}
 use Rattle.bank_worker.proofs.Ringing.{creditor_noted, debt_of_raise, length-creditors_of}
+use Rattle.bank_worker.proofs.Sweeping.{after_take, with_bell}
 
 -- the banks of a worker's desks, which rise, and of which there is a set
 pub record AreInPlace (banks mine : List ℕ) (workers : ℕ) : Type 0 where
@@ -61,6 +65,13 @@ none_called s desks banks mine called workers from k to are banks_are h none ge 
     ap (is_in called) (sym (bank_at s desks banks k are banks_are l).bank)
     ∙ none (get_or banks k 0) (not_after banks from k h.rise ge l') low (h.out.placed k l').0
 
+-- where all banks are called, so are those of the desks
+pub all_called : (s : Shown) (desks : List BankView) (called : List ℕ) → IsNetwork s.net → desks ≡ desks_held s
+    → ((b : ℕ) → b < MAX_BANKS → is_in called b ≡ true) → AreCalledOrSettled called s desks
+all_called s desks called network are all k l out =
+    let known = (desk_is s desks k are l).bank in
+    absurd (true≢false (sym (all (desk_at desks k).bank (omega (arith, known, network.banks_in_limit))) ∙ out))
+
 -- the creditors that are noted are banks that there may be
 pub known_creditors : (net : Net) (noted : List ℕ) → IsNetwork net → noted ≡ creditors_of net → (x : ℕ) → get_or noted x 0 < MAX_BANKS
 known_creditors net noted network are x = ⊎_elim
@@ -97,3 +108,50 @@ pub creditors_called : (net : Net) (noted called : List ℕ) (rs : List Raise) �
 creditors_called net noted called rs are h x lx raised =
     subst (λ b. is_in called b ≡ true) (creditor_noted net noted x are lx)
     (h x (omega (arith, lx, ap length are, length-creditors_of net)) raised.0 raised.1 raised.2)
+
+-- where nothing was raised there is nobody to call
+pub calls_none : (w : Crew) (called : List ℕ) → CallsOthers w w called
+calls_none w called = record { made = []; grew = sym (append-nil w.journal); rung = λ x lx o other. absurd (omega (arith, o.1)) }
+
+-- banks of others stay called, and nothing is raised
+pub calls_kept : (old cur new : Crew) (called now : List ℕ) → new.journal ≡ cur.journal → KeepsOthers old.seat.shows called now
+    → CallsOthers old cur called → CallsOthers old new now
+calls_kept old cur new called now same kept h = record {
+  made = h.made;
+  grew = same ∙ h.grew;
+  rung = λ x lx o other. kept (creditor_of old.seat.shows.net x) other (h.rung x lx o other);
+}
+
+-- banks of others stay called, and more are raised, whose creditors are called
+pub calls_more : (old cur new : Crew) (called now : List ℕ) → IsSameSeat old.seat.shows cur.seat.shows → KeepsOthers cur.seat.shows called now
+    → CallsOthers old cur called → CallsOthers cur new now → CallsOthers old new now
+calls_more old cur new called now same kept a b = record {
+  made = a.made ++ b.made;
+  grew = b.grew ∙ ap (λ rs. rs ++ b.made) a.grew ∙ append_assoc old.journal a.made b.made;
+  rung = λ x lx o other.
+      let s = old.seat.shows in
+      let t = cur.seat.shows in
+      let creditor : creditor_of t.net x ≡ creditor_of s.net x = ap (λ (m : Net). creditor_of m x) same.net in
+      let not_held : holds t (creditor_of s.net x) ≡ false = ap (λ bs. is_marked bs (creditor_of s.net x)) same.banks ∙ other in
+      let lt : x < length t.net.debts = omega (arith, lx, ap (λ (m : Net). length m.debts) same.net) in
+      ⊎_elim
+      (λ (first : IsRaisedIn a.made x). kept (creditor_of s.net x) not_held (a.rung x lx first other))
+      (λ (last : IsRaisedIn b.made x). ap (is_in now) (sym creditor) ∙ b.rung x lt last (ap (holds t) creditor ∙ not_held))
+      (raised_in_either a.made b.made x o);
+}
+
+-- the creditors of the debts that a visit raised are called
+pub calls_visit : (cur taken new : Crew) (up : Bool) (b from : ℕ) (desk : BankView) (now : List ℕ) → taken ≡ after_take cur b up → up ≡ true → IsSameCrew taken new
+    → Notes desk taken new → from ≡ length taken.journal → AreCreditorsIn new.seat.shows.net now (drop from new.journal) → CallsOthers cur new now
+calls_visit cur taken new up b from desk now e is same notes at h =
+    let made = notes.seat.made in
+    let e' : taken ≡ with_bell cur b = e ∙ ap (after_take cur b) is in
+    let net : new.seat.shows.net ≡ cur.seat.shows.net = same.seat.net ∙ ap (λ (w : Crew). w.seat.shows.net) e' in
+    let noted : drop from new.journal ≡ made = ap (λ n. drop n new.journal) at ∙ ap (drop (length taken.journal)) notes.journal ∙ drop-append_seam taken.journal made in
+    record {
+      made = made;
+      grew = notes.journal ∙ ap (λ (w : Crew). w.journal ++ made) e';
+      rung = λ x lx o other.
+          ap (is_in now) (sym (ap (λ (m : Net). creditor_of m x) net))
+          ∙ h x (omega (arith, lx, ap (λ (m : Net). length m.debts) net)) (subst (λ rs. IsRaisedIn rs x) (sym noted) o);
+    }

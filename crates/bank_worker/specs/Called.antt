@@ -1,5 +1,5 @@
 -- What is said of banks that are called, since their bells may be up, and of those that are not.
-use Rattle.std.specs.Prelude.{◌≡◌, ℕ, ◌<◌, true, false, List, length, slice_index}
+use Rattle.std.specs.Prelude.{◌≡◌, ℕ, ◌<◌, ◌++◌, true, false, List, length, slice_index}
 use Rattle.clr_net.specs.Net.{Net, creditor_of}
 use Rattle.clear_core.specs.declared.event.Raise.{Raise}
 use Rattle.bank_desk.specs.Desks.{BankView}
@@ -7,7 +7,7 @@ use Rattle.pay_words.specs.declared.view.Shown.{Shown}
 use Rattle.pay_words.specs.Views.{HasSeenFloor, holds}
 use Rattle.bank_worker.specs.BankSets.{is_in}
 use Rattle.bank_worker.specs.Raises.{IsRaisedIn, debts_of}
-use Rattle.bank_worker.specs.Views.{Divides, desk_at}
+use Rattle.bank_worker.specs.Views.{Crew, Divides, desk_at}
 
 -- the bank of the desk pays its division at what was last seen, which is at least the floor
 pub record IsSettled (s : Shown) (desk : BankView) : Type 0 where
@@ -36,3 +36,12 @@ AreCalledTo creditors called rs n = (x : ℕ) → x < length creditors → (j : 
 abbrev pub AreCreditorsIn : Net → List ℕ → List Raise → Type 0
 AreCreditorsIn net called rs = (x : ℕ) → x < length net.debts → IsRaisedIn rs x
     → is_in called (creditor_of net x) ≡ true
+
+-- the journal grew by some raises, and the creditor of each of their debts is called, if the seat
+-- does not hold it
+pub record CallsOthers (old new : Crew) (called : List ℕ) : Type 0 where
+  pub made : List Raise
+  pub grew : new.journal ≡ old.journal ++ made
+  pub rung : (x : ℕ) → x < length old.seat.shows.net.debts → IsRaisedIn made x
+      → holds old.seat.shows (creditor_of old.seat.shows.net x) ≡ false
+      → is_in called (creditor_of old.seat.shows.net x) ≡ true

@@ -110,10 +110,6 @@ pub record IsDown (s : Shown) (b : ℕ) : Type 0 where
   pub taken : is_marked s.fresh b ≡ false
   pub seen : IsCalm s b → HasSeenFloor s b
 
--- so are the bells of the desks from one place on to another
-abbrev pub AreDown : Shown → List BankView → ℕ → ℕ → Type 0
-AreDown s desks from to = (k : ℕ) → from ≤ k → k < to → IsDown s (desk_at desks k).bank
-
 -- nothing that the seat shows of its banks is pending
 abbrev pub IsAllCalm : Shown → Type 0
 IsAllCalm s = (b : ℕ) → b < length s.net.banks → holds s b ≡ true → IsCalm s b

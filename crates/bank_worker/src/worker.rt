@@ -1,11 +1,11 @@
 ghost use Rattle.bank_worker.specs.BankSets.{is_in};
 ghost use Rattle.bank_worker.specs.Called.{AreCalledOrSettled, AreCalledTo, AreCreditorsIn};
-ghost use Rattle.bank_worker.specs.Called.{KeepsOthers, StayIn};
+ghost use Rattle.bank_worker.specs.Called.{CallsOthers, KeepsOthers, StayIn};
 ghost use Rattle.bank_worker.specs.Raises.{AreRaisedStill};
 ghost use Rattle.bank_worker.specs.Rings.{AreMarksBelow, AreMarksUpTo, creditors_of};
 ghost use Rattle.bank_worker.specs.Offices.{IsOfficeFor};
 ghost use Rattle.bank_worker.specs.Views.{desk_at, desks_held, banks_held};
-ghost use Rattle.bank_worker.specs.Visits.{AreDown, AreNoted, IsAllCalm, IsDown};
+ghost use Rattle.bank_worker.specs.Visits.{AreNoted, IsAllCalm, IsDown};
 ghost use Rattle.bank_worker.specs.Visits.{IsRounded, IsSameCrew, IsSameSeat, IsStopped, IsVisited};
 ghost use Rattle.bank_worker.specs.Visits.{LooksOnce, MayRest, PaysOut, RingsAll, VisitsByBells};
 ghost use Rattle.bank_worker.specs.Visits.{WhenMem, WhenRaised};
@@ -202,10 +202,11 @@ impl Worker {
         Visit::Raised(units)
     }
 
-    /// Goes over the desks in order, so many times: looks for the next bell that is up, takes it,
-    /// and visits its desk. Ends early after a sweep that found no bell up. Answers the units of
-    /// all visits, or `Mem` at the first visit that answers so, and then takes no bell and makes no
-    /// visit.
+    /// Goes over the desks in order, so many times: takes each bell that is up, and visits that
+    /// desk. Ends early after a sweep that found no bell up. Answers the units of all visits, or
+    /// `Mem` at the first visit that answers so, and then takes no bell and makes no visit.
+    ///
+    /// In each sweep all banks are called anew, since another worker may ring at any time.
     pub fn round<G: Gate>(&mut self, board: &Board, sweeps: u32, gate: &G) -> Visit
         requires seat { IsAt board.now self.old.seat }
         requires sweeps { (1 ≤ sweeps) × (sweeps ≤ 1000) }
@@ -223,7 +224,7 @@ impl Worker {
         let mut units = 0;
         for _ in 0..sweeps {
             let visits = self.visits;
-            match self.sweep(board, gate) {
+            match self.sweep(board, gate, &mut BankSet::all()) {
                 Visit::Raised(more) => units += more,
                 Visit::Mem => return Visit::Mem,
             }
@@ -257,13 +258,14 @@ impl Worker {
         ensures few { WhenRaised result (λ n. n ≤ 1000000 * MAX_OWED) }
         ensures mem { WhenMem result (IsStopped sweeps self.old self.new) }
         ensures others { KeepsOthers self.old.seat.shows called.old called.new }
+        ensures rung { CallsOthers self.old self.new called.new }
     {
         let desks = self.desks();
         prove!(desks <= MAX_BANKS as usize);
         let mut units = 0;
         for _ in 0..sweeps {
             let visits = self.visits;
-            match self.sweep_called(board, gate, called) {
+            match self.sweep(board, gate, called) {
                 Visit::Raised(more) => units += more,
                 Visit::Mem => return Visit::Mem,
             }
@@ -309,40 +311,8 @@ impl Worker {
         (seat, journal, office)
     }
 
-    // One sweep over all desks.
-    fn sweep<G: Gate>(&mut self, board: &Board, gate: &G) -> Visit
-        requires seat { IsAt board.now self.old.seat }
-        requires visits { self.old.visits < 2 ^ 62 + 2 ^ 61 }
-        requires idle { IsAllCalm self.old.seat.shows
-            × MayRest self.old.seat.shows self.old.desks }
-        ensures same { IsSameCrew self.old self.new }
-        ensures visits { VisitsByBells 1 self.old self.new }
-        ensures raised { WhenRaised result (λ n. IsRounded n self.old self.new) }
-        ensures still { WhenRaised result (λ n.
-            AreRaisedStill self.old.seat.shows.raises self.new.seat.shows.raises) }
-        ensures few { WhenRaised result (λ n. n ≤ length self.old.desks * MAX_OWED) }
-        ensures mem { WhenMem result (IsStopped 1 self.old self.new) }
-    {
-        let desks = self.desks();
-        let mut units = 0;
-        let mut from = 0;
-        'sweep: loop {
-            let place = self.next_up(board, from);
-            if place >= desks {
-                return Visit::Raised(units);
-            }
-            if self.take(board, place) {
-                match self.visit(board, place, gate) {
-                    Visit::Raised(more) => units += more,
-                    Visit::Mem => return Visit::Mem,
-                }
-            }
-            from = place + 1;
-        }
-    }
-
     // One sweep over the desks whose banks are called, in order.
-    fn sweep_called<G: Gate>(&mut self, board: &Board, gate: &G, called: &mut BankSet) -> Visit
+    fn sweep<G: Gate>(&mut self, board: &Board, gate: &G, called: &mut BankSet) -> Visit
         requires seat { IsAt board.now self.old.seat }
         requires visits { self.old.visits < 2 ^ 62 + 2 ^ 61 }
         requires idle { IsAllCalm self.old.seat.shows
@@ -356,6 +326,7 @@ impl Worker {
         ensures few { WhenRaised result (λ n. n ≤ length self.old.desks * MAX_OWED) }
         ensures mem { WhenMem result (IsStopped 1 self.old self.new) }
         ensures others { KeepsOthers self.old.seat.shows called.old called.new }
+        ensures rung { CallsOthers self.old self.new called.new }
     {
         let desks = self.desks();
         let mut units = 0;
@@ -376,17 +347,6 @@ impl Worker {
             }
             from = place + 1;
         }
-    }
-
-    // The first place from this one on whose bank has its bell up, or a place past all desks.
-    fn next_up(&mut self, board: &Board, from: usize) -> usize
-        requires seat { IsAt board.now self.old.seat }
-        requires from { from ≤ length self.old.desks }
-        ensures same { self.new ≡ self.old }
-        ensures ahead { from ≤ result }
-        ensures down { AreDown self.old.seat.shows self.old.desks from result }
-    {
-        first_up(board, &mut self.seat, self.desks.banks(), from)
     }
 
     // The first place from this one on whose bank is called, or a place past all desks.
@@ -446,25 +406,6 @@ impl Worker {
         let bank = self.bank(place);
         board.take(&mut self.seat, bank)
     }
-}
-
-// The first place from this one on whose bank has its bell up, or the number of places.
-fn first_up(board: &Board, seat: &mut PaySeat, banks: &[u32], from: usize) -> usize
-    requires seat { IsAt board.now seat.old }
-    requires held { (k : ℕ) → k < length banks.now
-        → holds seat.old.shows (slice_index banks.now k) ≡ true }
-    requires from { from ≤ length banks.now }
-    ensures same { seat.new ≡ seat.old }
-    ensures ahead { (from ≤ result) × (result ≤ length banks.now) }
-    ensures down { (k : ℕ) → from ≤ k → k < result
-        → IsDown seat.old.shows (slice_index banks.now k) }
-{
-    for place in from..banks.len() {
-        if board.glance(seat, BankId(banks[place])) {
-            return place;
-        }
-    }
-    banks.len()
 }
 
 // Calls the creditors of the debts of these raises. Each of the debts has one; a journal does not
