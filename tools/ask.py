@@ -5,16 +5,19 @@ time, each run by one worker. On a terminal a line on standard error says how ma
 at once, and the tool ends with 130.
 """
 import argparse
-import concurrent.futures
 import contextlib
 import json
+import math
 import os
 import pathlib
+import queue
+import shutil
 import signal
 import subprocess
 import sys
 import tempfile
 import threading
+import time
 from collections import namedtuple
 
 ROOT = pathlib.Path(__file__).resolve().parents[1]
@@ -45,11 +48,18 @@ def processors():
 
 
 def ends_at_once():
-    """A request to end is an interrupt too."""
+    """A request to end is an interrupt too. One that follows at once, as `timeout` sends it, breaks off nothing."""
+    last = -math.inf
+
     def stop(*_):
-        raise KeyboardInterrupt
+        nonlocal last
+        if time.monotonic() - last > 5:
+            last = time.monotonic()
+            raise KeyboardInterrupt
 
     signal.signal(signal.SIGTERM, stop)
+    if signal.getsignal(signal.SIGINT) is signal.default_int_handler:
+        signal.signal(signal.SIGINT, stop)
 
 
 class Asking:
@@ -71,11 +81,25 @@ class Asking:
                 raise Failed(f"cannot run {command[0]}: {fault}") from fault
             self.running.add(child)
         try:
-            output, messages = child.communicate()
+            output, messages = self.wait_for(child)
+        except BaseException:
+            child.kill()
+            child.stdout.close()
+            child.stderr.close()
+            child.wait()
+            raise
         finally:
             with self.lock:
                 self.running.discard(child)
         return child.returncode, output, messages
+
+    def wait_for(self, child):
+        """The output and messages of a run, none once all runs were stopped."""
+        while not self.stopped:
+            with contextlib.suppress(subprocess.TimeoutExpired):
+                # Not for long: what a run that was ended has begun itself may hold its output.
+                return child.communicate(timeout=1)
+        raise KeyboardInterrupt
 
     def answer(self, words, folder=None):
         """What the program prints, where it ends well."""
@@ -92,29 +116,45 @@ class Asking:
                 child.kill()
 
     def all(self, work, items, what):
-        """What the work gives for each item, in their order, as many at a time as there are processors."""
+        """What the work gives for each item, in their order, as many at a time as there are processors. At a fault all runs are
+        ended, and no work goes on behind it, so that the folder in which it writes can be removed."""
         items = list(items)
-        pool = concurrent.futures.ThreadPoolExecutor(processors())
+        found, left, ended = [None] * len(items), queue.SimpleQueue(), queue.SimpleQueue()
+        for number in range(len(items)):
+            left.put(number)
+
+        def go_on():
+            with contextlib.suppress(queue.Empty):
+                while not self.stopped:
+                    number, fault = left.get_nowait(), None
+                    try:
+                        found[number] = work(items[number])
+                    except BaseException as raised:
+                        fault = raised
+                    ended.put(fault)
+
+        # Threads and queues of our own: an interrupt within a wait for futures may keep their locks for ever.
+        threads = [threading.Thread(target=go_on, daemon=True) for _ in range(min(processors(), len(items)))]
         told = Progress(what, len(items))
-        waiting = []
         try:
-            waiting += [pool.submit(work, item) for item in items]
-            left = set(waiting)
-            while left:
+            for thread in threads:
+                thread.start()
+            while told.done < len(items):
                 # Not for long at a time: a signal that comes just before a wait is looked at after it.
-                ended, left = concurrent.futures.wait(left, 0.1, concurrent.futures.FIRST_COMPLETED)
-                for done in ended:
-                    done.result()
+                with contextlib.suppress(queue.Empty):
+                    fault = ended.get(timeout=0.1)
+                    if fault is not None:
+                        raise fault
                     told.one_more()
-            return [done.result() for done in waiting]
+            return found
         except BaseException:
-            for future in waiting:
-                future.cancel()
             self.stop()
+            for thread in threads:
+                if thread.is_alive():
+                    thread.join()
             raise
         finally:
             told.end()
-            pool.shutdown(wait=False, cancel_futures=True)
 
 
 class Progress:
@@ -258,6 +298,17 @@ def defaults_of(asking, words):
 # Files.
 
 
+@contextlib.contextmanager
+def work_folder():
+    """A folder for what is written on the way; it goes at the end."""
+    folder = tempfile.mkdtemp()
+    try:
+        yield folder
+    finally:
+        # What cannot be removed is no fault of the answer, and hides none.
+        shutil.rmtree(folder, ignore_errors=True)
+
+
 def keep_inputs(inputs, outputs):
     """Refuses an output that is one of the inputs, or another output."""
     taken = [name for name in inputs if name is not None]
@@ -278,41 +329,18 @@ def same_file(one, other):
 
 
 def write_whole(name, write):
-    """A file that is there whole or not at all: `write` gets the name of another file beside it, which then takes its place. A stream or
-    a device, such as /dev/stdout, stays in its place and takes the content."""
+    """A picture that is there whole or not at all: `write` gets the name of a file in another folder to write."""
     import files  # here, since evidence is checked by a few of the tools alone, without this one
 
-    if files.is_stream(name):
-        with tempfile.TemporaryDirectory() as folder, told(name):
-            part = os.path.join(folder, os.path.basename(name))
-            write(part)
-            with open(name, "ab") as file:
-                file.write(pathlib.Path(part).read_bytes())
-        return
-    place = os.path.realpath(name)
-    folder, base = os.path.split(place)
-    with told(name):
-        handle, part = tempfile.mkstemp(prefix=".part-", suffix=os.path.splitext(base)[1], dir=folder)
-    os.close(handle)
-    try:
-        with told(name):
-            write(part)
-            mask = os.umask(0)
-            os.umask(mask)
-            os.chmod(part, 0o666 & ~mask)
-            os.replace(part, place)
-    except BaseException:
-        os.unlink(part)
-        raise
-
-
-@contextlib.contextmanager
-def told(name):
-    """A fault becomes a message with the name of the file."""
-    try:
-        yield
-    except (OSError, ValueError) as fault:
-        raise Failed(f"cannot write {name}: {getattr(fault, 'strerror', None) or fault}") from fault
+    base = os.path.basename(name if files.is_stream(name) else os.path.realpath(name))
+    with work_folder() as folder:
+        part = pathlib.Path(folder) / base
+        try:
+            write(str(part))
+            content = part.read_bytes()
+        except (OSError, ValueError) as fault:
+            raise Failed(f"cannot write {name}: {getattr(fault, 'strerror', None) or fault}") from fault
+    put(name, content, 1)
 
 
 def write_bytes(name, content):
@@ -326,7 +354,17 @@ def write_bytes(name, content):
             os.dup2(os.open(os.devnull, os.O_WRONLY), sys.stdout.fileno())
             raise Failed(f"cannot write the output: {fault.strerror}", 5) from fault
     else:
-        write_whole(name, lambda part: pathlib.Path(part).write_bytes(content))
+        put(name, content, 5)
+
+
+def put(name, content, status):
+    """Writes a file as the other tools do. One that cannot be written is a failure with this status."""
+    import files  # here, since evidence is checked by a few of the tools alone, without this one
+
+    try:
+        files.write_all({name: content}, folders=False)
+    except files.Refused as fault:
+        raise Failed(str(fault), status) from fault
 
 
 def table(*records):
@@ -353,18 +391,24 @@ def plain(text):
 
 def main_of(work):
     """Runs a tool, and ends with its status."""
-    ends_at_once()
+    try:
+        ends_at_once()
+        status = status_of(work)
+        sys.stderr.flush()
+    except KeyboardInterrupt:
+        status = 130
+    os._exit(status)
+
+
+def status_of(work):
+    """The status of a tool; what it cannot do is told."""
     try:
         status = work() or 0
         sys.stdout.flush()
+        return status
     except Failed as fault:
         print(f"{TOOL}: {fault}", file=sys.stderr)
-        status = fault.status
+        return fault.status
     except OSError as fault:
         print(f"{TOOL}: cannot write the output: {fault.strerror}", file=sys.stderr)
-        status = 5
-    except KeyboardInterrupt:
-        status = 130
-    # Threads that still wait for a run that was ended are left as they are.
-    sys.stderr.flush()
-    os._exit(status)
+        return 5

@@ -23,7 +23,6 @@ be written; 130 at an interrupt.
 Example:
     tools/breaking.py --banks banks.csv --debts debts.csv --picture breaking.svg >breaking.csv
 """
-import tempfile
 
 import ask
 from texts import FILL
@@ -122,7 +121,7 @@ def main():
         text_of = lambda loss: ask.scenario_text(0, [(asked.loss, loss)])
     else:
         raise ask.Failed(f"no bank has the name {asked.loss!r}", 4)
-    with tempfile.TemporaryDirectory() as folder:
+    with ask.work_folder() as folder:
         ranges = find(asking, folder, files, len(network.names), most, text_of)
     if pyplot:
         ask.write_whole(asked.picture, lambda part: draw(pyplot, ranges.high, ranges.state, most, words, part))

@@ -39,7 +39,6 @@ import operator
 import pathlib
 import random
 import statistics
-import tempfile
 from collections import Counter, namedtuple
 
 import ask
@@ -272,7 +271,7 @@ def main():
     # What is drawn twice is asked for once.
     different = list(dict.fromkeys(draws))
     texts = [ask.scenario_text(draw.cut, [(network.names[place], loss) for place, loss in draw.losses]) for draw in different]
-    with tempfile.TemporaryDirectory() as folder:
+    with ask.work_folder() as folder:
         made = ask.stress(asking, folder, files, texts, answer_of(sum(network.outside)), "group of scenarios")
     answer = dict(zip(different, made))
     answers = [answer[draw] for draw in draws]

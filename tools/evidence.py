@@ -39,7 +39,6 @@ import ask
 import audit
 import shock
 
-ask.TOOL = "evidence.sh"
 BUILT = ask.ROOT / "crates/clear_main/out/clear_main"
 UNREAD, SUMS, BANKS, JOURNAL, TABLES, PROGRAM = 3, 4, 5, 6, 7, 8
 
@@ -186,16 +185,21 @@ def program_file():
     return named
 
 
-def versions():
+def commit_of():
+    """The commit of the repository that the tools are in, none where they are in none, and whether its files were changed since. A
+    file that it does not have counts below crates/ alone, where a build would take it up."""
     top = first_line(["git", "rev-parse", "--show-toplevel"])
     commit = first_line(["git", "rev-parse", "HEAD"])
-    changes = first_line(["git", "status", "--porcelain"])
     if commit is None or not ask.same_file(top, ask.ROOT):
-        commit = "none: the tools are not in a repository"
-    elif changes:
-        commit += ", with changes that are not committed"
+        return None
+    changed = first_line(["git", "status", "--porcelain", "--untracked-files=no"])
+    added = first_line(["git", "ls-files", "--others", "--exclude-standard", "--", "crates"])
+    return commit + (", with changes that are not committed" if changed or added else "")
+
+
+def versions():
     lines = [
-        f"repository {commit}",
+        f"repository {commit_of() or 'none: the tools are not in a repository'}",
         f"program {checksum(contents(program_file()))}",
         f"toolchain {first_line(['rt', 'version']) or 'none: rt is not on the path'}",
         f"python {platform.python_version()}",
@@ -497,4 +501,5 @@ def main():
 
 
 if __name__ == "__main__":
+    ask.TOOL = "evidence.sh"
     ask.main_of(main)

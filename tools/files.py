@@ -2,8 +2,10 @@
 import contextlib
 import os
 import pathlib
+import re
 import shutil
 import stat
+import sys
 import tempfile
 
 
@@ -11,23 +13,22 @@ class Refused(Exception):
     """Files that cannot be written as they were named. Nothing was changed."""
 
 
-def write_all(texts, inputs=()):
+def write_all(texts, inputs=(), folders=True):
     """Writes a text, or bytes, to each of some files, given by a dict or by pairs; their folders are made where they are not
-    there.
+    there, unless `folders` is false.
 
-    Refuses two names for one file, a file that is one of the inputs (by any name or link), and a folder. A regular file is
-    written beside its place and moved there when all are written, so that a fault leaves each file as it was. A stream or a
-    device, such as /dev/stdout, is written before anything is moved. A link is followed."""
+    Refuses two names for one file, a file that is one of the inputs (by any name or link), a folder, and a file that may not
+    be written. A regular file keeps its mode. It is written beside its place and moved there when all are written, so that a
+    fault leaves each file as it was. A stream or a device, such as /dev/stdout, is written before anything is moved. A link
+    is followed."""
     pairs = texts.items() if isinstance(texts, dict) else texts
     texts = [(os.fspath(name), text.encode() if isinstance(text, str) else text) for name, text in pairs]
     check_apart([name for name, _ in texts], [os.fspath(name) for name in inputs if name is not None])
     with contextlib.ExitStack() as undo:
-        ready = [Ready(name, text, undo) for name, text in texts if not is_stream(name)]
+        ready = [Ready(name, text, undo, folders) for name, text in texts if not is_stream(name)]
         for name, text in texts:
             if is_stream(name):
-                # Behind what a redirection has in its file already.
-                with told(name), open(name, "ab") as file:
-                    file.write(text)
+                write_stream(name, text)
         for file in ready:
             file.move(undo)
         undo.pop_all()
@@ -69,6 +70,27 @@ def is_stream(name):
     return os.path.abspath(name).startswith(("/dev/", "/proc/")) or not (stat.S_ISREG(mode) or stat.S_ISDIR(mode))
 
 
+def write_stream(name, content):
+    """Writes to a stream or a device. One that is open is written as it is, so that what others write to it stands behind."""
+    with told(name):
+        for stream in (sys.stdout, sys.stderr):
+            if stream is not None:
+                stream.flush()
+        number = descriptor_of(name)
+        with open(name, "ab") if number is None else open(number, "wb", closefd=False) as file:
+            file.write(content)
+
+
+def descriptor_of(name):
+    """The number of the open stream that a name means, such as 1 for /dev/stdout, or nothing."""
+    named = re.fullmatch(r"/(?:dev|proc/self)/fd/([0-9]{1,4})", os.path.abspath(name))
+    for number in ([int(named[1])] if named else []) + [1, 2]:
+        with contextlib.suppress(OSError):
+            if os.path.samestat(os.stat(name), os.fstat(number)):
+                return number
+    return None
+
+
 @contextlib.contextmanager
 def told(name):
     """A fault of the system becomes a message with the name of the file."""
@@ -86,12 +108,13 @@ def remove(path):
 class Ready:
     """A file that is written beside its place, and not moved there yet."""
 
-    def __init__(self, name, text, undo):
+    def __init__(self, name, text, undo, folders=True):
         self.name, self.place, self.kept = name, pathlib.Path(os.path.realpath(name)), None
         with told(name):
             if self.place.exists() and not os.access(self.place, os.W_OK):
                 raise PermissionError(13, "Permission denied")
-            make_folder(self.place.parent, undo)
+            if folders:
+                make_folder(self.place.parent, undo)
             handle, self.part = tempfile.mkstemp(prefix=".part-", dir=self.place.parent)
             undo.callback(remove, self.part)
             with open(handle, "wb") as file:

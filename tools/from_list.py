@@ -6,7 +6,9 @@ In:  LIST, a file of comma-separated records in UTF-8 with the names of its colu
      --amount and --class-column give them other names, such as borrower, lender and exposure; other columns are not
      looked at. --table FILE has the banks, with their names in its first column and the columns `cash`, and, where
      they are there, `outside`, what is owed to others, and `rule` (--cash, --outside and --rule-column give them other
-     names). A byte order mark, CR LF, semicolons or tabs between the fields, and UTF-16 are read as they are.
+     names). A column that an option names must be there, and a column of one of these names but for capitals or spaces
+     is asked for. A byte order mark, CR LF, semicolons or tabs between the fields, and UTF-16 are read as they are. A
+     stray quote is refused with its row.
 Out: --banks FILE and --debts FILE, which `clearing` reads: the banks of the table in its order, and the debts in the
      order of the list, none where the amount is 0. Both are written or none, and never over a file that is read. On
      standard output what was rounded, summed or left out, where something was.
@@ -34,18 +36,17 @@ def add_own(add):
     add("--debtor", default="debtor", metavar="NAME", help="the column of who owes")
     add("--creditor", default="creditor", metavar="NAME", help="the column of who is owed")
     add("--amount", default="amount", metavar="NAME", help="the column of amounts")
-    add("--class-column", default="class", metavar="NAME", help="the column of classes")
+    add("--class-column", metavar="NAME", help="the column of classes (class, or none)")
     add("--sum", action="store_true", help="several lines of one debtor, creditor and class are one debt of their sum")
 
 
 def check_columns(exposures, table, words, faults):
-    """The list and the table have their columns."""
+    """The list and the table have their columns, and those that are named."""
     for option in ("debtor", "creditor", "amount"):
-        column = getattr(words, option)
-        if column not in exposures.header:
-            faults.add(exposures.name, 0, None, f"no column {column}; it has {', '.join(exposures.header)}; say --{option} NAME")
-    if words.cash not in table.header:
-        faults.add(table.name, 0, None, f"no column {words.cash}; it has {', '.join(table.header)}; say --cash NAME")
+        sheets.need_column(faults, exposures, option, getattr(words, option))
+    sheets.find_columns(faults, words, exposures, ["class-column"])
+    sheets.need_column(faults, table, "cash", words.cash)
+    sheets.find_columns(faults, words, table)
 
 
 def check_table(exposures, table, words, faults):
@@ -74,7 +75,7 @@ def bank_of(exposures, row, column, table, faults):
 
 
 def class_of(exposures, row, words, faults):
-    if words.class_column not in exposures.header:
+    if words.class_column is None:
         return words.class_
     text = exposures.cells[row][words.class_column]
     if text not in list("123456789"):

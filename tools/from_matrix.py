@@ -8,8 +8,9 @@ In:  MATRIX, a file of comma-separated records in UTF-8, with names of banks in 
      The diagonal is 0. Three columns are not banks: `cash` (systemicrisk: ea), and, where they are there,
      `outside`, what is owed to others (systemicrisk: el), and `rule`. They stand beside the matrix, or in a file of
      their own with the names in its first column (--table FILE), where balance sheets are kept so. --cash,
-     --outside and --rule-column give the columns other names. Other columns of the table are not looked at.
-     A byte order mark, CR LF, semicolons or tabs between the fields, and UTF-16 are read as they are.
+     --outside and --rule-column give the columns other names, which then must be there; a column of one of these names
+     but for capitals or spaces is asked for. Other columns of the table are not looked at. A byte order mark, CR LF,
+     semicolons or tabs between the fields, and UTF-16 are read as they are. A stray quote is refused with its row.
 Out: --banks FILE and --debts FILE, which `clearing` reads: banks in the order of the rows, debts row by row in the
      order of the banks, all of one class, none where the amount is 0. Both are written or none, and never over a
      file that is read. On standard output what was rounded, where something was.
@@ -89,6 +90,7 @@ def main():
     matrix = Table(words.matrix, words, faults)
     table = Table(words.table, words, faults) if words.table else matrix
     sheets.drop(words, faults, [matrix, table])
+    sheets.find_columns(faults, words, table, banks=matrix.rows if table is matrix else ())
     totals = check_totals(matrix, table, words, faults)
     check_columns(matrix, table, words, faults, totals)
     faults.end_if_any()

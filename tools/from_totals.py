@@ -4,8 +4,10 @@
 In:  TOTALS, a file of comma-separated records in UTF-8, with the names of the banks in its first column and the columns
      `assets` and `liabilities`, what other banks of the file owe the bank and what it owes them, `cash`, and, where
      they are there, `outside`, what is owed to others, and `rule`. --assets, --liabilities, --cash, --outside and
-     --rule-column give them other names. Assets and liabilities come to the same sum, and no bank has more of the two
-     than all others can owe it and be owed by it. A byte order mark, CR LF, semicolons or tabs, and UTF-16 are read.
+     --rule-column give them other names, which then must be there; a column of one of these names but for capitals or
+     spaces is asked for. Assets and liabilities come to the same sum, and no bank has more of the two than all others
+     can owe it and be owed by it. A byte order mark, CR LF, semicolons or tabs, and UTF-16 are read; a stray quote is
+     refused with its row.
 Out: in --out FOLDER the files banks.csv and debts.csv; with --samples N the folders 1 to N with two files each. All are
      written or none, and none over a file that is read. On standard output what was made, and what was rounded.
 
@@ -402,9 +404,8 @@ def read_totals(words, faults):
     table = Table(words.totals, words, faults)
     sheets.drop(words, faults, [table])
     for option in ("assets", "liabilities", "cash"):
-        column = getattr(words, option)
-        if column not in table.header:
-            faults.add(table.name, 0, None, f"no column {column}; it has {', '.join(table.header)}; say --{option} NAME")
+        sheets.need_column(faults, table, option, getattr(words, option))
+    sheets.find_columns(faults, words, table)
     faults.end_if_any()
     columns = [words.assets, words.liabilities] + [c for c in (words.cash, words.outside) if c in table.header]
     values = sheets.values_of(table, words, columns, [words.cash, words.outside])

@@ -23,7 +23,6 @@ written; 130 at an interrupt.
 Example:
     tools/impact.py --banks banks.csv --debts debts.csv --matrix impact.csv --picture impact.svg >ranking.csv
 """
-import tempfile
 from collections import namedtuple
 
 import ask
@@ -60,7 +59,7 @@ def rows_of(asking, files, network):
     before = ask.defaults_of(asking, files)
     hit = [place for place, cash in enumerate(network.cash) if cash]
     texts = [ask.scenario_text(0, [(network.names[place], network.cash[place])]) for place in hit]
-    with tempfile.TemporaryDirectory() as folder:
+    with ask.work_folder() as folder:
         found = dict(zip(hit, ask.stress(asking, folder, files, texts, row_against(before), "group of scenarios")))
     rows = [found.get(place, Row({}, {})) for place in range(len(network.names))]
     for name, cash, row in zip(network.names, network.cash, rows):

@@ -1,20 +1,24 @@
 #!/bin/sh
-# Puts the built program, the tools, their manual pages and a completion for bash under a prefix.
+# Puts the built program, the tools, manual pages, completions for bash, zsh and fish, and the Python package under a prefix.
 #
 #   tools/install.sh [PREFIX]     /usr/local where no prefix is named
 #
 # In:   PREFIX, a folder that may be written; it is made where it is not there. The environment variable CLEARING names a
 #       program to install in the place of the repository's, which is built first where it is not built yet.
-# Out:  PREFIX/bin/clearing, PREFIX/share/man/man1/clearing.1, PREFIX/share/bash-completion/completions/clearing; and for each
-#       tool NAME, where there is a Python 3, PREFIX/bin/clearing-NAME and PREFIX/share/man/man1/clearing-NAME.1, with the tools
-#       themselves in PREFIX/share/clearing/tools. Their names on standard output.
+# Out:  PREFIX/bin/clearing, PREFIX/share/man/man1/clearing.1, and the completions
+#       PREFIX/share/bash-completion/completions/clearing, PREFIX/share/zsh/site-functions/_clearing and
+#       PREFIX/share/fish/vendor_completions.d/clearing.fish; and, where there is a Python 3, for each tool NAME
+#       PREFIX/bin/clearing-NAME and PREFIX/share/man/man1/clearing-NAME.1, with the tools themselves in
+#       PREFIX/share/clearing/tools, the package clearing_client, by which they read the program's texts, in
+#       PREFIX/share/clearing/python/src, and PREFIX/share/clearing/clearing, a link to the program. Their names on standard
+#       output.
 #
 # All files are written beside their places first and then moved there; where one cannot be, each older file is left or put back.
 #
 # Ends with 0, with 1 where a file cannot be put in place, and with 2 where the words are not understood.
 case "${1:-}" in
 --help | -h)
-    sed -n '2,15s/^# \{0,1\}//p' "$0" || exit 1
+    sed -n '2,18s/^# \{0,1\}//p' "$0" || exit 1
     exit 0
     ;;
 -*)

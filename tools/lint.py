@@ -8,11 +8,14 @@ Out: on standard output a line for each fault, in the order in which `clearing` 
      the fault as `clearing` names it, what is wrong, and, where one is known, what to do.
 
 It accepts exactly the files that `clearing check`, `stress` or `replay` accepts, and the first fault that it names is
-the one that `clearing` does; whether the raises of a journal are lawful is for `replay` to say. What follows from a
-fault already named is left out where it can be: a bank whose record is faulty counts as a bank for the debts, and
-below a header that says something else altogether nothing is looked at.
+the one that `clearing` does, but for some scenarios (below); whether the raises of a journal are lawful is for `replay` to
+say. What follows from a fault already named is left out where it can be: a bank whose record is faulty counts as a
+bank for the debts, and below a header that says something else altogether nothing is looked at.
 
---scenarios needs Python 3.11 or later.
+--scenarios needs Python 3.11 or later, whose module tomllib reads the file. Where that knows TOML 1.0 alone, what TOML 1.1
+added is refused here, though the program reads it: the escape \\x41, and a line break or a last comma within the braces of
+an inline table. A file that neither accepts may have another first fault here, for the escape \\e, a time without seconds,
+a value within more than 80 others, or a number such as 1e999.
 
 Ends with 0 where there is no fault, with 1 where there are some, with 2 where the words are not understood, with 3
 where a file cannot be read, and with 5 where the output cannot be written.
@@ -284,7 +287,8 @@ def is_whole(value):
 
 def lines_of_scenarios(data, count):
     """The line of each scenario, 0 where that cannot be told."""
-    lines = [at for at, line in enumerate(data.split(b"\n"), 1) if re.match(rb"[ \t]*\[\[[ \t]*scenario[ \t]*\]\]", line)]
+    lines = data.removeprefix(b"\xef\xbb\xbf").split(b"\n")
+    lines = [at for at, line in enumerate(lines, 1) if re.match(rb"[ \t]*\[\[[ \t]*scenario[ \t]*\]\]", line)]
     return lines if len(lines) == count else [0] * count
 
 

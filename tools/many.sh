@@ -11,12 +11,15 @@
 #       not set.
 # Out:  in FOLDER, for each job, NAME.out with what it prints, where its status is 0, or 7 (a journal that is not lawful and complete),
 #       and beside it NAME.job with its words and the SHA-256 checksums of the program and of the files that it reads; else
-#       NAME.failed with the status and the message, and no NAME.out. `run` ends with a line of counts.
+#       NAME.failed with the status and the message, and no NAME.out. `run` ends with a line of counts: of the jobs whose result
+#       is there now, of those that failed or were killed, and of those that are not finished, where the run was broken off.
 #
 # A result is moved into its place when it is whole. A job whose words, files and program are those in NAME.job is not run again:
-# after an interrupt the same command goes on, and what was changed is made anew.
+# after an interrupt the same command goes on, and what was changed is made anew. When a job begins again its older result goes,
+# and so does what a killed run left beside it, NAME.part+MACHINE.PROCESS.
 #
-# Ends with 0, with 1 where a job failed, and with 2 where the words, or a file or folder that they name, cannot be used.
+# Ends with 0, with 1 where a job failed or is not finished, and with 2 where the words, or a file or folder that they name,
+# cannot be used.
 #
 # Example: the network of each of a thousand seeds, in sums
 #   for seed in $(seq 1000); do
@@ -28,7 +31,7 @@ self=$(realpath -- "$0")
 root=$(dirname -- "$(dirname -- "$self")")
 program=${CLEARING:-$root/clearing}
 
-help() { sed -n '2,25s/^# \{0,1\}//p' "$self"; }
+help() { sed -n '2,28s/^# \{0,1\}//p' "$self"; }
 
 refuse() {
     echo "many.sh: $1; --help says more" >&2
@@ -69,6 +72,15 @@ key_of() { # the words
     done
 }
 
+# Removes what runs of a job left that were killed. One that goes on keeps its files, and so does one of another machine. No name
+# of a job has a `+`.
+clean() { # the files' names, up to the number of the process
+    for left in "$1"*; do
+        process=${left#"$1"}
+        [ ! -f "$left" ] || grep -q many "/proc/${process%%.*}/cmdline" 2>/dev/null || rm -f -- "$left"
+    done
+}
+
 # Runs a job, where its result is not there yet. Ends with 1 where it failed.
 one() { # its number
     line=$(all_jobs | sed -n "$1{p;q}")
@@ -77,6 +89,9 @@ one() { # its number
     for place in "$at.out" "$at.failed" "$at.job"; do
         [ ! -d "$place" ] || { echo "many.sh: $place is a folder" >&2; return 1; }
     done
+    part=$at.part+$(uname -n).
+    clean "$part"
+    part=$part$$
     set -f
     IFS='	'
     # The words of the line, split at its tabs alone.
@@ -84,7 +99,7 @@ one() { # its number
     unset IFS
     key=$(key_of "$@")
     [ -f "$at.out" ] && [ -f "$at.job" ] && [ "$(cat "$at.job")" = "$key" ] && return 0
-    part=$at.part.$$
+    rm -f -- "$at.out" "$at.job"
     "$program" "$@" >"$part" 2>"$part.err" </dev/null
     status=$?
     case $status in
@@ -150,10 +165,14 @@ if [ "$task" = one ]; then
 fi
 MANY_PROGRAM_SUM=$(program_sum) CLEARING=$program
 export MANY_PROGRAM_SUM CLEARING
-seq "$count" | xargs -n 1 -P "$slots" "$self" one "$jobs" "$folder"
-done=0 failed=0
-for name in $(all_jobs | cut -f 1); do
-    if [ -f "$folder/$name.out" ] && [ -f "$folder/$name.job" ]; then done=$((done + 1)); else failed=$((failed + 1)); fi
-done
-echo "$done done, $failed failed" || exit 1
-[ "$failed" -eq 0 ]
+# Each run has a shell above it, which outlives it and tells how it ended.
+seq "$count" | xargs -n 1 -P "$slots" sh -c '"$0" one "$@" && echo done && exit
+    [ $? -lt 128 ] || echo "many.sh: the run of job $3 was killed; the same command runs it again" >&2
+    echo failed' "$self" "$jobs" "$folder" |
+    awk -v count="$count" '
+        { ended[$0]++ }
+        END {
+            left = count - ended["done"] - ended["failed"]
+            print ended["done"] + 0 " done, " ended["failed"] + 0 " failed" (left ? ", " left " not finished" : "")
+            exit (ended["done"] < count)
+        }' || exit 1

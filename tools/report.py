@@ -7,7 +7,7 @@ In:   --banks, --debts   the two files of the network
       --title            the title of the page
       --unit, --currency what a unit of account is worth, such as --unit 1000 --currency EUR: amounts are in the currency then
       --rescues          for how many banks in default the least rescue is asked, those of the largest shortfall first (100)
-      --keep             a folder for what the program printed, under the names that the evidence has
+      --keep             a folder for what the program printed, under the names that the evidence has; a new one, or an empty one
       --d3               the library d3 in one file; Debian's package node-d3 has it, and it is found there
 Out:  --out              the report: key figures, the network drawn with a player of the journal, a table of banks with a part of the
                          page for each bank, the scenarios, and the evidence: commands, statuses and checksums
@@ -19,7 +19,8 @@ Example:
     tools/report.py --banks examples/twelve-banks/banks.csv --debts examples/twelve-banks/debts.csv \\
         --scenarios examples/twelve-banks/scenarios.toml --unit 1000 --currency EUR --out report.html
 
-Ends with 0, with 1 where the program refuses or a file cannot be read or written, and with 2 where the command line is not understood.
+Ends with 0; 1 where the program refuses or a file cannot be read or written; 2 where the command line is not understood, or the
+folder of --keep is there and not empty; 130 at an interrupt.
 """
 import argparse
 import csv
@@ -33,8 +34,9 @@ import sys
 import tempfile
 import time
 from collections import namedtuple
-from concurrent.futures import ThreadPoolExecutor
 
+import ask
+import evidence
 import files
 import report_page as page
 import results
@@ -47,6 +49,8 @@ D3 = ["/usr/share/nodejs/d3/dist/d3.min.js", "/usr/share/javascript/d3/d3.min.js
 MOST_FRAMES = 2000
 MOST_CHANGES = 400_000
 
+# A task to run: the file for what it prints, its words, a file for its standard input, and the statuses with which it may end.
+Job = namedtuple("Job", "output words given may_end", defaults=(None, (0,)))
 # A command as it was run: its words, its status, the file of what it printed, and what it said on standard error.
 Command = namedtuple("Command", "words status output message")
 Raise = namedtuple("Raise", "line stamp debt to")
@@ -59,25 +63,40 @@ class Program:
         beside = ROOT / "clearing"
         self.name = os.environ.get("CLEARING") or (str(beside) if beside.is_file() else "clearing")
         self.folder = pathlib.Path(folder)
-        self.commands = []
+        self.asking, self.commands = ask.Asking(), []
 
-    def run(self, output, *words, given=None, may_end=(0,)):
-        """Runs a task; what it prints is kept in a file of that name. `given` is a file for its standard input."""
-        path = self.folder / output
-        try:
-            with open(given or os.devnull, "rb") as source, open(path, "wb") as out:
-                done = subprocess.run([self.name, *words], stdin=source, stdout=out, stderr=subprocess.PIPE)
-        except OSError as fault:
-            raise Refused(f"{self.name}: cannot be run: {fault}") from fault
-        message = done.stderr.decode(errors="replace").strip()
-        if done.returncode not in may_end:
-            raise Refused(f"`{shlex.join(['clearing', *words])}` ended with {done.returncode}: {message}")
-        redirect = f" < {given.name}" if given else ""
-        return Command(f"{shlex.join(['clearing', *words])}{redirect} > {output}", done.returncode, path, message)
+    def run(self, *jobs):
+        """Runs tasks side by side; what each prints is kept in a file."""
+        done = []
+        for job, (status, output, message) in zip(jobs, self.asking.all(self.answer, jobs, "run")):
+            # Written here, so that at an interrupt nothing is written any more.
+            path = self.folder / job.output
+            path.write_bytes(output)
+            redirect = f" < {job.given.name}" if job.given else ""
+            done.append(Command(f"{shlex.join(['clearing', *job.words])}{redirect} > {job.output}", status, path, message))
+        return done
+
+    def answer(self, job):
+        """The status, output and message of a task."""
+        command = [self.name, *job.words]
+        if job.given:
+            command = ["sh", "-c", 'exec "$@" <"$0"', str(job.given), *command]
+        status, output, message = self.asking.run(command)
+        message = message.decode(errors="replace").strip()
+        if status not in job.may_end:
+            raise Refused(f"`{shlex.join(['clearing', *job.words])}` ended with {status}: {message}")
+        return status, output, message
 
     def ask(self, output, *words, **more):
-        self.commands.append(self.run(output, *words, **more))
+        self.commands += self.run(Job(output, words, **more))
         return self.commands[-1].output
+
+    def read(self, task, work, path, *more):
+        """What is read of a text that a task printed."""
+        try:
+            return work(path, *more)
+        except (Refused, ValueError, IndexError) as fault:
+            raise Refused(f"{self.name} did not print what `clearing {task}` does") from fault
 
     def executable(self):
         """The file that is the program itself, where it is known."""
@@ -94,12 +113,10 @@ def sum_of(path):
     return digest.hexdigest()
 
 
-def said_by(*words, folder=None):
+def said_by(*words):
     """What a command prints, or nothing where it cannot be run."""
     try:
-        done = subprocess.run(
-            words, cwd=folder, stdin=subprocess.DEVNULL, capture_output=True, encoding="utf-8", timeout=30
-        )
+        done = subprocess.run(words, stdin=subprocess.DEVNULL, capture_output=True, encoding="utf-8", timeout=30)
     except (OSError, subprocess.TimeoutExpired, UnicodeDecodeError):
         return None
     return done.stdout.strip() if done.returncode == 0 else None
@@ -111,7 +128,10 @@ def said_by(*words, folder=None):
 def read_check(path):
     """The banks, name by name with cash, rule and what is owed outside, from what `clearing check` prints."""
     _, banks, _ = path.read_text(encoding="utf-8").split("\n\n")
-    rows = [line.split(",") for line in banks.split("\n")[1:]]
+    header, *lines = banks.split("\n")
+    if header not in ("name,cash,rule", "name,cash,rule,outside"):
+        raise ValueError("no banks")
+    rows = [line.split(",") for line in lines]
     return {row[0]: (int(row[1]), row[2], int(row[3]) if len(row) > 3 else 0) for row in rows}
 
 
@@ -120,6 +140,22 @@ def read_bounds(path):
     debts, banks = path.read_text(encoding="utf-8").removesuffix("\n").split("\n\n")
     more = sum(int(greatest) - int(least) for *_, least, greatest in (line.split(",") for line in debts.split("\n")[1:]))
     return {line.split(",")[0]: int(line.split(",")[1]) for line in banks.split("\n")[1:]}, more
+
+
+def read_added(path, name):
+    """What saves a bank, from what `clearing rescue` prints."""
+    word, bank, added = path.read_text(encoding="utf-8").split("\n", 1)[0].split(",")
+    if (word, bank) != ("rescue", name):
+        raise ValueError(f"no rescue of {name}")
+    return int(added)
+
+
+def read_verdict(path):
+    """The verdict that `clearing replay` prints, and the payments."""
+    line, _, rest = path.read_text(encoding="utf-8").partition("\n")
+    if not line.startswith(("lawful,", "unlawful,", "unfinished,")):
+        raise ValueError("no verdict")
+    return line, rest
 
 
 def read_journal(path, place):
@@ -146,17 +182,9 @@ def least_rescues(program, files, banks, most):
     """What the least rescue of each bank in default adds, the largest shortfalls first, with the commands run."""
     short = sorted((bank for bank in banks if bank.state != "sound"), key=lambda bank: -results.shortfall_of(bank))
     asked = [(at, bank) for at, bank in enumerate(short[:most]) if not bank.name.startswith("-")]
-
-    def ask(pair):
-        return program.run(f"rescue-{pair[0] + 1}.csv", "rescue", *files, "--bank", pair[1].name)
-
-    with ThreadPoolExecutor(os.cpu_count() or 1) as pool:
-        commands = list(pool.map(ask, asked))
-    found = {}
-    for (_, bank), command in zip(asked, commands):
-        with open(command.output, encoding="utf-8") as file:
-            found[bank.name] = int(file.readline().rsplit(",", 1)[1])
-    return found, commands
+    commands = program.run(*(Job(f"rescue-{at + 1}.csv", ["rescue", *files, "--bank", bank.name]) for at, bank in asked))
+    added = [program.read("rescue", read_added, command.output, bank.name) for (_, bank), command in zip(asked, commands)]
+    return {bank.name: units for (_, bank), units in zip(asked, added)}, commands
 
 
 def frames_of(raises):
@@ -198,15 +226,11 @@ def evidence_of(program, asked, rescues, verdict):
     """What another person needs to do it again: inputs, program, commands, each with its checksum."""
     names = [("banks", asked.banks), ("debts", asked.debts), ("scenarios", asked.scenarios), ("journal", asked.journal)]
     inputs = [(what, name, os.path.getsize(name), sum_of(name)) for what, name in names if name]
-    commit = said_by("git", "rev-parse", "HEAD", folder=ROOT)
-    changed = said_by("git", "status", "--porcelain", "--untracked-files=no", folder=ROOT)
     executable = program.executable()
     return page.Evidence(
         inputs=inputs,
         program=(str(executable), sum_of(executable)),
-        commit=f"{commit}{', with changes that are not committed' if changed else ''}"
-        if commit
-        else "not known: no repository",
+        commit=evidence.commit_of() or "not known: no repository",
         toolchain=said_by("rt", "version") or "not known: the command rt is not on the path",
         commands=[(command.words, command.status, sum_of(command.output)) for command in program.commands],
         rescues=[(command.words, command.status, sum_of(command.output)) for command in rescues],
@@ -219,8 +243,7 @@ def evidence_of(program, asked, rescues, verdict):
 def verdict_of(program, payments):
     """Whether the journal is lawful, in words, and whether it makes the same payments."""
     command = next(command for command in program.commands if " replay " in command.words)
-    text = command.output.read_text(encoding="utf-8")
-    line, _, rest = text.partition("\n")
+    line, rest = program.read("replay", read_verdict, command.output)
     if command.status == 7:
         return page.Verdict(False, line, command.message)
     same = rest.removeprefix("\n") == payments.read_text(encoding="utf-8")
@@ -233,13 +256,13 @@ def gather(asked, folder):
     """Asks the program for all that the page has."""
     program = Program(folder)
     files = ["--banks", asked.banks, "--debts", asked.debts]
-    known = read_check(program.ask("check.csv", "check", *files))
+    known = program.read("check", read_check, program.ask("check.csv", "check", *files))
     payments = program.ask("payments.csv", "clear", *files)
     defaults = program.ask("defaults.csv", "defaults", *files)
     bounds = program.ask("bounds.csv", "bounds", *files)
-    debts = read_payments(str(payments))
-    banks = results.read_banks(str(defaults), {name: outside for name, (_, _, outside) in known.items()})
-    banks = results.with_gridlock(banks, read_gridlock(str(bounds)))
+    debts = program.read("clear", read_payments, payments)
+    banks = program.read("defaults", results.read_banks, defaults, {name: outside for name, (_, _, outside) in known.items()})
+    banks = results.with_gridlock(banks, program.read("bounds", read_gridlock, bounds))
     if asked.journal:
         journal = pathlib.Path(asked.journal)
         program.ask("replay.csv", "replay", *files, "--journal", asked.journal, may_end=(0, 7))
@@ -252,9 +275,9 @@ def gather(asked, folder):
     scenarios = None
     if asked.scenarios:
         stress = program.ask("stress.csv", "stress", *files, "--scenarios", asked.scenarios)
-        scenarios = read_stress(str(stress)) if stress.stat().st_size else []
+        scenarios = program.read("stress", read_stress, stress) if stress.stat().st_size else []
     rescued, commands = least_rescues(program, files, banks, asked.rescues)
-    waves, more = read_bounds(bounds)
+    waves, more = program.read("bounds", read_bounds, bounds)
     return page.Matter(
         title=asked.title or f"Clearing of {results.count(len(banks), 'bank')}",
         money=Money(asked.unit, asked.currency),
@@ -303,7 +326,7 @@ def words():
     parser.add_argument(
         "--rescues", metavar="N", type=int, default=100, help="for how many banks the least rescue is asked (100)"
     )
-    parser.add_argument("--keep", metavar="FOLDER", help="where to keep what the program printed")
+    parser.add_argument("--keep", metavar="FOLDER", help="a new or empty folder for what the program printed")
     parser.add_argument("--d3", metavar="FILE", help="the library d3 in one file")
     parser.add_argument("--out", metavar="FILE", required=True, help="the page to write")
     asked = parser.parse_args()
@@ -312,11 +335,18 @@ def words():
     return asked
 
 
+def is_taken(folder):
+    """Whether something is in the place of a folder to be made: a file, or a folder that is not empty."""
+    return os.path.lexists(folder) and not (os.path.isdir(folder) and not os.listdir(folder))
+
+
 def main():
     asked = words()
     inputs = [name for name in (asked.banks, asked.debts, asked.scenarios, asked.journal) if name]
     try:
         files.check_apart([asked.out], inputs)
+        if asked.keep and is_taken(asked.keep):
+            raise ask.Failed(f"{asked.keep} is there and no empty folder; name another with --keep", 2)
         with tempfile.TemporaryDirectory() as folder:
             written = {asked.out: page.page_of(gather(asked, folder), library(asked))}
             if asked.keep:
@@ -324,8 +354,8 @@ def main():
                     written[os.path.join(asked.keep, path.name)] = path.read_bytes()
             files.write_all(written, inputs)
     except (Refused, files.Refused, OSError, ValueError) as fault:
-        sys.exit(f"report.py: {fault}")
+        raise ask.Failed(str(fault)) from fault
 
 
 if __name__ == "__main__":
-    main()
+    ask.main_of(main)

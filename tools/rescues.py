@@ -22,7 +22,6 @@ Example:
 """
 import fractions
 import pathlib
-import tempfile
 
 import ask
 
@@ -70,7 +69,7 @@ def main():
     ask.keep_inputs([asked.banks, asked.debts], [asked.output, asked.saved])
     asking = ask.Asking()
     network = ask.network_of(asking, ask.words_of(asked))
-    with tempfile.TemporaryDirectory() as folder:
+    with ask.work_folder() as folder:
         files = numbered_files(network, folder)
         short = short_of(ask.defaults_of(asking, files))
         places = sorted(short)

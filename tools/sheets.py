@@ -67,26 +67,60 @@ def text_of(tool, name, encoding):
         sys.exit(f"{tool}: {name} is not {encoding.upper()}; save it as UTF-8, or say its --encoding, such as cp1252")
 
 
+OPEN_QUOTE = "a quote opens a field and none closes it at its end; delete the quote, or write two for one in a quoted field"
+HIDDEN = "a quoted field holds a line as wide as the first row; delete its quotes if they are stray, or the line break"
+
+
 def records_of(tool, name, words):
-    """The records of a file, none of empty fields alone, each field without blanks at its ends."""
+    """The records of a file, none of empty fields alone, each field without blanks at its ends. Stray quotes are refused, since
+    all that stands between two of them would be one field."""
     text = text_of(tool, name, words.encoding)
     delimiter = words.delimiter or delimiter_of(text, words.skip)
+    lines = list(io.StringIO(text, newline=""))
+    csv.field_size_limit(len(text) + 1)
+    reader, last = csv.reader(lines, delimiter=delimiter, strict=True), 0
+    # The records, and the lines of each.
+    records, spans = [], []
     try:
-        records = [[field.strip(" \t") for field in record] for record in csv.reader(io.StringIO(text, newline=""), delimiter=delimiter)]
+        for record in reader:
+            record = [field.strip(" \t") for field in record]
+            if any(record):
+                records.append(record)
+                spans.append(lines[last : reader.line_num])
+            last = reader.line_num
     except csv.Error as error:
-        sys.exit(f"{tool}: {name}: {error}")
-    records = [record for record in records if any(record)][words.skip :]
+        row = len(records) - words.skip
+        place = f"{name} row {row}" if row >= 0 else f"{name} above the header"
+        # Before 3.11 Python reads no NUL.
+        sys.exit(f"{tool}: {place}: {error if 'NUL' in str(error) else OPEN_QUOTE}")
+    records, spans = records[words.skip :], spans[words.skip :]
     if not records:
         sys.exit(f"{tool}: {name} has no record")
     if len(records[0]) == 1:
         hint = f"is its delimiter another than {delimiter!r} (--delimiter), or are there lines above the header (--skip)?"
         sys.exit(f"{tool}: {name} has one column alone; {hint}")
+    for row, span in enumerate(spans):
+        if hides_a_record(span, delimiter, len(records[0])):
+            sys.exit(f"{tool}: {name} row {row}: {HIDDEN}")
     return records
 
 
+def hides_a_record(lines, delimiter, width):
+    """Whether the lines of one record may be several records between two stray quotes: the first and another are as wide as one.
+    A delimiter before a blank is a comma in a sentence."""
+    if len(lines) == 1:
+        return False
+    wide = [len(re.split(re.escape(delimiter) + "(?! )", line)) >= width for line in lines]
+    return wide[0] and any(wide[1:])
+
+
+QUOTED = re.compile(r'(?<![^,;\t\r\n])"[^"]*(?:""[^"]*)*"')
+
+
 def delimiter_of(text, skip):
-    """The comma, unless the header has none, and has semicolons or else tabs."""
-    lines = [line for line in re.split(r"\r\n|\r|\n", text[:1_000_000]) if line.strip(" \t;,")]
+    """The comma, unless the header has none outside quotes, and has semicolons or else tabs there."""
+    text = QUOTED.sub(lambda field: field[0].strip('" \t') and "x", text[:1_000_000])
+    lines = [line for line in re.split(r"\r\n|\r|\n", text) if line.strip(" \t;,")]
     header = lines[skip] if len(lines) > skip else ""
     return next((delimiter for delimiter in ",;\t" if delimiter in header), ",")
 
@@ -127,7 +161,34 @@ class Table:
         self.cells.pop(name, None)
         if name in self.header:
             self.header.remove(name)
+            for cells in self.cells.values():
+                cells.pop(name, None)
         return found
+
+
+def need_column(faults, table, option, column, banks=()):
+    """Refuses a table without a column, by the option that gives it another name. Banks are not told among those it has."""
+    if column not in table.header:
+        there = ", ".join(name for name in table.header if name not in banks)
+        faults.add(table.name, 0, None, f"no column {column}; it has {there or 'no other'}; say --{option} NAME")
+
+
+def find_columns(faults, words, table, options=("outside", "rule-column"), banks=()):
+    """Finds the columns that may be missing. One that an option names must be there, else it is of the usual name, or none. One
+    of the usual name but for capitals or spaces is asked for."""
+    for option in options:
+        word, usual = option.replace("-", "_"), option.split("-")[0]
+        column = getattr(words, word)
+        if column is not None:
+            need_column(faults, table, option, column, banks)
+            continue
+        for column in table.header:
+            if column == usual:
+                setattr(words, word, usual)
+            elif column.strip().casefold() == usual and column not in banks and column not in words.drop:
+                what = f"its name is {usual} but for capitals or spaces; say --{option} {quoted(column)}, or rename it"
+                faults.add(table.name, 0, column, what)
+                setattr(words, word, column)
 
 
 def is_name(text):
@@ -580,8 +641,8 @@ def add_words(parser):
     """The words that all tools for sheets take."""
     add = parser.add_argument
     add("--cash", default="cash", metavar="NAME", help="the column of cash")
-    add("--outside", default="outside", metavar="NAME", help="the column of what is owed to others")
-    add("--rule-column", default="rule", metavar="NAME", help="the column of rules")
+    add("--outside", metavar="NAME", help="the column of what is owed to others (outside, or none)")
+    add("--rule-column", metavar="NAME", help="the column of rules (rule, or none)")
     add("--rule", default="webster", choices=RULES, help="the rule where there is no such column (webster)")
     add("--class", dest="class_", type=int, default=1, choices=range(1, 10), help="the class of all debts (1)")
     add("--unit", type=unit_in, default=Fraction(1), help="what a unit of account is worth in the sheet (1), or auto")

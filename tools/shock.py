@@ -8,6 +8,9 @@ Out:  the banks file with what the scenario leaves of each bank's cash, on stand
 Of a bank's cash c a cut k leaves c less c k / 1000, the quotient rounded down; then its loss is taken away, down to nothing at
 least. `clearing clear` and `clearing defaults` on that file print what `clearing stress` prints of the scenario.
 
+Scenarios are read by Python's module tomllib. Where that knows TOML 1.0 alone, what TOML 1.1 added is refused here, though the program
+reads it: the escape \\x41, and a line break or a last comma within the braces of an inline table.
+
 It shares no code with the program. Ends with 0; 2 where the words are not understood, there is no scenario of that number, or Python is
 older than 3.11, whose module tomllib is wanted; 3 where a file cannot be read; 4 where a file is refused, with its first fault
 as `clearing` names it; 5 where the output cannot be written; 130 at an interrupt.
@@ -35,7 +38,7 @@ def document(data):
     except ImportError as fault:
         raise ask.Failed("scenarios are read by Python's module tomllib, which came with 3.11", 2) from fault
     try:
-        found = tomllib.loads(data.decode())
+        found = tomllib.loads(data.decode("utf-8-sig"))
     except (UnicodeDecodeError, tomllib.TOMLDecodeError, RecursionError, ValueError) as fault:
         raise refused(0, "toml") from fault
     waiting = [found]

@@ -8,12 +8,15 @@ Out: on standard output a line for each fault: the number of the word, the word,
      what to do; and last what the words ask for, or how many faults they have. `clearing` ends with status 2 exactly
      where there is a fault.
 
-Ends with 0 where the words are understood, with 1 where they are not, and with 2 where there are no words.
+Ends with 0 where the words are understood, with 1 where they are not, with 2 where there are no words, and with 5 where the
+output cannot be written.
 """
 import difflib
 import os
 import re
 import sys
+
+import ask
 
 # What each task requires, and what it may have.
 FILES = ["banks", "debts"]
@@ -199,4 +202,4 @@ def main():
 
 
 if __name__ == "__main__":
-    sys.exit(main())
+    ask.main_of(main)

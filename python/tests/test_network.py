@@ -129,6 +129,27 @@ class Forms(Case):
             self.assertEqual((fault.file, fault.row, fault.field), ("banks", 2, "cash"))
             self.assertIs(fault.value, wrong)
 
+    def test_scenarios_take_the_numbers_that_tables_take(self):
+        from decimal import Decimal
+        from fractions import Fraction
+
+        class Index:
+            def __index__(self):
+                return 50
+
+        for fifty in (50, 50.0, Decimal("50.0"), Index()):
+            with self.subTest(fifty=fifty):
+                self.assertEqual(Scenario("x", cut=fifty, losses={"A": fifty}), Scenario("x", 50, [("A", 50)]))
+                self.assertEqual(Scenarios([{"name": "x", "cut": fifty}]).to_toml(plain=True), '[[scenario]]\nname = "x"\ncut = 50\n')
+                self.assertEqual(Scenarios.cuts([fifty])[0], Scenario("cut 50", 50))
+        net = Network({"A": 7e6, "B": 1}, {("A", "B"): 10})
+        self.assertEqual(net.stress([Scenario("x", losses={"A": 7e6 - 1})]).payments[0].paid, 1)
+        for wrong in (7.5, float("nan"), float("inf"), 2.0**60, Decimal("7.5"), Decimal("sNaN"), True, None, "", [7], Fraction(7), 7j):
+            with self.subTest(wrong=wrong), self.assertRaises(TableError) as caught:
+                Scenario("x", losses={"A": wrong})
+            self.assertEqual((caught.exception.file, caught.exception.field), ("scenarios", "amount"))
+            self.assertIs(caught.exception.value, wrong)
+
     def test_what_a_file_cannot_say_is_refused(self):
         for banks, debts, place in [
             ([("A", 7, "order"), (" B", 1, "order")], [], ("banks", 2, "name")),

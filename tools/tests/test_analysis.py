@@ -6,11 +6,14 @@ import importlib.util
 import os
 import pathlib
 import random
+import shutil
 import signal
 import statistics
 import subprocess
 import sys
+import threading
 import time
+import unittest.mock
 
 from common import PROGRAM, ROOT, Case, tool
 
@@ -345,6 +348,13 @@ class Analysis(Case):
         past = self.file("past.csv", "year,cut\n2001,10\n2008,600\n")
         return [["breaking.py"], ["impact.py"], ["rescues.py"], ["draws.py", "--past", past, "--draws", "9"]]
 
+    def writers(self):
+        """Each tool, with each option that names a file of records to write."""
+        for command, options in zip(self.commands(), [["--output"], ["--ranking", "--matrix", "--defaults"], ["--output", "--saved"], ["--output", "--each"]]):
+            for option in options:
+                yield [*command, *self.short(), option]
+        yield ["shock.py", *self.short()[:2], "--scenarios", self.file("s.toml", '[[scenario]]\nname = "s"\n'), "--scenario", 1, "--output"]
+
     def test_names_of_any_kind(self):
         """The same numbers as with plain names."""
         names = ["total", "cash", "-x", "it's", "back\\slash", "$a b", "é\u2028é", "bank", "estate", "scenario,"[:-1]]
@@ -370,8 +380,78 @@ class Analysis(Case):
                 self.refused(command[0], 2, "would be written over", *command[1:], *words, option, words[3])
             same = self.folder / "same.csv"
             self.refused(command[0], 2, "would be written over", *command[1:], *words, options[0], same, options[1], same)
-            self.refused(command[0], 1, "cannot write", *command[1:], *words, options[0], self.folder / "none" / "out.csv")
+            self.refused(command[0], 5, "cannot write", *command[1:], *words, options[0], self.folder / "none" / "out.csv")
         self.assertEqual([path.read_bytes() for path in (words[1], words[3])], before)
+
+    def test_a_file_that_is_written_keeps_its_mode(self):
+        mask = os.umask(0)
+        os.umask(mask)
+        for number, (name, *words) in enumerate(self.writers()):
+            with self.subTest(tool=name, option=words[-1]):
+                kept, new = self.file("kept.csv", "old"), self.folder / f"new-{number}.csv"
+                for mode in (0o600, 0o640):
+                    kept.chmod(mode)
+                    self.made(name, *words, kept)
+                    self.assertEqual(kept.stat().st_mode & 0o777, mode)
+                self.made(name, *words, new)
+                self.assertEqual(new.stat().st_mode & 0o777, 0o666 & ~mask)
+                self.assertEqual((new.read_bytes(), b"old" in new.read_bytes()), (kept.read_bytes(), False))
+
+    def test_a_file_that_may_not_be_written_is_kept(self):
+        prefix = []
+        if os.geteuid() == 0:
+            prefix = ["setpriv", "--reuid=65534", "--regid=65534", "--clear-groups"]
+            if not shutil.which("setpriv"):
+                self.skipTest("setpriv is missing: root may write everywhere")
+        self.folder.chmod(0o777)
+        for name, *words in self.writers():
+            with self.subTest(tool=name, option=words[-1]):
+                run = [*prefix, sys.executable, "-B", str(ROOT / "tools" / name)]
+                tried = [[*run, "--help"], [*prefix, sys.executable, "-c", "import os, sys; sys.exit(not os.access(sys.argv[1], os.X_OK))", PROGRAM]]
+                if any(subprocess.run(each, capture_output=True).returncode for each in tried):
+                    self.skipTest("another user may not read the tools or the program")
+                kept = self.file("kept.csv", "old")
+                kept.chmod(0o444)
+                before = sorted(os.listdir(self.folder))
+                done = subprocess.run([*run, *map(str, words), str(kept)], stdin=subprocess.DEVNULL, capture_output=True, encoding="utf-8")
+                self.assertEqual((done.returncode, done.stderr), (5, f"{name}: cannot write {kept}: Permission denied\n"))
+                self.assertEqual((kept.read_text(), sorted(os.listdir(self.folder))), ("old", before))
+                kept.unlink()
+
+    def test_a_picture_is_written_whole(self):
+        import ask
+
+        kept, link = self.file("kept.svg", "old"), self.folder / "link.png"
+        kept.chmod(0o600)
+        link.symlink_to(kept)
+        named = []
+
+        def draw(part):
+            named.append(part)
+            pathlib.Path(part).write_text("new")
+
+        ask.write_whole(str(link), draw)
+        self.assertEqual((kept.read_text(), kept.stat().st_mode & 0o777, link.is_symlink()), ("new", 0o600, True))
+        self.assertEqual((named[0].endswith(".svg"), os.path.exists(os.path.dirname(named[0]))), (True, False))
+
+        def fails(part):
+            pathlib.Path(part).write_text("half")
+            raise ValueError("no such kind of picture")
+
+        for place, write in ((kept, fails), (self.folder / "none.svg", fails), (self.folder / "none" / "a.svg", draw), ("/dev/full", draw)):
+            with self.assertRaisesRegex(ask.Failed, f"cannot write {place}: ") as failed:
+                ask.write_whole(str(place), write)
+            self.assertEqual((failed.exception.status, kept.read_text()), (1, "new"))
+        self.assertEqual(sorted(os.listdir(self.folder)), ["kept.svg", "link.png"])
+
+    def test_an_output_that_cannot_be_written_ends_with_5(self):
+        for name, *words in self.writers():
+            for place in (self.folder / "none" / "out.csv", self.folder, self.file("file", "") / "out.csv", "/dev/full"):
+                with self.subTest(tool=name, option=words[-1], place=place):
+                    self.refused(name, 5, f"cannot write {place}: ", *words, place)
+            with open("/dev/full", "wb") as full:
+                done = subprocess.run([sys.executable, str(ROOT / "tools" / name), *map(str, words[:-1])], stdout=full, stderr=subprocess.PIPE)
+            self.assertEqual((done.returncode, b"cannot write the output" in done.stderr), (5, True))
 
     def test_failures_are_told(self):
         words = self.small()
@@ -429,6 +509,66 @@ class Analysis(Case):
             while (left := [number for number in begun.read_text().split() if is_running(number)]) and time.monotonic() - sent < 20:
                 time.sleep(0.05)
             self.assertEqual(left, [])
+
+    def test_no_work_goes_on_behind_a_fault(self):
+        import ask
+
+        class Fault(BaseException):
+            pass
+
+        asking, started, begun, ended = ask.Asking(), threading.Event(), [], []
+
+        def work(item):
+            if item == "fault":
+                started.wait(10)
+                raise Fault
+            begun.append(item)
+            started.set()
+            time.sleep(0.2)
+            ended.append(item)
+
+        with unittest.mock.patch("ask.processors", lambda: 2), self.assertRaises(Fault):
+            asking.all(work, ["fault", "write", *range(50)], "thing")
+        self.assertEqual((sorted(map(str, ended)), len(ended) < 10), (sorted(map(str, begun)), True))
+        # A run that ends with its child alive, which holds its output, is not waited for; and no run begins any more.
+        asking, sent = ask.Asking(), time.monotonic()
+        begun = self.folder / "begun"
+
+        def run(item):
+            if item == "fault":
+                while not begun.exists():
+                    time.sleep(0.01)
+                raise Fault
+            asking.run(["sh", "-c", f"sleep 30 & echo $! >'{begun}.part'; mv '{begun}.part' '{begun}'; wait"])
+
+        with unittest.mock.patch("ask.processors", lambda: 2), self.assertRaises(Fault):
+            asking.all(run, ["fault", "run"], "thing")
+        os.kill(int(begun.read_text()), signal.SIGKILL)
+        self.assertLess(time.monotonic() - sent, 20)
+        with self.assertRaises(KeyboardInterrupt):
+            asking.run(["true"])
+
+    def test_a_request_to_end_leaves_no_file(self):
+        """At any moment, of the group of processes too, as at a terminal: the status is 130, and no file is left."""
+        banks, debts = self.file("g-banks.csv"), self.file("g-debts.csv")
+        self.made("gen_files.py", "--seed", 5, "--size", 600, "--tries", 9000, "--banks", banks, "--debts", debts)
+        banks.write_text("".join(line if at == 0 else ",".join([line.split(",")[0], "9", line.split(",")[2]])
+                                 for at, line in enumerate(banks.read_text().splitlines(keepends=True))))
+        place = self.folder / "place"
+        place.mkdir()
+        for tries in range(6):
+            running = subprocess.Popen(
+                [sys.executable, str(ROOT / "tools/rescues.py"), "--banks", str(banks), "--debts", str(debts)],
+                env={**os.environ, "CLEARING": PROGRAM, "TMPDIR": str(place)}, stdin=subprocess.DEVNULL, stdout=subprocess.PIPE,
+                stderr=subprocess.PIPE, start_new_session=True)
+            deadline = time.monotonic() + 30
+            while len(list(place.glob("*/*"))) < 3 + tries and time.monotonic() < deadline:
+                time.sleep(0.01)
+            for _ in range(1 + tries % 3):
+                (os.kill if tries % 2 else os.killpg)(running.pid, signal.SIGINT if tries % 4 == 2 else signal.SIGTERM)
+            output, messages = running.communicate(timeout=30)
+            self.assertEqual((running.returncode, output, messages), (130, b"", b""))
+            self.assertEqual(list(place.rglob("*")), [])
 
     def test_a_terminal_is_told_how_far_it_is(self):
         pty = importlib.import_module("pty")

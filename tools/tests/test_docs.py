@@ -18,6 +18,8 @@ import tempfile
 from common import PROGRAM, ROOT, Case
 
 PAGES = ["docs/GUIDE.md", "examples/README.md"]
+# The last author of what is cited, and the year: `Eisenberg and Noe (2001)`, or the same all in brackets; a line may end between.
+CITED = re.compile(r"([A-Z][^\W\d_]+),?\s(?:\s*//[/!]? )?\(?((?:18|19|20)[0-9]{2})\)")
 BLOCK = re.compile(r"(?<=^```console\n).*?(?=^```$)", re.MULTILINE | re.DOTALL)
 
 
@@ -73,6 +75,17 @@ class Pages(Case):
         for folder in sorted((ROOT / "examples").iterdir()):
             if folder.is_dir():
                 self.assertIn(f"`{folder.name}`", text)
+
+    def test_what_is_cited_stands_among_the_references(self):
+        listed = [" ".join(entry.split()) for entry in (ROOT / "docs/REFERENCES.md").read_text(encoding="utf-8").split("\n- ")[1:]]
+        cited = set()
+        for pattern in ("*.md", "docs/*.md", "tools/*.py", "crates/*/src/**/*.rt", "python/src/**/*.py"):
+            for path in ROOT.glob(pattern):
+                if path.name != "REFERENCES.md":
+                    cited |= set(CITED.findall(path.read_text(encoding="utf-8")))
+        self.assertIn(("Herings", "2018"), cited)
+        for name, year in sorted(cited):
+            self.assertTrue(any(name in entry.partition(")")[0] and f"({year})" in entry for entry in listed), (name, year))
 
 
 if __name__ == "__main__":

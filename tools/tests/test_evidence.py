@@ -1,13 +1,15 @@
 """Folders of evidence: made, checked, and altered."""
 import hashlib
 import os
+import re
 import shlex
+import shutil
 import signal
 import subprocess
 import sys
 import time
 
-from common import PROGRAM, ROOT, Case, clearing, tool
+from common import PROGRAM, ROOT, Case, clearing, needs, tool
 
 TWELVE = ROOT / "examples/twelve-banks"
 HUB = ROOT / "examples/hub"
@@ -91,6 +93,26 @@ class Evidence(Case):
                 # And it is in the form in which it is printed.
                 self.assertEqual(self.printed("check", *files).split("\n\n")[1] + "\n", left.read_text())
 
+    def test_a_byte_order_mark_above_scenarios_is_dropped(self):
+        banks, debts = HUB / "banks.csv", HUB / "debts.csv"
+        plain, marked = self.file("s.toml", SCENARIOS), self.file("marked.toml", b"\xef\xbb\xbf" + SCENARIOS.encode())
+        words = ["--banks", banks, "--debts", debts, "--scenarios"]
+        self.assertEqual(self.printed("stress", *words, plain), self.printed("stress", *words, marked))
+        left = [self.made("shock.py", "--banks", banks, "--scenarios", name, "--scenario", 2) for name in (plain, marked)]
+        self.assertEqual(left[0], left[1])
+        folder = self.folder / "evidence"
+        done = evidence("make", folder, *words, marked, "--bank", "South")
+        self.assertEqual((done.returncode, done.stderr), (0, b""))
+        self.assertEqual((folder / "inputs/scenarios.toml").read_bytes(), marked.read_bytes())
+        done = evidence("check", folder)
+        self.assertEqual((done.returncode, done.stderr), (0, b""), done.stdout)
+        # One alone, and at the start alone, as the program has it.
+        for text in (b"\xef\xbb\xbf" + marked.read_bytes(), SCENARIOS.encode() + b"\xef\xbb\xbf"):
+            name = self.file("more.toml", text)
+            done = clearing("stress", *words, name)
+            self.assertEqual((done.returncode, done.stderr), (4, b"clearing: scenarios row 0: toml (16)\n"))
+            self.refused("shock.py", 4, "scenarios row 0: toml (16)", "--banks", banks, "--scenarios", name, "--scenario", 1)
+
     def test_a_scenario_that_is_refused_is_refused_alike(self):
         head = '[[scenario]]\nname = "a"\n'
         for text in ["x", "scenario = 1", "y = 1\n[[scenario]]\nname = 'a'", "[[scenario]]\ncut = 1", head + "cut = 1001", head + "cut = -1",
@@ -113,7 +135,7 @@ class Evidence(Case):
             self.refused("shock.py", 2, "would be written over", *words, "--scenario", 1, "--output", output)
         self.refused("shock.py", 2, "none of the number 4", *words, "--scenario", 4)
         self.refused("shock.py", 3, "cannot read", *words[:3], self.folder / "none", "--scenario", 1)
-        self.refused("shock.py", 1, "cannot write", *words, "--scenario", 1, "--output", self.folder / "none" / "x")
+        self.refused("shock.py", 5, "cannot write", *words, "--scenario", 1, "--output", self.folder / "none" / "x")
         self.assertEqual((banks.read_bytes(), scenarios.read_text()), ((HUB / "banks.csv").read_bytes(), SCENARIOS))
 
     # Making and checking.
@@ -319,6 +341,51 @@ class Evidence(Case):
         self.assertEqual(evidence("check", self.folder / "none").returncode, 3)
         self.assertEqual(evidence("check", place).returncode, 3)
         self.assertEqual(evidence().returncode, 2)
+
+    @needs("git")
+    def test_changes_are_told_where_they_are_of_the_repository(self):
+        copy, sources = self.folder / "copy", "crates/one/src"
+        own = {**os.environ, "GIT_CONFIG_GLOBAL": "/dev/null", "CLEARING": PROGRAM}
+        for part in ("tools", "python"):
+            shutil.copytree(ROOT / part, copy / part, ignore=shutil.ignore_patterns("tests", "__pycache__"))
+        (copy / sources).mkdir(parents=True)
+        (copy / sources / "lib.rt").write_text("old\n")
+        (copy / ".gitignore").write_text("out/\n")
+        git = ["git", "-C", copy, "-c", "user.name=A", "-c", "user.email=a@b"]
+        for words in (["init", "-q"], ["add", "."], ["commit", "-qm", "all"]):
+            subprocess.run([*git, *words], env=own, check=True)
+        commit = subprocess.check_output([*git, "rev-parse", "HEAD"], env=own, encoding="utf-8").strip()
+        ask = [sys.executable, "-B", "-c", "import evidence; print(evidence.commit_of())"]
+        # What is written, and whether it is a change: an output of one's own is none, and nor is what a build makes.
+        for name, is_change in [
+            ("mine.csv", False), ("tools/mine.csv", False), (f"{sources}/out/x", False), (f"{sources}/lib.rt", True),
+            (f"{sources}/new.rt", True), ("tools/evidence.sh", True),
+        ]:
+            path = copy / name
+            before = path.read_bytes() if path.exists() else None
+            path.parent.mkdir(exist_ok=True)
+            path.write_bytes((before or b"") + b"# new\n")
+            want = commit + (", with changes that are not committed" if is_change else "")
+            self.assertEqual(subprocess.check_output(ask, cwd=copy / "tools", env=own, encoding="utf-8"), want + "\n", name)
+            if before is None:
+                path.unlink()
+            else:
+                path.write_bytes(before)
+        # Both tools say so.
+        self.file("copy/mine.csv", "mine")
+        folder, page = self.folder / "evidence", self.folder / "page.html"
+        for words in (["evidence.py", "make", folder], ["report.py", "--out", page]):
+            run = [sys.executable, "-B", copy / "tools" / words[0], *words[1:], "--banks", HUB / "banks.csv", "--debts", HUB / "debts.csv"]
+            subprocess.run(run, env=own, check=True, capture_output=True)
+        self.assertEqual((folder / "versions.txt").read_text().split("\n")[0], f"repository {commit}")
+        self.assertIn(f">{commit}<", page.read_text(encoding="utf-8"))
+
+    def test_the_guide_makes_each_folder_once(self):
+        text = (ROOT / "docs/GUIDE.md").read_text(encoding="utf-8")
+        commands = "".join(re.findall(r"^```\w*\n(.*?)^```$", text, re.MULTILINE | re.DOTALL)).replace("\\\n", " ").split("\n")
+        made = [name for line in commands for name in re.findall(r"(?:report\.py .*--keep|evidence\.sh make) (\S+)", line)]
+        self.assertGreater(len(made), 1)
+        self.assertEqual(sorted(made), sorted(set(made)))
 
     def test_an_interrupt_ends_at_once_and_leaves_nothing(self):
         place = self.folder / "place"

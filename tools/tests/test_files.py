@@ -1,4 +1,5 @@
 import os
+import subprocess
 import sys
 import unittest.mock
 
@@ -69,3 +70,41 @@ class Files(Case):
         code = "import files; files.write_all({'/dev/stdout': 'second\\n'})"
         os.system(f"cd {ROOT}/tools && {sys.executable} -c \"{code}\" >>{out}")
         self.assertEqual(out.read_text(), "first\nsecond\n")
+
+    def test_what_follows_a_stream_in_a_file_stays_behind_it(self):
+        """The names of standard output and error move the place of the shell in its file, as a write to them does."""
+        code = "import sys, files; print('said'); files.write_all([(sys.argv[1], 'one\\n'), (sys.argv[1], 'two\\n')])"
+        for name, stream in (("/dev/stdout", 1), ("/dev/fd/1", 1), ("/proc/self/fd/1", 1), ("/dev/stderr", 2), ("/dev/fd/3", 3)):
+            for how in (">", ">>", "<>"):
+                with self.subTest(name=name, how=how):
+                    out, said = self.file("out", "" if how == ">" else "old\n"), self.folder / "said"
+                    first = "" if how == "<>" else "echo first >&8; "
+                    script = f'{{ {first}"$0" -c "$1" {name} {stream}>&8 8>&-; echo last >&8; }} 8{how}"$2"'
+                    run = ["sh", "-c", script, sys.executable, code, out]
+                    with open(said, "wb") as rest:
+                        done = subprocess.run(run, cwd=ROOT / "tools", stdout=rest, stderr=subprocess.PIPE, encoding="utf-8")
+                    self.assertEqual((done.returncode, done.stderr), (0, ""))
+                    wanted = ("old\n" if how == ">>" else "") + ("first\n" if first else "") + ("said\n" if stream == 1 else "")
+                    self.assertEqual(out.read_text(), wanted + "one\ntwo\nlast\n")
+                    self.assertEqual(said.read_text(), "" if stream == 1 else "said\n")
+
+    def test_tools_write_to_a_stream_in_its_place(self):
+        network = ["--banks", ROOT / "examples/chain/banks.csv", "--debts", ROOT / "examples/chain/debts.csv"]
+        listed = self.file("list.csv", "debtor,creditor,amount\nA,B,5\n")
+        table = self.file("table.csv", "name,cash,rule\nA,1,order\nB,2,equal\n")
+        generated = ["--seed", 1, "--size", 4, "--tries", 9, "--debts", self.folder / "d.csv"]
+        for name, words, option in [
+            ("from_list.py", [listed, "--table", table, "--unit", "1", "--debts", self.folder / "d.csv"], "--banks"),
+            ("to_matrix.py", network, "--out"), ("gen_files.py", generated, "--banks"),
+            ("breaking.py", network, "--output"), ("impact.py", network, "--matrix"),
+        ]:
+            with self.subTest(tool=name):
+                made = self.file("made")
+                self.made(name, *words, option, made)
+                both = self.folder / "both"
+                script = 'out=$1; shift; { echo first; "$@" || exit; echo last; } >"$out"'
+                run = ["sh", "-c", script, "sh", both, sys.executable, ROOT / "tools" / name, *words, option, "/dev/stdout"]
+                done = subprocess.run(list(map(str, run)), stdin=subprocess.DEVNULL, stderr=subprocess.PIPE, encoding="utf-8")
+                self.assertEqual((done.returncode, both.read_text()[:6]), (0, "first\n"), done.stderr)
+                self.assertTrue(both.read_text().startswith(f"first\n{made.read_text()}"), both.read_text())
+                self.assertTrue(both.read_text().endswith("\nlast\n"))

@@ -1,5 +1,6 @@
 import os
 import pathlib
+import re
 import subprocess
 
 from common import PROGRAM, ROOT, Case
@@ -27,6 +28,14 @@ class Install(Case):
         self.assertEqual(subprocess.check_output([prefix / names[0], "gen"]), b"gen\n")
         self.assertEqual((prefix / names[1]).read_text(), (ROOT / "docs/clearing.1").read_text())
         self.assertEqual(sorted(told), sorted(str(path) for path in prefix.rglob("*") if not path.is_dir()))
+        # The help names all of it, and nothing else.
+        lines = self.installed("--help").stdout
+        places = [f"{prefix}/{place.rstrip('.,;').partition('NAME')[0]}" for place in re.findall(r"PREFIX/(\S+)", lines)]
+        self.assertEqual([file for file in told if not file.startswith(tuple(places))], [])
+        self.assertEqual([place for place in places if not any(file.startswith(place) for file in told)], [])
+        for what in ("bash", "zsh", "fish", "Python package"):
+            self.assertIn(what, lines.partition("\n")[0])
+        self.assertTrue(lines.endswith("where the words are not understood.\n"), lines)
         # A tool from there, by its own name, and one that runs the program.
         for folder in ("chain", "hub"):
             files = [word for kind in ("banks", "debts") for word in (f"--{kind}", ROOT / f"examples/{folder}/{kind}.csv")]

@@ -30,6 +30,7 @@ case "$*" in
     echo "crate $name: modules loaded=0 checked=1" ;;
 "run -- check "*)
     [ -z "$FAULTY" ] || exit 1
+    sleep "${LINKING:-0}"
     { echo '#!/bin/sh'; echo 'echo "$*" here'; sed 's/^/# /' src/main.rt; } >out/clear_main
     chmod +x out/clear_main ;;
 esac
@@ -138,6 +139,15 @@ class Launcher(Case):
     def test_one_job_is_enough_for_one_processor(self):
         self.run_at(self.root, CLEARING_JOBS="1")
         self.assertEqual(self.steps(), ["clear_main: run"])
+
+    def test_where_most_is_proved_no_count_is_told_that_nobody_knows(self):
+        for name in ("low", "left", "right"):
+            (self.root / "crates" / name / "out/rlib").mkdir()
+            (self.root / "crates" / name / "out/rlib/stamp").write_text("")
+        done = self.run_at(self.root, LINKING="1")
+        self.assertEqual(self.steps(), ["clear_main: run"])
+        self.assertIn("\nclearing: proving what is not proved yet\n", done.stderr)
+        self.assertNotIn("crates are proved", done.stderr)
 
     def test_what_an_earlier_build_proved_is_counted(self):
         for name in ("low", "left"):

@@ -241,6 +241,24 @@ class Lint(Case):
                 made.append(f'[[scenario]]\nname = "A"\n[[scenario.loss]]\n{rest}\n{key} = {value}\n')
         self.compare_all([{**NETWORK, "scenarios": text.encode()} for text in made])
 
+    @unittest.skipIf(sys.version_info < (3, 11), "TOML is read by Python 3.11 or later")
+    def test_what_the_help_says_of_another_toml_is_so(self):
+        inline = 'scenario = [{name = "a", loss = [{bank = "A", amount = 1%s}]}]\n'
+        texts = ['[[scenario]]\nname = "\\x41"\n', inline % "\n", inline % " # it\n", inline % ",", inline % "\n,\n", inline % ""]
+        for at, text in enumerate(texts):
+            files = {**NETWORK, "scenarios": text.encode()}
+            self.assertEqual(self.first_of_program(at, files), "", text)
+            # A Python that knows TOML 1.1 takes them all, and any Python the last.
+            kinds = [fault.kind for fault in lint.faults_of(**files)]
+            self.assertIn(kinds, [[], ["toml"]] if at + 1 < len(texts) else [[]])
+        values = ['"\\e"', "07:30", "[" * 81 + "]" * 81, "1e999"]
+        for at, text in enumerate(values):
+            files = {**NETWORK, "scenarios": f"[[scenario]]\nname = {text}\n".encode()}
+            self.assertRegex(self.first_of_program(at, files), "toml|shape|name")
+            self.assertIn(lint.faults_of(**files)[0].kind, ["toml", "shape", "name"])
+        for name in ("lint.py", "shock.py"):
+            self.assertIn("TOML 1.1", self.made(name, "--help"))
+
     def test_made_up_journals_are_judged_as_the_program_does(self):
         counts = self.compare_all([{**NETWORK, "journal": MadeJournal(seed).file()} for seed in range(FILES // 2)])
         self.is_of_use(counts, ["header", "fields", "number", "limit", "name", "unknown bank", "class", "unknown debt"], FILES // 20)
@@ -377,6 +395,7 @@ class Lint(Case):
                                                           "; write the number without separators between thousands", "1 fault"]),
             ('[scenario]\nname = "a"\n', ["line 1 (row 0) scenario: shape (17): scenario is no array of tables; write [[scenario]], with two brackets at each end", "1 fault"]),
             ('[[scenarios]]\nname = "a"\n', ["line 1 (row 0): shape (17): the document has a key 'scenarios'; write [[scenario]]", "1 fault"]),
+            ("\ufeff[[scenario]]\ncut = 1\n", ["line 1 (row 1) name: shape (17): the scenario has no name", "1 fault"]),
             ("", ["no fault"]),
         ]:
             name = self.file("s.toml", content)

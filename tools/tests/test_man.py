@@ -35,11 +35,22 @@ class Man(Case):
             self.assertEqual(wrong, [], page.name)
 
     @needs("man", "nroff")
-    def test_pages_fit_a_terminal_of_80_columns(self):
+    def test_pages_are_shown_at_80_columns(self):
         for page in [*self.pages(), ROOT / "docs/clearing.1"]:
-            done = subprocess.run(["man", "--warnings", "-l", str(page)], stdin=subprocess.DEVNULL, capture_output=True, encoding="utf-8",
-                                  env={**os.environ, "MANWIDTH": "80", "LC_ALL": "C.UTF-8"})
-            self.assertEqual((done.returncode, done.stderr), (0, ""), page.name)
+            self.shown(page)
+
+    @needs("man", "nroff")
+    def test_the_page_of_the_program_fits_80_columns(self):
+        lines = re.sub(".\b", "", self.shown(ROOT / "docs/clearing.1")).splitlines()
+        self.assertGreater(len(lines), 100)
+        self.assertEqual([line for line in lines if len(line) > 80], [])
+
+    def shown(self, page):
+        """What `man` shows of a page at 80 columns."""
+        done = subprocess.run(["man", "--warnings", "-l", str(page)], stdin=subprocess.DEVNULL, capture_output=True, encoding="utf-8",
+                              env={**os.environ, "MANWIDTH": "80", "LC_ALL": "C.UTF-8"})
+        self.assertEqual((done.returncode, done.stderr), (0, ""), page.name)
+        return done.stdout
 
     def test_what_is_no_tool_is_refused(self):
         none = self.file("none.py", "#!/bin/sh\nimport sys; sys.exit('no help')\n")

@@ -114,3 +114,56 @@ class Many(Case):
         for at, name in enumerate(ODD_NAMES):
             self.assertEqual((self.folder / f"the results/n{at}.out").read_text(encoding="utf-8"), f"rescue\n--bank\n{name}\n")
         self.assertFalse((self.folder / "X").exists())
+
+    def test_no_older_result_is_counted_where_a_job_is_killed(self):
+        jobs = "a\tgen\t{0}\nb\tkill\t{0}\nc\tgen\t{0}\nd\tgen\t{0}\n"
+        self.assertEqual(self.many("run", self.file("jobs.tsv", jobs.format(1)), "out", 1).stdout, "4 done, 0 failed\n")
+        # The program kills the shell that runs it, and then the one above that, too.
+        parents = "parent=$(cut -d ' ' -f 4 /proc/$PPID/stat)\n"
+        for number, kill, counts, later in [(2, "kill -9 $PPID", "3 done, 1 failed", "gen\n2\n"),
+                                            (3, "kill -9 $parent $PPID", "1 done, 0 failed, 3 not finished", "gen\n2\n")]:
+            program = PROGRAM + f'if [ "$1" = kill ]; then {parents}{kill}; fi\n'
+            done = self.many("run", self.file("jobs.tsv", jobs.format(number)), "out", 1, program=program)
+            self.assertEqual((done.returncode, done.stdout), (1, counts + "\n"), done.stderr)
+            self.assertEqual((self.folder / "out/a.out").read_text(), f"gen\n{number}\n")
+            self.assertFalse((self.folder / "out/b.out").exists())
+            self.assertEqual((self.folder / "out/d.out").read_text(), later)
+            if number == 2:
+                self.assertIn("the run of job 2 was killed", done.stderr)
+        done = self.many("run", self.file("jobs.tsv", jobs.format(4)), "out", 1)
+        self.assertEqual((done.returncode, done.stdout), (0, "4 done, 0 failed\n"), done.stderr)
+
+    def test_what_a_killed_run_left_is_removed_when_the_job_begins_again(self):
+        jobs = self.file("jobs.tsv", "a\tkill\na.part\tgen\na.part.7\tgen\n")
+        killing = PROGRAM + "echo half >&2\n[ $1 = gen ] || kill -9 $PPID\n"
+        self.many("run", jobs, "out", 1, program=killing)
+        whole = ["a.part.7.job", "a.part.7.out", "a.part.job", "a.part.out"]
+        names = sorted(path.name for path in (self.folder / "out").iterdir())
+        self.assertEqual((len(names), set(whole) - set(names)), (6, set()), names)
+        self.many("run", jobs, "out", 1)
+        names = sorted(path.name for path in (self.folder / "out").iterdir())
+        self.assertEqual(names, sorted([*whole, "a.job", "a.out"]))
+
+    def test_a_number_of_a_process_that_is_no_run_keeps_nothing(self):
+        (self.folder / "out").mkdir()
+        ended, other = subprocess.Popen(["true"]), subprocess.Popen(["sleep", "60"])
+        self.addCleanup(other.wait)
+        self.addCleanup(other.kill)
+        # It has ended, and nobody has asked how.
+        os.waitid(os.P_PID, ended.pid, os.WEXITED | os.WNOWAIT)
+        for process in (ended.pid, other.pid):
+            self.file(f"out/a.part+{os.uname().nodename}.{process}", "left")
+        self.many("run", self.file("jobs.tsv", "a\tgen\n"), "out", 1)
+        ended.wait()
+        self.assertEqual(sorted(path.name for path in (self.folder / "out").iterdir()), ["a.job", "a.out"])
+
+    def test_a_job_that_runs_twice_at_once_keeps_the_files_of_both(self):
+        jobs = self.file("jobs.tsv", "a\tgen\n")
+        inner = f"{ROOT}/tools/many.sh one {jobs} out 1"
+        # While the job runs, it is run once more.
+        program = PROGRAM + f'if mkdir "$COUNTED.once" 2>/dev/null; then {inner} || echo failed; fi\n'
+        done = self.many("run", jobs, "out", 1, program=program)
+        self.assertEqual((done.returncode, done.stdout), (0, "1 done, 0 failed\n"), done.stderr)
+        self.assertEqual(sorted(path.name for path in (self.folder / "out").iterdir()), ["a.job", "a.out"])
+        self.assertEqual((self.folder / "out/a.out").read_text(), "gen\n")
+        self.assertEqual(self.runs(), 2)

@@ -71,10 +71,48 @@ class Matrix(Case):
             ("row 2: a second row of the name A", ",A,cash\nA,0,0\nA,0,0\n"),
             ("column A: a second column", ",A,A,cash\nA,0,0,0\n"),
             ("has one column alone", "x|A|cash\nA|0|0\n"),
+            ("row 1: a quote opens a field and none closes it", ',A,cash\nA,0,"7\n'),
             ("has no record", ""),
             ("is not UTF-8; save it as UTF-8, or say its --encoding", "x,É,cash\nÉ,0,0\n".encode("cp1252")),
         ]:
             self.refused("from_matrix.py", 1, told, self.file("m.csv", text), *self.files)
+
+    def test_a_column_that_is_named_is_there(self):
+        beside = self.file("m.csv", ",A,B,cash,Outside,Regel\nA,0,6,3,1,order\nB,2,0,4,0,equal\n")
+        matrix = self.file("n.csv", ",A,B\nA,0,6\nB,2,0\n")
+        table = self.file("t.csv", "bank,cash,Outside,Regel\nA,3,1,order\nB,4,0,equal\n")
+        right = ["--outside", "Outside", "--rule-column", "Regel"]
+        for sheet, name in [([beside], "m.csv"), ([matrix, "--table", table], "t.csv")]:
+            named = [("outside", "Outsde"), ("rule-column", "Regle"), ("outside", "outside"), ("rule-column", "rule")]
+            for option, column in named:
+                told = f"{name} row 0: no column {column}; it has cash, Outside, Regel; say --{option} NAME"
+                self.refused("from_matrix.py", 1, told, *sheet, *right, f"--{option}", column, *self.files)
+            self.assertFalse(self.banks.exists() or self.debts.exists())
+            self.made("from_matrix.py", *sheet, *right, *self.files)
+            self.check("name,cash,rule,outside\nA,3,order,1\nB,4,equal,0\n", "debtor,creditor,class,claim\nA,B,1,6\nB,A,1,2\n")
+            self.banks.unlink(), self.debts.unlink()
+        told = "n.csv row 0: no column Outside; it has no other; say --outside NAME"
+        self.refused("from_matrix.py", 1, told, matrix, "--outside", "Outside", *self.files)
+
+    def test_a_column_named_but_for_capitals_or_spaces_is_asked_for(self):
+        beside = self.file("m.csv", ",A,B,cash,Outside,RULE\nA,0,6,3,1,order\nB,2,0,4,0,equal\n")
+        matrix = self.file("n.csv", ",A,B\nA,0,6\nB,2,0\n")
+        table = self.file("t.csv", "bank,cash,Outside,RULE\nA,3,1,order\nB,4,0,equal\n")
+        for sheet, name in [([beside], beside), ([matrix, "--table", table], table)]:
+            done = tool("from_matrix.py", *sheet, *self.files)
+            self.assertEqual((done.returncode, done.stdout, done.stderr), (1, "", "".join(
+                f"from_matrix: {name} row 0 column {column}: its name is {column.lower()} but for capitals or spaces; "
+                f"say --{option} {column}, or rename it\n"
+                for column, option in [("Outside", "outside"), ("RULE", "rule-column")])))
+            self.made("from_matrix.py", *sheet, "--outside", "Outside", "--rule-column", "RULE", *self.files)
+            self.check("name,cash,rule,outside\nA,3,order,1\nB,4,equal,0\n", "debtor,creditor,class,claim\nA,B,1,6\nB,A,1,2\n")
+
+    def test_a_bank_may_have_such_a_name(self):
+        self.made("from_matrix.py", self.file("m.csv", ",Outside,Rule,cash\nOutside,0,6,3\nRule,2,0,4\n"), *self.files)
+        self.check("name,cash,rule\nOutside,3,webster\nRule,4,webster\n",
+                   "debtor,creditor,class,claim\nOutside,Rule,1,6\nRule,Outside,1,2\n")
+        told = "row 2: rule names a bank and a column that is none; use --table, or rename the column"
+        self.refused("from_matrix.py", 1, told, self.file("m.csv", ",A,rule,cash\nA,0,6,3\nrule,2,0,4\n"), *self.files)
 
     def test_a_sign_that_could_be_either_is_asked_for(self):
         text = ";A;B;cash\nA;-;30.445;808\nB;;0;1.000\n"
@@ -213,6 +251,25 @@ class Matrix(Case):
             self.check(*want)
         self.made("from_matrix.py", self.file("m.csv", text.encode("cp1252")), "--skip", 1, "--encoding", "cp1252", *self.files)
         self.check(*want)
+
+    def test_a_delimiter_is_looked_for_outside_quotes(self):
+        rows = "A;0;2;3;1\nB;4;0;5;0\n"
+        want = ("name,cash,rule,outside\nA,3,webster,1\nB,5,webster,0\n", "debtor,creditor,class,claim\nA,B,1,2\nB,A,1,4\n")
+        for text, outside, more in [
+            (';A;B;cash;"net, EUR"\n' + rows, "net, EUR", []),
+            ('"lender, who";"A";"B";"cash";"net ""1,5"", EUR"\n' + rows, 'net "1,5", EUR', []),
+            ('"of\r\n2025, all";A;B;cash;"net\n, EUR"\n' + rows, "net\n, EUR", []),
+            ('\n"";" ";\n"Claims, 2025";\n;A;B;cash;"net, EUR"\n' + rows, "net, EUR", ["--skip", 1]),
+            (';A;B;cash;net 5" wide\n' + rows + ";;;;\n", 'net 5" wide', []),
+            (("\tA\tB\tcash\t\"net; EUR\"\n" + rows.replace(";", "\t")), "net; EUR", []),
+            ((',A,B,cash,"net; EUR"\n' + rows.replace(";", ",")), "net; EUR", []),
+        ]:
+            self.made("from_matrix.py", self.file("m.csv", text), "--outside", outside, *more, *self.files)
+            self.check(*want)
+        # A comma of a bank's name is named as what it is.
+        sheet = self.file("m.csv", ';"A, Inc.";B;cash\n"A, Inc.";0;2;3\nB;4;0;5\n')
+        done = tool("from_matrix.py", sheet, *self.files)
+        self.assertEqual((done.returncode, done.stderr), (1, f"from_matrix: {sheet} row 1: 'A, Inc.' {sheets.NAME_HINT}\n"))
 
     def test_names_of_every_character_come_through(self):
         for names in [ODD_NAMES, list(all_names(last=0xFFFF, step=13))]:

@@ -7,9 +7,11 @@ import hashlib
 import html.parser
 import json
 import os
+import pathlib
 import re
 import shlex
 import shutil
+import signal
 import subprocess
 import sys
 import time
@@ -76,6 +78,20 @@ def amount(units, unit):
     """A number of units as the page has it, where a unit is worth so much."""
     worth = Decimal(unit).normalize()
     return f"{int(units) * worth:,.{max(0, -worth.as_tuple().exponent)}f}"
+
+
+def is_running(process):
+    """Whether a process is there and has not ended; one that was killed may take a moment."""
+    deadline = time.monotonic() + 5
+    while time.monotonic() < deadline:
+        try:
+            state = pathlib.Path(f"/proc/{process}/stat").read_bytes().rpartition(b")")[2].split()[0]
+        except OSError:
+            return False
+        if state == b"Z":
+            return False
+        time.sleep(0.02)
+    return True
 
 
 class Reader(html.parser.HTMLParser):
@@ -212,6 +228,64 @@ class TheFile(Report):
         read = Reader(out.read_text(encoding="utf-8"))
         self.assertFalse([tag for tag, _ in read.elements if tag == "script"])
         self.assertEqual(len([1 for pairs, _ in read.rows if "data-bank" in pairs]), 12)
+
+    def test_only_a_new_or_empty_folder_keeps_what_was_printed(self):
+        words = [*files_of(TWELVE), "--out", self.folder / "r.html", "--keep"]
+        kept, own = self.folder / "kept", self.folder / "own"
+        kept.mkdir()
+        own.mkdir()
+        self.assertEqual(tool("report.py", *words, kept, "--scenarios", TWELVE / "scenarios.toml").returncode, 0)
+        before = {path.name: path.read_bytes() for path in kept.iterdir()}
+        self.assertIn("stress.csv", before)
+        (own / "payments.csv").write_text("mine\n")
+        (self.folder / "r.html").unlink()
+        for place, cwd in ((kept, None), (".", own), (own / "payments.csv", None)):
+            done = tool("report.py", *words, place, cwd=cwd)
+            self.assertEqual((done.returncode, done.stdout), (2, ""), done.stderr)
+            self.assertEqual(done.stderr, f"report.py: {place} is there and no empty folder; name another with --keep\n")
+        self.assertEqual({path.name: path.read_bytes() for path in kept.iterdir()}, before)
+        self.assertEqual([(path.name, path.read_text()) for path in own.iterdir()], [("payments.csv", "mine\n")])
+        self.assertFalse((self.folder / "r.html").exists())
+
+    def test_an_interrupt_ends_at_once_and_leaves_nothing(self):
+        place, told = self.folder / "tmp", self.folder / "told"
+        place.mkdir()
+        for task, number in (("defaults", signal.SIGINT), ("defaults", signal.SIGTERM), ("rescue", signal.SIGTERM)):
+            script = f"#!/bin/sh\ncase $1 in {task}) echo $$ >>{shlex.quote(str(told))}; exec sleep 60;; esac\n"
+            program = self.file("program", f'{script}exec {shlex.quote(PROGRAM)} "$@"\n')
+            program.chmod(0o755)
+            told.write_text("")
+            running = subprocess.Popen(
+                [sys.executable, "-B", str(ROOT / "tools/report.py"), *map(str, files_of(TWELVE)), "--out", str(self.folder / "r.html")],
+                env={**os.environ, "CLEARING": str(program), "TMPDIR": str(place)}, stdout=subprocess.PIPE, stderr=subprocess.PIPE)
+            self.addCleanup(running.kill)
+            deadline = time.monotonic() + 30
+            while not told.read_text().endswith("\n") and time.monotonic() < deadline:
+                time.sleep(0.02)
+            begun = time.monotonic()
+            running.send_signal(number)
+            output, messages = running.communicate(timeout=30)
+            self.assertEqual((running.returncode, output, messages), (130, b"", b""))
+            self.assertLess(time.monotonic() - begun, 20)
+            self.assertEqual(list(place.iterdir()), [])
+            self.assertFalse((self.folder / "r.html").exists())
+            for process in told.read_text().split():
+                self.assertFalse(is_running(process), (task, number))
+
+    def test_an_output_that_is_not_of_the_form_is_said(self):
+        script = f'[ "$1" = "$TASK" ] || exec {shlex.quote(PROGRAM)} "$@"\nprintf "$SAID"\n'
+        program = self.file("program", f"#!/bin/sh\n{script}")
+        program.chmod(0o755)
+        words = [*map(str, files_of(TWELVE)), "--scenarios", str(TWELVE / "scenarios.toml"), "--out", str(self.folder / "r.html")]
+        for task in ("check", "clear", "defaults", "bounds", "replay", "stress", "rescue"):
+            for said in ("", "lawful\n", "\n\n\n", "a,b\n\nc\n\nd\n"):
+                # Of a file without scenarios nothing is printed.
+                if (task, said) == ("stress", ""):
+                    continue
+                done = subprocess.run([sys.executable, "-B", str(ROOT / "tools/report.py"), *words], capture_output=True, encoding="utf-8",
+                                      env={**os.environ, "CLEARING": str(program), "TASK": task, "SAID": said})
+                self.assertEqual((done.returncode, done.stdout), (1, ""), (task, said))
+                self.assertEqual(done.stderr, f"report.py: {program} did not print what `clearing {task}` does\n", said)
 
     def test_a_network_without_debts_or_scenarios_has_a_page(self):
         banks = self.file("banks.csv", "name,cash,rule\nA,0,order\n")

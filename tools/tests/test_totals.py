@@ -20,6 +20,23 @@ class Words(Case):
         self.assertEqual((done.returncode, done.stdout), (2, ""))
         self.assertRegex(done.stderr, r"from_totals: /.* has no numpy \(Debian's package python3-numpy is for /usr/bin/python3\)")
 
+    def test_a_stray_quote_is_refused_with_its_row(self):
+        for row, text in [(5, TABLE + 'E,7,7,"1\nF,8,8,2\n'), (2, TABLE.replace("B,", '"B" (Ost),'))]:
+            told = f"t.csv row {row}: a quote opens a field and none closes it"
+            self.refused("from_totals.py", 1, told, self.file("t.csv", text), "--out", self.folder / "out")
+
+    def test_a_column_that_is_named_is_there(self):
+        table = self.file("t.csv", "bank,assets,liabilities,cash,Deposits,Regel\nA,5,7,1,1,order\nB,7,5,2,0,equal\n")
+        for option, column in [("outside", "Deposit"), ("rule-column", "Rgel"), ("outside", "outside"), ("rule-column", "rule")]:
+            told = f"t.csv row 0: no column {column}; it has assets, liabilities, cash, Deposits, Regel; say --{option} NAME"
+            self.refused("from_totals.py", 1, told, table, f"--{option}", column, "--out", self.folder / "out")
+
+    def test_a_column_named_but_for_capitals_or_spaces_is_asked_for(self):
+        table = self.file("t.csv", "bank,assets,liabilities,cash,Outside,Rule\nA,5,7,1,1,order\nB,7,5,2,0,equal\n")
+        for option, column in [("outside", "Outside"), ("rule-column", "Rule")]:
+            told = f"column {column}: its name is {column.lower()} but for capitals or spaces; say --{option} {column}, or"
+            self.refused("from_totals.py", 1, told, table, "--out", self.folder / "out")
+
 
 @needs_modules("numpy")
 class Totals(Case):

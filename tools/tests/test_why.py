@@ -135,6 +135,18 @@ class Why(Case):
         self.assertEqual(tool("why.py").returncode, 2)
         self.assertTrue(tool("why.py", "--help").stdout.startswith("usage: why.py WORDS..\n\nSays which word"))
 
+    def test_an_output_that_cannot_be_written_is_said(self):
+        for words in (["check", "--bankz", "b"], ["check", "--banks", "b", "--debts", "d"], ["--help"]):
+            run = [sys.executable, str(ROOT / "tools/why.py"), *words]
+            with open("/dev/full", "wb") as full:
+                done = subprocess.run(run, stdout=full, stderr=subprocess.PIPE, encoding="utf-8")
+            self.assertEqual((done.returncode, done.stderr), (5, "why.py: cannot write the output: No space left on device\n"))
+            reading, writing = os.pipe()
+            os.close(reading)
+            done = subprocess.run(run, stdout=writing, stderr=subprocess.PIPE, encoding="utf-8")
+            os.close(writing)
+            self.assertEqual((done.returncode, done.stderr), (5, "why.py: cannot write the output: Broken pipe\n"))
+
     def test_names_of_every_character_are_taken(self):
         names = ODD_NAMES + list(all_names(last=0xFFFF, step=17))
         line = lambda name: ["rescue", "--banks", "none.csv", "--debts", "none.csv", "--bank", name]

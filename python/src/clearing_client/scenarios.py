@@ -6,15 +6,19 @@ import operator
 from typing import Any, Dict, Iterable, Iterator, List, Mapping, Sequence, Tuple, Union, overload
 
 from .errors import TableError
+from .tabular import whole_of
 
 MOST = 100
 """How many scenarios a file may have."""
 
-Losses = Union[Mapping[str, int], Iterable[Tuple[str, int]]]
+Losses = Union[Mapping[str, float], Iterable[Tuple[str, float]]]
 
 
 def whole(value: Any, row: int, field: str) -> int:
-    """A whole number of a scenario."""
+    """A whole number of a scenario: what a table takes for one, or anything else that is an index."""
+    number = whole_of(value)
+    if number is not None:
+        return number
     try:
         if isinstance(value, bool):
             raise TypeError
@@ -31,13 +35,15 @@ class Scenario:
     losses  units that single banks lose after the cut, as a dict or as pairs of a bank's name and an amount; cash does not
             fall below 0
 
+    A float is taken where it is a whole number, as in a table, and refused otherwise.
+
     >>> Scenario("a bad year", cut=500, losses={"Kemi": 2000000})
     Scenario('a bad year', cut=500, losses={'Kemi': 2000000})
     """
 
     __slots__ = ("name", "cut", "losses")
 
-    def __init__(self, name: str, cut: int = 0, losses: Losses = ()) -> None:
+    def __init__(self, name: str, cut: float = 0, losses: Losses = ()) -> None:
         pairs = losses.items() if isinstance(losses, Mapping) else losses
         self.name = name
         self.cut = whole(cut, 0, "cut")
@@ -95,13 +101,13 @@ class Scenarios(Sequence[Scenario]):
         self._all = tuple(scenario_of(one) for one in scenarios)
 
     @classmethod
-    def cuts(cls, cuts: Iterable[int]) -> "Scenarios":
+    def cuts(cls, cuts: Iterable[float]) -> "Scenarios":
         """A scenario for each cut of all cash, per mille.
 
         >>> Scenarios.cuts([0, 100])[1]
         Scenario('cut 100', cut=100, losses={})
         """
-        return cls([Scenario(f"cut {cut}", cut) for cut in cuts])
+        return cls([Scenario(f"cut {cut}", cut) for cut in (whole(one, 0, "cut") for one in cuts)])
 
     @overload
     def __getitem__(self, place: int) -> Scenario: ...
