@@ -31,7 +31,6 @@ import shlex
 import shutil
 import subprocess
 import sys
-import tempfile
 import time
 from collections import namedtuple
 
@@ -347,7 +346,7 @@ def main():
         files.check_apart([asked.out], inputs)
         if asked.keep and is_taken(asked.keep):
             raise ask.Failed(f"{asked.keep} is there and no empty folder; name another with --keep", 2)
-        with tempfile.TemporaryDirectory() as folder:
+        with ask.work_folder() as folder:
             written = {asked.out: page.page_of(gather(asked, folder), library(asked))}
             if asked.keep:
                 for path in sorted(pathlib.Path(folder).iterdir()):
