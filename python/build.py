@@ -19,6 +19,12 @@ def project():
     return dict(re.findall(r'^([a-z-]+) = "([^"\\]*)"$', table, re.MULTILINE))
 
 
+def commands():
+    """The commands and the functions that they call, each a line `name = module:function`."""
+    table = (HERE / "pyproject.toml").read_text(encoding="utf-8").partition("[project.scripts]\n")[2].partition("\n[")[0]
+    return "".join(f"{name} = {function}\n" for name, function in re.findall(r'^([a-z-]+) = "([\w.:]+)"$', table, re.MULTILINE))
+
+
 def full_name():
     """The name and version, as wheels have them."""
     return f"{project()['name']}-{project()['version']}"
@@ -45,6 +51,7 @@ def write_wheel(folder, files):
     info = f"{full_name()}.dist-info"
     files = {name: text.encode() if isinstance(text, str) else text for name, text in files.items()}
     files[f"{info}/METADATA"] = metadata().encode()
+    files[f"{info}/entry_points.txt"] = f"[console_scripts]\n{commands()}".encode()
     files[f"{info}/WHEEL"] = b"Wheel-Version: 1.0\nGenerator: clearing_client build\nRoot-Is-Purelib: true\nTag: py3-none-any\n"
     lines = [f"{name},sha256={digest(data)},{len(data)}\n" for name, data in files.items()]
     files[f"{info}/RECORD"] = ("".join(lines) + f"{info}/RECORD,,\n").encode()

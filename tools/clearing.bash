@@ -59,22 +59,28 @@ _clearing_words() { # the part of a line
 
 # The names of the banks in a file into the list `names`.
 _clearing_names() { # the file
-    local file=$1 records record name
+    local file=$1
     names=()
     case $file in
     '~/'*) file=$HOME/${file:2} ;;
     esac
     [[ -f $file && -r $file ]] || return
-    mapfile -t records < <(head -c 8388608 -- "$file" | tr '\r' '\n' | grep .)
-    # The header is the first record with a byte, a byte order mark apart.
-    [[ ${records[0]} == $'\xef\xbb\xbf' ]] && records=("${records[@]:1}")
-    for record in "${records[@]:1}"; do
-        name=${record%%,*}
-        name=${name#"${name%%[! 	]*}"}
-        name=${name%"${name##*[! 	]}"}
-        [[ $name == \"*\" ]] && name=${name:1:${#name}-2}
-        [[ -z $name || $name == -* ]] || names+=("$name")
-    done
+    # By bytes, as a name may be no UTF-8, and no more than there may be banks. The header is the first record with a byte, a byte order
+    # mark apart.
+    mapfile -t names < <(head -c 8388608 -- "$file" | LC_ALL=C tr -d '\0' | LC_ALL=C tr '\r' '\n' | LC_ALL=C awk '
+        NR == 1 { sub(/^\357\273\277/, "") }
+        $0 == "" { next }
+        !header { header = 1; next }
+        {
+            comma = index($0, ",")
+            name = comma ? substr($0, 1, comma - 1) : $0
+            if (length(name) > 1000) next
+            gsub(/^[ \t]+|[ \t]+$/, "", name)
+            if (name ~ /^".*"$/) name = substr(name, 2, length(name) - 2)
+            if (name == "" || name ~ /^-/ || name ~ /[\001-\037\177]|\302[\200-\237]/) next
+            print name
+            if (++count == 1000) exit
+        }')
 }
 
 # The names that begin with what is typed so far become replies, each quoted as the rest of the word has to be.

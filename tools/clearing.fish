@@ -17,14 +17,27 @@ function __clearing_task_in
     contains -- (__clearing_task) $argv
 end
 
-# The names of the banks in the file that `--banks` names.
+# The names of the banks in the file that `--banks` names. What stands there is data: it is read by bytes, no more than there may be.
 function __clearing_banks
     set -l words (commandline -opc)
     set -l at (contains -i -- --banks $words)
     or return
     set -l file $words[(math $at + 1)]
-    test -r "$file"
-    and tail -n +2 -- $file | cut -d, -f1
+    test -f "$file" -a -r "$file"
+    and head -c 8388608 -- $file | env LC_ALL=C tr -d '\\0' | env LC_ALL=C tr '\\r' '\\n' | env LC_ALL=C awk '
+        NR == 1 { sub(/^\\357\\273\\277/, "") }
+        $0 == "" { next }
+        !header { header = 1; next }
+        {
+            comma = index($0, ",")
+            name = comma ? substr($0, 1, comma - 1) : $0
+            if (length(name) > 1000) next
+            gsub(/^[ \\t]+|[ \\t]+$/, "", name)
+            if (name ~ /^".*"$/) name = substr(name, 2, length(name) - 2)
+            if (name == "" || name ~ /^-/ || name ~ /[\\001-\\037\\177]|\\302[\\200-\\237]/) next
+            print name
+            if (++count == 1000) exit
+        }'
 end
 
 set -l tasks check clear central defaults stress replay bounds rescue compress costs convert gen

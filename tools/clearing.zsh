@@ -1,11 +1,25 @@
 #compdef clearing
 # Completion of the command `clearing` for zsh. tools/release.sh puts it into the package, as _clearing in a folder of fpath.
 
+# The names of the banks in the file that `--banks` names. What stands there is data: it is read by bytes, no more than there may be.
 _clearing_banks() {
     local at=${words[(i)--banks]}
     local file=${(Q)words[at + 1]}
-    [[ -r $file ]] || return 1
-    local -a banks=(${(f)"$(tail -n +2 -- $file | cut -d, -f1)"})
+    [[ -f $file && -r $file ]] || return 1
+    local -a banks=(${(f)"$(head -c 8388608 -- $file | LC_ALL=C tr -d '\0' | LC_ALL=C tr '\r' '\n' | LC_ALL=C awk '
+        NR == 1 { sub(/^\357\273\277/, "") }
+        $0 == "" { next }
+        !header { header = 1; next }
+        {
+            comma = index($0, ",")
+            name = comma ? substr($0, 1, comma - 1) : $0
+            if (length(name) > 1000) next
+            gsub(/^[ \t]+|[ \t]+$/, "", name)
+            if (name ~ /^".*"$/) name = substr(name, 2, length(name) - 2)
+            if (name == "" || name ~ /^-/ || name ~ /[\001-\037\177]|\302[\200-\237]/) next
+            print name
+            if (++count == 1000) exit
+        }')"})
     compadd -a banks
 }
 
@@ -13,7 +27,7 @@ _clearing() {
     local -a tasks=(
         'check:the counts of the network, and both files as they are printed'
         'clear:the least payments, the journal of the run, or both'
-        'central:the same payments by plain repetition'
+        'central:the same payments, computed on one thread'
         'defaults:who defaults, and whether it is its own doing'
         'stress:the payments and defaults of each scenario'
         'replay:whether a journal is lawful and complete'

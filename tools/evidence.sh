@@ -1,4 +1,5 @@
 #!/bin/sh
 # Makes a folder of evidence for what `clearing` says of a network, and checks one; --help says how.
 command -v python3 >/dev/null 2>&1 || { echo "evidence.sh: python3 is not on the path" >&2; exit 2; }
-exec python3 "$(dirname -- "$(realpath -- "$0")")/evidence.py" "$@"
+# Nothing that PYTHONPATH or the working folder has is imported.
+exec python3 -IB "$(dirname -- "$(realpath -- "$0")")/evidence.py" "$@"

@@ -9,7 +9,7 @@
 #       PREFIX/share/bash-completion/completions/clearing, PREFIX/share/zsh/site-functions/_clearing and
 #       PREFIX/share/fish/vendor_completions.d/clearing.fish; and, where there is a Python 3, for each tool NAME
 #       PREFIX/bin/clearing-NAME and PREFIX/share/man/man1/clearing-NAME.1, with the tools themselves in
-#       PREFIX/share/clearing/tools, the package clearing_client, by which they read the program's texts, in
+#       PREFIX/share/clearing/tools, the packages clearing_client and clearing_tools, which they call, in
 #       PREFIX/share/clearing/python/src, and PREFIX/share/clearing/clearing, a link to the program. Their names on standard
 #       output.
 #
@@ -32,23 +32,30 @@ unset CDPATH
 prefix=${1-/usr/local}
 here=$(dirname -- "$(realpath -- "$0")")
 root=${here%/*}
+# What is installed is for all to read, and for nobody else to write.
+umask 022
 list=$(mktemp -d) || exit 1
 trap 'rm -rf -- "$list"' EXIT
-trap 'exit 1' HUP INT TERM
+trap 'fail "it was interrupted; all is as it was"' HUP INT TERM
 
-# The rest of a name that a file has until it is moved into its place, and that an older one has until all are.
-new=.new.$$ old=.old.$$
+# The rest of a name that a file has until it is moved into its place, and that an older one has until all are. Nobody can know it before.
+new=.new.${list##*.} old=.old.${list##*.}
+
+# A text in one line without what moves a terminal, or turns its letters round.
+shown() {
+    printf '%s' "$1" | tr '\n' '?' | LC_ALL=C sed 's/[\x01-\x1f\x7f]/?/g; s/\xc2[\x80-\x9f]/?/g; s/\xe2\x80[\x8b-\x8f\xa8-\xae]/?/g; s/\xe2\x81[\xa0-\xaf]/?/g'
+}
 
 undo() {
     while IFS= read -r to; do
         rm -f -- "$to$new"
-        if [ -e "$to$old" ]; then mv -f -- "$to$old" "$to"; elif [ -e "$list/moved" ] && grep -qxF -- "$to" "$list/moved"; then rm -f -- "$to"; fi
+        if [ -e "$to$old" ]; then mv -fT -- "$to$old" "$to"; elif [ -e "$list/moved" ] && grep -qxF -- "$to" "$list/moved"; then rm -f -- "$to"; fi
     done <"$list/places"
 }
 
 fail() {
     [ ! -e "$list/places" ] || undo
-    echo "install.sh: $1" >&2
+    printf 'install.sh: %s\n' "$(shown "$1")" >&2
     exit 1
 }
 
@@ -60,6 +67,7 @@ else
     program=$root/crates/clear_main/out/clear_main
 fi
 [ -x "$program" ] && [ -f "$program" ] || fail "$program is no program"
+case $(realpath -- "$program") in */first-look) fail "$program is a first look, which is not proved" ;; esac
 
 ready() { # the place under the prefix, after its folder is made
     to=$prefix/$1
@@ -70,12 +78,13 @@ ready() { # the place under the prefix, after its folder is made
 put() { # the file, its place under the prefix, its mode
     ready "$2"
     [ ! "$1" -ef "$to" ] || fail "$to is the file that is to be installed"
-    cp -- "$1" "$to$new" 2>/dev/null && chmod "$3" "$to$new" || fail "$to cannot be written"
+    # A file that is there already is not written to, and no link is followed.
+    (set -C; cat -- "$1" >"$to$new") 2>/dev/null && chmod "$3" "$to$new" || fail "$to cannot be written"
 }
 
 put_link() { # what it names, its place under the prefix
     ready "$2"
-    ln -s -- "$1" "$to$new" 2>/dev/null || fail "$to cannot be written"
+    ln -sT -- "$1" "$to$new" 2>/dev/null || fail "$to cannot be written"
 }
 
 put "$program" bin/clearing 755
@@ -84,32 +93,30 @@ put "$here/clearing.bash" share/bash-completion/completions/clearing 644
 put "$here/clearing.zsh" share/zsh/site-functions/_clearing 644
 put "$here/clearing.fish" share/fish/vendor_completions.d/clearing.fish 644
 if command -v python3 >/dev/null 2>&1; then
-    PYTHONDONTWRITEBYTECODE=1 python3 "$here/man.py" --out "$list/man" || fail "the manual pages of the tools cannot be made"
+    python3 -IB "$here/dev/man.py" --out "$list/man" || fail "the manual pages of the tools cannot be made"
     for page in "$list"/man/*.1; do
         name=${page##*/clearing-}
         # These belong to the repository.
         case $name in
-        architecture.1 | install.1 | man.1 | pictures.1 | quick.1 | release.1 | test.1) continue ;;
+        clean.1 | install.1 | quick.1 | release.1 | test.1) continue ;;
         esac
         # Where a script stands before a program of its name, the script is the tool.
-        tool=${name%.1}.sh
-        [ -f "$here/$tool" ] || tool=${name%.1}.py
+        tool=$(echo "${name%.1}" | tr - _).sh
+        [ -f "$here/$tool" ] || tool=${tool%.sh}.py
         put_link "../share/clearing/tools/$tool" "bin/clearing-${name%.1}"
         put "$page" "share/man/man1/${page##*/}" 644
     done
     for tool in "$here"/*.py "$here"/*.sh; do
         case ${tool##*/} in
-        architecture.py | install.sh | man.py | pictures.sh | quick.sh | release.sh | test.sh) continue ;;
+        clean.sh | install.sh | quick.sh | release.sh | test.sh) continue ;;
         esac
         put "$tool" "share/clearing/tools/${tool##*/}" "$([ -x "$tool" ] && echo 755 || echo 644)"
     done
-    for part in "$here"/report/*; do
-        [ ! -f "$part" ] || put "$part" "share/clearing/tools/report/${part##*/}" 644
-    done
-    # The package by which the tools read the program's texts.
-    for part in "$root"/python/src/clearing_client/*.py "$root"/python/src/clearing_client/py.typed; do
-        [ ! -f "$part" ] || put "$part" "share/clearing/python/src/clearing_client/${part##*/}" 644
-    done
+    # The packages that the tools call.
+    (cd "$root/python/src" && find clearing_client clearing_tools -type f ! -path '*/__pycache__/*' | sort) >"$list/packages"
+    while IFS= read -r part; do
+        put "$root/python/src/$part" "share/clearing/python/src/$part" 644
+    done <"$list/packages"
     # What a tool takes for the repository's program.
     put_link ../../bin/clearing share/clearing/clearing
 else
@@ -118,8 +125,10 @@ fi
 while IFS= read -r to; do
     if [ -e "$to" ] || [ -h "$to" ]; then cp -Pp -- "$to" "$to$old" 2>/dev/null || fail "$to cannot be kept"; fi
     printf '%s\n' "$to" >>"$list/moved"
-    mv -f -- "$to$new" "$to" 2>/dev/null || fail "$to cannot be written"
+    mv -fT -- "$to$new" "$to" 2>/dev/null || fail "$to cannot be written"
 done <"$list/places"
+# All is in place: what is left is not broken off.
+trap '' HUP INT TERM
 while IFS= read -r to; do
     rm -f -- "$to$old"
     printf '%s\n' "$to"

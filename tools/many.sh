@@ -2,8 +2,12 @@
 # Runs many jobs of the program: thousands of scenarios or networks, on one machine or as an array of a cluster.
 #
 #   tools/many.sh run JOBS FOLDER [SLOTS]     all jobs, so many at a time (1 to 1000; as many as processors)
-#   tools/many.sh one JOBS FOLDER NUMBER      one job, counted from 1
-#   tools/many.sh slurm JOBS FOLDER           prints a batch script for sbatch, an array with a task for each job
+#   tools/many.sh one JOBS FOLDER NUMBER [LAST]
+#                                             one job, counted from 1, or those up to the last, one after another
+#   tools/many.sh slurm JOBS FOLDER [--each N] [--tasks N]
+#                                             prints a batch script for sbatch, an array whose tasks have so many jobs each (1);
+#                                             where that makes more tasks than a cluster takes (1000, its MaxArraySize less
+#                                             one), each has as many more jobs as it needs
 #
 # In:   JOBS, a file with a line for each job: its name, then the words of the program, with a tab between any two. Names differ, and
 #       are made of letters, digits, `.`, `_` and `-`. Lines end with LF or CR LF; a line without a byte is no job. Names of files in it
@@ -31,10 +35,15 @@ self=$(realpath -- "$0")
 root=$(dirname -- "$(dirname -- "$self")")
 program=${CLEARING:-$root/clearing}
 
-help() { sed -n '2,28s/^# \{0,1\}//p' "$self"; }
+help() { sed -n '2,32s/^# \{0,1\}//p' "$self"; }
+
+# A text in one line without what moves a terminal, or turns its letters round.
+shown() {
+    printf '%s' "$1" | tr '\n' '?' | LC_ALL=C sed 's/[\x01-\x1f\x7f]/?/g; s/\xc2[\x80-\x9f]/?/g; s/\xe2\x80[\x8b-\x8f\xa8-\xae]/?/g; s/\xe2\x81[\xa0-\xaf]/?/g'
+}
 
 refuse() {
-    echo "many.sh: $1; --help says more" >&2
+    printf 'many.sh: %s; --help says more\n' "$(shown "$1")" >&2
     exit 2
 }
 
@@ -53,7 +62,7 @@ sum_of() {
 # The checksum of the program; where that is the repository's script, of what it runs.
 program_sum() {
     built=$root/crates/clear_main/out/clear_main
-    if [ "$program" -ef "$root/clearing" ] && [ -f "$built" ]; then sum_of "$built"; else sum_of "$(command -v -- "$program")"; fi
+    if [ "$program" -ef "$root/clearing" ] && [ -f "$built" ]; then sum_of "$built"; else sum_of "$program"; fi
 }
 
 # What a result depends on: the program, the words, and the files that the words name.
@@ -72,6 +81,25 @@ key_of() { # the words
     done
 }
 
+# Who may not read the files that the words name may not read what is made of them.
+keep_private() { # the words
+    before=
+    for word; do
+        case $before in
+        --banks | --debts | --scenarios | --journal) file=$word ;;
+        *) file=${word#--*=} ;;
+        esac
+        before=$word
+        # The rights of the group and of all others are the last two digits.
+        [ ! -f "$file" ] || case 00$(stat -L -c %a -- "$file" 2>/dev/null) in
+        *[4-7][4-7]) ;;
+        *[4-7]?) umask o= ;;
+        *?[4-7]) umask g= ;;
+        *) umask g=,o= ;;
+        esac
+    done
+}
+
 # Removes what runs of a job left that were killed. One that goes on keeps its files, and so does one of another machine. No name
 # of a job has a `+`.
 clean() { # the files' names, up to the number of the process
@@ -82,14 +110,14 @@ clean() { # the files' names, up to the number of the process
 }
 
 # Runs a job, where its result is not there yet. Ends with 1 where it failed.
-one() { # its number
-    line=$(all_jobs | sed -n "$1{p;q}")
+one() { # its line
+    line=$1
     name=${line%%	*}
     at=$folder/$name
     for place in "$at.out" "$at.failed" "$at.job"; do
-        [ ! -d "$place" ] || { echo "many.sh: $place is a folder" >&2; return 1; }
+        [ ! -d "$place" ] || { printf 'many.sh: %s is a folder\n' "$(shown "$place")" >&2; return 1; }
     done
-    part=$at.part+$(uname -n).
+    part=$at.part+$machine.
     clean "$part"
     part=$part$$
     set -f
@@ -98,23 +126,38 @@ one() { # its number
     set -- ${line#*	}
     unset IFS
     key=$(key_of "$@")
+    keep_private "$@"
+    # What is there already is no place to write to.
+    set -C
     [ -f "$at.out" ] && [ -f "$at.job" ] && [ "$(cat "$at.job")" = "$key" ] && return 0
     rm -f -- "$at.out" "$at.job"
     "$program" "$@" >"$part" 2>"$part.err" </dev/null
-    status=$?
-    case $status in
+    status=$? changed=
+    [ "$(MANY_PROGRAM_SUM='' key_of "$@")" = "$key" ] || changed="but a file or the program changed while the job ran"
+    case $status$changed in
     0 | 7)
         rm -f -- "$at.failed" "$part.err"
-        printf '%s\n' "$key" >"$part.job" && mv -- "$part" "$at.out" && mv -- "$part.job" "$at.job"
+        printf '%s\n' "$key" >"$part.job" && mv -fT -- "$part" "$at.out" && mv -fT -- "$part.job" "$at.job"
         ;;
     *)
         rm -f -- "$at.out" "$at.job"
-        { echo "status $status"; cat "$part.err"; } >"$part.failed"
-        mv -- "$part.failed" "$at.failed"
+        { echo "status $status${changed:+, $changed}"; cat "$part.err"; } >"$part.failed" && mv -fT -- "$part.failed" "$at.failed"
         rm -f -- "$part" "$part.err"
         return 1
         ;;
     esac
+}
+
+# Runs some jobs, one after another, each in a shell of its own. Ends with 1 where one failed.
+some() { # the first, the last
+    MANY_PROGRAM_SUM=${MANY_PROGRAM_SUM:-$(program_sum)}
+    all_jobs | sed -n "$1,$2p;$2q" | {
+        failed=0
+        while IFS= read -r line; do
+            (one "$line") || failed=1
+        done
+        exit "$failed"
+    }
 }
 
 is_number() { # the word, the most
@@ -127,40 +170,82 @@ is_number() { # the word, the most
 case "${1:-}" in
 --help | -h) help || exit 1; exit 0 ;;
 run) [ $# -eq 3 ] || [ $# -eq 4 ] || refuse "run takes a file of jobs, a folder, and how many at a time" ;;
-slurm) [ $# -eq 3 ] || refuse "slurm takes a file of jobs and a folder" ;;
-one) [ $# -eq 4 ] || refuse "one takes a file of jobs, a folder and a number" ;;
+slurm) [ $# -ge 3 ] || refuse "slurm takes a file of jobs and a folder" ;;
+one) [ $# -eq 4 ] || [ $# -eq 5 ] || refuse "one takes a file of jobs, a folder and a number, or a first and a last" ;;
 *) refuse "the first word is run, one or slurm" ;;
+esac
+# The program by its file: one without a folder is looked for in the absolute entries of the path alone.
+case $program in
+*/*) ;;
+*)
+    name=$program program= rest=$PATH:
+    while [ -n "$rest" ] && [ -z "$program" ]; do
+        entry=${rest%%:*} rest=${rest#*:}
+        case $entry in
+        /*) [ ! -f "$entry/$name" ] || [ ! -x "$entry/$name" ] || program=$entry/$name ;;
+        esac
+    done
+    [ -n "$program" ] || refuse "CLEARING names $name, which is on no absolute entry of the path"
+    ;;
 esac
 task=$1 jobs=$2 folder=$3
 slots=${4-$(getconf _NPROCESSORS_ONLN 2>/dev/null || echo 1)}
 [ -n "$folder" ] || refuse "the folder has no name"
 [ -f "$jobs" ] || refuse "$jobs is no regular file of jobs"
 [ -r "$jobs" ] || refuse "$jobs cannot be read"
+[ "$(stat -L -c %s -- "$jobs")" -le 1000000000 ] || refuse "$jobs is longer than 1,000,000,000 bytes"
 count=$(all_jobs | wc -l)
 [ "$count" -ge 1 ] || refuse "$jobs has no job"
 bad=$(all_jobs | awk -F '\t' 'NF < 2 || $1 !~ /^[A-Za-z0-9._-]+$/ || seen[$1]++ { print NR; exit }')
 [ -z "$bad" ] || refuse "$jobs: job $bad: no name of its own and words, with a tab between any two"
+case $(realpath -- "$(command -v -- "$program")" 2>/dev/null) in */first-look) refuse "$program is a first look, which is not proved" ;; esac
 case $task in
 slurm)
-    quoted() { printf '%s' "$1" | sed "s/'/'\\\\''/g; s/^/'/; s/\$/'/"; }
+    shift 3
+    each=1 most=1000
+    while [ $# -gt 0 ]; do
+        is_number "${2:-}" 999999999 || refuse "$1 is followed by no number, 1 or more"
+        case $1 in
+        --each) each=$2 ;;
+        --tasks) most=$2 ;;
+        *) refuse "slurm knows no $1" ;;
+        esac
+        shift 2
+    done
+    least=$(((count + most - 1) / most))
+    [ "$each" -ge "$least" ] || each=$least
+    # One word for a shell, whatever it has, an end of a line too.
+    quoted() { printf "'"; printf '%s' "$1" | sed "s/'/'\\\\''/g"; printf "'"; }
     cat <<END || exit 1
 #!/bin/sh
-#SBATCH --array=1-$count
+#SBATCH --array=1-$(((count + each - 1) / each))
 #SBATCH --cpus-per-task=1
 #SBATCH --output=/dev/null
-CLEARING=$(quoted "$program") exec $(quoted "$self") one $(quoted "$jobs") $(quoted "$folder") "\$SLURM_ARRAY_TASK_ID"
+last=\$((SLURM_ARRAY_TASK_ID * $each))
+CLEARING=$(quoted "$program") exec $(quoted "$self") one $(quoted "$jobs") $(quoted "$folder") \$((last - $each + 1)) "\$last"
 END
     exit 0
     ;;
-one) is_number "$4" "$count" || refuse "$4 is no number of a job; $jobs has $count" ;;
+one)
+    is_number "$4" "$count" || refuse "$4 is no number of a job; $jobs has $count"
+    last=${5-$4}
+    is_number "$last" 999999999 && [ "$last" -ge "$4" ] || refuse "$last is no number of a job from $4 on"
+    [ "$last" -le "$count" ] || last=$count
+    ;;
 run) is_number "$slots" 1000 || refuse "$slots is not how many jobs may run at a time, 1 to 1000" ;;
 esac
-mkdir -p -- "$folder" 2>/dev/null && [ -w "$folder" ] || refuse "$folder is no folder that can be written"
+(umask g-w,o-w && mkdir -p -- "$folder") 2>/dev/null && [ -w "$folder" ] || refuse "$folder is no folder that can be written"
 case $folder in
 -*) folder=./$folder ;;
 esac
+# Another user could put links in the place of what is written there.
+[ -O "$folder" ] || refuse "$folder is another user's, and others can write there"
+case 00$(stat -L -c %a -- "$folder") in
+*[2367]? | *[2367]) refuse "others can write in $folder (chmod go-w)" ;;
+esac
+machine=$(uname -n)
 if [ "$task" = one ]; then
-    one "$4"
+    if [ "$4" -eq "$last" ]; then one "$(all_jobs | sed -n "$4{p;q}")"; else some "$4" "$last"; fi
     exit
 fi
 MANY_PROGRAM_SUM=$(program_sum) CLEARING=$program

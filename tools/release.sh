@@ -23,8 +23,13 @@ umask 022
 here=$(dirname -- "$(realpath -- "$0")")
 root=${here%/*}
 
+# A text in one line without what moves a terminal, or turns its letters round.
+shown() {
+    printf '%s' "$1" | tr '\n' '?' | LC_ALL=C sed 's/[\x01-\x1f\x7f]/?/g; s/\xc2[\x80-\x9f]/?/g; s/\xe2\x80[\x8b-\x8f\xa8-\xae]/?/g; s/\xe2\x81[\xa0-\xaf]/?/g'
+}
+
 fail() {
-    echo "release.sh: error: $1" >&2
+    printf 'release.sh: error: %s\n' "$(shown "$1")" >&2
     exit "${2:-1}"
 }
 
@@ -80,6 +85,7 @@ if [ -n "${CLEARING:-}" ]; then
     [ -n "$draft" ] || fail "a release has the repository's own program; CLEARING is for drafts alone"
     program=$CLEARING
     [ -f "$program" ] && [ -x "$program" ] || fail "$program is no program"
+    case $(realpath -- "$program") in */first-look) fail "$program is a first look, which is not proved" ;; esac
 else
     "$root/clearing" check --banks "$root/examples/chain/banks.csv" --debts "$root/examples/chain/debts.csv" >/dev/null ||
         fail "the program is not built"
@@ -99,10 +105,6 @@ mkdir -p "$docs"
 
 # The program, its pages, tools and completions.
 CLEARING=$program "$here/install.sh" "$stage" >/dev/null || fail "the program cannot be laid out"
-# These belong to the repository.
-for name in architecture install man pictures quick release test; do
-    rm -f "$stage/bin/clearing-$name" "$stage/share/man/man1/clearing-$name.1" "$stage/share/clearing/tools/$name".*
-done
 # Debian keeps packages' completions for zsh apart.
 rm -rf "$stage/share/zsh"
 mkdir -p "$stage/share/zsh/vendor-completions" "$stage/share/fish/vendor_completions.d"
@@ -121,7 +123,7 @@ function Link(link)
   return link
 end
 LUA
-pages="GUIDE FORMATS DEFINITIONS THEORY PROVED TRUST REFERENCES"
+pages="GUIDE DATA INTERPRETING FORMATS THEORY PROVED REFERENCES"
 printf 'PAGES = {%s}\n' "$(for page in $pages; do printf '%s = true, ' "$page"; done)" >"$work/pages.lua"
 cat "$work/pages.lua" "$work/links.lua" >"$work/filter.lua"
 for page in $pages; do
@@ -154,6 +156,9 @@ Without either:     the program is bin/clearing and wants nothing beside it. The
 RECORD says what was built and proved; guide.html is where to begin.
 INSTALL
 find "$stage" -name __pycache__ -prune -exec rm -rf {} +
+# The rights of a checkout are those of its user's mask; those of a release are the same for all.
+find "$stage" -type d -exec chmod 755 {} + && find "$stage" -type f -perm -u+x -exec chmod 755 {} + &&
+    find "$stage" -type f ! -perm -u+x -exec chmod 644 {} + || exit 1
 find "$stage" -exec touch -h -d "@$SOURCE_DATE_EPOCH" {} +
 
 mkdir -p -- "$folder" 2>/dev/null || fail "$folder cannot be made"
@@ -193,6 +198,6 @@ dpkg-deb --root-owner-group --build "$tree" "$work/$package" >"$work/dpkg.log" 2
 
 (cd "$work" && sha256sum "$archive" "$package" >SHA256SUMS) || exit 1
 for name in "$archive" "$package" SHA256SUMS; do
-    mv -f -- "$work/$name" "$folder/" 2>/dev/null || fail "$folder cannot be written"
+    mv -fT -- "$work/$name" "$folder/$name" 2>/dev/null || fail "$folder cannot be written"
     echo "$folder/$name"
 done

@@ -1,17 +1,22 @@
 #!/bin/sh
-# Tests the tools against the program and ends with a line `N passed, M failed`, or `N passed, M failed, K skipped` after a
+# Tests the tools and the package against the program and ends with a line `N passed, M failed`, or `N passed, M failed, K skipped` after a
 # line with its reason for each test that was skipped.
 #
-#   tools/test.sh [MODULE]...     all of tools/tests/test_*.py, or these alone, such as test_lint
+#   tools/test.sh [--skips-fail FILE] [--note TEXT] [--without NAMES] [MODULE]...
+#
+# All of tests/test_*.py, or these alone, such as test_lint. With --skips-fail a skip is a failure, but for the tests that a file names
+# with their reasons, as tests/skips.txt does. A note is a line before the last. With --without the packages of these names, with
+# commas between, are as if they were missing.
 #
 # Wants Python 3 and its standard library alone; what a test needs beside is looked for, and the test skipped where it is not
-# there. The environment variable CLEARING names the program, else it is the repository's `./clearing`, which is built first
-# where it is not built yet. PYTHON names the Python, else it is python3.
+# there. A line before the last says which of Debian's packages are missing. The environment variable CLEARING names the program,
+# else it is the repository's `./clearing`, which is built first where it is not built yet. PYTHON names the Python, else it is
+# python3.
 #
 # Ends with 0 where no test failed, else with 1.
 case "${1:-}" in
 --help | -h)
-    sed -n '2,11s/^# \{0,1\}//p' "$0" || exit 1
+    sed -n '2,16s/^# \{0,1\}//p' "$0" || exit 1
     exit 0
     ;;
 esac
@@ -20,5 +25,14 @@ unset CDPATH
 case "${CLEARING:-}" in
 */*) CLEARING=$(realpath -- "$CLEARING") && export CLEARING || exit 1 ;;
 esac
-cd -- "$(dirname -- "$0")/tests" || exit 1
+case $(realpath -- "$(command -v -- "${CLEARING:-}")" 2>/dev/null) in
+*/first-look) echo "test.sh: $CLEARING is a first look, which is not proved" >&2 && exit 1 ;;
+esac
+if [ "${1:-}" = --skips-fail ] && [ $# -gt 1 ]; then
+    list=$(realpath -- "$2") || exit 1
+    shift 2
+    set -- --skips-fail "$list" "$@"
+fi
+missing=$("$(dirname -- "$0")/../tests/packages.sh" missing) || set -- --note "Tests want packages that are not here: apt-get install $missing" "$@"
+cd -- "$(dirname -- "$0")/../tests" || exit 1
 PYTHONDONTWRITEBYTECODE=1 exec "${PYTHON:-python3}" run.py "$@"

@@ -80,10 +80,10 @@ plt.show()
 # ## A reverse stress test
 #
 # A stress test asks what a loss does; a reverse stress test asks what loss it takes. Every bank loses the same share of its cash, from
-# nothing to all in steps of one per mille. `map_stress` cuts the 1,001 scenarios into files of a hundred and runs them side by side.
+# nothing to all in steps of one per mille. `map_stress` cuts the 1,001 scenarios into runs, which go side by side.
 
 # %%
-left, = cc.map_stress([net], cc.Scenarios.cuts(range(1001)))
+left = cc.Stress(tuple(cc.map_stress([net], cc.Scenarios.cuts(range(1001)))))
 years = left.standings.to_pandas()
 years["cut"] = years["number"] - 1
 in_default = years[years["state"] != "sound"]

@@ -4,7 +4,7 @@ use Rattle.std.specs.Prelude.{◌==◌, ◌||◌}
 use Rattle.std.proofs.lemmas.List.{get_or_past}
 use Rattle.std.proofs.Math.Seq.{drop-append_seam}
 use Rattle.clear_core.specs.declared.event.Raise.{Raise}
-use Rattle.std.proofs.lemmas.Bool.{cases_lt}
+use Rattle.std.proofs.lemmas.Bool.{cases_lt, false_from_ne_true, or_right}
 use Rattle.clr_net.specs.Limits.{IsNetwork}
 use Rattle.clr_net.specs.Net.{Net, creditor_of}
 use Rattle.clr_net.specs.declared.TheConstants.{MAX_BANKS}
@@ -18,13 +18,13 @@ use Rattle.bank_worker.specs.Rings.{creditors_of}
 use Rattle.bank_worker.proofs.Basics.{below_more_cases}
 use Rattle.bank_worker.specs.Rising.{Rises}
 use Rattle.bank_worker.specs.Views.{Crew, banks_held, banks_of, desk_at, desks_held}
-use Rattle.bank_worker.specs.Visits.{IsSameCrew, IsSameSeat, Notes}
+use Rattle.bank_worker.specs.Visits.{IsSameCrew, IsSameSeat, Notes, with_bell}
 use Rattle.bank_worker.proofs.Filtered.{filter_rises}
 use Rattle.bank_worker.proofs.Manned.{bank_at, desk_is, length_banks}
 use Rattle.bank_worker.proofs.PlacesOfBanks.{banks_of_desks, not_after}
 use Rattle.bank_worker.proofs.Raising.{raised_in_either}
 use Rattle.bank_worker.proofs.Ringing.{creditor_noted, debt_of_raise, length-creditors_of}
-use Rattle.bank_worker.proofs.Sweeping.{after_take, with_bell}
+use Rattle.bank_worker.proofs.Sweeping.{after_take}
 
 -- the banks of a worker's desks, which rise, and of which there is a set
 pub record AreInPlace (banks mine : List ℕ) (workers : ℕ) : Type 0 where
@@ -81,17 +81,22 @@ known_creditors net noted network are x = ⊎_elim
     (λ (ge : length noted ≤ x). omega (arith, get_or_past noted x 0 ge))
     (cases_lt x (length noted))
 
--- one bank more in a set
-module _ (old new : List ℕ) (c : ℕ) (e : (b : ℕ) → is_in new b ≡ (is_in old b || (b == c))) where
-  pub stay_in : StayIn old new
-  stay_in b h = e b ∙ ap (λ v. v || (b == c)) h
+-- a set with more banks has those that it had
+pub stay_in : (old new : List ℕ) (more : ℕ → Bool) → ((b : ℕ) → is_in new b ≡ (is_in old b || more b)) → StayIn old new
+stay_in old new more e b h = e b ∙ ap (λ v. v || more b) h
 
-  last : (v : Bool) → (v || true) ≡ true
-  last true = refl
-  last false = refl
+-- and it has those
+pub has_too : (old more new : List ℕ) → ((b : ℕ) → is_in new b ≡ (is_in old b || is_in more b)) → StayIn more new
+has_too old more new e b h = e b ∙ or_right (is_in old b) (is_in more b) h
 
-  pub now_in : is_in new c ≡ true
-  now_in = e c ∙ ap (λ v. is_in old c || v) (eq-eqb c c refl) ∙ last (is_in old c)
+-- and this one
+pub now_in : (old new : List ℕ) (c : ℕ) → ((b : ℕ) → is_in new b ≡ (is_in old b || (b == c))) → is_in new c ≡ true
+now_in old new c e = e c ∙ or_right (is_in old c) (c == c) (eq-eqb c c refl)
+
+-- where more banks are called, those that are not are settled still
+pub called_still : (s : Shown) (desks : List BankView) (old new : List ℕ) → StayIn old new → AreCalledOrSettled old s desks → AreCalledOrSettled new s desks
+called_still s desks old new stay h k l out =
+    h k l (false_from_ne_true (is_in old (desk_at desks k).bank) (λ is. true≢false (sym (stay (desk_at desks k).bank is) ∙ out)))
 
 -- the bank of one raise more
 pub called_more : (noted old new : List ℕ) (rs : List Raise) (n : ℕ) (d : Raise) → n < length rs → AreCalledTo noted old rs n → StayIn old new

@@ -1,9 +1,10 @@
 -- The banks of a worker: the number of each, divided by the number of workers, is its place.
-use Rattle.std.proofs.Common.{◌≡◌, ℕ, zero, suc, ◌+◌, ◌*◌, ◌/◌, ◌%◌, ◌<◌, ◌≤◌, ◌==◌, Bool, true, false, List, [], ◌∷◌, ◌++◌, length, map, get_or, take, filter, inl, inr, refl, sym, ap, ◌∙◌, ⊎_elim, arith, true≢false, div-add-mod', mul-le-mul_right, eqb-true, eq-eqb, ne_eqb}
-use Rattle.std.specs.Prelude.{◌||◌, All}
+use Rattle.std.proofs.Common.{◌≡◌, ℕ, zero, suc, ◌+◌, ◌*◌, ◌/◌, ◌%◌, ◌<◌, ◌≤◌, ◌==◌, true, List, [], ◌∷◌, length, map, get_or, filter, inl, inr, refl, sym, ap, ◌∙◌, ⊎_elim, arith, div-add-mod', mul-le-mul_right, eqb-true, eq-eqb}
+use Rattle.std.specs.Prelude.{All}
 use Rattle.std.specs.List.{range_with_len}
-use Rattle.std.proofs.lemmas.Bool.{cases_eq, cases_lt, or_cases, or_left, or_right}
-use Rattle.std.proofs.lemmas.List.{take_more}
+use Rattle.std.proofs.lemmas.Bool.{cases_eq, cases_lt}
+use Rattle.std.proofs.lemmas.List.{get_or_default}
+use Rattle.std.proofs.lemmas.List.Folds.{Any-from_list_any, list_any-from_Any}
 use Rattle.std.proofs.lemmas.List.Elements.{All-from_get_or}
 use Rattle.std.proofs.lemmas.Nat.{div-mul-add, mod_below, mod-mul-add}
 use Rattle.clr_net.specs.Net.{Net}
@@ -23,39 +24,17 @@ pub banks_of_desks : (net : Net) (banks : List ℕ) → banks_of (map (desk_of n
 banks_of_desks net [] = refl
 banks_of_desks net (b ∷ banks) = ap (λ bs. b ∷ bs) (banks_of_desks net banks)
 
--- a number is among a list with one number more
-among_push : (xs : List ℕ) (x c : ℕ) → is_among (xs ++ x ∷ []) c ≡ (is_among xs c || (c == x))
-among_push [] x c = elim (cases_eq x c) [
-  | inl e ↦ ap (λ b. b || false) (eq-eqb x c e) ∙ sym (eq-eqb c x (sym e))
-  | inr n ↦ ap (λ b. b || false) (ne_eqb x c n) ∙ sym (ne_eqb c x (λ e. n (sym e)))
-]
-among_push (y ∷ xs) x c = ap (λ b. (y == c) || b) (among_push xs x c) ∙ or_assoc (y == c) (is_among xs c) (c == x)
-  where
-    or_assoc : (a b d : Bool) → (a || (b || d)) ≡ ((a || b) || d)
-    or_assoc true b d = refl
-    or_assoc false b d = refl
-
--- and among one place more of a list
-pub among_more : (xs : List ℕ) (i c : ℕ) → i < length xs → is_among (take (i + 1) xs) c ≡ (is_among (take i xs) c || (c == get_or xs i 0))
-among_more xs i c lt = ap (λ ys. is_among ys c) (take_more xs i 0 lt) ∙ among_push (take i xs) (get_or xs i 0) c
-
 -- what stands in a place is among the list
 among_at : (xs : List ℕ) (k : ℕ) → k < length xs → is_among xs (get_or xs k 0) ≡ true
-among_at [] k l = absurd (omega (arith, l))
-among_at (x ∷ xs) zero l = or_left (x == x) (is_among xs x) (eq-eqb x x refl)
-among_at (x ∷ xs) (suc k) l = or_right (x == get_or xs k 0) (is_among xs (get_or xs k 0)) (among_at xs k (omega (arith, l)))
-
--- the number c stands in the list
-abbrev Place : List ℕ → ℕ → Type 0
-Place xs c = (k : ℕ) × (k < length xs) × (get_or xs k 0 ≡ c)
+among_at xs k l =
+    let x = get_or xs k 0 in
+    list_any-from_Any (λ y. x == y) xs (k, x, l, get_or_default xs k x 0 l, eq-eqb x x refl)
 
 -- and what is among it stands in some place
-place_among : (xs : List ℕ) (c : ℕ) → is_among xs c ≡ true → Place xs c
-place_among [] c e = absurd (true≢false (sym e))
-place_among (x ∷ xs) c e = ⊎_elim
-    (λ (t : (x == c) ≡ true). let p : Place (x ∷ xs) c = (0, omega arith, eqb-true x c t) in p)
-    (λ (f : is_among xs c ≡ true). let h = place_among xs c f in let p : Place (x ∷ xs) c = (suc h.0, omega (arith, h.1), h.2) in p)
-    (or_cases (x == c) (is_among xs c) e)
+place_among : (xs : List ℕ) (c : ℕ) → is_among xs c ≡ true → Stands xs c
+place_among xs c e =
+    let p = Any-from_list_any (λ y. c == y) xs e in
+    (p.0, p.2, get_or_default xs p.0 0 p.1 p.2 ∙ p.3 ∙ sym (eqb-true c p.1 p.4))
 
 -- the numbers below n that are of the worker i among w
 abbrev of_worker : ℕ → ℕ → ℕ → List ℕ

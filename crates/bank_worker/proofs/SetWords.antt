@@ -1,10 +1,10 @@
 -- Words of a set of banks: one bit more or less, and the first bit in two sets.
-use Rattle.std.proofs.Common.{◌≡◌, ◌≢◌, ℕ, ◌+◌, ◌*◌, ◌-◌, ◌/◌, ◌%◌, ◌^◌, ◌<◌, ◌≤◌, ◌==◌, Bool, true, false, not, List, length, get_or, replicate, set, min, inl, inr, refl, sym, ap, ◌∙◌, ⊎_elim, arith, eqb-true, eq-eqb, ne_eqb, get_or-set_same, get_or-set_other, w64}
+use Rattle.std.proofs.Common.{◌≡◌, ◌≢◌, ℕ, zero, suc, ◌+◌, ◌*◌, ◌-◌, ◌/◌, ◌%◌, ◌^◌, ◌<◌, ◌≤◌, ◌==◌, Bool, true, false, not, List, length, get_or, replicate, set, min, max, inl, inr, refl, sym, ap, ◌∙◌, ⊎_elim, arith, eqb-true, eq-eqb, ne_eqb, get_or-set_same, get_or-set_other, w64}
 use Rattle.std.specs.Prelude.{◌&&◌, ◌||◌, bit_and, bit_or}
 use Rattle.std.specs.Int.{bit_at, bit_not, trailing_zeros}
-use Rattle.std.proofs.lemmas.Bool.{cases_eq}
+use Rattle.std.proofs.lemmas.Bool.{cases_eq, or_right}
 use Rattle.std.proofs.lemmas.Nat.{and_le_r}
-use Rattle.std.proofs.lemmas.Nat.Bits.{bit_at-trailing_zeros, bit_at-zero, bit_at_and, bit_at_clear_same, bit_at_clear_other, bit_at_mask_below, bit_at_mask_inside, bit_at_ones, bit_at_set_same, bit_at_set_other, ones_shl}
+use Rattle.std.proofs.lemmas.Nat.Bits.{bit_at-trailing_zeros, bit_at-lt, bit_at-zero, bit_at_and, bit_at_or, bit_at_clear_same, bit_at_clear_other, bit_at_mask_below, bit_at_mask_inside, bit_at_ones, bit_at_set_same, bit_at_set_other, ones_shl}
 use Rattle.std.proofs.lemmas.Bool.{cases_lt}
 use Rattle.std.proofs.lemmas.List.{get_or-replicate}
 use Rattle.bank_worker.specs.BankSets.{HaveNoneInBoth, is_in}
@@ -23,69 +23,68 @@ here xs k w b lt e = ap (λ n. bit_at n (b % 64) == 1) (ap (λ j. get_or (set xs
 elsewhere : (xs : List ℕ) (k w b : ℕ) → b / 64 ≢ k → is_in (set xs k w) b ≡ is_in xs b
 elsewhere xs k w b ne = ap (λ n. bit_at n (b % 64) == 1) (get_or-set_other xs k (b / 64) w 0 ne)
 
--- a test with one bank more is the same at another bank
-other_added : (t : Bool) (b c : ℕ) → c ≢ b → t ≡ (t || (c == b))
-other_added true b c ne = refl
-other_added false b c ne = sym (ne_eqb c b ne)
+-- two banks of one word are the same where their bits are
+same_bit : (b c : ℕ) → c / 64 ≡ b / 64 → (c % 64 == b % 64) ≡ (c == b)
+same_bit b c e = elim (cases_eq c b) [
+  | inl same ↦ eq-eqb (c % 64) (b % 64) (ap (λ n. n % 64) same) ∙ sym (eq-eqb c b same)
+  | inr ne ↦ ne_eqb (c % 64) (b % 64) (λ bit. ne (omega (arith, bit, e))) ∙ sym (ne_eqb c b ne)
+]
 
--- and is met at that bank
-same_added : (t : Bool) (b c : ℕ) → c ≡ b → true ≡ (t || (c == b))
-same_added true b c e = refl
-same_added false b c e = sym (eq-eqb c b e)
-
--- a test with one bank less is the same at another bank
-other_removed : (t : Bool) (b c : ℕ) → c ≢ b → t ≡ (t && not (c == b))
-other_removed true b c ne = ap not (sym (ne_eqb c b ne))
-other_removed false b c ne = refl
-
--- and is not met at that bank
-same_removed : (t : Bool) (b c : ℕ) → c ≡ b → false ≡ (t && not (c == b))
-same_removed true b c e = ap not (sym (eq-eqb c b e))
-same_removed false b c e = refl
+-- a word was edited at the bit of one bank alone
+edited : (f : Bool → Bool → Bool) (xs : List ℕ) (b c w : ℕ) → ((t : Bool) → f t false ≡ t) → b / 64 < length xs
+    → (bit_at w (c % 64) == 1) ≡ f (bit_at (get_or xs (b / 64) 0) (c % 64) == 1) (c % 64 == b % 64) → is_in (set xs (b / 64) w) c ≡ f (is_in xs c) (c == b)
+edited f xs b c w none lt bit = elim (cases_eq (c / 64) (b / 64)) [
+  | inl e ↦
+      here xs (b / 64) w c lt e
+      ∙ bit
+      ∙ ap (λ j. f (bit_at (get_or xs j 0) (c % 64) == 1) (c % 64 == b % 64)) (sym e)
+      ∙ ap (f (is_in xs c)) (same_bit b c e)
+  | inr g ↦ elsewhere xs (b / 64) w c g ∙ sym (none (is_in xs c)) ∙ ap (f (is_in xs c)) (sym (ne_eqb c b (λ s. g (ap (λ n. n / 64) s))))
+]
 
 -- the bit of a bank was set in its word
 pub added : (xs : List ℕ) (b c : ℕ) → b / 64 < length xs
     → is_in (set xs (b / 64) (bit_or (get_or xs (b / 64) 0) (1 * 2 ^ (b % 64) % 2 ^ 64))) c ≡ (is_in xs c || (c == b))
 added xs b c lt =
-    let k = b / 64 in
-    let old = get_or xs k 0 in
-    let w = bit_or old (1 * 2 ^ (b % 64) % 2 ^ 64) in
-    elim (cases_eq (c / 64) k) [
-      | inl e ↦ elim (cases_eq (c % 64) (b % 64)) [
-        | inl f ↦
-            here xs k w c lt e
-            ∙ eq-eqb (bit_at w (c % 64)) 1 (ap (bit_at w) f ∙ bit_at_set_same w64 old (b % 64) (omega arith))
-            ∙ same_added (is_in xs c) b c (omega arith)
-        | inr g ↦
-            here xs k w c lt e
-            ∙ ap (λ n. n == 1) (bit_at_set_other w64 old (b % 64) (omega arith) (c % 64) g)
-            ∙ ap (λ j. bit_at (get_or xs j 0) (c % 64) == 1) (sym e)
-            ∙ other_added (is_in xs c) b c (λ s. g (ap (λ n. n % 64) s))
-      ]
-      | inr g ↦ elsewhere xs k w c g ∙ other_added (is_in xs c) b c (λ s. g (ap (λ n. n / 64) s))
-    ]
+    let old = get_or xs (b / 64) 0 in
+    let k = b % 64 in
+    let i = c % 64 in
+    let w = bit_or old (1 * 2 ^ k % 2 ^ 64) in
+    edited (λ t q. t || q) xs b c w or_none lt (elim (cases_eq i k) [
+      | inl e ↦ eq-eqb (bit_at w i) 1 (ap (bit_at w) e ∙ bit_at_set_same w64 old k (omega arith)) ∙ sym (or_right (bit_at old i == 1) (i == k) (eq-eqb i k e))
+      | inr g ↦ ap (λ n. n == 1) (bit_at_set_other w64 old k (omega arith) i g) ∙ sym (or_none (bit_at old i == 1)) ∙ ap (λ q. (bit_at old i == 1) || q) (sym (ne_eqb i k g))
+    ])
+  where
+    or_none : (t : Bool) → (t || false) ≡ t
+    or_none true = refl
+    or_none false = refl
 
 -- the bit of a bank was cleared in its word
 pub removed : (xs : List ℕ) (b c : ℕ) → b / 64 < length xs
     → is_in (set xs (b / 64) (bit_and (get_or xs (b / 64) 0) (bit_not w64 (1 * 2 ^ (b % 64) % 2 ^ 64)))) c ≡ (is_in xs c && not (c == b))
 removed xs b c lt =
-    let k = b / 64 in
-    let old = get_or xs k 0 in
-    let w = bit_and old (bit_not w64 (1 * 2 ^ (b % 64) % 2 ^ 64)) in
-    elim (cases_eq (c / 64) k) [
-      | inl e ↦ elim (cases_eq (c % 64) (b % 64)) [
-        | inl f ↦
-            here xs k w c lt e
-            ∙ ap (λ n. n == 1) (ap (bit_at w) f ∙ bit_at_clear_same w64 old (b % 64) (omega arith))
-            ∙ same_removed (is_in xs c) b c (omega arith)
-        | inr g ↦
-            here xs k w c lt e
-            ∙ ap (λ n. n == 1) (bit_at_clear_other w64 old (b % 64) (omega arith) (c % 64) (omega arith) g)
-            ∙ ap (λ j. bit_at (get_or xs j 0) (c % 64) == 1) (sym e)
-            ∙ other_removed (is_in xs c) b c (λ s. g (ap (λ n. n % 64) s))
-      ]
-      | inr g ↦ elsewhere xs k w c g ∙ other_removed (is_in xs c) b c (λ s. g (ap (λ n. n / 64) s))
-    ]
+    let old = get_or xs (b / 64) 0 in
+    let k = b % 64 in
+    let i = c % 64 in
+    let w = bit_and old (bit_not w64 (1 * 2 ^ k % 2 ^ 64)) in
+    edited (λ t q. t && not q) xs b c w but_none lt (elim (cases_eq i k) [
+      | inl e ↦
+          ap (λ n. n == 1) (ap (bit_at w) e ∙ bit_at_clear_same w64 old k (omega arith))
+          ∙ sym (but_one (bit_at old i == 1))
+          ∙ ap (λ q. (bit_at old i == 1) && not q) (sym (eq-eqb i k e))
+      | inr g ↦
+          ap (λ n. n == 1) (bit_at_clear_other w64 old k (omega arith) i (omega arith) g)
+          ∙ sym (but_none (bit_at old i == 1))
+          ∙ ap (λ q. (bit_at old i == 1) && not q) (sym (ne_eqb i k g))
+    ])
+  where
+    but_none : (t : Bool) → (t && not false) ≡ t
+    but_none true = refl
+    but_none false = refl
+
+    but_one : (t : Bool) → (t && not true) ≡ false
+    but_one true = refl
+    but_one false = refl
 
 -- what is known of a mask that leaves out the banks before one, in the word k
 pub record IsMask (from k mask : ℕ) : Type 0 where
@@ -194,3 +193,16 @@ found_in_word xs ys from k mask w m before e fits some =
     first_found xs ys from k mask t m before h.0
     (ap (λ n. bit_at n t) (sym e) ∙ h.1)
     (λ i l. ap (λ n. bit_at n i) (sym e) ∙ h.2 i l)
+
+-- a bit of two words together is set where it is in one of them
+pub bit_of_either : (x y i : ℕ) → (bit_at (bit_or x y) i == 1) ≡ ((bit_at x i == 1) || (bit_at y i == 1))
+bit_of_either x y i = greater (bit_at (bit_or x y) i) (bit_at x i) (bit_at y i) (bit_at-lt x i) (bit_at-lt y i) (bit_at_or x y i)
+  where
+    greater : (m a b : ℕ) → a < 2 → b < 2 → m ≡ max a b → (m == 1) ≡ ((a == 1) || (b == 1))
+    greater m zero zero la lb e = ap (λ n. n == 1) e
+    greater m zero (suc zero) la lb e = ap (λ n. n == 1) e
+    greater m (suc zero) zero la lb e = ap (λ n. n == 1) e
+    greater m (suc zero) (suc zero) la lb e = ap (λ n. n == 1) e
+    greater m zero (suc (suc b)) la lb e = absurd (omega (arith, lb))
+    greater m (suc zero) (suc (suc b)) la lb e = absurd (omega (arith, lb))
+    greater m (suc (suc a)) b la lb e = absurd (omega (arith, la))

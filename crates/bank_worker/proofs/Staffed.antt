@@ -1,24 +1,25 @@
 -- A worker stays staffed over a visit and over a take.
-use Rattle.std.proofs.Common.{◌≡◌, ℕ, Bool, true, false, List, filter, length, refl, sym, ap, ◌∙◌, subst}
+use Rattle.std.proofs.Common.{ℕ, Bool, true, false, List, filter, length, sym, subst}
 use Rattle.std.specs.Prelude.{if◌then◌else◌}
 use Rattle.std.specs.List.{range_with_len}
 use Rattle.clr_net.specs.Net.{Net}
+use Rattle.clear_core.specs.declared.event.Raise.{Raise}
 use Rattle.pay_words.specs.declared.view.Shown.{Shown}
 use Rattle.pay_words.specs.Views.{is_marked, took}
-use Rattle.bank_worker.specs.BankSets.{AreSetOut}
+use Rattle.bank_worker.specs.Offices.{IsOfficeFor, OfficeView}
+use Rattle.bank_worker.specs.Staff.{IsStaffed}
 use Rattle.bank_worker.specs.Views.{banks_held}
 use Rattle.bank_worker.specs.Visits.{IsSameSeat}
 
--- a take leaves the network and the banks of a seat, whatever its answer
-pub same_taken : (s : Shown) (b : ℕ) (up : Bool) → IsSameSeat s (if up then took s b else s)
-same_taken s b true = record { net = refl; master = refl; banks = refl; floor = refl; seats = refl }
-same_taken s b false = record { net = refl; master = refl; banks = refl; floor = refl; seats = refl }
+-- over a take, whatever its answer
+pub staffed_taken : (s : Shown) (b : ℕ) (up : Bool) (journal : List Raise) (o : OfficeView) → IsStaffed s journal o
+    → IsStaffed (if up then took s b else s) journal o
+staffed_taken s b true journal o h = record { office = h.office; not_the_master = h.not_the_master; noted = h.noted; no_rings = h.no_rings }
+staffed_taken s b false journal o h = h
 
--- the banks of the seat stay those of the set
-pub set_out_kept : (s t : Shown) (mine : List ℕ) (workers : ℕ) → IsSameSeat s t → AreSetOut mine workers (banks_held s) → AreSetOut mine workers (banks_held t)
-set_out_kept s t mine workers same h =
-    let nets : banks_held s ≡ filter (λ b. is_marked s.banks b) (range_with_len 0 (length t.net.banks)) =
-    ap (λ (m : Net). filter (λ b. is_marked s.banks b) (range_with_len 0 (length m.banks))) (sym same.net) in
-    let banks : filter (λ b. is_marked s.banks b) (range_with_len 0 (length t.net.banks)) ≡ banks_held t =
-    ap (λ (bs : List Bool). filter (λ b. is_marked bs b) (range_with_len 0 (length t.net.banks))) (sym same.banks) in
-    subst (AreSetOut mine workers) (nets ∙ banks) h
+-- the network and the banks of the seat stay, and so the office serves them
+pub office_kept : (s t : Shown) (o : OfficeView) → IsSameSeat s t → IsOfficeFor s.net (banks_held s) o → IsOfficeFor t.net (banks_held t) o
+office_kept s t o same h =
+    let banks = λ (net : Net) (bs : List Bool). filter (λ b. is_marked bs b) (range_with_len 0 (length net.banks)) in
+    subst (λ (net : Net). IsOfficeFor net (banks net t.banks) o) (sym same.net)
+    (subst (λ (bs : List Bool). IsOfficeFor s.net (banks s.net bs) o) (sym same.banks) h)

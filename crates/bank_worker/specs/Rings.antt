@@ -1,6 +1,7 @@
 -- What the rings for some raises change of what a seat shows, and the marks of the creditors that
 -- were rung.
-use Rattle.std.specs.Prelude.{◌≡◌, ℕ, ◌<◌, ◌≤◌, ◌==◌, ◌||◌, ◌++◌, if◌then◌else◌, Bool, true, false, List, [], ◌∷◌, length, map, slice_index}
+use Rattle.std.specs.List.{list_any}
+use Rattle.std.specs.Prelude.{◌≡◌, ℕ, ◌<◌, ◌≤◌, ◌==◌, ◌++◌, if◌then◌else◌, Bool, true, false, List, [], ◌∷◌, length, map, slice_index}
 use Rattle.clr_net.specs.Net.{Net, creditor_of, debtor_of, debt_numbers}
 use Rattle.clear_core.specs.declared.event.Raise.{Raise}
 use Rattle.pay_words.specs.declared.view.Shown.{Shown}
@@ -28,8 +29,7 @@ pub record OweRings (s : Shown) (rs : List Raise) : Type 0 where
 
 -- whether a number is one of the list
 abbrev pub is_among : List ℕ → ℕ → Bool
-is_among [] c = false
-is_among (x ∷ xs) c = (x == c) || is_among xs c
+is_among xs c = list_any (λ x. c == x) xs
 
 -- a list with one number more, unless it has that
 abbrev pub with_new : List ℕ → ℕ → List ℕ

@@ -1,5 +1,6 @@
 -- What a visit and a round do.
-use Rattle.std.specs.Prelude.{◌≡◌, ◌≢◌, ◌⊎◌, ℕ, ◌+◌, ◌*◌, ◌<◌, ◌≤◌, ◌++◌, true, false, List, length, map, slice_index}
+use Rattle.std.specs.Prelude.{◌≡◌, ◌≢◌, ◌⊎◌, ℕ, ◌+◌, ◌*◌, ◌<◌, ◌≤◌, ◌++◌, true, false, List, [], ◌∷◌, length, map, slice_index, sum}
+use Rattle.clr_net.specs.declared.TheConstants.{MAX_OWED}
 use Rattle.clr_net.specs.Net.{Net, creditor_of, debtor_of}
 use Rattle.clear_core.specs.declared.event.Raise.{Raise}
 use Rattle.bank_desk.specs.Desks.{BankView}
@@ -105,6 +106,32 @@ pub record IsVisited (desk : BankView) (n : ℕ) (old new : Crew) : Type 0 where
   pub notes : Notes desk old new
   pub rings : RingsAll desk old.seat.shows new.seat.shows
 
+-- the worker once it took the bell of the bank b
+abbrev pub with_bell : Crew → ℕ → Crew
+with_bell w b = record w { seat = record w.seat { shows = took w.seat.shows b } }
+
+-- a visit at one of the desks that raised n units and was counted, after a take that had found the
+-- bell of the desk's bank up; and nothing else was done
+pub record IsCalledVisit (place n : ℕ) (old new : Crew) : Type 0 where
+  pub known : place < length old.desks
+  pub same : IsSameCrew old new
+  pub counted : new.visits ≡ old.visits + 1
+  pub visited : IsVisited (desk_at old.desks place) n
+      (with_bell old (desk_at old.desks place).bank) new
+
+-- from old to new the worker did nothing but visits to which bells called it, which raised these
+-- units, the last first
+abbrev pub AreVisitsFrom : Crew → List ℕ → Crew → Type 0
+AreVisitsFrom old [] new = new ≡ old
+AreVisitsFrom old (n ∷ ns) new = (cur : Crew) × (place : ℕ) × AreVisitsFrom old ns cur
+    × IsCalledVisit place n cur new
+
+-- nothing was done but visits to which bells called, which raised n units in all
+pub record IsAllVisits (n : ℕ) (old new : Crew) : Type 0 where
+  pub units : List ℕ
+  pub visits : AreVisitsFrom old units new
+  pub in_all : sum units ≡ n
+
 -- the bell of the bank b is down: it was taken before, and the floor was seen if nothing is pending
 pub record IsDown (s : Shown) (b : ℕ) : Type 0 where
   pub taken : is_marked s.fresh b ≡ false
@@ -134,6 +161,7 @@ pub record IsRounded (n : ℕ) (old new : Crew) : Type 0 where
   pub no_rings : OwesNoRing new.seat.shows
   pub raises : AddsRaises n old.seat.shows new.seat.shows
   pub told : TellsRaises old.seat.shows new.seat.shows
+  pub by_visits : IsAllVisits n old new
 
 -- as many visits as bells were taken, at most so many sweeps over the desks
 pub record VisitsByBells (sweeps : ℕ) (old new : Crew) : Type 0 where
@@ -148,9 +176,11 @@ with_a_visit_refused w bank = record w {
 }
 
 -- a round that a visit without memory ended: before that visit all bells that were taken led to
--- whole visits, and nothing was done after it
+-- whole visits, and nothing else was done; and nothing was done after it
 pub record IsStopped (sweeps : ℕ) (old new : Crew) : Type 0 where
   pub before : Crew
+  pub units : ℕ
+  pub by_visits : IsAllVisits units old before
   pub same : IsSameCrew old before
   pub visits : VisitsByBells sweeps old before
   pub calm : IsAllCalm before.seat.shows
@@ -158,3 +188,11 @@ pub record IsStopped (sweeps : ℕ) (old new : Crew) : Type 0 where
   pub place : ℕ
   pub known : place < length before.desks
   pub last : new ≡ with_a_visit_refused before (desk_at before.desks place).bank
+
+-- a round of at most so many sweeps that answered so
+pub record MakesRound (sweeps : ℕ) (answer : Visit) (old new : Crew) : Type 0 where
+  pub same : IsSameCrew old new
+  pub visits : VisitsByBells sweeps old new
+  pub raised : WhenRaised answer (λ n. IsRounded n old new)
+  pub few : WhenRaised answer (λ n. n ≤ 1000000 * MAX_OWED)
+  pub mem : WhenMem answer (IsStopped sweeps old new)

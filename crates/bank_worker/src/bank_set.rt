@@ -1,7 +1,7 @@
 ghost use Rattle.bank_worker.specs.BankSets.{HaveNoneInBoth, is_in};
 ghost use Rattle.clr_net.specs.declared.TheConstants.{MAX_BANKS};
 ghost use Rattle.std.specs.Prelude.{◌≡◌, ◌<◌, ◌≤◌, ◌==◌, ◌&&◌, ◌||◌, ℕ, false, not, true};
-ghost use Rattle.std.specs.Prelude.{IfNone, IfSome};
+ghost use Rattle.std.specs.Prelude.{IfNone, IfSome, bit_or, slice_index};
 
 use clr_net::{BankId, MAX_BANKS};
 use std::marker::Model;
@@ -53,6 +53,13 @@ impl BankSet {
         self.words[place / 64] |= 1 << (place % 64);
     }
 
+    // Adds all banks of another set.
+    pub(crate) fn add_all(&mut self, other: &BankSet)
+        ensures { (b : ℕ) → is_in self.new b ≡ (is_in self.old b || is_in other.now b) }
+    {
+        add_words(&mut self.words, &other.words);
+    }
+
     /// Takes a bank away.
     pub fn remove(&mut self, bank: BankId)
         requires { bank.0 < MAX_BANKS }
@@ -80,5 +87,15 @@ impl BankSet {
             mask = u64::MAX;
         }
         None
+    }
+}
+
+// Sets in each word the bits of another.
+fn add_words(words: &mut [u64; WORDS], other: &[u64; WORDS])
+    ensures { (k : ℕ) → slice_index words.new k
+        ≡ bit_or (slice_index words.old k) (slice_index other.now k) }
+{
+    for index in 0..WORDS {
+        words[index] |= other[index];
     }
 }

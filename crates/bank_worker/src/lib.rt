@@ -5,10 +5,15 @@
 //! A [`Worker`] goes over its banks in turn, takes each bell that is up, and visits the bank.
 //! Whatever the other workers do meanwhile, after a round each of its banks pays its rule's
 //! division at what the worker last saw, and each debt to them was seen at least at the floor.
+//!
+//! A *seat* is the right to look, raise, ring and take on a board. A *desk* has what is known of one
+//! bank. An *office* has the desks of a worker, and the workspace that it keeps from round to round.
+//! Contracts see a worker as a *crew*: its seat, desks, number, visits and journal.
 #![tactic(auto)]
 
 mod bank_set;
 mod desks;
+pub mod laws;
 mod looks;
 mod office;
 mod raises;

@@ -1,22 +1,28 @@
-ghost use Rattle.bank_desk.specs.Desks.{with_cash_in};
-ghost use Rattle.clr_net.specs.Net.{creditor_of};
+ghost use Rattle.bank_desk.specs.Desks.{target, with_cash_in};
 ghost use Rattle.bank_worker.specs.BankSets.{is_in};
 ghost use Rattle.bank_worker.specs.Offices.{IsOfficeFor, banks_of_worker};
-ghost use Rattle.bank_worker.specs.Rings.{AreMarksUpTo, creditors_of, is_among};
-ghost use Rattle.clr_net.specs.declared.TheConstants.{MAX_BANKS};
-ghost use Rattle.std.specs.Prelude.{◌≡◌, ◌^◌, ◌<◌, ◌≤◌, ℕ, [], All, IfOk, length, map};
-ghost use Rattle.std.specs.Prelude.{vec_capacity};
+ghost use Rattle.bank_worker.specs.Rings.{AreMarksBelow, AreMarksUpTo, creditors_of, is_among};
+ghost use Rattle.bank_worker.specs.Staff.{IsStaffed};
+ghost use Rattle.bank_worker.specs.Views.{desk_at};
+ghost use Rattle.bank_worker.specs.Visits.{AreNoted, IsSameSeat, LooksOnce, PaysOut, RingsAll};
+ghost use Rattle.clr_net.specs.Net.{creditor_of};
+ghost use Rattle.clr_net.specs.declared.TheConstants.{MAX_BANKS, MAX_OWED};
+ghost use Rattle.pay_words.specs.Views.{IsAt};
+ghost use Rattle.std.specs.Prelude.{◌≡◌, ◌<◌, ◌≤◌, ℕ, [], All, IfOk, length, map};
+ghost use Rattle.std.specs.Prelude.{vec_capacity, vec_len};
 
 use crate::bank_set::BankSet;
 use crate::desks::Desks;
+use crate::looks::look_at_all;
+use crate::raises::raise_all;
+use crate::rings::ring_all;
+use bank_desk::Desk;
 use clear_core::{Journal, Raise, longest_row};
 use clr_net::{BankId, DebtId, MAX_BANKS, Mem, Network};
+use pay_words::{Board, PaySeat};
 use std::alloc::Global;
 use std::marker::Model;
 use std::mem;
-
-// As many visits are counted before all marks are taken away.
-const MANY_VISITS: u64 = 1 << 62;
 
 // The room of so many raises is kept for the next seat.
 const FEW_RAISES: usize = 64;
@@ -26,29 +32,29 @@ const FEW_RAISES: usize = 64;
 /// is visited should pay.
 #[derive(Drop)]
 pub struct Office {
-    pub(crate) desks: Desks,
-    pub(crate) worker: u32,
-    pub(crate) tools: Box<Tools>,
+    desks: Desks,
+    worker: u32,
+    workspace: Box<Workspace>,
 }
 
-/// What an office has beside its desks. It stays in its place in memory, so that little is moved
-/// where an office is taken up or left.
+// What an office has beside its desks. It stays in its place in memory, so that little is moved
+// where an office is taken up or left.
 #[derive(Drop)]
-pub(crate) struct Tools {
+struct Workspace {
     // The creditor of each debt, in file order: in two bytes, since they are read in any order.
-    pub(crate) creditors: Vec<u16>,
+    creditors: Vec<u16>,
     // For each bank the number of the last visit that rang it, or 0. Visits are counted over all
     // seats.
-    pub(crate) marks: Vec<u64>,
+    marks: Vec<u64>,
     // How many visits there were: no mark is of a later one.
-    pub(crate) counted: u64,
+    counted: u64,
     // What the bank that is visited should pay on each of its debts.
-    pub(crate) targets: Vec<u64>,
+    targets: Vec<u64>,
     // The banks of the desks, and how many workers there are.
-    pub(crate) mine: BankSet,
-    pub(crate) workers: u32,
+    mine: BankSet,
+    workers: u32,
     // Room for the raises of the next seat.
-    pub(crate) raises: Vec<Raise>,
+    raises: Vec<Raise>,
 }
 
 impl Model for Office {
@@ -61,14 +67,14 @@ impl Model for Office {
     ghost view = { λ o. record {
       desks = o.desks;
       worker = o.worker;
-      creditors = o.tools.value.creditors.items;
-      marks = vec_len o.tools.value.marks;
-      room = vec_capacity o.tools.value.targets;
-      mine = o.tools.value.mine;
-      workers = o.tools.value.workers;
+      creditors = o.workspace.value.creditors.items;
+      marks = vec_len o.workspace.value.marks;
+      room = vec_capacity o.workspace.value.targets;
+      mine = o.workspace.value.mine;
+      workers = o.workspace.value.workers;
     } };
 
-    ghost invariant = { λ o. AreMarksUpTo o.tools.value.counted o.tools.value.marks.items };
+    ghost invariant = { λ o. AreMarksUpTo o.workspace.value.counted o.workspace.value.marks.items };
 }
 
 impl Office {
@@ -80,7 +86,7 @@ impl Office {
         ensures worker { IfOk result (λ o. o.worker ≡ worker) }
     {
         let desks = Desks::of(alloc, net, worker, workers)?;
-        let tools = Tools {
+        let workspace = Workspace {
             creditors: creditors(alloc, net)?,
             marks: no_marks(alloc, net.banks() as usize)?,
             counted: 0,
@@ -89,11 +95,11 @@ impl Office {
             workers,
             raises: Vec::new(alloc),
         };
-        let tools = Box::new(alloc, tools)?;
+        let workspace = Box::new(alloc, workspace)?;
         Ok(Office {
             desks,
             worker,
-            tools,
+            workspace,
         })
     }
 
@@ -115,27 +121,115 @@ impl Office {
     {
         let raises = journal.into_raises();
         if raises.len() <= FEW_RAISES {
-            self.tools.raises = raises;
+            self.workspace.raises = raises;
         }
+    }
+
+    // A journal of no raise, for another seat. Takes no memory.
+    pub(crate) fn begin(&mut self, alloc: Global) -> Journal
+        ensures journal { result.raises ≡ [] }
+        ensures same { self.new ≡ self.old }
+    {
+        let mut raises = mem::replace(&mut self.workspace.raises, Vec::new(alloc));
+        raises.clear();
+        Journal::of(raises)
+    }
+
+    // The desks of its worker.
+    pub(crate) fn desks(&self) -> &Desks
+        ensures { result.now ≡ self.now.desks }
+    {
+        &self.desks
+    }
+
+    // The number of its worker.
+    pub(crate) fn worker(&self) -> u32
+        ensures { result ≡ self.now.worker }
+    {
+        self.worker
+    }
+
+    // How many workers there are.
+    pub(crate) fn workers(&self) -> u32
+        ensures { result ≡ self.now.workers }
+    {
+        self.workspace.workers
+    }
+
+    // The banks of the desks.
+    pub(crate) fn banks(&self) -> &BankSet
+        ensures { result.now ≡ self.now.mine }
+    {
+        &self.workspace.mine
+    }
+
+    // The creditor of each debt.
+    pub(crate) fn creditors(&self) -> &[u16]
+        ensures { result.now ≡ self.now.creditors }
+    {
+        self.workspace.creditors.as_slice()
+    }
+
+    // Visits the bank of a desk with a seat whose raises have room in the journal. Answers by how
+    // many units the bank pays more.
+    pub(crate) fn visit(
+        &mut self,
+        board: &Board,
+        seat: &mut PaySeat,
+        journal: &mut Journal,
+        place: usize,
+    ) -> u64
+        requires seat { IsAt board.now seat.old }
+        requires staffed { IsStaffed seat.old.shows journal.old.raises self.old }
+        requires place { place < length self.old.desks }
+        requires spare { length (desk_at self.old.desks place).debts_out ≤ journal.old.spare }
+        ensures table { seat.new.table ≡ seat.old.table }
+        ensures same { IsSameSeat seat.old.shows seat.new.shows }
+        ensures looks { LooksOnce (desk_at self.old.desks place) seat.old.shows seat.new.shows }
+        ensures pays { PaysOut (desk_at self.old.desks place) result seat.old.shows
+            seat.new.shows }
+        ensures notes { AreNoted (desk_at self.old.desks place) seat.old.shows seat.new.shows }
+        ensures rings { RingsAll (desk_at self.old.desks place) seat.old.shows seat.new.shows }
+        ensures few { result ≤ MAX_OWED }
+        ensures staffed { IsStaffed seat.new.shows journal.new.raises self.new }
+        ensures desks { self.new.desks ≡ self.old.desks }
+        ensures worker { self.new.worker ≡ self.old.worker }
+    {
+        let desk = self.desks.at(place);
+        let space = &mut *self.workspace;
+        space.count_visit();
+        let _clock = seat.clock();
+        let received = look_at_all(board, seat, desk.debts_in());
+        let _clock = seat.clock();
+        lay_out(desk, received, &mut space.targets);
+        let debts = desk.debts_out();
+        let from = journal.as_slice().len();
+        let units = raise_all(board, seat, debts, space.targets.as_slice(), journal);
+        let (_, made) = journal.as_slice().split_at(from);
+        let creditors = space.creditors.as_slice();
+        ring_all(
+            board,
+            seat,
+            made,
+            creditors,
+            &mut space.marks,
+            space.counted,
+        );
+        units
     }
 }
 
-impl Tools {
-    /// Makes ready for another seat, and gives it a journal of no raise. Takes no memory.
-    pub(crate) fn begin(&mut self, alloc: Global) -> Journal
+impl Workspace {
+    // Counts a visit, of which no mark is yet.
+    fn count_visit(&mut self)
         requires { AreMarksUpTo self.old.counted self.old.marks.items }
-        ensures journal { result.raises ≡ [] }
-        ensures marks { AreMarksUpTo self.new.counted self.new.marks.items }
-        ensures low { self.new.counted ≤ 2 ^ 62 }
+        ensures marks { AreMarksBelow self.new.counted self.new.marks.items }
         ensures as_many { length self.new.marks.items ≡ length self.old.marks.items }
-        ensures creditors { self.new.creditors.items ≡ self.old.creditors.items }
-        ensures room { vec_capacity self.new.targets ≡ vec_capacity self.old.targets }
+        ensures creditors { self.new.creditors ≡ self.old.creditors }
+        ensures targets { self.new.targets ≡ self.old.targets }
         ensures mine { (self.new.mine ≡ self.old.mine) × (self.new.workers ≡ self.old.workers) }
     {
-        self.counted = begin_again(&mut self.marks, self.counted);
-        let mut raises = mem::replace(&mut self.raises, Vec::new(alloc));
-        raises.clear();
-        Journal::of(raises)
+        self.counted = next_number(&mut self.marks, self.counted);
     }
 }
 
@@ -181,20 +275,18 @@ fn no_marks(alloc: Global, banks: usize) -> Result<Vec<u64>, Mem>
     Ok(marks)
 }
 
-// Makes marks ready for the visits of another seat, and answers the number of the last visit before
-// them. The marks of earlier visits stay, since those to come have greater numbers; only where the
-// numbers might end are all marks taken away.
-pub(crate) fn begin_again(marks: &mut [u64], counted: u64) -> u64
+// The number of a visit more, of which no mark is yet. Only where the numbers end are all marks
+// taken away.
+fn next_number(marks: &mut [u64], counted: u64) -> u64
     requires { AreMarksUpTo counted marks.old }
-    ensures marks { AreMarksUpTo result marks.new }
-    ensures low { result ≤ 2 ^ 62 }
+    ensures below { AreMarksBelow result marks.new }
     ensures as_many { length marks.new ≡ length marks.old }
 {
-    if counted <= MANY_VISITS {
-        return counted;
+    if counted < u64::MAX {
+        return counted + 1;
     }
     unmark(marks);
-    0
+    1
 }
 
 // Takes all marks away.
@@ -205,4 +297,27 @@ fn unmark(marks: &mut [u64])
     for place in 0..marks.len() {
         marks[place] = 0;
     }
+}
+
+// Lays out what the desk's bank should pay on each of its debts when it receives so many units.
+fn lay_out(desk: &Desk, received: u64, targets: &mut Vec<u64>)
+    requires received { received ≤ MAX_OWED }
+    requires room { length desk.now.debts_out ≤ vec_capacity targets.old }
+    ensures targets { targets.new.items ≡ target desk.now received }
+    ensures room { vec_capacity targets.old ≤ vec_capacity targets.new }
+{
+    blank(targets, desk.debts_out().len());
+    desk.target(received, targets.as_mut_slice());
+}
+
+// As many targets of nothing as there are places.
+fn blank(targets: &mut Vec<u64>, places: usize)
+    requires { places ≤ vec_capacity targets.old }
+    ensures places { vec_len targets.new ≡ places }
+    ensures room { vec_capacity targets.old ≤ vec_capacity targets.new }
+{
+    targets.clear();
+    let Ok(()) = targets.resize(places, 0) else {
+        unreachable!()
+    };
 }

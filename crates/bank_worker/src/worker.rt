@@ -1,34 +1,23 @@
 ghost use Rattle.bank_worker.specs.BankSets.{is_in};
 ghost use Rattle.bank_worker.specs.Called.{AreCalledOrSettled, AreCalledTo, AreCreditorsIn};
 ghost use Rattle.bank_worker.specs.Called.{CallsOthers, KeepsOthers, StayIn};
-ghost use Rattle.bank_worker.specs.Raises.{AreRaisedStill};
-ghost use Rattle.bank_worker.specs.Rings.{AreMarksBelow, AreMarksUpTo, creditors_of};
+ghost use Rattle.bank_worker.specs.Grows.{Grows, HasGone};
 ghost use Rattle.bank_worker.specs.Offices.{IsOfficeFor};
-ghost use Rattle.bank_worker.specs.Views.{desk_at, desks_held, banks_held};
-ghost use Rattle.bank_worker.specs.Visits.{AreNoted, IsAllCalm, IsDown};
-ghost use Rattle.bank_worker.specs.Visits.{IsRounded, IsSameCrew, IsSameSeat, IsStopped, IsVisited};
-ghost use Rattle.bank_worker.specs.Visits.{LooksOnce, MayRest, PaysOut, RingsAll, VisitsByBells};
-ghost use Rattle.bank_worker.specs.Visits.{WhenMem, WhenRaised};
-ghost use Rattle.clear_core.specs.Buffers.{HasRoom};
-ghost use Rattle.bank_desk.specs.Desks.{desk_of, target};
-ghost use Rattle.clr_net.specs.Limits.{IsNetwork};
+ghost use Rattle.bank_worker.specs.Views.{banks_held, desk_at, desks_held};
+ghost use Rattle.bank_worker.specs.Visits.{AreSettled, IsAllCalm, IsDown, IsRounded, IsSameCrew};
+ghost use Rattle.bank_worker.specs.Visits.{IsStopped, IsVisited, MakesRound, MayRest};
+ghost use Rattle.bank_worker.specs.Visits.{VisitsByBells, WhenMem, WhenRaised};
 ghost use Rattle.clr_net.specs.declared.TheConstants.{MAX_BANKS, MAX_OWED};
 ghost use Rattle.pay_words.specs.Views.{IsAt, OwesNoRing, holds, is_of_worker, took};
-ghost use Rattle.std.specs.Prelude.{◌≡◌, ◌+◌, ◌*◌, ◌^◌, ◌<◌, ◌≤◌, ℕ, [], IfErr, IfOk, false};
-ghost use Rattle.std.specs.Prelude.{drop, if◌then◌else◌, length, slice_index, true};
-ghost use Rattle.std.specs.Prelude.{vec_capacity, vec_len};
+ghost use Rattle.std.specs.Prelude.{◌≡◌, ◌+◌, ◌*◌, ◌^◌, ◌<◌, ◌≤◌, ℕ, [], IfErr, IfNone, IfOk};
+ghost use Rattle.std.specs.Prelude.{IfSome, drop, false, if◌then◌else◌, length, slice_index, true};
 
 use crate::bank_set::BankSet;
-use crate::desks::Desks;
-use crate::looks::look_at_all;
-use crate::office::{Office, Tools};
-use crate::raises::raise_all;
-use crate::rings::ring_all;
+use crate::office::Office;
 use crate::visit::Visit;
-use bank_desk::Desk;
 use clear_core::{Journal, Raise};
 use clr_edge::Gate;
-use clr_net::{BankId, DebtId, MAX_BANKS, Mem, Network};
+use clr_net::{BankId, MAX_BANKS, Mem, Network};
 use pay_words::{Board, PaySeat};
 use std::alloc::Global;
 use std::marker::Model;
@@ -47,15 +36,12 @@ pub struct SeatBack {
 #[derive(Drop)]
 pub struct Worker {
     seat: PaySeat,
-    desks: Desks,
-    worker: u32,
+    office: Office,
     visits: u64,
     journal: Journal,
-    tools: Box<Tools>,
 }
 
 impl Model for Worker {
-    ghost use Rattle.std.specs.Prelude.{vec_capacity};
     ghost use Rattle.bank_worker.specs.Views.{Crew};
     ghost use Rattle.bank_worker.specs.Staff.{IsStaffed};
 
@@ -63,20 +49,13 @@ impl Model for Worker {
 
     ghost view = { λ w. record {
       seat = w.seat;
-      desks = w.desks;
-      worker = w.worker;
+      desks = w.office.desks;
+      worker = w.office.worker;
       visits = w.visits;
       journal = w.journal.raises;
     } };
 
-    ghost invariant = { λ w. IsStaffed (record {
-      seat = w.seat;
-      desks = w.desks;
-      worker = w.worker;
-      visits = w.visits;
-      journal = w.journal.raises;
-    }) w.tools.value.creditors.items w.tools.value.marks.items w.tools.value.mine
-        w.tools.value.counted (vec_capacity w.tools.value.targets) w.tools.value.workers };
+    ghost invariant = { λ w. IsStaffed w.seat.shows w.journal.raises w.office };
 }
 
 impl Worker {
@@ -116,7 +95,7 @@ impl Worker {
 
     /// The worker of an office, with a seat for the same banks of the same network. Takes no
     /// memory, and its cost does not grow with the network.
-    pub fn with(alloc: Global, office: Office, seat: PaySeat) -> Worker
+    pub fn with(alloc: Global, mut office: Office, seat: PaySeat) -> Worker
         requires office { IsOfficeFor seat.shows.net (banks_held seat.shows) office }
         requires not_the_master { seat.shows.master ≡ false }
         requires no_raise { seat.shows.raises ≡ [] }
@@ -129,19 +108,12 @@ impl Worker {
           journal = [];
         } }
     {
-        let Office {
-            desks,
-            worker,
-            mut tools,
-        } = office;
-        let journal = tools.begin(alloc);
+        let journal = office.begin(alloc);
         Worker {
             seat,
-            desks,
-            worker,
+            office,
             visits: 0,
             journal,
-            tools,
         }
     }
 
@@ -152,7 +124,7 @@ impl Worker {
         ensures few { result ≤ MAX_BANKS }
         ensures no_rings { OwesNoRing self.now.seat.shows }
     {
-        self.desks.len()
+        self.office.desks().len()
     }
 
     /// How many visits were made.
@@ -176,30 +148,20 @@ impl Worker {
         ensures visits { self.new.visits ≡ self.old.visits + 1 }
         ensures raised { WhenRaised result
             (λ n. IsVisited (desk_at self.old.desks place) n self.old self.new) }
+        ensures grows { WhenRaised result (λ n. Grows n self.old self.new) }
         ensures few { WhenRaised result (λ n. n ≤ MAX_OWED) }
         ensures no_rings { OwesNoRing self.new.seat.shows }
         ensures mem { WhenMem result ((self.new.seat ≡ self.old.seat)
             × (self.new.journal ≡ self.old.journal)) }
     {
         self.visits += 1;
-        gate.at(self.worker, self.visits);
-        let tools = &mut *self.tools;
-        tools.counted += 1;
-        let desk = self.desks.at(place);
-        let Ok(()) = self.journal.reserve(desk.debts_out().len()) else {
+        gate.at(self.office.worker(), self.visits);
+        let debts = self.office.desks().at(place).debts_out();
+        let Ok(()) = self.journal.reserve(debts.len()) else {
             return Visit::Mem;
         };
-        let units = visit_bank(
-            board,
-            &mut self.seat,
-            desk,
-            &mut self.journal,
-            tools.creditors.as_slice(),
-            &mut tools.marks,
-            &mut tools.targets,
-            tools.counted,
-        );
-        Visit::Raised(units)
+        let seat = &mut self.seat;
+        Visit::Raised(self.office.visit(board, seat, &mut self.journal, place))
     }
 
     /// Goes over the desks in order, so many times: takes each bell that is up, and visits that
@@ -213,26 +175,16 @@ impl Worker {
         requires visits { self.old.visits ≤ 2 ^ 62 }
         requires idle { OwesNoRing self.old.seat.shows × IsAllCalm self.old.seat.shows
             × MayRest self.old.seat.shows self.old.desks }
-        ensures same { IsSameCrew self.old self.new }
-        ensures visits { VisitsByBells sweeps self.old self.new }
-        ensures raised { WhenRaised result (λ n. IsRounded n self.old self.new) }
-        ensures few { WhenRaised result (λ n. n ≤ 1000000 * MAX_OWED) }
-        ensures mem { WhenMem result (IsStopped sweeps self.old self.new) }
+        ensures { MakesRound sweeps result self.old self.new }
     {
-        let desks = self.desks();
-        prove!(desks <= MAX_BANKS as usize);
-        let mut units = 0;
-        for _ in 0..sweeps {
-            let visits = self.visits;
-            match self.sweep(board, gate, &mut BankSet::all()) {
-                Visit::Raised(more) => units += more,
-                Visit::Mem => return Visit::Mem,
-            }
-            if self.visits == visits {
-                break;
-            }
-        }
-        Visit::Raised(units)
+        let _ = &self.office;
+        self.go_round(
+            board,
+            sweeps,
+            gate,
+            &mut BankSet::all(),
+            Some(&BankSet::all()),
+        )
     }
 
     /// Makes a round as [`round`](Worker::round) does, and looks at the bells of those banks alone
@@ -260,20 +212,7 @@ impl Worker {
         ensures others { KeepsOthers self.old.seat.shows called.old called.new }
         ensures rung { CallsOthers self.old self.new called.new }
     {
-        let desks = self.desks();
-        prove!(desks <= MAX_BANKS as usize);
-        let mut units = 0;
-        for _ in 0..sweeps {
-            let visits = self.visits;
-            match self.sweep(board, gate, called) {
-                Visit::Raised(more) => units += more,
-                Visit::Mem => return Visit::Mem,
-            }
-            if self.visits == visits {
-                break;
-            }
-        }
-        Visit::Raised(units)
+        self.go_round(board, sweeps, gate, called, None)
     }
 
     /// The seat, and the journal of its raises. Takes no memory.
@@ -297,18 +236,48 @@ impl Worker {
     {
         let Worker {
             seat,
-            desks,
-            worker,
             journal,
-            tools,
+            office,
             ..
         } = self;
-        let office = Office {
-            desks,
-            worker,
-            tools,
-        };
         (seat, journal, office)
+    }
+
+    // Makes a round: sweeps over the desks whose banks are called, and before each sweep calls some
+    // banks anew, or none.
+    fn go_round<G: Gate>(
+        &mut self,
+        board: &Board,
+        sweeps: u32,
+        gate: &G,
+        called: &mut BankSet,
+        anew: Option<&BankSet>,
+    ) -> Visit
+        requires seat { IsAt board.now self.old.seat }
+        requires sweeps { (1 ≤ sweeps) × (sweeps ≤ 1000) }
+        requires visits { self.old.visits ≤ 2 ^ 62 }
+        requires idle { IsAllCalm self.old.seat.shows
+            × MayRest self.old.seat.shows self.old.desks }
+        requires called { AreCalledOrSettled called.old self.old.seat.shows self.old.desks }
+        ensures round { MakesRound sweeps result self.old self.new }
+        ensures others { KeepsOthers self.old.seat.shows called.old called.new }
+        ensures rung { CallsOthers self.old self.new called.new }
+    {
+        let desks = self.desks();
+        prove!(desks <= MAX_BANKS as usize);
+        let mut units = 0;
+        for _ in 0..sweeps {
+            let visits = self.visits;
+            call_anew(called, anew);
+            match self.sweep(board, gate, called) {
+                Visit::Raised(more) => units += more,
+                Visit::Mem => return Visit::Mem,
+            }
+            if self.visits == visits {
+                break;
+            }
+        }
+        Visit::Raised(units)
     }
 
     // One sweep over the desks whose banks are called, in order.
@@ -320,9 +289,9 @@ impl Worker {
         requires called { AreCalledOrSettled called.old self.old.seat.shows self.old.desks }
         ensures same { IsSameCrew self.old self.new }
         ensures visits { VisitsByBells 1 self.old self.new }
-        ensures raised { WhenRaised result (λ n. IsRounded n self.old self.new) }
-        ensures still { WhenRaised result (λ n.
-            AreRaisedStill self.old.seat.shows.raises self.new.seat.shows.raises) }
+        ensures gone { WhenRaised result (λ n. HasGone n self.old self.new) }
+        ensures settled { WhenRaised result (λ n.
+            AreSettled self.new.seat.shows self.new.desks) }
         ensures few { WhenRaised result (λ n. n ≤ length self.old.desks * MAX_OWED) }
         ensures mem { WhenMem result (IsStopped 1 self.old self.new) }
         ensures others { KeepsOthers self.old.seat.shows called.old called.new }
@@ -356,12 +325,12 @@ impl Worker {
         ensures none_before { (k : ℕ) → from ≤ k → k < result → k < length self.now.desks
             → is_in called.now (desk_at self.now.desks k).bank ≡ false }
     {
-        let banks = self.desks.banks();
+        let banks = self.office.desks().banks();
         if from == banks.len() {
             return from;
         }
-        match self.tools.mine.first_in_both(called, banks[from]) {
-            Some(bank) => (bank.0 / self.tools.workers) as usize,
+        match self.office.banks().first_in_both(called, banks[from]) {
+            Some(bank) => (bank.0 / self.office.workers()) as usize,
             None => banks.len(),
         }
     }
@@ -374,7 +343,7 @@ impl Worker {
             (drop from self.now.journal) }
     {
         let (_, made) = self.journal.as_slice().split_at(from);
-        call_all(self.tools.creditors.as_slice(), made, called);
+        call_all(self.office.creditors(), made, called);
     }
 
     // The bank of a desk.
@@ -384,12 +353,12 @@ impl Worker {
         ensures few { result.0 < MAX_BANKS }
         ensures held { holds self.now.seat.shows result.0 ≡ true }
     {
-        let banks = self.desks.banks();
+        let banks = self.office.desks().banks();
         BankId(banks[place])
     }
 
     // Takes the bell of a desk's bank, and answers whether it was up.
-    #[tactic(auto, using(crate::proofs::Staffed::set_out_kept, crate::proofs::Staffed::same_taken))]
+    #[tactic(auto, using(crate::proofs::Staffed::staffed_taken))]
     fn take(&mut self, board: &Board, place: usize) -> bool
         requires seat { IsAt board.now self.old.seat }
         requires place { place < length self.old.desks }
@@ -408,6 +377,18 @@ impl Worker {
     }
 }
 
+// Calls these banks, if any.
+#[tactic(auto, using(crate::proofs::Calling::stay_in, crate::proofs::Calling::has_too))]
+fn call_anew(called: &mut BankSet, anew: Option<&BankSet>)
+    ensures kept { StayIn called.old called.new }
+    ensures anew { IfSome anew.entry (λ banks. StayIn banks.now called.new) }
+    ensures none { IfNone anew.entry (called.new ≡ called.old) }
+{
+    if let Some(banks) = anew {
+        called.add_all(banks);
+    }
+}
+
 // Calls the creditors of the debts of these raises. Each of the debts has one; a journal does not
 // say so, and so it is looked for.
 fn call_all(creditors: &[u16], raises: &[Raise], called: &mut BankSet)
@@ -422,76 +403,4 @@ fn call_all(creditors: &[u16], raises: &[Raise], called: &mut BankSet)
             called.add(BankId(creditors[debt] as u32));
         }
     }
-}
-
-// Visits the bank of a desk, whose raises have room in the journal. The visit has a number that no
-// mark has yet.
-fn visit_bank(
-    board: &Board,
-    seat: &mut PaySeat,
-    desk: &Desk,
-    journal: &mut Journal,
-    creditors: &[u16],
-    marks: &mut [u64],
-    targets: &mut Vec<u64>,
-    visit: u64,
-) -> u64
-    requires seat { IsAt board.now seat.old }
-    requires not_the_master { seat.old.shows.master ≡ false }
-    requires network { IsNetwork board.now.net }
-    requires bank { (desk.now.bank < length board.now.net.banks)
-        × (holds seat.old.shows desk.now.bank ≡ true) }
-    requires desk { desk.now ≡ desk_of board.now.net desk.now.bank }
-    requires noted { journal.old.raises ≡ seat.old.shows.raises }
-    requires spare { length desk.now.debts_out ≤ journal.old.spare }
-    requires no_rings { OwesNoRing seat.old.shows }
-    requires creditors { creditors.now ≡ creditors_of board.now.net }
-    requires marks { (length marks.old ≡ length board.now.net.banks)
-        × AreMarksBelow visit marks.old }
-    requires room { HasRoom board.now.net (vec_capacity targets.old) }
-    ensures table { seat.new.table ≡ seat.old.table }
-    ensures same { IsSameSeat seat.old.shows seat.new.shows }
-    ensures looks { LooksOnce desk.now seat.old.shows seat.new.shows }
-    ensures pays { PaysOut desk.now result seat.old.shows seat.new.shows }
-    ensures notes { AreNoted desk.now seat.old.shows seat.new.shows }
-    ensures noted { journal.new.raises ≡ seat.new.shows.raises }
-    ensures rings { RingsAll desk.now seat.old.shows seat.new.shows }
-    ensures no_rings { OwesNoRing seat.new.shows }
-    ensures few { result ≤ MAX_OWED }
-    ensures marks { AreMarksUpTo visit marks.new }
-    ensures room { vec_capacity targets.old ≤ vec_capacity targets.new }
-{
-    let _clock = seat.clock();
-    let received = look_at_all(board, seat, desk.debts_in());
-    let _clock = seat.clock();
-    lay_out(desk, received, targets);
-    let debts = desk.debts_out();
-    let from = journal.as_slice().len();
-    let units = raise_all(board, seat, debts, targets.as_slice(), journal);
-    let (_, made) = journal.as_slice().split_at(from);
-    ring_all(board, seat, made, creditors, marks, visit);
-    units
-}
-
-// Lays out what the desk's bank should pay on each of its debts when it receives so many units.
-fn lay_out(desk: &Desk, received: u64, targets: &mut Vec<u64>)
-    requires received { received ≤ MAX_OWED }
-    requires room { length desk.now.debts_out ≤ vec_capacity targets.old }
-    ensures targets { targets.new.items ≡ target desk.now received }
-    ensures room { vec_capacity targets.old ≤ vec_capacity targets.new }
-{
-    blank(targets, desk.debts_out().len());
-    desk.target(received, targets.as_mut_slice());
-}
-
-// As many targets of nothing as there are places.
-fn blank(targets: &mut Vec<u64>, places: usize)
-    requires { places ≤ vec_capacity targets.old }
-    ensures places { vec_len targets.new ≡ places }
-    ensures room { vec_capacity targets.old ≤ vec_capacity targets.new }
-{
-    targets.clear();
-    let Ok(()) = targets.resize(places, 0) else {
-        unreachable!()
-    };
 }

@@ -39,7 +39,7 @@ impl<'a, R: Files> Shelf for DirShelf<'a, R> {
         ensures failed { IsErrOf result FetchFault.Failed
             → HasRisen self.old.faults self.new.faults }
 
-        // The bytes are the front of a file that was opened, and the count rises at a failure
+        // The bytes are the front of what some file had left, and the count rises at a failure
         // alone.
         ensures front { IfOk result (λ bytes.
             (file : R.File) × IsFront (R.File.remaining file) limit bytes.items) }

@@ -15,6 +15,8 @@ use start::{Exit, arguments, refuse, start};
 use std_sink::StdSink;
 
 #[cfg(test)]
+mod stream_tests;
+#[cfg(test)]
 mod tests;
 
 fn main(rt: HostRuntime) -> Exit {

@@ -32,10 +32,10 @@ impl<W: Write> Sink for StdSink<W> {
         ensures some { IfOk result (λ n. 1 ≤ n) }
         ensures within { IfOk result (λ n. n ≤ length piece.now) }
         ensures faults { self.old.faults ≤ self.new.faults }
-        ensures well { OnOk result (self.new.faults ≡ self.old.faults) }
         ensures failed { OnErr result (HasRisen self.old.faults self.new.faults) }
 
-        // A failure is counted once, and the stream holds what the answer says.
+        // A failure is counted once, and nothing else; the stream holds what the answer says.
+        ensures well { OnOk result (self.new.faults ≡ self.old.faults) }
         ensures one { OnErr result (self.new.faults ≡ counted self.old.faults) }
         ensures taken { IfOk result (λ n.
             Appends (W.contents self.old.stream) (W.contents self.new.stream) (take n piece.now)) }

@@ -4,8 +4,8 @@ use Rattle.std.proofs.Common.{inl, inr}
 use Rattle.pay_words.specs.Sealed.{Sealed}
 use Rattle.clear_words.specs.declared.job.Job.{Job}
 use Rattle.net_check.specs.declared.fault.Fault.{Fault}
-use Rattle.clear_top.specs.Ending.{IfTold, IsRefusedOrMem, IsUntouched, IsUsageOrMem, JobEnds}
-use Rattle.clear_top.specs.Ending.{NoneRose, RunEnds, ShelfCall, SinkCall, SinkRose}
+use Rattle.clear_top.specs.Ending.{IsRefusedOrMem, IsUntouched, IsUsageOrMem, JobEnds}
+use Rattle.clear_top.specs.Ending.{NoneRose, OnFiles, RunEnds, ShelfCall, SinkCall, SinkRose}
 use Rattle.clear_top.specs.Ending.{WasPartWritten, WasWritten, Works, WritesText}
 use Rattle.clear_top.specs.Meaning.{Means}
 use Rattle.clear_top.specs.Reading.{Files, Input, reading}
@@ -16,7 +16,7 @@ use Rattle.clear_top.specs.declared.status.Status.TheVariants as status
 
 -- what was worked out is what the job comes to
 meant : (files : Option Files) (job : Job) (o : Outcome) → Works files job o
-    → IfTold files (λ told. Means told job o)
+    → OnFiles files job (λ told. Means told job o)
 meant files job o (on, gives, comes) told tells = (on, gives told tells, comes)
 
 -- an ending, by its status and its record
@@ -50,7 +50,7 @@ module _ (shelf : ShelfCall) (sink : SinkCall) where
   -- a fault of the files is the one that is refused, where nothing outside fails
   refuses : (job : Job) (s : Status) (sealed : Option Sealed) (f : Fault)
       → JobEnds shelf sink job s sealed
-      → IfTold shelf.files (λ told. reading told job ≡ Some (Err f) → NoneRose shelf job
+      → OnFiles shelf.files job (λ told. reading told job ≡ Some (Err f) → NoneRose shelf job
       → IsRefusedOrMem f s)
   refuses job status.Done sealed f (text, works, taken) told tells faulty none_rose =
       absurd (no_fault job told works.0 f (works.1 told tells) faulty)
@@ -70,13 +70,13 @@ module _ (shelf : ShelfCall) (sink : SinkCall) where
   -- and what is refused is the first fault of the files
   is_first : (job : Job) (s : Status) (sealed : Option Sealed) (f : Fault)
       → JobEnds shelf sink job s sealed
-      → IfTold shelf.files (λ told. s ≡ status.Refused f → reading told job ≡ Some (Err f))
+      → OnFiles shelf.files job (λ told. s ≡ status.Refused f → reading told job ≡ Some (Err f))
   is_first job s sealed f ends told tells is =
       let here : JobEnds shelf sink job (status.Refused f) sealed = rw is at ends in
       here.0 told tells
 
   pub refused_first : (job : Job) (e : Ended) (f : Fault) → RunEnds shelf sink (Some job) e
-      → IfTold shelf.files (λ told. (e.status ≡ status.Refused f → reading told job ≡ Some (Err f))
+      → OnFiles shelf.files job (λ told. (e.status ≡ status.Refused f → reading told job ≡ Some (Err f))
       × (reading told job ≡ Some (Err f) → NoneRose shelf job → IsRefusedOrMem f e.status))
   refused_first job e f ends told tells =
       (is_first job e.status e.sealed f ends told tells, refuses job e.status e.sealed f ends told tells)
@@ -84,7 +84,7 @@ module _ (shelf : ShelfCall) (sink : SinkCall) where
   -- what is written is what the job comes to, whole or in part
   written_by : (job : Job) (s : Status) (sealed : Option Sealed)
       → JobEnds shelf sink job s sealed
-      → IfTold shelf.files (λ told. (WritesText s → WasWritten told sink job (ended s sealed))
+      → OnFiles shelf.files job (λ told. (WritesText s → WasWritten told sink job (ended s sealed))
       × (s ≡ status.WriteFault → WasPartWritten told sink job (ended s sealed)))
   written_by job status.Done sealed (text, works, taken) told tells =
       (λ is. (text, meant shelf.files job _ works told tells, taken), λ is. absurd (cc))
@@ -98,14 +98,14 @@ module _ (shelf : ShelfCall) (sink : SinkCall) where
   written_by job status.Mem sealed ends told tells = (λ is. absurd is, λ is. absurd (cc))
 
   pub written_is_meant : (job : Job) (e : Ended) → RunEnds shelf sink (Some job) e
-      → IfTold shelf.files (λ told. (WritesText e.status → WasWritten told sink job e)
+      → OnFiles shelf.files job (λ told. (WritesText e.status → WasWritten told sink job e)
       × (e.status ≡ status.WriteFault → WasPartWritten told sink job e))
   written_is_meant job e ends told tells = written_by job e.status e.sealed ends told tells
 
   -- what an accepted job comes to is written where nothing outside fails, or memory is wanting
   accepted_by : (job : Job) (s : Status) (sealed : Option Sealed) (on : Input)
       → JobEnds shelf sink job s sealed
-      → IfTold shelf.files (λ told. reading told job ≡ Some (Ok on) → NoneRose shelf job
+      → OnFiles shelf.files job (λ told. reading told job ≡ Some (Ok on) → NoneRose shelf job
       → ¬ (SinkRose sink) → WasWritten told sink job (ended s sealed)
       ⊎ ((s ≡ status.Mem) × (sink.new ≡ sink.old)))
   accepted_by job status.Done sealed on (text, works, taken) told tells fine none_rose no_rise =
@@ -122,7 +122,7 @@ module _ (shelf : ShelfCall) (sink : SinkCall) where
   accepted_by job status.Mem sealed on ends told tells fine none_rose no_rise = inr (refl, ends.0)
 
   pub accepted_is_written : (job : Job) (e : Ended) (on : Input) → RunEnds shelf sink (Some job) e
-      → IfTold shelf.files (λ told. reading told job ≡ Some (Ok on) → NoneRose shelf job
+      → OnFiles shelf.files job (λ told. reading told job ≡ Some (Ok on) → NoneRose shelf job
       → ¬ (SinkRose sink) → WasWritten told sink job e
       ⊎ ((e.status ≡ status.Mem) × (sink.new ≡ sink.old)))
   accepted_is_written job e on ends told tells =

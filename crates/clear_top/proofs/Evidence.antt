@@ -100,7 +100,7 @@ module _ (files later : Files) (job again : Job) (o : Outcome) where
   by_run both net sealed rounds (replays, banks, debts, third) both_are net_is cleared run sealed_is text_is =
       let network : IsNetwork net = network_of_ok both.0 both.1 net net_is in
       let keeps = network_of_names both.0 both.1 net net_is in
-      let few : rounds < 2 ^ 63 = omega (arith, run.few_rounds, network.owed_in_limit) in
+      let few : rounds < 10 ^ 20 = omega (arith, run.few_rounds, network.owed_in_limit) in
       let back = closed_journal_back net sealed.journal rounds network keeps run.in_limits few in
       let read : reading later again ≡ Some (Ok (record (alone net) { journal = sealed.journal })) =
       journal_read later again both net (journal_and_rounds net sealed.journal rounds) sealed.journal
@@ -126,8 +126,8 @@ module _ (files later : Files) (job again : Job) (o : Outcome) where
       let settled : Settles on.net (plan_of job) (clear_text show.Journal on.net) o =
       subst (λ s. Settles on.net (plan_of job) (clear_text s on.net) o) shows cleared in
       let net_is : on.net ≡ found.net = ap (λ g. g.net) (sym found.on_is) in
-      by_run found.both found.net settled.sealed settled.rounds saved found.both_are found.net_is
+      by_run found.both found.net settled.settled.sealed settled.settled.rounds saved found.both_are found.net_is
       (given ∙ ap (λ g. Some (Ok g)) (sym found.on_is))
-      (subst (λ n. IsRun n settled.sealed.journal settled.rounds) net_is settled.run)
+      (subst (λ n. IsRun n settled.settled.sealed.journal settled.settled.rounds) net_is settled.run)
       (ap (λ p. p.sealed) settled.comes)
-      (ap (λ p. p.text) settled.comes ∙ ap (λ n. journal_and_rounds n settled.sealed.journal settled.rounds) net_is)
+      (ap (λ p. p.text) settled.comes ∙ ap (λ n. journal_and_rounds n settled.settled.sealed.journal settled.settled.rounds) net_is)

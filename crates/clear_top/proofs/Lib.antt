@@ -12,3 +12,5 @@ pub mod Begun
 pub mod Evidence
 pub mod Records
 pub mod Showing
+pub mod Outcomes
+pub mod Generating

@@ -6,7 +6,7 @@ use Rattle.clear_words.specs.declared.job.Job.{Job}
 use Rattle.net_check.specs.declared.fault.Fault.{Fault}
 use Rattle.net_check.specs.declared.fault.FileKind.{FileKind}
 use Rattle.net_check.specs.declared.fault.FileKind.TheVariants as file
-use Rattle.clear_top.specs.Ending.{GivesBoth, GivesWhole, IfTold, IsThere, IsUnread, Stops, StopsFetch}
+use Rattle.clear_top.specs.Ending.{AreRead, GivesBoth, GivesWhole, IfTold, IsThere, IsUnread, Stops, StopsFetch}
 use Rattle.clear_top.specs.Ending.{shelf_call}
 use Rattle.clear_top.specs.Reading.{Files, all_whole, both_whole, reading_by}
 use Rattle.clear_top.specs.Sources.{has_files, name_by, source_of, third_kind}
@@ -24,6 +24,11 @@ banks_named s job has = refl
 debts_named : (s : Source) (job : Job) → has_files s ≡ true → name_by s job file.Debts ≡ Some job.debts
 debts_named source.Generated job has = absurd (cc)
 debts_named s job has = refl
+
+-- a source with files works on those that are told
+are_told : (s : Source) (files : Option Files) (told : Files) → has_files s ≡ true → AreRead s files told → files ≡ Some told
+are_told source.Generated files told has read = absurd (cc)
+are_told s files told has read = read
 
 -- a source with a third file has the two others
 pub third_has_files : (s : Source) (k : FileKind) → third_kind s ≡ Some k → has_files s ≡ true
@@ -56,7 +61,8 @@ stops_at_banks files before after job (status.ReadFault k) has (is, risen) =
     ((job.banks, banks_named (source_of job.task) job has, risen), λ told tells. tt) in
     rw is at_banks
 stops_at_banks files before after job (status.Refused f) has faulty =
-    λ told tells. fault_of_both (source_of job.task) told job f has (rw (faulty told tells) refl)
+    λ told read. let tells = are_told (source_of job.task) files told has read in
+    fault_of_both (source_of job.task) told job f has (rw (faulty told tells) refl)
 stops_at_banks files before after job status.Mem has stops = stops
 stops_at_banks files before after job s has stops = absurd stops
 
@@ -74,7 +80,8 @@ stops_at_debts files mid before middle after job banks (status.ReadFault k) has 
     ) in
     rw is at_debts
 stops_at_debts files mid before middle after job banks (status.Refused f) has same gives no_fall faulty =
-    λ told tells. fault_of_both (source_of job.task) told job f has
+    λ told read. let tells = are_told (source_of job.task) files told has read in
+    fault_of_both (source_of job.task) told job f has
     (rw (gives told tells, faulty told (same ∙ tells)) refl)
 stops_at_debts files mid before middle after job banks status.Mem has same gives no_fall stops = stops
 stops_at_debts files mid before middle after job banks s has same gives no_fall stops = absurd stops
@@ -114,7 +121,9 @@ stops_at_third files mid before middle after job k banks debts (status.ReadFault
     )) in
     rw is at
 stops_at_third files mid before middle after job k banks debts (status.Refused f) third same gives no_fall faulty =
-    λ told tells. fault_of_all (source_of job.task) k told job f third
+    λ told read.
+    let tells = are_told (source_of job.task) files told (third_has_files (source_of job.task) k third) read in
+    fault_of_all (source_of job.task) k told job f third
     (rw (gives.0 told tells, gives.1 told tells, faulty told (same ∙ tells)) refl)
 stops_at_third files mid before middle after job k banks debts status.Mem third same gives no_fall stops = stops
 stops_at_third files mid before middle after job k banks debts s third same gives no_fall stops = absurd stops

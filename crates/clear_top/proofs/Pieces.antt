@@ -1,7 +1,7 @@
 -- A sink that takes a text piece by piece.
 use Rattle.std.proofs.Common.{◌≡◌, ℕ, zero, suc, ◌+◌, ◌<◌, ◌≤◌, List, [], ◌∷◌, ◌++◌, length, take}
 use Rattle.std.proofs.Common.{drop, get_or, map, Option, None, Some, refl, sym, ap, ◌∙◌, inl, inr}
-use Rattle.std.proofs.Common.{⊎_elim, append_assoc, length-append, arith, subst, true, false, true≢false}
+use Rattle.std.proofs.Common.{⊎_elim, append_assoc, length-append, arith, true, false, true≢false}
 use Rattle.std.proofs.Common.{Result, Ok, Err}
 use Rattle.std.specs.List.{concat}
 use Rattle.std.specs.Result.{is_err, OnOk, OnErr}
@@ -9,7 +9,7 @@ use Rattle.std.proofs.lemmas.List.{append-nil, get_or-map, length-map, map-appen
 use Rattle.std.proofs.lemmas.List.Folds.{concat-append}
 use Rattle.clr_edge.specs.Faults.{HasRisen}
 use Rattle.clr_edge.specs.Sink.{with_bytes, WritesPart}
-use Rattle.clear_top.specs.Ending.{TakesPart, TakesWhole, sink_call}
+use Rattle.clear_top.specs.Ending.{TakesPart, sink_call}
 use Rattle.clear_top.specs.Message.{TakesText}
 
 -- bytes and then bytes
@@ -51,17 +51,16 @@ with_nothing None = refl
 with_nothing (Some w) = ap Some (sym (append-nil w))
 
 -- some bytes and then others, at a sink before them, between them and after them
-module _ (old : Option (List ℕ)) {mid new : Option (List ℕ)} {a b c : ℕ} (x y : List ℕ) where
-  pub whole_then_whole : TakesWhole (sink_call old mid a b) x → TakesWhole (sink_call mid new b c) y
-      → TakesWhole (sink_call old new a c) (x ++ y)
+module _ (old : Option (List ℕ)) {mid new : Option (List ℕ)} (x y : List ℕ) where
+  pub whole_then_whole : mid ≡ with_bytes old x → new ≡ with_bytes mid y → new ≡ with_bytes old (x ++ y)
   whole_then_whole first second =
-      (second.0 ∙ ap (λ w. with_bytes w y) first.0 ∙ with_bytes-twice old x y, second.1 ∙ first.1)
+      second ∙ ap (λ w. with_bytes w y) first ∙ with_bytes-twice old x y
 
-  pub whole_then_part : TakesWhole (sink_call old mid a b) x → TakesPart (sink_call mid new b c) y
+  pub whole_then_part : {a b c : ℕ} → mid ≡ with_bytes old x → a ≤ b → TakesPart (sink_call mid new b c) y
       → TakesPart (sink_call old new a c) (x ++ y)
-  whole_then_part first second = (
-    part_of_whole old mid new x y [] (x ++ y) first.0 (ap (λ l. x ++ l) (sym (append-nil y))) second.0,
-    subst (λ n. HasRisen n c) first.1 second.1,
+  whole_then_part {a} {b} {c} first no_fall second = (
+    part_of_whole old mid new x y [] (x ++ y) first (ap (λ l. x ++ l) (sym (append-nil y))) second.0,
+    risen_since a b c no_fall second.1,
   )
 
 -- a part of the bytes in front is a part of all

@@ -1,5 +1,5 @@
 -- Which tasks answer a record, and when a journal is told unlawful.
-use Rattle.std.proofs.Common.{◌≡◌, ◌≢◌, ◌↔◌, true, false, List, Option, Some, None, Ok, refl, sym, ap, ◌∙◌, subst}
+use Rattle.std.proofs.Common.{inl, inr, ◌≡◌, ◌≢◌, ◌↔◌, true, false, List, Option, Some, None, Ok, refl, sym, ap, ◌∙◌, subst}
 use Rattle.std.specs.Option.{IsSome, is_some}
 use Rattle.clr_net.specs.Net.{Net}
 use Rattle.clear_core.specs.declared.event.Raise.{Raise}
@@ -10,21 +10,17 @@ use Rattle.pay_words.specs.Sealed.{Sealed}
 use Rattle.raise_journal.specs.Verdicts.{judged}
 use Rattle.raise_journal.specs.declared.verdict.Verdict.{Verdict}
 use Rattle.raise_journal.specs.declared.verdict.Verdict.TheVariants as verdict
-use Rattle.clear_top.specs.Ending.{AnswersRecord, IfTold, IsFoundUnlawful, JobEnds, RunEnds, ShelfCall}
-use Rattle.clear_top.specs.Ending.{SinkCall, Works, WritesText, has_record}
+use Rattle.clear_top.specs.Ending.{AnswersRecord, AreRead, IsFoundUnlawful, JobEnds, OnFiles, RunEnds, ShelfCall}
+use Rattle.clear_top.specs.Ending.{SinkCall, Works, WritesText}
 use Rattle.clear_top.specs.Meaning.{ComesTo, answer_to}
+use Rattle.clear_top.specs.Visited.{IsAllByBells}
+use Rattle.clear_top.proofs.Outcomes.{IsOfAKind, kind_of}
 use Rattle.clear_top.specs.Reading.{Files, Input}
 use Rattle.clear_top.specs.Outcome.{Outcome}
+use Rattle.clear_top.specs.Sources.{has_record, source_of}
 use Rattle.clear_top.specs.declared.status.Ended.{Ended}
 use Rattle.clear_top.specs.declared.status.Status.{Status}
 use Rattle.clear_top.specs.declared.status.Status.TheVariants as status
-
--- an outcome without a record, or with one
-without : (o p : Outcome) → o ≡ p → p.sealed ≡ None → is_some o.sealed ≡ false
-without o p is none = ap (λ q. is_some q.sealed) is ∙ ap is_some none
-
-with_one : (o p : Outcome) (s : Sealed) → o ≡ p → p.sealed ≡ Some s → is_some o.sealed ≡ true
-with_one o p s is one = ap (λ q. is_some q.sealed) is ∙ ap is_some one
 
 answer_without : (net : Net) (rs : List Raise) (v : Verdict) → (answer_to net rs v).sealed ≡ None
 answer_without net rs verdict.Lawful = refl
@@ -32,22 +28,15 @@ answer_without net rs (verdict.Unlawful entry had allowed) = refl
 answer_without net rs (verdict.Falls entry last stamp) = refl
 answer_without net rs (verdict.Unfinished bank) = refl
 
+-- an answer to a journal has no record
+no_record : (on : Input) (o : Outcome) → o ≡ answer_to on.net on.journal (judged on.net on.journal).verdict → o.sealed ≡ None
+no_record on o is = ap (λ q. q.sealed) is ∙ answer_without on.net on.journal (judged on.net on.journal).verdict
+
 -- what a task comes to has a record where the task has one
-comes_with : (t : Task) (job : Job) (on : Input) (o : Outcome) → ComesTo t job on o
-    → is_some o.sealed ≡ has_record t
-comes_with task.Check job on o comes = without o _ comes refl
-comes_with task.Clear job on o comes = with_one o _ comes.sealed comes.comes refl
-comes_with task.Central job on o comes = without o _ comes refl
-comes_with task.Defaults job on o comes = with_one o _ comes.sealed comes.comes refl
-comes_with task.Stress job on o comes = without o _ comes refl
-comes_with task.Replay job on o comes =
-    without o _ comes (answer_without on.net on.journal (judged on.net on.journal).verdict)
-comes_with task.Gen job on o comes = with_one o _ comes.sealed comes.comes refl
-comes_with task.Convert job on o comes = without o _ comes refl
-comes_with task.Bounds job on o comes = with_one o _ comes.sealed comes.comes refl
-comes_with task.Rescue job on o comes = with_one o _ comes.sealed comes.comes refl
-comes_with task.Compress job on o (claims, ranks, n, is, plain) = without o _ plain refl
-comes_with task.Costs job on o comes = without o _ comes refl
+kind_with : (t : Task) (on : Input) (o : Outcome) → IsOfAKind t on o → is_some o.sealed ≡ has_record t
+kind_with t on o (inl (none, done, bare)) = ap is_some bare ∙ sym none
+kind_with t on o (inr (inl (replays, is))) = ap is_some (no_record on o is) ∙ sym (ap has_record replays)
+kind_with t on o (inr (inr (has, done, (sealed, is, made)))) = ap is_some is ∙ sym has
 
 -- no record is none
 none_is_no_record : (sealed : Option Sealed) → sealed ≡ None → IsSome sealed → ⊥
@@ -56,7 +45,7 @@ none_is_no_record sealed none some = let apart : false ≡ true = sym (ap is_som
 -- work that was written, whole or in part
 of_work : (files : Option Files) (job : Job) (o : Outcome) → Works files job o
     → is_some o.sealed ≡ has_record job.task
-of_work files job o (on, given, comes) = comes_with job.task job on o comes
+of_work files job o (on, given, comes) = kind_with job.task on o (kind_of job.task job on o comes)
 
 module _ (shelf : ShelfCall) (sink : SinkCall) where
   -- a record is there exactly for its tasks and statuses
@@ -93,24 +82,13 @@ told_of net rs v (verdict.Falls entry last stamp) is = (cc, λ lawful. cc)
 told_of net rs v (verdict.Unfinished bank) is = (cc, λ lawful. cc)
 
 -- work that comes to an unlawful journal is a replay of it
-is_replay : (t : Task) (job : Job) (on : Input) (o : Outcome) (v : Verdict) → ComesTo t job on o
-    → o.status ≡ status.Unlawful v
+is_replay : (t : Task) (on : Input) (o : Outcome) (v : Verdict) → IsOfAKind t on o → o.status ≡ status.Unlawful v
     → (t ≡ task.Replay) × ((judged on.net on.journal).verdict ≡ v) × (v ≢ verdict.Lawful)
-is_replay task.Check job on o v comes is = absurd (let both = sym (ap (λ q. q.status) comes) ∙ is in cc)
-is_replay task.Clear job on o v comes is = absurd (let both = sym (ap (λ q. q.status) comes.comes) ∙ is in cc)
-is_replay task.Central job on o v comes is = absurd (let both = sym (ap (λ q. q.status) comes) ∙ is in cc)
-is_replay task.Defaults job on o v comes is = absurd (let both = sym (ap (λ q. q.status) comes.comes) ∙ is in cc)
-is_replay task.Stress job on o v comes is = absurd (let both = sym (ap (λ q. q.status) comes) ∙ is in cc)
-is_replay task.Replay job on o v comes is =
-    let found = told_of on.net on.journal v (judged on.net on.journal).verdict (sym (ap (λ q. q.status) comes) ∙ is) in
-    (refl, found.0, found.1)
-is_replay task.Gen job on o v comes is = absurd (let both = sym (ap (λ q. q.status) comes.comes) ∙ is in cc)
-is_replay task.Convert job on o v comes is = absurd (let both = sym (ap (λ q. q.status) comes) ∙ is in cc)
-is_replay task.Bounds job on o v comes is = absurd (let both = sym (ap (λ q. q.status) comes.comes) ∙ is in cc)
-is_replay task.Rescue job on o v comes is = absurd (let both = sym (ap (λ q. q.status) comes.comes) ∙ is in cc)
-is_replay task.Compress job on o v (claims, ranks, n, compresses, plain) is =
-    absurd (let both = sym (ap (λ q. q.status) plain) ∙ is in cc)
-is_replay task.Costs job on o v comes is = absurd (let both = sym (ap (λ q. q.status) comes) ∙ is in cc)
+is_replay t on o v (inl (none, done, bare)) is = absurd (let both = sym done ∙ is in cc)
+is_replay t on o v (inr (inl (replays, answer))) is =
+    let found = told_of on.net on.journal v (judged on.net on.journal).verdict (sym (ap (λ q. q.status) answer) ∙ is) in
+    (replays, found.0, found.1)
+is_replay t on o v (inr (inr (has, done, kept))) is = absurd (let both = sym done ∙ is in cc)
 
 -- the answer to a journal that is found unlawful
 answer_told : (net : Net) (rs : List Raise) (w : Verdict) → w ≢ verdict.Lawful
@@ -121,7 +99,7 @@ answer_told net rs (verdict.Falls entry last stamp) bad = refl
 answer_told net rs (verdict.Unfinished bank) bad = refl
 
 -- the work on a journal that is found unlawful comes to that status
-found_told : (told : Files) (files : Option Files) (job : Job) (o : Outcome) (v : Verdict) → files ≡ Some told
+found_told : (told : Files) (files : Option Files) (job : Job) (o : Outcome) (v : Verdict) → AreRead (source_of job.task) files told
     → Works files job o → IsFoundUnlawful told job v → o.status ≡ status.Unlawful v
 found_told told files job o v tells (on, given, comes) (seen, replays, read, is, bad) =
     let both : Some (Ok on) ≡ Some (Ok seen) = sym (given told tells) ∙ read in
@@ -136,11 +114,11 @@ found_told told files job o v tells (on, given, comes) (seen, replays, read, is,
 module _ (shelf : ShelfCall) (sink : SinkCall) where
   -- a journal is told unlawful exactly where it is found so and its line is written whole
   unlawful_by : (job : Job) (s : Status) (sealed : Option Sealed) (v : Verdict) → JobEnds shelf sink job s sealed
-      → IfTold shelf.files (λ told. (s ≡ status.Unlawful v) ↔ (IsFoundUnlawful told job v × WritesText s))
+      → OnFiles shelf.files job (λ told. (s ≡ status.Unlawful v) ↔ (IsFoundUnlawful told job v × WritesText s))
   unlawful_by job status.Done sealed v (text, works, taken) told tells =
       (λ is. absurd (cc), λ found. found_told told shelf.files job _ v tells works found.0)
   unlawful_by job (status.Unlawful w) sealed v (text, (on, given, comes), taken) told tells = (
-    λ is. let found = is_replay job.task job on _ w comes refl in
+    λ is. let found = is_replay job.task on _ w (kind_of job.task job on _ comes) refl in
         let same : w ≡ v = cc in
         ((on, found.0, given told tells, found.1 ∙ same, λ lawful. found.2 (same ∙ lawful)), tt),
     λ found. found_told told shelf.files job _ v tells (on, given, comes) found.0,
@@ -152,5 +130,38 @@ module _ (shelf : ShelfCall) (sink : SinkCall) where
   unlawful_by job status.Mem sealed v ends told tells = (λ is. absurd (cc), λ found. absurd found.1)
 
   pub unlawful_told : (job : Job) (e : Ended) (v : Verdict) → RunEnds shelf sink (Some job) e
-      → IfTold shelf.files (λ told. (e.status ≡ status.Unlawful v) ↔ (IsFoundUnlawful told job v × WritesText e.status))
+      → OnFiles shelf.files job (λ told. (e.status ≡ status.Unlawful v) ↔ (IsFoundUnlawful told job v × WritesText e.status))
   unlawful_told job e v ends told tells = unlawful_by job e.status e.sealed v ends told tells
+
+-- the record of what a task comes to is by bells
+record_of : (t : Task) (on : Input) (o : Outcome) (sealed : Sealed) → IsOfAKind t on o → o.sealed ≡ Some sealed
+    → IsAllByBells t sealed
+record_of t on o sealed (inl (none, done, bare)) is = absurd (let both : Some sealed ≡ None = sym is ∙ bare in cc)
+record_of t on o sealed (inr (inl (replays, answer))) is =
+    absurd (let both : Some sealed ≡ None = sym is ∙ no_record on o answer in cc)
+record_of t on o sealed (inr (inr (has, done, (found, there, made)))) is =
+    let both : Some found ≡ Some sealed = sym there ∙ is in
+    let same : found ≡ sealed = cc in
+    subst (IsAllByBells t) same made
+
+module _ (shelf : ShelfCall) (sink : SinkCall) (job : Job) (sealed : Sealed) where
+  of_works : (o : Outcome) → Works shelf.files job o → o.sealed ≡ Some sealed → IsAllByBells job.task sealed
+  of_works o (on, given, comes) is = record_of job.task on o sealed (kind_of job.task job on o comes) is
+
+  of_none : (given : Option Sealed) → given ≡ None → given ≡ Some sealed → IsAllByBells job.task sealed
+  of_none given none is = absurd (let both : Some sealed ≡ None = sym is ∙ none in cc)
+
+  by_status : (s : Status) (given : Option Sealed) → JobEnds shelf sink job s given → given ≡ Some sealed
+      → IsAllByBells job.task sealed
+  by_status status.Done given (text, works, taken) is = of_works _ works is
+  by_status (status.Unlawful v) given (text, works, taken) is = of_works _ works is
+  by_status status.WriteFault given (s, text, works, part) is = of_works _ works is
+  by_status status.Usage given ends is = absurd ends
+  by_status (status.ReadFault k) given ends is = of_none given ends.1.1 is
+  by_status (status.Refused f) given ends is = of_none given ends.1.1 is
+  by_status status.Mem given ends is = of_none given ends.1 is
+
+-- every raise of the record that a run answers was made in a visit to which a bell called
+pub record_by_bells : (shelf : ShelfCall) (sink : SinkCall) (job : Job) (e : Ended) (sealed : Sealed)
+    → RunEnds shelf sink (Some job) e → e.sealed ≡ Some sealed → IsAllByBells job.task sealed
+record_by_bells shelf sink job e sealed ends is = by_status shelf sink job sealed e.status e.sealed ends is

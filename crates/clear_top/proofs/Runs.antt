@@ -2,7 +2,6 @@
 use Rattle.std.proofs.Common.{◌≡◌, ℕ, ◌+◌, ◌≤◌, List, length, sum, All, Result, Ok, Err, IfOk, Vec, Global, sym, ap, ◌∙◌, subst, arith}
 use Rattle.std.proofs.lemmas.List.{length-append}
 use Rattle.std.proofs.lemmas.List.FromFn.{length-map-range_with_len}
-use Rattle.std.proofs.lemmas.Result.{IfOk-weaker}
 use Rattle.clr_net.specs.Limits.{IsNetwork}
 use Rattle.clr_net.specs.Net.{Net}
 use Rattle.cascade.specs.Standings.{standing, standings}
@@ -36,7 +35,7 @@ as_many_in net P (Ok all) is = ap length is ∙ as_many_standings net P
 as_many_in net P (Err e) is = tt
 
 -- what was settled, from whatever past, is a run
-run_of : (net : Net) → IsNetwork net → (past : List Raise) (plan : Plan) (s : Settled) → IsSettled net past plan s
+pub run_of : (net : Net) → IsNetwork net → (past : List Raise) (plan : Plan) (s : Settled) → IsSettled net past plan s
     → IsRun net s.sealed.journal s.rounds
 run_of net network past plan s h =
     let few : s.rounds ≤ sum (least net) + 1 = omega (arith, h.bounds.rounds_in_bounds.few_rounds) in
@@ -55,13 +54,3 @@ run_of net network past plan s h =
       rounds_by_units_paid = few;
       rounds_by_raises = omega (arith, h.bounds.rounds_by_raises, h.record_is.made, journal);
     }
-
-pub is_run : {E : Type 0} (net : Net) → IsNetwork net → (past : List Raise) (plan : Plan) (r : Result Settled E)
-    → IfOk r (IsSettled net past plan) → IfOk r (λ s. IsRun net s.sealed.journal s.rounds)
-is_run net network past plan r =
-    IfOk-weaker r (IsSettled net past plan) (λ s. IsRun net s.sealed.journal s.rounds) (run_of net network past plan)
-
--- and pays the least list
-pub pays_least : {E : Type 0} (net : Net) (past : List Raise) (plan : Plan) (r : Result Settled E)
-    → IfOk r (IsSettled net past plan) → IfOk r (λ s. s.paid ≡ least net)
-pays_least net past plan r = IfOk-weaker r (IsSettled net past plan) (λ s. s.paid ≡ least net) (λ s h. h.paid)

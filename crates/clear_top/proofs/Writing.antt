@@ -4,7 +4,6 @@ use Rattle.clr_net.specs.Net.{Net}
 use Rattle.clear_core.specs.declared.event.Raise.{Raise}
 use Rattle.clear_words.specs.declared.job.Job.{Job}
 use Rattle.clear_words.specs.declared.task.Task.{Task}
-use Rattle.clear_words.specs.declared.task.Task.TheVariants as task
 use Rattle.pay_words.specs.Sealed.{Sealed}
 use Rattle.raise_journal.specs.Verdicts.{judged}
 use Rattle.raise_journal.specs.declared.verdict.Verdict.{Verdict}
@@ -13,6 +12,7 @@ use Rattle.clear_top.specs.Ending.{Gives, JobEnds, ShelfCall, SinkCall, TakesPar
 use Rattle.clear_top.specs.Meaning.{ComesTo, answer_to}
 use Rattle.clear_top.specs.Reading.{Input}
 use Rattle.clear_top.specs.Outcome.{Outcome}
+use Rattle.clear_top.proofs.Outcomes.{IsOfAKind, kind_of}
 use Rattle.clear_top.specs.declared.status.Status.{Status}
 use Rattle.clear_top.specs.declared.status.Status.TheVariants as status
 
@@ -26,23 +26,14 @@ answer_is_worked net rs (verdict.Unlawful entry had allowed) = inr (verdict.Unla
 answer_is_worked net rs (verdict.Falls entry last stamp) = inr (verdict.Falls entry last stamp, refl)
 answer_is_worked net rs (verdict.Unfinished bank) = inr (verdict.Unfinished bank, refl)
 
-by_status : (o p : Outcome) → o ≡ p → IsWorked p.status → IsWorked o.status
-by_status o p is worked = rw is worked
+kind_worked : (t : Task) (on : Input) (o : Outcome) → IsOfAKind t on o → IsWorked o.status
+kind_worked t on o (inl (none, done, no_record)) = inl done
+kind_worked t on o (inr (inl (replays, is))) =
+    rw is (answer_is_worked on.net on.journal (judged on.net on.journal).verdict)
+kind_worked t on o (inr (inr (has, done, recorded))) = inl done
 
 comes_worked : (t : Task) (job : Job) (on : Input) (o : Outcome) → ComesTo t job on o → IsWorked o.status
-comes_worked task.Check job on o comes = by_status o _ comes (inl refl)
-comes_worked task.Clear job on o comes = by_status o _ comes.comes (inl refl)
-comes_worked task.Central job on o comes = by_status o _ comes (inl refl)
-comes_worked task.Defaults job on o comes = by_status o _ comes.comes (inl refl)
-comes_worked task.Stress job on o comes = by_status o _ comes (inl refl)
-comes_worked task.Replay job on o comes =
-    by_status o _ comes (answer_is_worked on.net on.journal (judged on.net on.journal).verdict)
-comes_worked task.Gen job on o comes = by_status o _ comes.comes (inl refl)
-comes_worked task.Convert job on o comes = by_status o _ comes (inl refl)
-comes_worked task.Bounds job on o comes = by_status o _ comes.comes (inl refl)
-comes_worked task.Rescue job on o comes = by_status o _ comes.comes (inl refl)
-comes_worked task.Compress job on o (claims, ranks, n, is, plain) = by_status o _ plain (inl refl)
-comes_worked task.Costs job on o comes = by_status o _ comes (inl refl)
+comes_worked t job on o comes = kind_worked t on o (kind_of t job on o comes)
 
 -- no other status is one of work
 not_worked : (s : Status) → s ≢ status.Done → ((v : Verdict) → s ≢ status.Unlawful v) → IsWorked s → ⊥

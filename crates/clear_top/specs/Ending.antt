@@ -1,12 +1,11 @@
 -- How a run ends, status by status, and what is seen of the outside in it.
 use Rattle.std.specs.Prelude.{◌≡◌, ◌≢◌, ◌⊎◌, ◌<◌, ℕ, List, length, All, Option, None, Some}
-use Rattle.std.specs.Prelude.{Bool, true, false, Result, Ok, Err}
+use Rattle.std.specs.Prelude.{true, Result, Ok, Err}
 use Rattle.std.specs.Borrow.{Bor}
 use Rattle.clr_edge.specs.Faults.{HasRisen}
 use Rattle.clr_edge.specs.Sink.{with_bytes, WritesPart}
 use Rattle.clear_words.specs.Job.{job_of, the_words}
 use Rattle.clear_words.specs.declared.job.Job.{Job}
-use Rattle.clear_words.specs.declared.task.Task.{Task}
 use Rattle.clear_words.specs.declared.task.Task.TheVariants as task
 use Rattle.net_check.specs.declared.fault.Fault.{Fault}
 use Rattle.net_check.specs.declared.fault.FileKind.{FileKind}
@@ -15,9 +14,10 @@ use Rattle.raise_journal.specs.Verdicts.{judged}
 use Rattle.raise_journal.specs.declared.verdict.Verdict.{Verdict}
 use Rattle.raise_journal.specs.declared.verdict.Verdict.TheVariants as verdict
 use Rattle.stress.specs.Shocks.{IsScenarioOf}
-use Rattle.clear_top.specs.Sources.{name_in}
+use Rattle.clear_top.specs.Sources.{has_record, name_in, source_of}
 use Rattle.pay_words.specs.Sealed.{Sealed}
-use Rattle.clear_top.specs.Meaning.{ComesTo, Means}
+use Rattle.net_gen.specs.Generated.{generated}
+use Rattle.clear_top.specs.Meaning.{ComesTo, Means, Settles, plan_of, summary_report}
 use Rattle.clear_top.specs.Reading.{Files, Input, reading, whole}
 use Rattle.clear_top.specs.Outcome.{Outcome}
 use Rattle.clear_top.specs.declared.source.Source.{Source}
@@ -52,10 +52,9 @@ sink_call old new faults_before faults_after =
 abbrev pub SinkRose : SinkCall → Type 0
 SinkRose sink = HasRisen sink.faults_before sink.faults_after
 
--- a sink took these bytes whole, and did not fail
+-- a sink took these bytes whole
 abbrev pub TakesWhole : SinkCall → List ℕ → Type 0
-TakesWhole sink bytes =
-    (sink.new ≡ with_bytes sink.old bytes) × (sink.faults_after ≡ sink.faults_before)
+TakesWhole sink bytes = sink.new ≡ with_bytes sink.old bytes
 
 -- a sink took a part of these bytes from their front, and failed
 abbrev pub TakesPart : SinkCall → List ℕ → Type 0
@@ -96,9 +95,19 @@ IfTold files P = (told : Files) → files ≡ Some told → P told
 abbrev pub GivesWhole : Option Files → FileKind → List ℕ → Result (List ℕ) Fault → Type 0
 GivesWhole files k name read = IfTold files (λ told. whole told k name ≡ Some read)
 
--- where the shelf tells its files, this is what those of the job give
+-- the files on which a task of this source works: those that the shelf tells; of a source without
+-- files, any
+abbrev pub AreRead : Source → Option Files → Files → Type 0
+AreRead source.Generated files any = Unit {0}
+AreRead s files told = files ≡ Some told
+
+-- this holds of the files on which the job works
+abbrev pub OnFiles : Option Files → Job → (Files → Type 0) → Type 0
+OnFiles files job P = (told : Files) → AreRead (source_of job.task) files told → P told
+
+-- this is what the files of the job give; where the job has none, whatever the shelf tells or not
 abbrev pub Gives : Option Files → Job → Result Input Fault → Type 0
-Gives files job read = IfTold files (λ told. reading told job ≡ Some read)
+Gives files job read = OnFiles files job (λ told. reading told job ≡ Some read)
 
 -- where the shelf tells its files, the banks file and the debts file of the job are these
 abbrev pub GivesBoth : Option Files → Job → List ℕ → List ℕ → Type 0
@@ -142,8 +151,7 @@ Works files job o = (on : Input) × Gives files job (Ok on) × ComesTo job.task 
 abbrev pub IsUntouched : SinkCall → Option Sealed → Type 0
 IsUntouched sink sealed = (sink.new ≡ sink.old) × (sealed ≡ None)
 
--- an outcome of the work, with this status and record, whose text was written whole, by a sink that
--- did not fail
+-- an outcome of the work, with this status and record, whose text was written whole
 abbrev pub IsWritten : Option Files → SinkCall → Job → Status → Option Sealed → Type 0
 IsWritten files sink job ending sealed =
     (text : List ℕ) × Works files job (record { status = ending; sealed = sealed; text = text })
@@ -206,22 +214,7 @@ WritesNothing (status.Refused f) = Unit {0}
 WritesNothing status.WriteFault = ⊥
 WritesNothing status.Mem = Unit {0}
 
--- whether a task answers the record of a board: a row for each
-abbrev pub has_record : Task → Bool
-has_record task.Check = false
-has_record task.Clear = true
-has_record task.Central = false
-has_record task.Defaults = true
-has_record task.Stress = false
-has_record task.Replay = false
-has_record task.Gen = true
-has_record task.Convert = false
-has_record task.Bounds = true
-has_record task.Rescue = true
-has_record task.Compress = false
-has_record task.Costs = false
-
--- the words ask for such a task, and its text was written, whole or in part
+-- the words ask for a task with a record, and its text was written, whole or in part
 abbrev pub AnswersRecord : Option Job → Status → Type 0
 AnswersRecord None s = ⊥
 AnswersRecord (Some job) s = (has_record job.task ≡ true) × ¬ (WritesNothing s)
@@ -232,12 +225,27 @@ IsFoundUnlawful told job v =
     (on : Input) × (job.task ≡ task.Replay) × (reading told job ≡ Some (Ok on))
     × ((judged on.net on.journal).verdict ≡ v) × (v ≢ verdict.Lawful)
 
--- what the job comes to, with this status and record, was written whole, by a sink that did not
--- fail
+-- what the job comes to, with this status and record, was written whole
 abbrev pub WasWritten : Files → SinkCall → Job → Ended → Type 0
 WasWritten told sink job e =
     (text : List ℕ)
     × Means told job (record { status = e.status; sealed = e.sealed; text = text })
+    × TakesWhole sink text
+
+-- no file is told to be at fault
+abbrev pub BlamesNoFile : Status → Type 0
+BlamesNoFile (status.ReadFault k) = ⊥
+BlamesNoFile (status.Refused f) = ⊥
+BlamesNoFile s = Unit {0}
+
+-- the summary of the network that the numbers of a job make was written whole, after a run on that
+-- network, whose record is answered
+abbrev pub WroteSummary : SinkCall → Job → Ended → Type 0
+WroteSummary sink job e =
+    let net = generated job.seed job.size job.tries in
+    (text : List ℕ)
+    × Settles net (plan_of job) (λ journal rounds. summary_report net)
+    (record { status = e.status; sealed = e.sealed; text = text })
     × TakesWhole sink text
 
 -- of what the job comes to, with this record, a part from its front was written

@@ -5,5 +5,6 @@ pub mod Outcome
 pub mod Meaning
 pub mod Evidence
 pub mod Ending
+pub mod Visited
 pub mod Message
 pub mod Cases

@@ -1,5 +1,5 @@
 -- What a job comes to: from what it works on, how the run ends and the text that is written.
-use Rattle.std.specs.Prelude.{◌≡◌, ℕ, ◌+◌, ◌≤◌, All, List, length, map, sum, None, Some, Ok}
+use Rattle.std.specs.Prelude.{◌≡◌, ℕ, ◌+◌, ◌≤◌, All, List, [], length, map, sum, None, Some, Ok}
 use Rattle.clr_net.specs.Net.{Net, units_owed}
 use Rattle.cascade.specs.Standings.{standings}
 use Rattle.cascade.specs.declared.standing.Standing.{Standing}
@@ -25,15 +25,15 @@ use Rattle.compress.specs.Compression.{Compression}
 use Rattle.costs.specs.Costs.{cost_least}
 use Rattle.costs.specs.CostStandings.{cost_standings}
 use Rattle.net_csv.specs.Printing.{banks_text, banks_text_2, debts_text}
-use Rattle.pay_words.specs.Sealed.{Sealed}
 use Rattle.raise_journal.specs.Texts.{verdict_line}
 use Rattle.raise_journal.specs.ReadBack.{IsInLimits}
 use Rattle.raise_journal.specs.Verdicts.{judged}
 use Rattle.raise_journal.specs.declared.verdict.Verdict.{Verdict}
 use Rattle.raise_journal.specs.declared.verdict.Verdict.TheVariants as verdict
 use Rattle.rescue.specs.Rescue.{added, rescue, short_of}
-use Rattle.settle.specs.Runs.{CanGoOn, IsRecordAfter, IsRecordOf}
+use Rattle.settle.specs.Runs.{CanGoOn, IsRecordOf, IsSettled}
 use Rattle.settle.specs.declared.plan.Plan.{Plan}
+use Rattle.settle.specs.declared.runs.Settled.{Settled}
 use Rattle.stress.specs.Shocks.{shocked}
 use Rattle.stress.specs.declared.scenario.Scenario.{Scenario}
 use Rattle.upper.specs.Bounds.{greatest, waves}
@@ -62,18 +62,18 @@ pub record IsRun (net : Net) (journal : List Raise) (rounds : ℕ) : Type 0 wher
   pub rounds_by_units_paid : rounds ≤ sum (least net) + 1
   pub rounds_by_raises : rounds ≤ length journal + 1
 
--- done after a run of a plan's workers on one board, whose record is answered; the text may show
--- the record's journal, and the rounds
+-- done after a run of a plan's workers on one board, whose record is answered, and which came to
+-- all that is said of a run of settle; the text may show the record's journal, and the rounds
 pub record Settles (net : Net) (plan : Plan) (shown : List Raise → ℕ → List ℕ) (o : Outcome)
     : Type 0 where
-  pub sealed : Sealed
-  pub rounds : ℕ
-  pub record_is : IsRecordOf net plan rounds sealed
-  pub run : IsRun net sealed.journal rounds
+  pub settled : Settled
+  pub is_settled : IsSettled net [] plan settled
+  pub record_is : IsRecordOf net plan settled.rounds settled.sealed
+  pub run : IsRun net settled.sealed.journal settled.rounds
   pub comes : o ≡ record {
     status = status.Done;
-    sealed = Some sealed;
-    text = shown sealed.journal rounds;
+    sealed = Some settled.sealed;
+    text = shown settled.sealed.journal settled.rounds;
   }
 
 -- what clearing writes, by what is to be shown
@@ -153,16 +153,15 @@ rescue_report net bank =
 -- a board whose record is answered, and whose journal begins with that of the first run, before as
 -- many raises as were made on the board
 pub record Rescues (net : Net) (plan : Plan) (bank : ℕ) (o : Outcome) : Type 0 where
-  pub sealed : Sealed
-  pub past : List Raise
-  pub past_rounds : ℕ
-  pub rounds : ℕ
-  pub record_is : IsRecordAfter (rescued_net net bank) past plan rounds sealed
-  pub before : IsRun net past past_rounds
-  pub run : IsRun (rescued_net net bank) sealed.journal rounds
+  pub first : Settled
+  pub second : Settled
+  pub first_settled : IsSettled net [] plan first
+  pub second_settled : IsSettled (rescued_net net bank) first.sealed.journal plan second
+  pub before : IsRun net first.sealed.journal first.rounds
+  pub run : IsRun (rescued_net net bank) second.sealed.journal second.rounds
   pub comes : o ≡ record {
     status = status.Done;
-    sealed = Some sealed;
+    sealed = Some second.sealed;
     text = rescue_report net bank;
   }
 

@@ -1,5 +1,5 @@
--- What a task works on, and the files of a job by their kind.
-use Rattle.std.specs.Prelude.{◌≡◌, ◌⊎◌, ℕ, Bool, true, false, List, Option, Some, None}
+-- What a task needs, and the files of a job by their kind.
+use Rattle.std.specs.Prelude.{◌≡◌, ℕ, Bool, true, false, List, Option, Some, None}
 use Rattle.clear_words.specs.declared.job.Job.{Job}
 use Rattle.clear_words.specs.declared.task.Task.{Task}
 use Rattle.clear_words.specs.declared.task.Task.TheVariants as task
@@ -8,26 +8,36 @@ use Rattle.net_check.specs.declared.fault.FileKind.TheVariants as file
 use Rattle.clear_top.specs.declared.source.Source.{Source}
 use Rattle.clear_top.specs.declared.source.Source.TheVariants as source
 
--- what a task works on: a row for each task
-abbrev pub source_of : Task → Source
-source_of task.Check = source.Files
-source_of task.Clear = source.Files
-source_of task.Central = source.Files
-source_of task.Defaults = source.Files
-source_of task.Stress = source.FilesAndScenarios
-source_of task.Replay = source.FilesAndJournal
-source_of task.Gen = source.Generated
-source_of task.Convert = source.Files
-source_of task.Bounds = source.Files
-source_of task.Rescue = source.FilesAndBank
-source_of task.Compress = source.Files
-source_of task.Costs = source.Files
+-- what a task works on, and whether it answers the record of a board
+pub record Needs : Type 0 where
+  pub source : Source
+  pub has_record : Bool
 
--- a task that has no workers: what it shows is computed alone
-abbrev pub HasNoWorkers : Task → Type 0
-HasNoWorkers t =
-    (t ≡ task.Check) ⊎ ((t ≡ task.Central) ⊎ ((t ≡ task.Replay)
-    ⊎ ((t ≡ task.Convert) ⊎ ((t ≡ task.Compress) ⊎ (t ≡ task.Costs)))))
+abbrev pub needs : Source → Bool → Needs
+needs source has_record = record { source = source; has_record = has_record }
+
+-- the same of each task: a row for each
+abbrev pub needs_of : Task → Needs
+needs_of task.Check = needs source.Files false
+needs_of task.Clear = needs source.Files true
+needs_of task.Central = needs source.Files false
+needs_of task.Defaults = needs source.Files true
+needs_of task.Stress = needs source.FilesAndScenarios false
+needs_of task.Replay = needs source.FilesAndJournal false
+needs_of task.Gen = needs source.Generated true
+needs_of task.Convert = needs source.Files false
+needs_of task.Bounds = needs source.Files true
+needs_of task.Rescue = needs source.FilesAndBank true
+needs_of task.Compress = needs source.Files false
+needs_of task.Costs = needs source.Files false
+
+-- what a task works on
+abbrev pub source_of : Task → Source
+source_of t = (needs_of t).source
+
+-- whether a task answers the record of a board
+abbrev pub has_record : Task → Bool
+has_record t = (needs_of t).has_record
 
 -- whether a source has a banks file and a debts file
 abbrev pub has_files : Source → Bool

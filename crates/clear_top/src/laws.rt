@@ -1,7 +1,8 @@
 //! What follows from how a run ends, and of the networks that a run works on. A law has nothing to
 //! run; its `ensures` is proved.
-ghost use Rattle.clear_top.specs.Ending.{AnswersRecord, IfTold, IsFoundUnlawful, IsRefusedOrMem};
-ghost use Rattle.clear_top.specs.Ending.{IsUsageOrMem, NoneRose, RunEnds};
+ghost use Rattle.clear_top.specs.Ending.{AnswersRecord, BlamesNoFile, IsFoundUnlawful};
+ghost use Rattle.clear_top.specs.Ending.{IsRefusedOrMem, WroteSummary};
+ghost use Rattle.clear_top.specs.Ending.{IsUsageOrMem, NoneRose, OnFiles, RunEnds};
 ghost use Rattle.clear_top.specs.Ending.{IsUntouched, ShelfCall, SinkCall, SinkRose};
 ghost use Rattle.clear_top.specs.Ending.{WasPartWritten, WasWritten, WritesText};
 ghost use Rattle.clear_top.specs.Evidence.{IsEvidence};
@@ -9,9 +10,12 @@ ghost use Rattle.clear_top.specs.Evidence.{ReplaysText, ShowsJournal};
 ghost use Rattle.clear_top.specs.Meaning.{Means};
 ghost use Rattle.clear_top.specs.Reading.{Files, Input, IsReadBack, reading};
 ghost use Rattle.clear_top.specs.Outcome.{Outcome};
+ghost use Rattle.clear_top.specs.Visited.{IsAllByBells};
 ghost use Rattle.clear_top.specs.declared.status.Ended.{Ended};
 ghost use Rattle.clear_top.specs.declared.status.Status.{Status};
 ghost use Rattle.clear_words.specs.declared.job.Job.{Job};
+ghost use Rattle.clear_words.specs.declared.task.Task.{Task};
+ghost use Rattle.pay_words.specs.Sealed.{Sealed};
 ghost use Rattle.clr_net.specs.Limits.{IsNetwork};
 ghost use Rattle.clr_net.specs.Net.{Net};
 ghost use Rattle.net_check.specs.declared.fault.Fault.{Fault};
@@ -31,34 +35,34 @@ pub fn usage_comes_where_no_job_is_asked_for()
         → (e.status ≡ Status.Usage → job ≡ None) × (job ≡ None → IsUsageOrMem e.status) }
 {}
 
-/// Of a shelf that tells its files: a refusal tells the first fault of the job's files, or that no
-/// bank has the name in its words, and it comes wherever there is one and no fault of the shelf is
+/// Of the files on which the job works: a refusal tells their first fault, or that no bank has the
+/// name in its words, and it comes wherever there is one and no fault of the shelf is
 /// counted at the job's names, unless memory is wanting.
 pub fn the_first_fault_is_refused()
     ensures { (shelf : ShelfCall) (sink : SinkCall) (job : Job) (e : Ended) (f : Fault)
         → RunEnds shelf sink (Some job) e
-        → IfTold shelf.files (λ told.
+        → OnFiles shelf.files job (λ told.
         (e.status ≡ Status.Refused f → reading told job ≡ Some (Err f))
         × (reading told job ≡ Some (Err f) → NoneRose shelf job → IsRefusedOrMem f e.status)) }
 {}
 
-/// Of a shelf that tells its files: what is written is what the job comes to, whole where the run
+/// Of the files on which the job works: what is written is what the job comes to, whole where the run
 /// is done or the journal unlawful, and a part of it from its front where the sink failed; the
 /// record that is answered is that of what is written.
 pub fn what_is_written_is_what_the_job_comes_to()
     ensures { (shelf : ShelfCall) (sink : SinkCall) (job : Job) (e : Ended)
         → RunEnds shelf sink (Some job) e
-        → IfTold shelf.files (λ told. (WritesText e.status → WasWritten told sink job e)
+        → OnFiles shelf.files job (λ told. (WritesText e.status → WasWritten told sink job e)
         × (e.status ≡ Status.WriteFault → WasPartWritten told sink job e)) }
 {}
 
-/// Of a shelf that tells its files: where a job is accepted, and in its run no fault is counted at
+/// Of the files on which the job works: where a job is accepted, and in its run no fault is counted at
 /// its files' names or at the sink, what it comes to is written whole, unless memory is wanting,
 /// and then nothing is written.
 pub fn what_an_accepted_job_comes_to_is_written()
     ensures { (shelf : ShelfCall) (sink : SinkCall) (job : Job) (e : Ended) (on : Input)
         → RunEnds shelf sink (Some job) e
-        → IfTold shelf.files (λ told. reading told job ≡ Some (Ok on)
+        → OnFiles shelf.files job (λ told. reading told job ≡ Some (Ok on)
         → NoneRose shelf job → ¬ (SinkRose sink)
         → WasWritten told sink job e ⊎ ((e.status ≡ Status.Mem) × (sink.new ≡ sink.old))) }
 {}
@@ -78,12 +82,30 @@ pub fn records_are_of_tasks_on_one_board()
         → RunEnds shelf sink job e → IsSome e.sealed ↔ AnswersRecord job e.status }
 {}
 
-/// Of a shelf that tells its files: a journal is told unlawful exactly where it was read, the
+/// Of every shelf and sink: each raise of the record that is answered was made in a visit to which a
+/// bell called. Its journal has what the workers of its rounds raised, each of which did nothing but
+/// such visits, and no other raise; after a rescue, beside the raises of the run before, of which
+/// the same holds.
+pub fn raises_of_a_record_are_made_in_visits_by_bells()
+    ensures { (shelf : ShelfCall) (sink : SinkCall) (job : Job) (e : Ended) (sealed : Sealed)
+        → RunEnds shelf sink (Some job) e → e.sealed ≡ Some sealed
+        → IsAllByBells job.task sealed }
+{}
+
+/// Of every shelf, also one that tells nothing: for a network that is generated no file is told to be
+/// at fault, and what is written is the summary of the network that the numbers of the job make.
+pub fn what_gen_prints_is_of_the_network_of_its_numbers()
+    ensures { (shelf : ShelfCall) (sink : SinkCall) (job : Job) (e : Ended)
+        → job.task ≡ Task.Gen → RunEnds shelf sink (Some job) e
+        → BlamesNoFile e.status × (WritesText e.status → WroteSummary sink job e) }
+{}
+
+/// Of the files on which the job works: a journal is told unlawful exactly where it was read, the
 /// verdict on it is this one and not that it is lawful, and the line of it was written whole.
 pub fn unlawful_journals_are_told_so()
     ensures { (shelf : ShelfCall) (sink : SinkCall) (job : Job) (e : Ended) (v : Verdict)
         → RunEnds shelf sink (Some job) e
-        → IfTold shelf.files (λ told. (e.status ≡ Status.Unlawful v)
+        → OnFiles shelf.files job (λ told. (e.status ≡ Status.Unlawful v)
         ↔ (IsFoundUnlawful told job v × WritesText e.status)) }
 {}
 

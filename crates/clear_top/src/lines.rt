@@ -28,6 +28,7 @@ pub fn put_raises<S: Sink>(
         (sink_call
         (S.written sink.old) (S.written sink.new) (S.faults sink.old) (S.faults sink.new))
         (flat_map (raise_line net.now) raises.now)) }
+    ensures faults { S.faults sink.old ≤ S.faults sink.new }
 {
     let mut done = 0;
     while done < raises.len() {

@@ -218,6 +218,7 @@ impl Text {
             (sink_call
             (S.written sink.old) (S.written sink.new) (S.faults sink.old) (S.faults sink.new))
             self.now) }
+        ensures faults { S.faults sink.old ≤ S.faults sink.new }
     {
         let pieces = self.pieces.as_slice();
         for piece in pieces {

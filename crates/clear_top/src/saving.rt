@@ -1,8 +1,10 @@
 //! A bank saved with the least sum, and its network cleared from what was paid before.
 ghost use Rattle.clear_core.specs.Clearing.{least};
 ghost use Rattle.clear_report.specs.Rescues.{rescued_text};
-ghost use Rattle.clear_top.specs.Meaning.{IsRun, Rescues};
-ghost use Rattle.std.specs.Prelude.{◌≡◌, ◌<◌, ℕ, IfOk, length};
+ghost use Rattle.clear_top.specs.Meaning.{Rescues};
+ghost use Rattle.settle.specs.Runs.{IsSettled};
+ghost use Rattle.settle.specs.declared.runs.Settled.{Settled};
+ghost use Rattle.std.specs.Prelude.{◌≡◌, ◌<◌, [], IfOk, length};
 
 use crate::clear::{Clearer, is_network};
 use crate::outcome::{Outcome, Text};
@@ -11,7 +13,7 @@ use clear_report::rescue_text;
 use clr_edge::Gate;
 use clr_net::{BankId, Mem, Network};
 use rescue::{Rescued, added, rescue};
-use settle::Settled;
+use settle::{Settled, settle_owned, settle_owned_from};
 use std::alloc::Global;
 use std::thread::Threads;
 
@@ -25,7 +27,13 @@ pub fn save<R: Threads + Sync, G: Gate + Sync>(
     requires { bank.0 < length net.banks }
     ensures { IfOk result (Rescues net clearer.now.plan bank.0) }
 {
-    let Settled { paid, sealed, .. } = clearer.settle(net)?;
+    let Settled { paid, sealed, .. } = settle_owned(
+        clearer.rt,
+        clearer.alloc,
+        net,
+        clearer.plan,
+        clearer.gate,
+    )?;
     save_after(
         clearer,
         sealed.net(),
@@ -45,14 +53,23 @@ fn save_after<R: Threads + Sync, G: Gate + Sync>(
 ) -> Result<Outcome, Mem>
     requires bank { bank.0 < length net.now.banks }
     requires paid { least_paid.now ≡ least net.now }
-    requires run { (rounds : ℕ) × IsRun net.now past.now rounds }
+    requires run { (first : Settled) × IsSettled net.now [] clearer.now.plan first
+        × (first.sealed.journal ≡ past.now) }
     ensures { IfOk result (Rescues net.now clearer.now.plan bank.0) }
 {
     let alloc = clearer.alloc;
     is_network(net);
     let found = rescue(alloc, net, bank, least_paid)?;
     let saved = added(alloc, net, bank, found.added)?;
-    let Settled { paid, sealed, .. } = clearer.go_on(saved, past)?;
+    is_network(&saved);
+    let Settled { paid, sealed, .. } = settle_owned_from(
+        clearer.rt,
+        alloc,
+        saved,
+        clearer.plan,
+        past,
+        clearer.gate,
+    )?;
     let text = saved_text(alloc, net, bank, &found, paid.as_slice())?;
     Ok(Outcome::with_record(sealed, text, None))
 }

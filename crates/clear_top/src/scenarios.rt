@@ -16,7 +16,7 @@ use bank_worker::Office;
 use clear_report::{line_heads, scenario_block};
 use clr_edge::Gate;
 use clr_net::{Mem, Name, Network};
-use settle::Settled;
+use settle::{Settled, offices_of, settle_alone};
 use std::alloc::Global;
 use std::thread::{Threads, join};
 use stress::{Scenario, shock_again};
@@ -132,7 +132,7 @@ fn blocks_in_turn<R: Threads + Sync, G: Gate + Sync>(
 {
     let mut all = Vec::with_capacity(clearer.alloc, scenarios.len())?;
     let mut copy = net.copy(clearer.alloc)?;
-    let mut offices = clearer.offices(&copy)?;
+    let mut offices = offices_of(clearer.alloc, &copy, clearer.plan.workers)?;
     for scenario in scenarios {
         let (text, left) = block(clearer, net, heads, copy, &mut offices, scenario)?;
         all.push(text)?;
@@ -163,7 +163,14 @@ fn block<R: Threads + Sync, G: Gate + Sync>(
 {
     let mut left = copy;
     shock_again(net, scenario, &mut left);
-    let Settled { paid, sealed, .. } = clearer.settle_alone(left, offices)?;
+    let Settled { paid, sealed, .. } = settle_alone(
+        clearer.rt,
+        clearer.alloc,
+        left,
+        clearer.plan,
+        clearer.gate,
+        offices,
+    )?;
     let text = block_text(
         clearer.alloc,
         sealed.net(),

@@ -1,7 +1,7 @@
 //! The work on a job, by its task.
 ghost use Rattle.clear_top.specs.Ending.{IsUsable};
 ghost use Rattle.clear_top.specs.Meaning.{ComesTo, Rescues};
-ghost use Rattle.clear_top.specs.Sources.{HasNoWorkers, source_of};
+ghost use Rattle.clear_top.specs.Sources.{source_of};
 ghost use Rattle.clear_words.specs.Limits.{IsJob};
 ghost use Rattle.std.specs.Prelude.{◌≡◌, ◌<◌, IfOk, length};
 
@@ -32,30 +32,17 @@ pub fn work<R: Threads + Sync, G: Gate + Sync>(
 {
     let clearer = Clearer::of(rt, alloc, job, gate);
     match job.task {
+        Task::Check => check(alloc, &input.net),
         Task::Clear | Task::Defaults | Task::Gen | Task::Bounds => {
             clearer.report(net_of(input), job)
         }
-        Task::Stress => report_scenarios(&clearer, &input.net, input.scenarios.as_slice()),
-        Task::Rescue => save_bank(&clearer, input),
-        _ => compute(alloc, job, &input),
-    }
-}
-
-// Does a task that has no workers: a row for each.
-fn compute(alloc: Global, job: &Job, input: &Input) -> Result<Outcome, Mem>
-    requires job { IsJob job.now }
-    requires usable { IsUsable (source_of job.now.task) input.now }
-    requires task { HasNoWorkers job.now.task }
-    ensures { IfOk result (ComesTo job.now.task job.now input.now) }
-{
-    match job.task {
-        Task::Check => check(alloc, &input.net),
         Task::Central => clear_centrally(alloc, &input.net),
+        Task::Stress => report_scenarios(&clearer, &input.net, input.scenarios.as_slice()),
         Task::Replay => judge(alloc, &input.net, input.journal.as_slice()),
         Task::Convert => convert(alloc, &input.net),
+        Task::Rescue => save_bank(&clearer, input),
         Task::Compress => cancel_cycles(alloc, &input.net),
         Task::Costs => clear_with_costs(alloc, &input.net, job.keep),
-        _ => unreachable!(),
     }
 }
 

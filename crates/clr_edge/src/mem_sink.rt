@@ -77,13 +77,13 @@ impl Sink for MemSink {
             (λ n. Some self.new.bytes ≡ with_bytes (Some self.old.bytes) (take n piece.now)) }
         ensures unwritten { OnErr result (Some self.new.bytes ≡ Some self.old.bytes) }
         ensures faults { self.old.faults ≤ self.new.faults }
-        ensures well { OnOk result (self.new.faults ≡ self.old.faults) }
         ensures failed { OnErr result (HasRisen self.old.faults self.new.faults) }
 
-        // It fails exactly where it is to, and else takes as much as it may.
+        // It fails exactly where it is to, and else takes as much as it may and counts nothing.
         ensures refused { is_err result ≡ is_refused self.old }
         ensures share { IfOk result (λ n. n ≡ taken_of self.old (length piece.now)) }
         ensures ok { IfOk result (λ n. self.new ≡ with_put self.old piece.now n) }
+        ensures well { OnOk result (self.new.faults ≡ self.old.faults) }
         ensures err { OnErr result (self.new ≡ with_fault self.old) }
     {
         self.puts = self.puts.saturating_add(1);

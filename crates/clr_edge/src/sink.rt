@@ -15,7 +15,7 @@ pub trait Sink {
     ghost faults: { Self → ℕ };
 
     /// Takes bytes from the front of the piece, and answers how many: from one to all. At a fault
-    /// it took none, and the count rose; else the count is as it was. It takes no memory.
+    /// it took none, and the count rose. It takes no memory.
     fn put(&mut self, piece: &[u8]) -> Result<usize, SinkFault>
         requires { 0 < length piece.now }
         ensures some { IfOk result (λ n. 1 ≤ n) }
@@ -24,19 +24,17 @@ pub trait Sink {
             (λ n. written self.new ≡ with_bytes (written self.old) (take n piece.now)) }
         ensures unwritten { OnErr result (written self.new ≡ written self.old) }
         ensures faults { faults self.old ≤ faults self.new }
-        ensures well { OnOk result (faults self.new ≡ faults self.old) }
         ensures failed { OnErr result (HasRisen (faults self.old) (faults self.new)) };
 }
 
-/// Writes all bytes, and the sink does not fail. `SinkFault` is a fault of the sink: some bytes
-/// from the front have been written then, but not all, and the count rose. It takes no memory.
+/// Writes all bytes. `SinkFault` is a fault of the sink: some bytes from the front have been written
+/// then, but not all, and the count rose. It takes no memory.
 pub fn put_all<S: Sink>(sink: &mut S, bytes: &[u8]) -> Result<(), SinkFault>
     ensures written { OnOk result
         (S.written sink.new ≡ with_bytes (S.written sink.old) bytes.now) }
     ensures part { OnErr result
         (WritesPart (S.written sink.old) (S.written sink.new) bytes.now) }
     ensures faults { S.faults sink.old ≤ S.faults sink.new }
-    ensures well { OnOk result (S.faults sink.new ≡ S.faults sink.old) }
     ensures failed { OnErr result (HasRisen (S.faults sink.old) (S.faults sink.new)) }
 {
     let mut done = 0;

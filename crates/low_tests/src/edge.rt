@@ -129,8 +129,12 @@ fn takes(alloc: Global, row: (usize, usize, u64), count: usize) -> Result<bool, 
 }
 
 #[test]
-fn a_failing_put_leaves_what_was_put_before(rt: HostRuntime) -> Result<(), Fail> {
-    assert!(rt; takes(rt.alloc(), (100, 10, 2), 10)?);
+fn a_failing_put_leaves_what_was_put_before_and_is_not_tried_again(
+    rt: HostRuntime,
+) -> Result<(), Fail> {
+    for (fail_at, count) in &[(1, 0), (2, 10), (3, 20), (6, 50)] {
+        assert!(rt; takes(rt.alloc(), (100, 10, *fail_at), *count)?);
+    }
     Ok(())
 }
 

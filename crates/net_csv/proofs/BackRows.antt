@@ -1,51 +1,38 @@
 -- What is printed of one bank and of one debt is read back as that bank and that debt.
-use Rattle.std.proofs.Common.{◌≡◌, ◌<◌, ◌≤◌, ◌+◌, ◌^◌, ℕ, true, false, List, [], ◌∷◌, length, Some, Ok, refl, sym, ap, ◌∙◌, arith, sum_by}
-use Rattle.std.specs.List.{list_any}
+use Rattle.std.proofs.Common.{◌≡◌, ◌<◌, ◌≤◌, ◌+◌, ◌*◌, ℕ, true, false, List, [], ◌∷◌, length, map, Some, Ok, refl, sym, ap, ◌∙◌, arith, sum_by}
+use Rattle.std.specs.List.{flat_map, list_any}
 use Rattle.std.specs.Fmt.{decimal}
 use Rattle.std.proofs.lemmas.Bool.{lt-ltb, le-leb, ne_eqb}
 use Rattle.std.proofs.lemmas.List.{length-append}
-use Rattle.std.proofs.lemmas.Fmt.{decimal_digit, length-decimal-le}
+use Rattle.std.proofs.lemmas.List.Concat.{flat_map-cons}
+use Rattle.std.proofs.lemmas.Fmt.{length-decimal-le}
 use Rattle.clr_net.specs.Name.{is_name}
 use Rattle.clr_net.specs.Net.{Net, name_of, has_name}
-use Rattle.clr_net.specs.declared.TheConstants.{MAX_BANKS, MAX_CASH, MAX_OUTSIDE, MAX_DEBTS, MAX_CLASS, MAX_CLAIM, MAX_OWED}
+use Rattle.clr_net.specs.declared.TheConstants.{MAX_BANKS, MAX_CASH, MAX_OUTSIDE, MAX_DEBTS, MAX_CLAIM, MAX_OWED}
 use Rattle.clr_net.specs.declared.bank.Bank.{Bank}
 use Rattle.clr_net.specs.declared.debt.Debt.{Debt}
 use Rattle.clr_net.specs.declared.rule.RuleKind.{RuleKind}
 use Rattle.clr_net.specs.declared.rule.RuleKind.TheVariants as kind
-use Rattle.net_check.specs.Field.{trimmed_start, trimmed_field, class_in, rule_in}
+use Rattle.net_check.specs.Field.{trimmed_start, rule_in}
 use Rattle.net_check.specs.Record.{bank_in}
 use Rattle.clr_net.specs.Lines.{line}
 use Rattle.net_csv.specs.Printing.{rule_word, bank_fields, debt_fields}
 use Rattle.net_csv.specs.declared.layout.Version.{Version}
 use Rattle.net_csv.specs.declared.layout.Version.TheVariants as version
 use Rattle.net_csv.specs.Reading.{Fields, trimmed_fields, is_blank, bank_in_row, debt_in_row}
-use Rattle.net_csv.proofs.PlainFields.{IsPlain, plain_name, name_has_byte, name_is_short, plain_digits, trimmed_digits, decimal_spells, number_in-decimal}
-use Rattle.net_csv.proofs.PrintedRecords.{ArePlain, IsRow}
+use Rattle.net_csv.proofs.PlainFields.{IsKeptField, kept_name, kept_decimal, name_has_byte, name_is_short, number_in-decimal, class_back}
+use Rattle.net_csv.proofs.PrintedRecords.{ArePlain, AreRows, IsRow}
 use Rattle.net_csv.proofs.BackFacts.{IsBackBank, IsBackDebt, IsBackName}
 
-plain_decimal : (n : ℕ) → n < 10 ^ 19 → IsPlain (decimal n)
-plain_decimal n small = let wide : n < 2 ^ 64 = omega arith in plain_digits (decimal n) (decimal_spells n wide).0
-
-trimmed_decimal : (n : ℕ) → n < 10 ^ 19 → trimmed_field (decimal n) ≡ decimal n
-trimmed_decimal n small = let wide : n < 2 ^ 64 = omega arith in trimmed_digits (decimal n) (decimal_spells n wide).0
-
--- the word of each rule is plain, short, and read back as the rule
-plain_rule : (r : RuleKind) → IsPlain (rule_word r)
-plain_rule kind.Order = record { unquoted = refl }
-plain_rule kind.Equal = record { unquoted = refl }
-plain_rule kind.Losses = record { unquoted = refl }
-plain_rule kind.Jefferson = record { unquoted = refl }
-plain_rule kind.Webster = record { unquoted = refl }
-plain_rule kind.Adams = record { unquoted = refl }
-
-trimmed_rule : (r : RuleKind) → trimmed_field (rule_word r) ≡ rule_word r
+-- the word of each rule is kept, short, and read back as the rule
+kept_rule : (r : RuleKind) → IsKeptField (rule_word r)
 unfolding trimmed_start
-trimmed_rule kind.Order = refl
-trimmed_rule kind.Equal = refl
-trimmed_rule kind.Losses = refl
-trimmed_rule kind.Jefferson = refl
-trimmed_rule kind.Webster = refl
-trimmed_rule kind.Adams = refl
+kept_rule kind.Order = record { plain = record { unquoted = refl }; trimmed = refl }
+kept_rule kind.Equal = record { plain = record { unquoted = refl }; trimmed = refl }
+kept_rule kind.Losses = record { plain = record { unquoted = refl }; trimmed = refl }
+kept_rule kind.Jefferson = record { plain = record { unquoted = refl }; trimmed = refl }
+kept_rule kind.Webster = record { plain = record { unquoted = refl }; trimmed = refl }
+kept_rule kind.Adams = record { plain = record { unquoted = refl }; trimmed = refl }
 
 rule_is_short : (r : RuleKind) → length (rule_word r) ≤ 9
 rule_is_short kind.Order = omega arith
@@ -68,53 +55,77 @@ pub record IsKeptRow (fields : Fields) : Type 0 where
   pub row : IsRow fields
   pub trimmed : trimmed_fields fields ≡ fields
   pub full : is_blank fields ≡ false
-  pub short : length (line fields) ≤ 200
+  pub short : length (line fields) ≤ 151
+
+-- it is one where each field is kept
+unfoldable pub AreKeptFields : Fields → Type 0
+AreKeptFields [] = Unit {0}
+AreKeptFields (x ∷ rest) = IsKeptField x × AreKeptFields rest
+
+all_plain : (fields : Fields) → AreKeptFields fields → ArePlain fields
+unfolding AreKeptFields ArePlain
+all_plain [] all = tt
+all_plain (x ∷ rest) all = (all.0.plain, all_plain rest all.1)
+
+all_trimmed : (fields : Fields) → AreKeptFields fields → trimmed_fields fields ≡ fields
+unfolding AreKeptFields
+all_trimmed [] all = refl
+all_trimmed (x ∷ rest) all = rw (all.0.trimmed, all_trimmed rest all.1) refl
+
+pub kept_row : (first second : List ℕ) (others : Fields) → AreKeptFields (first ∷ second ∷ others) → is_blank (first ∷ second ∷ others) ≡ false
+    → length (line (first ∷ second ∷ others)) ≤ 151 → IsKeptRow (first ∷ second ∷ others)
+kept_row first second others all full short = record {
+  row = record { first = first; second = second; others = others; are = refl; plain = all_plain (first ∷ second ∷ others) all };
+  trimmed = all_trimmed (first ∷ second ∷ others) all;
+  full = full;
+  short = short;
+}
+
+-- each record of a list is such
+unfoldable pub AreKeptRows : List Fields → Type 0
+AreKeptRows [] = Unit {0}
+AreKeptRows (fields ∷ rest) = IsKeptRow fields × AreKeptRows rest
+
+pub kept_rows : (rows : List Fields) → AreKeptRows rows → AreRows rows
+unfolding AreKeptRows AreRows
+kept_rows [] all = tt
+kept_rows (fields ∷ rest) all = (all.0.row, kept_rows rest all.1)
+
+pub kept_trimmed : (rows : List Fields) → AreKeptRows rows → map trimmed_fields rows ≡ rows
+unfolding AreKeptRows
+kept_trimmed [] all = refl
+kept_trimmed (fields ∷ rest) all = rw (all.0.trimmed, kept_trimmed rest all.1) refl
+
+pub kept_short : (rows : List Fields) → AreKeptRows rows → length (flat_map line rows) ≤ 151 * length rows
+unfolding AreKeptRows
+kept_short [] all = omega arith
+kept_short (fields ∷ rest) all =
+    let one = all.0.short in
+    let more = kept_short rest all.1 in
+    let both = length-append (line fields) (flat_map line rest) in
+    rw (flat_map-cons line fields rest) (omega arith)
 
 -- the record of a bank, in each version
 pub bank_row : (v : Version) (done : List Bank) (b : Bank) → IsBackBank done b → IsKeptRow (bank_fields v b)
-unfolding ArePlain
+unfolding AreKeptFields
 bank_row version.One done b back =
     let limit = back.cash in
-    let small : b.cash < 10 ^ 19 = omega arith in
     let name = name_is_short b.name back.named in
     let cash = length-decimal-le 20 b.cash (omega arith) (omega arith) (omega arith) in
     let word = rule_is_short b.rule in
-    record {
-      row = record {
-        first = b.name;
-        second = decimal b.cash;
-        others = rule_word b.rule ∷ [];
-        are = refl;
-        plain = (plain_name b.name back.named, (plain_decimal b.cash small, (plain_rule b.rule, tt)));
-      };
-      trimmed = rw (back.kept, trimmed_decimal b.cash small, trimmed_rule b.rule) refl;
-      full = rw (name_has_byte b.name back.named) refl;
-      short = simp length-append (omega arith);
-    }
+    kept_row b.name (decimal b.cash) (rule_word b.rule ∷ [])
+    (kept_name b.name back.named back.kept, (kept_decimal b.cash (omega arith), (kept_rule b.rule, tt)))
+    (rw (name_has_byte b.name back.named) refl) (simp length-append (omega arith))
 bank_row version.Two done b back =
     let limit = back.cash in
-    let small : b.cash < 10 ^ 19 = omega arith in
+    let limit_too = back.outside in
     let name = name_is_short b.name back.named in
     let cash = length-decimal-le 20 b.cash (omega arith) (omega arith) (omega arith) in
     let word = rule_is_short b.rule in
-    let limit_too = back.outside in
-    let small_too : b.outside < 10 ^ 19 = omega arith in
     let outside = length-decimal-le 20 b.outside (omega arith) (omega arith) (omega arith) in
-    record {
-      row = record {
-        first = b.name;
-        second = decimal b.cash;
-        others = rule_word b.rule ∷ decimal b.outside ∷ [];
-        are = refl;
-        plain = (
-          plain_name b.name back.named,
-          (plain_decimal b.cash small, (plain_rule b.rule, (plain_decimal b.outside small_too, tt))),
-        );
-      };
-      trimmed = rw (back.kept, trimmed_decimal b.cash small, trimmed_rule b.rule, trimmed_decimal b.outside small_too) refl;
-      full = rw (name_has_byte b.name back.named) refl;
-      short = simp length-append (omega arith);
-    }
+    kept_row b.name (decimal b.cash) (rule_word b.rule ∷ decimal b.outside ∷ [])
+    (kept_name b.name back.named back.kept, (kept_decimal b.cash (omega arith), (kept_rule b.rule, (kept_decimal b.outside (omega arith), tt))))
+    (rw (name_has_byte b.name back.named) refl) (simp length-append (omega arith))
 
 -- a version says all of a bank
 abbrev pub SaysAll : Version → Bank → Type 0
@@ -155,44 +166,22 @@ bank_read_back version.Two done row b back all =
 
 pub debt_row : (net : Net) (done : List Debt) (d : Debt) → IsBackDebt net done d → IsBackName net d.debtor.0 → IsBackName net d.creditor.0
     → IsKeptRow (debt_fields net d)
-unfolding ArePlain
+unfolding AreKeptFields
 debt_row net done d back debtor creditor =
     let limit = back.claim in
     let class = back.class_in_limit in
-    let small : d.claim < 10 ^ 19 = omega arith in
-    let small_too : d.class < 10 ^ 19 = omega arith in
-    record {
-      row = record {
-        first = name_of net d.debtor.0;
-        second = name_of net d.creditor.0;
-        others = decimal d.class ∷ decimal d.claim ∷ [];
-        are = refl;
-        plain = (
-          plain_name (name_of net d.debtor.0) debtor.named,
-          (
-            plain_name (name_of net d.creditor.0) creditor.named,
-            (plain_decimal d.class small_too, (plain_decimal d.claim small, tt)),
-          ),
-        );
-      };
-      trimmed = rw (debtor.kept, creditor.kept, trimmed_decimal d.class small_too, trimmed_decimal d.claim small) refl;
-      full = rw (name_has_byte (name_of net d.debtor.0) debtor.named) refl;
-      short =
-          let name = name_is_short (name_of net d.debtor.0) debtor.named in
-          let name_too = name_is_short (name_of net d.creditor.0) creditor.named in
-          let class_short = length-decimal-le 20 d.class (omega arith) (omega arith) (omega arith) in
-          let claim_short = length-decimal-le 20 d.claim (omega arith) (omega arith) (omega arith) in
-          simp length-append (omega arith);
-    }
+    let name = name_is_short (name_of net d.debtor.0) debtor.named in
+    let name_too = name_is_short (name_of net d.creditor.0) creditor.named in
+    let class_short = length-decimal-le 1 d.class (omega arith) (omega arith) (omega arith) in
+    let claim_short = length-decimal-le 7 d.claim (omega arith) (omega arith) (omega arith) in
+    kept_row (name_of net d.debtor.0) (name_of net d.creditor.0) (decimal d.class ∷ decimal d.claim ∷ []) (
+      kept_name (name_of net d.debtor.0) debtor.named debtor.kept,
+      (kept_name (name_of net d.creditor.0) creditor.named creditor.kept, (kept_decimal d.class (omega arith), (kept_decimal d.claim (omega arith), tt))),
+    )
+    (rw (name_has_byte (name_of net d.debtor.0) debtor.named) refl) (simp length-append (omega arith))
 
 bank_named_back : (net : Net) (done : List Debt) (i : ℕ) → IsBackName net i → bank_in (record { banks = net.banks; debts = done }) (name_of net i) ≡ Ok i
 bank_named_back net done i name = rw (name.named, name.place) refl
-
--- the digit of a class is read back as the class
-class_back : (c : ℕ) → 1 ≤ c → c ≤ MAX_CLASS → class_in (decimal c) ≡ Some c
-class_back c low high =
-    rw (decimal_digit c (omega arith), le-leb 49 (48 + c) (omega arith), le-leb (48 + c) (48 + MAX_CLASS) (omega arith))
-    (ap Some (omega arith))
 
 pub debt_read_back : (net : Net) (done : List Debt) (row : ℕ) (d : Debt) → IsBackDebt net done d → IsBackName net d.debtor.0 → IsBackName net d.creditor.0
     → debt_in_row (record { banks = net.banks; debts = done }) (row, debt_fields net d) ≡ Ok d

@@ -5,15 +5,16 @@ use Rattle.std.specs.Char.{is_ascii_digit}
 use Rattle.std.specs.Fmt.{decimal}
 use Rattle.std.specs.Str.{is_utf8, chars}
 use Rattle.std.proofs.lemmas.Bool.{and_parts, ne_eqb, le-leb, leb-true, not-true}
-use Rattle.std.proofs.lemmas.Fmt.{decimal_by_steps, decimal_nonempty, length-decimal-le}
+use Rattle.std.proofs.lemmas.Fmt.{decimal_by_steps_wide, decimal_digit, length-decimal-le_wide}
+use Rattle.std.proofs.lemmas.List.{length-append}
 use Rattle.std.proofs.lemmas.List.Folds.{list_all-append}
 use Rattle.std.proofs.lemmas.Str.{IsUtf8-from_is_utf8, chars-encodes}
 use lib.Dec.{ltb}
 use lib.Utf8.{encode, encodes, next}
 use Rattle.csv.specs.Writing.{default_writer, needs_byte}
 use Rattle.clr_net.specs.Name.{is_name, is_control, may_stand_in_name}
-use Rattle.clr_net.specs.declared.TheConstants.{MAX_NAME_BYTES}
-use Rattle.net_check.specs.Field.{is_space_or_tab, trimmed_start, trimmed_field, number_after, number_in}
+use Rattle.clr_net.specs.declared.TheConstants.{MAX_CLASS, MAX_NAME_BYTES}
+use Rattle.net_check.specs.Field.{is_space_or_tab, trimmed_start, trimmed_field, number_after, number_in, class_in}
 use Rattle.net_check.specs.declared.TheConstants.{MAX_DIGITS}
 use Rattle.net_check.proofs.Fields.{trimmed_start-stops, trimmed_end-stops}
 
@@ -66,7 +67,7 @@ plain_chars (c ∷ cs) h =
     none_in_both (needs_byte default_writer) (encode c) (encodes cs) (plain_char c parts.0) (plain_chars cs parts.1)
 
 -- a name calls for no quotes
-pub plain_name : (name : List ℕ) → is_name name ≡ true → IsPlain name
+plain_name : (name : List ℕ) → is_name name ≡ true → IsPlain name
 plain_name name h =
     let characters = and_parts (nat_le 1 (length name) && nat_le (length name) MAX_NAME_BYTES && is_utf8 name) (list_all may_stand_in_name (chars name)) h in
     let text = and_parts (nat_le 1 (length name) && nat_le (length name) MAX_NAME_BYTES) (is_utf8 name) characters.0 in
@@ -93,7 +94,7 @@ plain_digit b h = (
   rw (ne_eqb b 32 (λ e. absurd (cc (rw e at h))), ne_eqb b 9 (λ e. absurd (cc (rw e at h)))) refl,
 )
 
-pub plain_digits : (ds : List ℕ) → list_all is_ascii_digit ds ≡ true → IsPlain ds
+plain_digits : (ds : List ℕ) → list_all is_ascii_digit ds ≡ true → IsPlain ds
 plain_digits [] h = record { unquoted = refl }
 plain_digits (b ∷ rest) h =
     let parts = and_parts (is_ascii_digit b) (list_all is_ascii_digit rest) h in
@@ -109,7 +110,7 @@ last_of p x (y ∷ ys) h =
     (x ∷ found.0, found.1, ap (λ t. x ∷ t) found.2, found.3)
 
 -- digits have no space or tab to be dropped
-pub trimmed_digits : (ds : List ℕ) → list_all is_ascii_digit ds ≡ true → trimmed_field ds ≡ ds
+trimmed_digits : (ds : List ℕ) → list_all is_ascii_digit ds ≡ true → trimmed_field ds ≡ ds
 unfolding trimmed_start
 trimmed_digits [] h = refl
 trimmed_digits (b ∷ rest) h =
@@ -132,20 +133,45 @@ Spells n ds = (list_all is_ascii_digit ds ≡ true) × (number_after 0 ds ≡ n)
 digit : (n : ℕ) → n < 10 → is_ascii_digit (48 + n) ≡ true
 digit n small = rw (le-leb 48 (48 + n) (omega arith), le-leb (48 + n) 57 (omega arith)) refl
 
-pub decimal_spells : (n : ℕ) → n < 2 ^ 64 → Spells n (decimal n)
+decimal_spells : (n : ℕ) → n < 10 ^ MAX_DIGITS → Spells n (decimal n)
 unfolding number_after
-decimal_spells n small = decimal_by_steps Spells
+decimal_spells n small = decimal_by_steps_wide Spells
     (λ m low. (rw (digit m low) refl, omega arith))
     (λ m ds high so_far. (
       rw (list_all-append is_ascii_digit ds ((48 + m % 10) ∷ []), so_far.0, digit (m % 10) (omega arith)) refl,
       number_after-push 0 ds (48 + m % 10) ∙ (let before = so_far.1 in omega arith),
-    )) n small
+    )) n (omega arith)
 
--- a number of a file is read back
-pub number_in-decimal : (n : ℕ) → n < 10 ^ 19 → number_in (decimal n) ≡ Some n
+-- a number has a digit
+decimal_has_digit : (n : ℕ) → n < 10 ^ MAX_DIGITS → 1 ≤ length (decimal n)
+decimal_has_digit n small = decimal_by_steps_wide (λ m ds. 1 ≤ length ds) (λ m low. omega arith)
+    (λ m ds high some. omega (arith, length-append ds ((48 + m % 10) ∷ []))) n (omega arith)
+
+-- a field that calls for no quotes and has nothing to be trimmed
+pub record IsKeptField (field : List ℕ) : Type 0 where
+  pub plain : IsPlain field
+  pub trimmed : trimmed_field field ≡ field
+
+-- the digits of a number that a file can have are such
+pub kept_decimal : (n : ℕ) → n < 10 ^ MAX_DIGITS → IsKeptField (decimal n)
+kept_decimal n small =
+    let digits = (decimal_spells n small).0 in
+    record { plain = plain_digits (decimal n) digits; trimmed = trimmed_digits (decimal n) digits }
+
+-- and so is a name that a file keeps
+pub kept_name : (name : List ℕ) → is_name name ≡ true → trimmed_field name ≡ name → IsKeptField name
+kept_name name named trimmed = record { plain = plain_name name named; trimmed = trimmed }
+
+-- such a number is read back
+pub number_in-decimal : (n : ℕ) → n < 10 ^ MAX_DIGITS → number_in (decimal n) ≡ Some n
 number_in-decimal n small =
-    let wide : n < 2 ^ 64 = omega arith in
-    let spells = decimal_spells n wide in
-    let some = decimal_nonempty n wide in
-    let few = length-decimal-le 20 n (omega arith) (omega arith) wide in
+    let spells = decimal_spells n small in
+    let some = decimal_has_digit n small in
+    let few = length-decimal-le_wide MAX_DIGITS n (omega arith) small (omega arith) in
     rw (le-leb 1 (length (decimal n)) some, le-leb (length (decimal n)) MAX_DIGITS few, spells.0) (ap Some spells.1)
+
+-- the digit of a class is read back as the class
+pub class_back : (c : ℕ) → 1 ≤ c → c ≤ MAX_CLASS → class_in (decimal c) ≡ Some c
+class_back c low high =
+    rw (decimal_digit c (omega arith), le-leb 49 (48 + c) (omega arith), le-leb (48 + c) (48 + MAX_CLASS) (omega arith))
+    (ap Some (omega arith))

@@ -1,11 +1,11 @@
 -- A printed file, read record by record.
-use Rattle.std.proofs.Common.{◌≡◌, ◌∙◌, ℕ, List, [], ◌∷◌, ◌++◌, map, Some, refl, sym, ap}
-use Rattle.std.specs.List.{flat_map, join_with_byte}
+use Rattle.std.proofs.Common.{◌≡◌, ◌∙◌, ◌||◌, ℕ, Bool, true, false, List, [], ◌∷◌, ◌++◌, map, Some, refl, sym, ap}
+use Rattle.std.specs.List.{flat_map, join_with_byte, list_any}
 use Rattle.std.proofs.lemmas.List.{append-nil}
 use Rattle.std.proofs.lemmas.List.Concat.{flat_map-cons}
 use Rattle.csv.specs.Machine.{next_record}
 use Rattle.csv.specs.Reading.{records, default_config, strip_bom}
-use Rattle.csv.specs.Writing.{default_writer, fields_text, row_text, is_blank}
+use Rattle.csv.specs.Writing.{default_writer, fields_text, needs_byte, row_text, is_blank}
 use Rattle.csv.specs.declared.parser.State.TheVariants as st
 use Rattle.csv.proofs.RoundTrip.{read-write-many}
 use Rattle.clr_net.specs.Lines.{line}
@@ -26,6 +26,22 @@ pub record IsRow (fields : Fields) : Type 0 where
   pub others : Fields
   pub are : fields ≡ first ∷ second ∷ others
   pub plain : ArePlain (first ∷ second ∷ others)
+
+-- words that call for no quotes, by a test
+plain_words : (words : Fields) → list_any (list_any (needs_byte default_writer)) words ≡ false → ArePlain words
+unfolding ArePlain
+plain_words [] h = tt
+plain_words (x ∷ rest) h = by (list_any (needs_byte default_writer) x) refl h (plain_words rest)
+  where
+    by : (b : Bool) → list_any (needs_byte default_writer) x ≡ b → (b || list_any (list_any (needs_byte default_writer)) rest) ≡ false
+        → (list_any (list_any (needs_byte default_writer)) rest ≡ false → ArePlain rest) → IsPlain x × ArePlain rest
+    by true e g more = absurd (cc)
+    by false e g more = (record { unquoted = e }, more g)
+
+pub word_row : (first second : List ℕ) (others : Fields) → list_any (list_any (needs_byte default_writer)) (first ∷ second ∷ others) ≡ false
+    → IsRow (first ∷ second ∷ others)
+word_row first second others h =
+    record { first = first; second = second; others = others; are = refl; plain = plain_words (first ∷ second ∷ others) h }
 
 -- fields joined by commas are the text that a writer of records makes
 joined-text : (x : List ℕ) (rest : Fields) → ArePlain (x ∷ rest) → join_with_byte 44 (x ∷ rest) ≡ x ++ fields_text default_writer rest
@@ -58,7 +74,7 @@ read_lines (fields ∷ rest) all =
     ∙ ap (λ t. fields ∷ t) (read_lines rest all.1))
 
 -- lines made of other things
-lines-map : {X : Type 0} (fields_of : X → Fields) (line_of : X → List ℕ) → ((x : X) → line_of x ≡ line (fields_of x)) → (xs : List X)
+pub lines-map : {X : Type 0} (fields_of : X → Fields) (line_of : X → List ℕ) → ((x : X) → line_of x ≡ line (fields_of x)) → (xs : List X)
     → flat_map line_of xs ≡ flat_map line (map fields_of xs)
 lines-map fields_of line_of each [] = refl
 lines-map fields_of line_of each (x ∷ xs) =

@@ -3,8 +3,7 @@ use Rattle.std.proofs.Common.{◌≡◌, ◌∙◌, ◌≤◌, ◌+◌, ◌*◌,
 use Rattle.std.specs.Prelude.{codes}
 use Rattle.std.specs.List.{flat_map, list_all}
 use Rattle.std.proofs.lemmas.Bool.{eqb-true, and_parts}
-use Rattle.std.proofs.lemmas.List.{append-nil, length-append}
-use Rattle.std.proofs.lemmas.List.Concat.{flat_map-cons}
+use Rattle.std.proofs.lemmas.List.{append-nil, length-append, length-map}
 use Rattle.csv.specs.Reading.{strip_bom}
 use Rattle.clr_net.specs.Lines.{line}
 use Rattle.clr_net.specs.Net.{Net, empty_net, with_bank, with_debt}
@@ -16,7 +15,7 @@ use Rattle.net_check.specs.Field.{trimmed_start}
 use Rattle.net_check.specs.declared.fault.Fault.{Fault}
 use Rattle.net_check.proofs.Passed.{and_then-ok}
 use Rattle.net_csv.specs.Printing.{bank_fields, debt_fields, bank_line, debt_line, banks_text_in, banks_text_2, banks_text, debts_text, version_for, KeepsNames}
-use Rattle.net_csv.specs.Reading.{Fields, trimmed_fields, is_blank, rows_from, records_of, banks_header, debts_header, header, file_of, version_of, with_row, bank_in_row, debt_in_row, read_rows, below_header, with_file, with_banks_of, with_debts_of, network_of}
+use Rattle.net_csv.specs.Reading.{Fields, trimmed_fields, rows_from, records_of, banks_header, debts_header, header, file_of, version_of, with_row, bank_in_row, debt_in_row, read_rows, below_header, with_file, with_banks_of, with_debts_of, network_of}
 use Rattle.net_csv.specs.declared.layout.Layout.{Layout}
 use Rattle.net_csv.specs.declared.layout.Layout.TheVariants as layout
 use Rattle.net_csv.specs.declared.layout.Version.{Version}
@@ -24,9 +23,9 @@ use Rattle.net_csv.specs.declared.layout.Version.TheVariants as version
 use Rattle.net_csv.proofs.Networks.{are_read, with_file-keeps, network_of_ok, network_of_read}
 use Rattle.net_csv.proofs.KeptNames.{network_of_names}
 use Rattle.net_csv.proofs.Rows.{one_row, rows-pass, rows-end, file-below}
-use Rattle.net_csv.proofs.PrintedRecords.{ArePlain, IsRow, AreRows, read_printed}
+use Rattle.net_csv.proofs.PrintedRecords.{IsRow, word_row, lines-map, read_printed}
 use Rattle.net_csv.proofs.BackFacts.{IsBackDebt, IsBackName, bank_back, debt_back, name_back}
-use Rattle.net_csv.proofs.BackRows.{IsKeptRow, SaysAll, bank_row, debt_row, bank_read_back, debt_read_back}
+use Rattle.net_csv.proofs.BackRows.{IsKeptRow, AreKeptRows, kept_rows, kept_trimmed, kept_short, SaysAll, bank_row, debt_row, bank_read_back, debt_read_back}
 
 -- things that a file has line by line, each of which is read back beside those before it
 record IsPrinted (X : Type 0) (l : Layout) (fields_of : X → Fields) (so_far : List X → Net) (all : List X) : Type 0 where
@@ -45,58 +44,36 @@ moved all done rest x e = e ∙ sym (append_assoc done (x ∷ []) rest)
 -- what holds of every file
 module _ (X : Type 0) (l : Layout) (fields_of : X → Fields) (so_far : List X → Net) (all : List X)
     (printed : IsPrinted X l fields_of so_far all) where
-  -- each line is read as a record
-  line_rows : (rest done : List X) → all ≡ done ++ rest → AreRows (map fields_of rest)
-  unfolding AreRows
-  line_rows [] done e = tt
-  line_rows (x ∷ rest) done e = ((printed.kept done rest x e).row, line_rows rest (done ++ x ∷ []) (moved all done rest x e))
+  -- a file keeps the records
+  all_kept : (rest done : List X) → all ≡ done ++ rest → AreKeptRows (map fields_of rest)
+  unfolding AreKeptRows
+  all_kept [] done e = tt
+  all_kept (x ∷ rest) done e = (printed.kept done rest x e, all_kept rest (done ++ x ∷ []) (moved all done rest x e))
 
   -- the lines are short
-  short_lines : (rest done : List X) → all ≡ done ++ rest → length (flat_map (λ x. line (fields_of x)) rest) ≤ 200 * length rest
-  short_lines [] done e = omega arith
-  short_lines (x ∷ rest) done e =
-      let one = (printed.kept done rest x e).short in
-      let more = short_lines rest (done ++ x ∷ []) (moved all done rest x e) in
-      let both = length-append (line (fields_of x)) (flat_map (λ x. line (fields_of x)) rest) in
-      rw (flat_map-cons (λ x. line (fields_of x)) x rest) (omega arith)
+  short_lines : length (flat_map (λ x. line (fields_of x)) all) ≤ 151 * length all
+  short_lines = omega (
+    arith,
+    ap length (lines-map fields_of (λ x. line (fields_of x)) (λ x. refl) all),
+    kept_short (map fields_of all) (all_kept all [] refl),
+    length-map all fields_of,
+  )
 
   -- the rows are read as what was printed
   rows_back : (rest done : List X) (row : ℕ) → all ≡ done ++ rest
-      → read_rows l (so_far done) (rows_from row (map trimmed_fields (map fields_of rest))) ≡ Ok (so_far (done ++ rest))
+      → read_rows l (so_far done) (rows_from row (map fields_of rest)) ≡ Ok (so_far (done ++ rest))
   rows_back [] done row e = rows-end l (so_far done) row ∙ ap (λ xs. Ok (so_far xs)) (sym (append-nil done))
   rows_back (x ∷ rest) done row e =
-      let kept = printed.kept done rest x e in
-      let fields = trimmed_fields (fields_of x) in
-      let one = one_row l (so_far done) row fields (ap is_blank kept.trimmed ∙ kept.full)
-      ∙ ap (λ f. with_row l (so_far done) (row, f)) kept.trimmed ∙ printed.read done rest x row e in
-      rows-pass l (so_far done) (so_far (done ++ x ∷ [])) row fields (map trimmed_fields (map fields_of rest)) one
+      rows-pass l (so_far done) (so_far (done ++ x ∷ [])) row (fields_of x) (map fields_of rest)
+      (one_row l (so_far done) row (fields_of x) (printed.kept done rest x e).full ∙ printed.read done rest x row e)
       ∙ rows_back rest (done ++ x ∷ []) (row + 1) (moved all done rest x e)
       ∙ ap (λ xs. Ok (so_far xs)) (append_assoc done (x ∷ []) rest)
 
 -- the headers
 header_row : (l : Layout) → IsRow (header l)
-unfolding ArePlain
-header_row (layout.Banks version.One) = record {
-  first = codes "name";
-  second = codes "cash";
-  others = codes "rule" ∷ [];
-  are = refl;
-  plain = (record { unquoted = refl }, (record { unquoted = refl }, (record { unquoted = refl }, tt)));
-}
-header_row (layout.Banks version.Two) = record {
-  first = codes "name";
-  second = codes "cash";
-  others = codes "rule" ∷ codes "outside" ∷ [];
-  are = refl;
-  plain = (record { unquoted = refl }, (record { unquoted = refl }, (record { unquoted = refl }, (record { unquoted = refl }, tt))));
-}
-header_row layout.Debts = record {
-  first = codes "debtor";
-  second = codes "creditor";
-  others = codes "class" ∷ codes "claim" ∷ [];
-  are = refl;
-  plain = (record { unquoted = refl }, (record { unquoted = refl }, (record { unquoted = refl }, (record { unquoted = refl }, tt))));
-}
+header_row (layout.Banks version.One) = word_row (codes "name") (codes "cash") (codes "rule" ∷ []) refl
+header_row (layout.Banks version.Two) = word_row (codes "name") (codes "cash") (codes "rule" ∷ codes "outside" ∷ []) refl
+header_row layout.Debts = word_row (codes "debtor") (codes "creditor") (codes "class" ∷ codes "claim" ∷ []) refl
 
 header_back : (l : Layout) (below : List Fields) → below_header (file_of l) (header l) (trimmed_fields (header l) ∷ below) ≡ Ok below
 unfolding trimmed_start
@@ -122,17 +99,18 @@ short_header layout.Debts = omega arith
 
 -- a printed file is read as what it was printed of
 records_back : (X : Type 0) (l : Layout) (fields_of : X → Fields) (so_far : List X → Net) (all : List X) → IsPrinted X l fields_of so_far all
-    → records_of (file_text l fields_of all) ≡ map trimmed_fields (header l ∷ map fields_of all)
+    → records_of (file_text l fields_of all) ≡ trimmed_fields (header l) ∷ map fields_of all
 records_back X l fields_of so_far all printed =
+    let kept = all_kept X l fields_of so_far all printed all [] refl in
     ap (map trimmed_fields) (read_printed (header l) fields_of (λ x. line (fields_of x)) all (λ x. refl) (header_row l)
-    (line_rows X l fields_of so_far all printed all [] refl) (unmarked l (flat_map (λ x. line (fields_of x)) all)))
+    (kept_rows (map fields_of all) kept) (unmarked l (flat_map (λ x. line (fields_of x)) all)))
+    ∙ ap (λ rows. trimmed_fields (header l) ∷ rows) (kept_trimmed (map fields_of all) kept)
 
 file_back : (X : Type 0) (l : Layout) (fields_of : X → Fields) (so_far : List X → Net) (all : List X) → IsPrinted X l fields_of so_far all
     → with_file l (file_text l fields_of all) (so_far []) ≡ Ok (so_far all)
 file_back X l fields_of so_far all printed =
-    let below = map trimmed_fields (map fields_of all) in
-    file-below l (file_text l fields_of all) (so_far []) (trimmed_fields (header l) ∷ below) below
-    (sym (records_back X l fields_of so_far all printed)) (header_back l below)
+    file-below l (file_text l fields_of all) (so_far []) (trimmed_fields (header l) ∷ map fields_of all) (map fields_of all)
+    (sym (records_back X l fields_of so_far all printed)) (header_back l (map fields_of all))
     ∙ rows_back X l fields_of so_far all printed all [] 1 refl
 
 -- the banks of a network without its debts
@@ -179,12 +157,12 @@ banks_back v net network names says =
     let text = banks_text_in v net in
     let version : version_of (records_of text) ≡ v =
     ap version_of (records_back Bank (layout.Banks v) (bank_fields v) with_banks net.banks printed)
-    ∙ version_back v (map trimmed_fields (map (bank_fields v) net.banks)) in
+    ∙ version_back v (map (bank_fields v) net.banks) in
     ap (λ w. with_file (layout.Banks w) text empty_net) version ∙ file_back Bank (layout.Banks v) (bank_fields v) with_banks net.banks printed
 
 banks_short : (v : Version) (net : Net) → IsNetwork net → KeepsNames net → SaysBanks v net → length (banks_text_in v net) ≤ 8388608
 banks_short v net network names says =
-    let lines = short_lines Bank (layout.Banks v) (bank_fields v) with_banks net.banks (banks_printed v net network names says) net.banks [] refl in
+    let lines = short_lines Bank (layout.Banks v) (bank_fields v) with_banks net.banks (banks_printed v net network names says) in
     let first = short_header (layout.Banks v) in
     let few = network.banks_in_limit in
     let both = length-append (line (banks_header v)) (flat_map (bank_line v) net.banks) in
@@ -193,7 +171,7 @@ banks_short v net network names says =
 debts_short : (net : Net) → IsNetwork net → KeepsNames net → length (debts_text net) ≤ 8388608
 debts_short net network names =
     let lines = short_lines Debt layout.Debts (debt_fields net) (λ debts. record { banks = net.banks; debts = debts }) net.debts
-    (debts_printed net network names) net.debts [] refl in
+    (debts_printed net network names) in
     let first = short_header layout.Debts in
     let few = network.debts_in_limit in
     let both = length-append (line debts_header) (flat_map (debt_line net) net.debts) in

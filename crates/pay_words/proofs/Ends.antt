@@ -130,21 +130,21 @@ closes d id v ws xs on chief all final =
       size = ap length (sym final.2) ∙ h.size;
       payments = λ x lt. ap (λ (l : List ℕ). payment_of (slice_index l (x + 1))) (sym final.2) ∙ ap payment_of (h.stands x lt)
           ∙ read_back (ending (k.trace x)) (omega (arith, value_fits net k.trace h.lawful x lt h.network)) ∙ sym (f.pays x lt (mine x lt));
-      ends = record {
-        payments_are = refl;
-        below_least = subst (λ (ps : List Payment). IsAtMost (values ps) (least net)) (sym shown) (values_below net raises known lawful);
-        covered = subst (λ (ps : List Payment). IsAtMost (values ps) (pay net (values ps))) (sym shown) (covered net _ _ (belongs net raises known lawful));
-        lawful = subst (λ (ps : List Payment). Belongs net ps (ordered raises)) (sym shown) (belongs net raises known lawful);
-        replays = subst (λ (ps : List Payment). replayed net (ordered raises) ≡ values ps) (sym shown) (replays net raises known lawful);
-        low_stamps = subst (λ (ps : List Payment). All (λ r. r.stamp ≤ sum (values ps)) raises) (sym shown) (low_stamps net raises known lawful);
-        low_in_order = subst (λ (ps : List Payment). All (λ r. r.stamp ≤ sum (values ps)) (ordered raises)) (sym shown) (low_in_order net raises known lawful);
+      ends = subst (Ends net d.past v.shown) (sym shown) (record {
+        payments_are = sym shown;
+        below_least = values_below net raises known lawful;
+        covered = covered net _ _ (belongs net raises known lawful);
+        lawful = belongs net raises known lawful;
+        replays = replays net raises known lawful;
+        low_stamps = low_stamps net raises known lawful;
+        low_in_order = low_in_order net raises known lawful;
         few_bells =
             let r = h.rung in
             let taken = sum_least taken_of s.views id v final.1.1 in
             let made = sum_alone made_of s.views id v final.1.1 (λ j u ne e. made_none d k (slice_index s.words 0) (length s.views) id j v u f chief mine ne (λ o. h.fits j u e o)) in
             omega (arith, r.few, taken, made, cond-true v.live v.shown.taken 0 on, cond-true v.live (length v.shown.raises) 0 on);
         after_past = λ a b lt i j l. f.late (get_or v.shown.raises a b) (in_at v.shown.raises a b lt) (get_or d.past i j) (in_at d.past i j l);
-      };
+      });
     }
 
 -- the payments in the list that the words are copied to

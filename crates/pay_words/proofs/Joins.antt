@@ -18,7 +18,7 @@ use Rattle.pay_words.specs.declared.view.Shown.{Shown}
 use Rattle.pay_words.specs.declared.view.View.{View}
 use Rattle.pay_words.specs.Views.{IsSound, OwesNoRing, is_marked, holds, rejoined, rejoined_over}
 use Rattle.pay_words.specs.Traces.{Traces, Stood, In, ending, raises_of}
-use Rattle.pay_words.specs.Kept.{Ledger, Suits, Sits, Tower, HasBells, IsRung, taken_of, made_of, own_raises, both_of, nobody, showing}
+use Rattle.pay_words.specs.Kept.{Ledger, Leads, Suits, Sits, Tower, HasBells, IsRung, taken_of, made_of, own_raises, both_of, nobody, showing}
 use Rattle.pay_words.proofs.Tables.{length-tabled}
 use Rattle.pay_words.proofs.Traces.{in_split, raises_of-append, raises_of-none}
 use Rattle.pay_words.proofs.Marks.{marked_if, marked, chosen_second, chosen_first, chosen_each, chosen_most, length-chosen, receipts_agree}
@@ -151,22 +151,12 @@ module _ (d : Deed) (k : Ledger) (roll count id other : ℕ) (v w : View) (apart
 
   -- the others do not hold what comes back
   third_suits : (j : ℕ) (u : View) → j ≢ id → j ≢ other → Suits d k roll count j u → Suits d next roll count j u
-  third_suits j u away far a = record {
-    net_is = a.net_is;
-    sound = a.sound;
-    mine = λ b e. cond-false (holds t b) id (k.owner b) (outside b e) ∙ a.mine b e;
-    pays = a.pays;
-    told = λ x lt e. a.told x lt e ∙ ap (λ (rs : List Raise). rs ++ raises_of x (own_raises u.shown.master u.shown.raises)) (sym (same_base x (outside _ e)));
-    only = a.only;
-    stood = a.stood;
-    floor = a.floor;
-    seen_by_clock = a.seen_by_clock;
-    paid_by_clock = a.paid_by_clock;
-    past_by_clock = a.past_by_clock;
-    late = a.late;
-    clock_low = a.clock_low;
-    leads = λ e. absurd (away ((a.leads e).0 ∙ sym (f.leads chief).0));
-  }
+  third_suits j u away far a =
+      let mine : (b : ℕ) → holds u.shown b ≡ true → next.owner b ≡ j = λ b e. cond-false (holds t b) id (k.owner b) (outside b e) ∙ a.mine b e in
+      let told : (x : ℕ) → x < debts → holds u.shown (debtor_of d.net x) ≡ true → k.trace x ≡ raises_of x next.base ++ raises_of x (own_raises u.shown.master u.shown.raises) =
+      λ x lt e. a.told x lt e ∙ ap (λ (rs : List Raise). rs ++ raises_of x (own_raises u.shown.master u.shown.raises)) (sym (same_base x (outside _ e))) in
+      let leads : Leads d next roll count j u = λ e. absurd (away ((a.leads e).0 ∙ sym (f.leads chief).0)) in
+      assumption (mine, told, leads, a)
     where
       outside : (b : ℕ) → holds u.shown b ≡ true → holds t b ≡ false
       outside b e = false_from_ne_true (holds t b) (λ h. far (sym (a.mine b e) ∙ g.mine b h))

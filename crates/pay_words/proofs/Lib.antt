@@ -1,6 +1,7 @@
 pub mod Tables
 pub mod Traces
 pub mod Lawful
+pub mod Standing
 pub mod Views
 pub mod Looks
 pub mod Raises

@@ -8,6 +8,7 @@ use native.Mathlib.Decide.{ℕ_discrete}
 use Rattle.atomic_table.specs.Table.{Me, Allows, keeps, step}
 use Rattle.clr_net.specs.Net.{Net, debtor_of, creditor_of}
 use Rattle.clear_core.specs.Clearing.{least}
+use Rattle.clear_core.specs.declared.event.Raise.{Raise}
 use Rattle.clear_core.proofs.Pay.{part_mono, receipts_mono}
 use Rattle.pay_words.specs.declared.deed.Deed.{Deed}
 use Rattle.pay_words.specs.declared.payment.Payment.{Payment}
@@ -15,37 +16,28 @@ use Rattle.pay_words.specs.declared.view.Shown.{Shown}
 use Rattle.pay_words.specs.declared.view.View.{View}
 use Rattle.pay_words.specs.Words.{payment_of}
 use Rattle.pay_words.specs.Views.{IsSound, holds, looked}
-use Rattle.pay_words.specs.Traces.{Stood, ending, total}
+use Rattle.pay_words.specs.Traces.{In, Stood, ending, total}
 use Rattle.pay_words.specs.Kept.{Ledger, Suits, IsKept, IsRung, LookTells, Looks, showing}
 use Rattle.pay_words.proofs.Tables.{after_set, set_above, set_below}
 use Rattle.pay_words.proofs.Traces.{read_back, ending_stood, stood_under}
 use Rattle.pay_words.proofs.Lawful.{total_le, value_fits}
-use Rattle.pay_words.proofs.Views.{rule, fits_again, sits_set, not_both}
+use Rattle.pay_words.proofs.Views.{rule, fits_again, kept_again, not_both}
 use Rattle.pay_words.proofs.Rung.{rung_look}
 
 -- what a seat shows is sound after it has seen more
 pub sound_look : (s : Shown) (x : ℕ) (p : Payment) → IsSound s → slice_index s.sights x ≤ p.value → p.value ≤ slice_index (least s.net) x
     → max s.clock p.stamp ≤ Rattle.clr_net.specs.Net.units_owed s.net → IsSound (looked s x p)
-sound_look s x p h up below low = record {
-  network = h.network;
-  over = record {
-    banks = h.over.banks;
-    sights = length-set s.sights x p.value ∙ h.over.sights;
-    sight_stamps = length-set s.sight_stamps x p.stamp ∙ h.over.sight_stamps;
-    looks = length-set s.looks x _ ∙ h.over.looks;
-    paid = h.over.paid;
-    paid_stamps = h.over.paid_stamps;
-    floor = h.over.floor;
-    pending = length-set s.pending x false ∙ h.over.pending;
-    owes_ring = h.over.owes_ring;
-    fresh = h.over.fresh;
-  };
-  pays_within = λ y lt mine. le_trans (h.pays_within y lt mine)
-      (part_mono s.net y _ _ (receipts_mono s.net s.sights (set s.sights x p.value) (debtor_of s.net y) (set_above s.sights x p.value up)));
-  sights_below = set_below s.sights (least s.net) x p.value h.sights_below below;
-  paid_below = h.paid_below;
-  clock_below = low;
-}
+sound_look s x p h up below low =
+    let within = λ (y : ℕ) (lt : y < length s.net.debts) (mine : holds s (debtor_of s.net y) ≡ true). le_trans (h.pays_within y lt mine)
+    (part_mono s.net y _ _ (receipts_mono s.net s.sights (set s.sights x p.value) (debtor_of s.net y) (set_above s.sights x p.value up))) in
+    assumption (
+      within,
+      set_below s.sights (least s.net) x p.value h.sights_below below,
+      length-set s.sights x p.value ∙ h.over.sights,
+      length-set s.sight_stamps x p.stamp ∙ h.over.sight_stamps,
+      length-set s.looks x (slice_index s.looks x + 1) ∙ h.over.looks,
+      length-set s.pending x false ∙ h.over.pending,
+    )
 
 module _ (d : Deed) (k : Ledger) (roll count id : ℕ) (v : View) (x : ℕ) where
   abbrev found : Payment
@@ -53,24 +45,17 @@ module _ (d : Deed) (k : Ledger) (roll count id : ℕ) (v : View) (x : ℕ) wher
 
   looked_suits : x < length d.net.debts → found.stamp ≤ total d.net k.trace → IsSound (looked v.shown x found) → Suits d k roll count id v
       → Suits d k roll count id (showing v (looked v.shown x found))
-  looked_suits lt low sound f = record {
-    net_is = f.net_is;
-    sound = sound;
-    mine = f.mine;
-    pays = f.pays;
-    told = f.told;
-    only = f.only;
-    stood = λ y l. dite (ℕ_discrete y x)
-        (λ e. subst (λ (z : ℕ). Stood (k.trace z) (get_or (set v.shown.sights x found.value) z 0) (get_or (set v.shown.sight_stamps x found.stamp) z 0)) (sym e) here)
-        (λ ne. subst (λ (z : ℕ × ℕ). Stood (k.trace y) z.0 z.1) (λ i. (sym (get_or-set_other v.shown.sights x y found.value 0 ne) i, sym (get_or-set_other v.shown.sight_stamps x y found.stamp 0 ne) i)) (f.stood y l));
-    floor = f.floor;
-    seen_by_clock = λ y. after_set (λ z m. m ≤ max v.shown.clock found.stamp) v.shown.sight_stamps x found.stamp (omega arith) (λ z. omega (arith, f.seen_by_clock z)) y;
-    paid_by_clock = λ y l i. omega (arith, f.paid_by_clock y l i);
-    past_by_clock = λ r i. omega (arith, f.past_by_clock r i);
-    late = f.late;
-    clock_low = omega (arith, f.clock_low, low);
-    leads = f.leads;
-  }
+  looked_suits lt low sound f =
+      let stood : (y : ℕ) → y < length d.net.debts → Stood (k.trace y) (get_or (set v.shown.sights x found.value) y 0) (get_or (set v.shown.sight_stamps x found.stamp) y 0) =
+      λ y l. dite (ℕ_discrete y x)
+      (λ e. subst (λ (z : ℕ). Stood (k.trace z) (get_or (set v.shown.sights x found.value) z 0) (get_or (set v.shown.sight_stamps x found.stamp) z 0)) (sym e) here)
+      (λ ne. subst (λ (z : ℕ × ℕ). Stood (k.trace y) z.0 z.1) (λ i. (sym (get_or-set_other v.shown.sights x y found.value 0 ne) i, sym (get_or-set_other v.shown.sight_stamps x y found.stamp 0 ne) i)) (f.stood y l)) in
+      let seen = after_set (λ z m. m ≤ max v.shown.clock found.stamp) v.shown.sight_stamps x found.stamp (omega arith) (λ z. omega (arith, f.seen_by_clock z)) in
+      let stamps : (y : ℕ) → y < length d.net.debts → holds v.shown (debtor_of d.net y) ≡ true → (ending (k.trace y)).stamp ≤ max v.shown.clock found.stamp =
+      λ y l i. omega (arith, f.paid_by_clock y l i) in
+      let past : (r : Raise) → In r d.past → r.stamp ≤ max v.shown.clock found.stamp = λ r i. omega (arith, f.past_by_clock r i) in
+      let clock : max v.shown.clock found.stamp ≤ total d.net k.trace = omega (arith, f.clock_low, low) in
+      assumption (stood, seen, stamps, past, clock, f)
     where
       size : length v.shown.sights ≡ length d.net.debts
       size = f.sound.over.sights ∙ ap (λ (n : Net). length n.debts) f.net_is
@@ -109,23 +94,14 @@ looks d slots id me x on lt to_me s h sized at small =
       keeps,
       tt,
       subst (λ (ws : List ℕ). IsKept d ws (set s.views id w)) (sym (set-get_or s.words (x + 1) 0))
-          record {
-            ledger = k;
-            network = h.network;
-            size = h.size;
-            stands = h.stands;
-            lawful = h.lawful;
-            known = h.known;
-            held = λ b l. sits_set s.views id v w (k.owner b) (λ u. holds u.shown b ≡ true) at refl (λ e. e) (h.held b l);
-            led = sits_set s.views id v w k.chief (λ u. u.shown.master ≡ true) at refl (λ e. e) h.led;
-            fits = fits_again d k (slice_index s.words 0) s.words s.views id w refl (λ j u _ e t. h.fits j u e t)
-                (λ _. subst (λ (q : Payment). Suits d k (slice_index s.words 0) (length s.views) id (showing v (looked v.shown x q))) (sym is)
-                (looked_suits d k (slice_index s.words 0) (length s.views) id v x lt (h.lawful.low x lt) sound f));
-            rung = subst (λ (q : Payment). IsRung d k.trace s.words (set s.views id (showing v (looked v.shown x q)))) (sym is)
-                (rung_look d k.trace s.words s.views id v at on h.rung x lt to_me
-                (f.sound.over.sights ∙ ap (λ (m : Net). length m.debts) f.net_is) (f.sound.over.pending ∙ ap (λ (m : Net). length m.debts) f.net_is)
-                (λ j u ne e t. not_both d k (slice_index s.words 0) (length s.views) id j u v (creditor_of d.net x) ne f to_me (h.fits j u e t)));
-          },
+          (kept_again d s.words s.words s.views id v w k.trace h at refl refl refl refl h.stands h.lawful
+          (fits_again d k (slice_index s.words 0) s.words s.views id w refl (λ j u _ e t. h.fits j u e t)
+          (λ _. subst (λ (q : Payment). Suits d k (slice_index s.words 0) (length s.views) id (showing v (looked v.shown x q))) (sym is)
+          (looked_suits d k (slice_index s.words 0) (length s.views) id v x lt (h.lawful.low x lt) sound f)))
+          (subst (λ (q : Payment). IsRung d k.trace s.words (set s.views id (showing v (looked v.shown x q)))) (sym is)
+          (rung_look d k.trace s.words s.views id v at on h.rung x lt to_me
+          (f.sound.over.sights ∙ ap (λ (m : Net). length m.debts) f.net_is) (f.sound.over.pending ∙ ap (λ (m : Net). length m.debts) f.net_is)
+          (λ j u ne e t. not_both d k (slice_index s.words 0) (length s.views) id j u v (creditor_of d.net x) ne f to_me (h.fits j u e t))))),
       λ y e. let same : x ≡ y = omega arith in
           subst (λ (z : ℕ). (◌≡◌ {A = Me (Unit {0}) View} (w, me.1) (showing v (looked v.shown z (payment_of n)), me.1)) × LookTells v.shown z (payment_of n)) same (refl, subst (λ (q : Payment). LookTells v.shown x q) (sym is) told),
     )

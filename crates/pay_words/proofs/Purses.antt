@@ -25,12 +25,9 @@ tells_set list paid x to y lt t = (
 
 -- the seat of a worker after a raise
 pub own_raised : (net : Net) (banks : List Bool) (paid : List ℕ) (p : Purse) (x to : ℕ) → x < length paid → HasOwn net banks paid p → HasOwn net banks (set paid x to) (record p { own = set p.own x to })
-own_raised net banks paid p x to lt h = record {
-  no_lists = h.no_lists;
-  worker = h.worker;
-  its_banks = h.its_banks;
-  tells = λ y l mine. tells_set p.own paid x to y lt (h.tells y l mine);
-}
+own_raised net banks paid p x to lt h =
+    let tells = λ (y : ℕ) (l : y < length net.debts) (mine : is_marked banks (debtor_of net y) ≡ true). tells_set p.own paid x to y lt (h.tells y l mine) in
+    assumption (tells, h)
 
 -- whether a bank is one of the worker i
 of_worker : (w i b : ℕ) → is_of_worker w i b ≡ true → b % w ≡ i

@@ -16,37 +16,24 @@ use Rattle.pay_words.specs.declared.view.Shown.{Shown}
 use Rattle.pay_words.specs.declared.view.View.{View}
 use Rattle.pay_words.specs.Words.{word_of, payment_of}
 use Rattle.pay_words.specs.Views.{IsSound, holds, raised, a_raise}
-use Rattle.pay_words.specs.Traces.{IsLawful, In, ending, raises_of}
+use Rattle.pay_words.specs.Traces.{IsLawful, In, ending, raises_of, total}
 use Rattle.pay_words.specs.Kept.{Ledger, Suits, Raises, own_raises, showing}
 use Rattle.pay_words.proofs.Tables.{after_set, set_below}
 use Rattle.pay_words.proofs.Traces.{left_by, read_back, pushed, pushed_here, pushed_else, stood_pushed, in_cases, raises_of-push, raises_of-push_else}
 use Rattle.pay_words.proofs.Lawful.{total_le, ending_here, ending_else, ending_rises, total_rises, lawful_push, seen_before}
-use Rattle.pay_words.proofs.Views.{rule, fits_again, sits_set, not_both}
+use Rattle.pay_words.proofs.Views.{rule, fits_again, kept_again, not_both}
 use Rattle.pay_words.proofs.Rung.{rung_raise}
 
 -- what a seat shows is sound after a raise within its estate
 sound_raise : (s : Shown) (x to : ℕ) → IsSound s → to ≤ part s.net x (receipts s.net s.sights (debtor_of s.net x)) → to ≤ slice_index (least s.net) x
     → s.clock + 1 ≤ units_owed s.net → IsSound (raised s x to)
-sound_raise s x to h within below low = record {
-  network = h.network;
-  over = record {
-    banks = h.over.banks;
-    sights = h.over.sights;
-    sight_stamps = h.over.sight_stamps;
-    looks = h.over.looks;
-    paid = length-set s.paid x to ∙ h.over.paid;
-    paid_stamps = length-set s.paid_stamps x (s.clock + 1) ∙ h.over.paid_stamps;
-    floor = h.over.floor;
-    pending = h.over.pending;
-    owes_ring = length-set s.owes_ring x true ∙ h.over.owes_ring;
-    fresh = h.over.fresh;
-  };
-  pays_within = λ y lt mine. after_set (λ z m. z < length s.net.debts → holds s (debtor_of s.net z) ≡ true → m ≤ part s.net z (receipts s.net s.sights (debtor_of s.net z))) s.paid x to
-      (λ _ _. within) h.pays_within y lt mine;
-  sights_below = h.sights_below;
-  paid_below = set_below s.paid (least s.net) x to h.paid_below below;
-  clock_below = low;
-}
+sound_raise s x to h within below low = assumption (
+  after_set (λ z m. z < length s.net.debts → holds s (debtor_of s.net z) ≡ true → m ≤ part s.net z (receipts s.net s.sights (debtor_of s.net z))) s.paid x to (λ _ _. within) h.pays_within,
+  set_below s.paid (least s.net) x to h.paid_below below,
+  length-set s.paid x to ∙ h.over.paid,
+  length-set s.paid_stamps x (s.clock + 1) ∙ h.over.paid_stamps,
+  length-set s.owes_ring x true ∙ h.over.owes_ring,
+)
 
 abbrev pair : ℕ → ℕ → Payment
 pair a b = record { value = a; stamp = b }
@@ -57,22 +44,15 @@ module _ (d : Deed) (k : Ledger) (roll count : ℕ) (x : ℕ) (lt : x < length d
 
   -- another seat's view suits still
   other_suits : (j : ℕ) (u : View) → Suits d k roll count j u → (holds u.shown (debtor_of d.net x) ≡ true → ⊥) → Suits d next roll count j u
-  other_suits j u f away = record {
-    net_is = f.net_is;
-    sound = f.sound;
-    mine = f.mine;
-    pays = λ y l i. f.pays y l i ∙ sym (ending_else d.net k.trace h x lt r is y (apart y i));
-    told = λ y l i. pushed_else k.trace x r y (apart y i) ∙ f.told y l i;
-    only = f.only;
-    stood = λ y l. stood_pushed k.trace x r y _ _ (f.stood y l);
-    floor = λ y l. le_trans (f.floor y l) (ending_rises d.net k.trace h x lt r is up y);
-    seen_by_clock = f.seen_by_clock;
-    paid_by_clock = λ y l i. let same = ending_else d.net k.trace h x lt r is y (apart y i) in omega (arith, f.paid_by_clock y l i, ap (λ (q : Payment). q.stamp) same);
-    past_by_clock = f.past_by_clock;
-    late = f.late;
-    clock_low = let more = total_rises d.net k.trace h x lt r is up in omega (arith, f.clock_low, more);
-    leads = f.leads;
-  }
+  other_suits j u f away =
+      let still = λ (y : ℕ) (i : holds u.shown (debtor_of d.net y) ≡ true). ending_else d.net k.trace h x lt r is y (apart y i) in
+      let pays = λ (y : ℕ) (l : y < length d.net.debts) (i : holds u.shown (debtor_of d.net y) ≡ true). f.pays y l i ∙ sym (still y i) in
+      let told = λ (y : ℕ) (l : y < length d.net.debts) (i : holds u.shown (debtor_of d.net y) ≡ true). pushed_else k.trace x r y (apart y i) ∙ f.told y l i in
+      let stood = λ (y : ℕ) (l : y < length d.net.debts). stood_pushed k.trace x r y _ _ (f.stood y l) in
+      let floor = λ (y : ℕ) (l : y < length d.net.debts). le_trans (f.floor y l) (ending_rises d.net k.trace h x lt r is up y) in
+      let stamps = λ (y : ℕ) (l : y < length d.net.debts) (i : holds u.shown (debtor_of d.net y) ≡ true). le_trans (le_of_eq (ap (λ (q : Payment). q.stamp) (still y i))) (f.paid_by_clock y l i) in
+      let clock : u.shown.clock ≤ total d.net next.trace = omega (arith, f.clock_low, total_rises d.net k.trace h x lt r is up) in
+      assumption (pays, told, stood, floor, stamps, clock, f)
     where
       apart : (y : ℕ) → holds u.shown (debtor_of d.net y) ≡ true → y ≢ x
       apart y i e = away (subst (λ (z : ℕ). holds u.shown (debtor_of d.net z) ≡ true) e i)
@@ -161,27 +141,20 @@ raises d slots id me x to on fits may s h sized at small =
       w,
       keeps,
       tt,
-      record {
-        ledger = record k { trace = pushed k.trace x r };
-        network = h.network;
-        size = length-set s.words (x + 1) n ∙ h.size;
-        stands = λ y l. dite (ℕ_discrete y x)
-            (λ e. let big : x + 1 < length s.words = omega (arith, h.size) in
-            subst (λ (z : ℕ). slice_index (set s.words (x + 1) n) (z + 1) ≡ word_of (ending (pushed k.trace x r z))) (sym e)
-            (get_or-set_same s.words (x + 1) n 0 big ∙ ap word_of (sym (ending_here d.net k.trace h.lawful x lt r refl x refl))))
-            (λ ne. get_or-set_other s.words (x + 1) (y + 1) n 0 (λ e. ne (omega (arith, e))) ∙ h.stands y l ∙ ap word_of (sym (ending_else d.net k.trace h.lawful x lt r refl y ne)));
-        lawful = lawful;
-        known = h.known;
-        held = λ b l. sits_set s.views id v w (k.owner b) (λ u. holds u.shown b ≡ true) at refl (λ e. e) (h.held b l);
-        led = sits_set s.views id v w k.chief (λ u. u.shown.master ≡ true) at refl (λ e. e) h.led;
-        fits = fits_again d (record k { trace = pushed k.trace x r }) (slice_index s.words 0) (set s.words (x + 1) n) s.views id w roll
-            (λ j u apart e t. other_suits d k (slice_index s.words 0) (length s.views) x lt h.lawful r refl paid j u (h.fits j u e t)
-            (not_both d k (slice_index s.words 0) (length s.views) id j u v (debtor_of d.net x) apart f may.debtor (h.fits j u e t)))
-            (λ _. raised_suits d k (slice_index s.words 0) (length s.views) x lt h.lawful r refl paid id v refl may.not_the_master may.debtor sound f);
-        rung = rung_raise d k.trace s.words s.views id v at on h.rung x lt to n r may.debtor (f.sound.over.owes_ring ∙ ap (λ (m : Net). length m.debts) f.net_is)
-            (λ j u ne e t. not_both d k (slice_index s.words 0) (length s.views) id j u v (debtor_of d.net x) ne f may.debtor (h.fits j u e t))
-            (ending_rises d.net k.trace h.lawful x lt r refl paid);
-      },
+      kept_again d s.words (set s.words (x + 1) n) s.views id v w (pushed k.trace x r) h at refl refl refl (length-set s.words (x + 1) n)
+          (λ y l. dite (ℕ_discrete y x)
+          (λ e. let big : x + 1 < length s.words = omega (arith, h.size) in
+          subst (λ (z : ℕ). slice_index (set s.words (x + 1) n) (z + 1) ≡ word_of (ending (pushed k.trace x r z))) (sym e)
+          (get_or-set_same s.words (x + 1) n 0 big ∙ ap word_of (sym (ending_here d.net k.trace h.lawful x lt r refl x refl))))
+          (λ ne. get_or-set_other s.words (x + 1) (y + 1) n 0 (λ e. ne (omega (arith, e))) ∙ h.stands y l ∙ ap word_of (sym (ending_else d.net k.trace h.lawful x lt r refl y ne))))
+          lawful
+          (fits_again d (record k { trace = pushed k.trace x r }) (slice_index s.words 0) (set s.words (x + 1) n) s.views id w roll
+          (λ j u apart e t. other_suits d k (slice_index s.words 0) (length s.views) x lt h.lawful r refl paid j u (h.fits j u e t)
+          (not_both d k (slice_index s.words 0) (length s.views) id j u v (debtor_of d.net x) apart f may.debtor (h.fits j u e t)))
+          (λ _. raised_suits d k (slice_index s.words 0) (length s.views) x lt h.lawful r refl paid id v refl may.not_the_master may.debtor sound f))
+          (rung_raise d k.trace s.words s.views id v at on h.rung x lt to n r may.debtor (f.sound.over.owes_ring ∙ ap (λ (m : Net). length m.debts) f.net_is)
+          (λ j u ne e t. not_both d k (slice_index s.words 0) (length s.views) id j u v (debtor_of d.net x) ne f may.debtor (h.fits j u e t))
+          (ending_rises d.net k.trace h.lawful x lt r refl paid)),
       λ y e. let same : x ≡ y = omega arith in
           subst (λ (z : ℕ × ℕ). (◌≡◌ {A = Me (Unit {0}) View} (w, me.1) (showing v (raised v.shown z.0 z.1), me.1)) × IsSound (raised v.shown z.0 z.1)) (λ i. (same i, sym value i)) (refl, sound),
     )

@@ -22,7 +22,7 @@ use Rattle.pay_words.specs.Kept.{Ledger, Suits, IsKept, Tower, HasBells, IsCalle
 use Rattle.pay_words.proofs.Tables.{tabled_at, length-tabled}
 use Rattle.pay_words.proofs.Bells.{changed, changed_here, changed_else, sum_views, has_set, sum_changed, one_less}
 use Rattle.pay_words.proofs.Rung.{NoOther, called_still}
-use Rattle.pay_words.proofs.Views.{rule, fits_again, sits_set, not_both}
+use Rattle.pay_words.proofs.Views.{rule, fits_again, kept_again, not_both}
 
 -- a view whose bells alone change
 module _ (s : Shown) (pending owing fresh : List Bool) (taken : ℕ) (acts : List Act) where
@@ -30,44 +30,11 @@ module _ (s : Shown) (pending owing fresh : List Bool) (taken : ℕ) (acts : Lis
   belled = record s { pending = pending; owes_ring = owing; fresh = fresh; taken = taken; acts = acts }
 
   pub sound_belled : IsSound s → length pending ≡ length s.net.debts → length owing ≡ length s.net.debts → length fresh ≡ length s.net.banks → IsSound belled
-  sound_belled h a b c = record {
-    network = h.network;
-    over = record {
-      banks = h.over.banks;
-      sights = h.over.sights;
-      sight_stamps = h.over.sight_stamps;
-      looks = h.over.looks;
-      paid = h.over.paid;
-      paid_stamps = h.over.paid_stamps;
-      floor = h.over.floor;
-      pending = a;
-      owes_ring = b;
-      fresh = c;
-    };
-    pays_within = h.pays_within;
-    sights_below = h.sights_below;
-    paid_below = h.paid_below;
-    clock_below = h.clock_below;
-  }
+  sound_belled h a b c = assumption
 
 pub belled_suits : (d : Deed) (k : Ledger) (roll count id : ℕ) (v : View) (pending owing fresh : List Bool) (taken : ℕ) (acts : List Act) → IsSound (belled v.shown pending owing fresh taken acts) → Suits d k roll count id v
     → Suits d k roll count id (showing v (belled v.shown pending owing fresh taken acts))
-belled_suits d k roll count id v pending owing fresh taken acts sound f = record {
-  net_is = f.net_is;
-  sound = sound;
-  mine = f.mine;
-  pays = f.pays;
-  told = f.told;
-  only = f.only;
-  stood = f.stood;
-  floor = f.floor;
-  seen_by_clock = f.seen_by_clock;
-  paid_by_clock = f.paid_by_clock;
-  past_by_clock = f.past_by_clock;
-  late = f.late;
-  clock_low = f.clock_low;
-  leads = f.leads;
-}
+belled_suits d k roll count id v pending owing fresh taken acts sound f = assumption
 
 pub sound_rung : (s : Shown) (b : ℕ) → IsSound s → IsSound (rung s b)
 sound_rung s b h = sound_belled s s.pending _ s.fresh s.taken _ h h.over.pending (length-tabled (length s.net.debts) (λ x. is_marked s.owes_ring x && not (creditor_of s.net x == b))) h.over.fresh
@@ -133,13 +100,10 @@ module _ (d : Deed) (t : Traces) (words : List ℕ) (views : List View) (id : �
         (tabled_at n (λ x. is_marked v.shown.owes_ring x && not (creditor_of net x == b)) y false l)
 
     rung_has : HasBells d w v → HasBells d rung_tower (showing v (rung v.shown b))
-    rung_has g = record {
-      seen = g.seen;
-      pend = g.pend;
-      owed = λ y l m. rung_at y l ∙ go (is_marked v.shown.owes_ring y) (w.owed y) (holds v.shown (debtor_of net y)) (creditor_of net y == b) m (g.owed y l m);
-      level = g.level;
-      fresh = g.fresh;
-    }
+    rung_has g =
+        let owed = λ (y : ℕ) (l : y < n) (m : holds v.shown (debtor_of net y) ≡ true). rung_at y l
+        ∙ go (is_marked v.shown.owes_ring y) (w.owed y) (holds v.shown (debtor_of net y)) (creditor_of net y == b) m (g.owed y l m) in
+        assumption (owed, g)
       where
         go : (p q r s : Bool) → r ≡ true → p ≡ q → (p && not s) ≡ (if r && s then false else q)
         go true q true true e f = refl
@@ -149,13 +113,10 @@ module _ (d : Deed) (t : Traces) (words : List ℕ) (views : List View) (id : �
         go p q false s e f = absurd (true≢false (sym e))
 
     others_rung : (u : View) (apart : (x : ℕ) → holds u.shown (debtor_of net x) ≡ true → holds v.shown (debtor_of net x) ≡ true → ⊥) → HasBells d w u → HasBells d rung_tower u
-    others_rung u apart g = record {
-      seen = g.seen;
-      pend = g.pend;
-      owed = λ y l m. g.owed y l m ∙ sym (still_owed y (false_from_ne_true (answers y) (λ e. apart y m (and_parts (holds v.shown (debtor_of net y)) (creditor_of net y == b) e).0)));
-      level = g.level;
-      fresh = g.fresh;
-    }
+    others_rung u apart g =
+        let owed = λ (y : ℕ) (l : y < n) (m : holds u.shown (debtor_of net y) ≡ true). g.owed y l m
+        ∙ sym (still_owed y (false_from_ne_true (answers y) (λ e. apart y m (and_parts (holds v.shown (debtor_of net y)) (creditor_of net y == b) e).0))) in
+        assumption (owed, g)
 
     pub rung_ring : (x : ℕ) → x < n → holds v.shown (debtor_of net x) ≡ true → creditor_of net x ≡ b → is_marked v.shown.owes_ring x ≡ true → IsRung d t now (set views id (showing v (rung v.shown b)))
     rung_ring x l mine is owing = record {
@@ -205,15 +166,12 @@ module _ (d : Deed) (t : Traces) (words : List ℕ) (views : List View) (id : �
         (tabled_at n (λ x. is_marked v.shown.pending x || (creditor_of net x == b)) y false l)
 
     took_has : HasBells d w v → HasBells d took_tower (showing v (took v.shown b))
-    took_has g = record {
-      seen = g.seen;
-      pend = λ y l m. took_at y l ∙ go (is_marked v.shown.pending y) (w.pend y) (creditor_of net y == b) (g.pend y l m);
-      owed = g.owed;
-      level = g.level;
-      fresh = λ c l m. dite (ℕ_discrete c b)
-          (λ e. ap (is_marked (set v.shown.fresh b false)) e ∙ get_or-set_same v.shown.fresh b false false (omega (arith, lt, long)) ∙ sym (changed_here b false w.fresh c e))
-          (λ ne. get_or-set_other v.shown.fresh b c false false ne ∙ g.fresh c l m ∙ sym (changed_else b false w.fresh c ne));
-    }
+    took_has g =
+        let pend = λ (y : ℕ) (l : y < n) (m : holds v.shown (creditor_of net y) ≡ true). took_at y l ∙ go (is_marked v.shown.pending y) (w.pend y) (creditor_of net y == b) (g.pend y l m) in
+        let fresh : (c : ℕ) → c < length net.banks → holds v.shown c ≡ true → is_marked (set v.shown.fresh b false) c ≡ took_tower.fresh c = λ c l m. dite (ℕ_discrete c b)
+        (λ e. ap (is_marked (set v.shown.fresh b false)) e ∙ get_or-set_same v.shown.fresh b false false (omega (arith, lt, long)) ∙ sym (changed_here b false w.fresh c e))
+        (λ ne. get_or-set_other v.shown.fresh b c false false ne ∙ g.fresh c l m ∙ sym (changed_else b false w.fresh c ne)) in
+        assumption (pend, fresh, g)
       where
         go : (p q s : Bool) → p ≡ q → (p || s) ≡ (if s then true else q)
         go true q true f = refl
@@ -222,13 +180,11 @@ module _ (d : Deed) (t : Traces) (words : List ℕ) (views : List View) (id : �
         go false q false f = f
 
     others_took : (u : View) → (holds u.shown b ≡ true → ⊥) → HasBells d w u → HasBells d took_tower u
-    others_took u away g = record {
-      seen = g.seen;
-      pend = λ y l m. g.pend y l m ∙ sym (pend_else y (λ e. away (subst (λ (z : ℕ). holds u.shown z ≡ true) e m)));
-      owed = g.owed;
-      level = g.level;
-      fresh = λ c l m. g.fresh c l m ∙ sym (changed_else b false w.fresh c (λ e. away (subst (λ (z : ℕ). holds u.shown z ≡ true) e m)));
-    }
+    others_took u away g =
+        let apart = λ (c : ℕ) (m : holds u.shown c ≡ true) (e : c ≡ b). away (subst (λ (z : ℕ). holds u.shown z ≡ true) e m) in
+        let pend = λ (y : ℕ) (l : y < n) (m : holds u.shown (creditor_of net y) ≡ true). g.pend y l m ∙ sym (pend_else y (apart (creditor_of net y) m)) in
+        let fresh = λ (c : ℕ) (l : c < length net.banks) (m : holds u.shown c ≡ true). g.fresh c l m ∙ sym (changed_else b false w.fresh c (apart c m)) in
+        assumption (pend, fresh, g)
 
     pub rung_take : bell net words b ≡ 1 → IsRung d t down (set views id (showing v (took v.shown b)))
     rung_take raised = record {
@@ -261,19 +217,11 @@ struck_kept : (d : Deed) (s : State (Unit {0}) View) (id : ℕ) (v : View) (at :
 struck_kept d s id v at h b m lt pending owing fresh taken acts on sound rings =
     let k = h.ledger in
     let u = showing v (belled v.shown pending owing fresh taken acts) in
-    record {
-      ledger = k;
-      network = h.network;
-      size = length-set s.words (length d.net.debts + 1 + b) m ∙ h.size;
-      stands = λ x l. word_still d s.words h.size b lt m x l ∙ h.stands x l;
-      lawful = h.lawful;
-      known = h.known;
-      held = λ c l. sits_set s.views id v u (k.owner c) (λ y. holds y.shown c ≡ true) at refl (λ e. e) (h.held c l);
-      led = sits_set s.views id v u k.chief (λ y. y.shown.master ≡ true) at refl (λ e. e) h.led;
-      fits = fits_again d k (slice_index s.words 0) (set s.words (length d.net.debts + 1 + b) m) s.views id u (roll_still d s.words h.size b lt m) (λ j y _ e t. h.fits j y e t)
-          (λ _. belled_suits d k (slice_index s.words 0) (length s.views) id v pending owing fresh taken acts sound (h.fits id v at on));
-      rung = rings;
-    }
+    let now = set s.words (length d.net.debts + 1 + b) m in
+    kept_again d s.words now s.views id v u k.trace h at refl refl refl (length-set s.words (length d.net.debts + 1 + b) m)
+    (λ x l. word_still d s.words h.size b lt m x l ∙ h.stands x l) h.lawful
+    (fits_again d k (slice_index s.words 0) now s.views id u (roll_still d s.words h.size b lt m) (λ j y _ e t. h.fits j y e t)
+    (λ _. belled_suits d k (slice_index s.words 0) (length s.views) id v pending owing fresh taken acts sound (h.fits id v at on))) rings
 
 pub rings : (d : Deed) (slots id : ℕ) (me : Me (Unit {0}) View) (i b : ℕ) → i ≡ length d.net.debts + 1 + b → me.0.live ≡ true → me.0.shown.net ≡ d.net → OwesRing me.0.shown b
     → Allows (rule d) slots id me i (λ _. 1) (λ _. Rings (step slots i 1 0 none) me 1)

@@ -1,37 +1,20 @@
 -- A store of the roll word by the master keeps the rule of a board.
-use Rattle.std.proofs.Common.{◌≡◌, ◌≢◌, ℕ, ◌+◌, ◌<◌, ◌≤◌, ◌++◌, length, set, true, refl, sym, ◌∙◌, arith, length-set, get_or-set_same, get_or-set_other}
+use Rattle.std.proofs.Common.{◌≡◌, ◌≢◌, ℕ, ◌+◌, ◌<◌, ◌≤◌, length, set, true, refl, sym, ◌∙◌, arith, length-set, get_or-set_same, get_or-set_other}
 use Rattle.std.specs.Prelude.{slice_index}
 use mathlib.Core.Option.{some, none}
 use lib.ListN.{get_elem?}
 use Rattle.atomic_table.specs.Table.{Me, Allows, keeps, step}
 use Rattle.pay_words.specs.declared.deed.Deed.{Deed}
 use Rattle.pay_words.specs.declared.view.View.{View}
-use Rattle.pay_words.specs.Views.{holds}
-use Rattle.pay_words.specs.Kept.{Ledger, Suits, Rolls}
-use Rattle.pay_words.proofs.Views.{rule, fits_set, sits_set}
+use Rattle.pay_words.specs.Kept.{Ledger, Leads, Suits, Rolls}
+use Rattle.pay_words.proofs.Views.{rule, fits_set, kept_again}
 use Rattle.pay_words.proofs.Rung.{rung_same}
 use Rattle.std.proofs.Common.{subst}
 
 -- a seat suits another roll word and as many seats as there are then, where it leads by them
 suits_anew : (d : Deed) (k : Ledger) (roll count now many id : ℕ) (v : View) (n : ℕ)
-    → (v.shown.master ≡ true → (id ≡ k.chief) × (k.base ≡ d.past ++ v.shown.raises) × (n ≡ now) × (many ≤ v.shown.seats + 1) × (v.shown.seats + 1 ≤ n))
-    → Suits d k roll count id v → Suits d k now many id (record v { rolled = n })
-suits_anew d k roll count now many id v n leads f = record {
-  net_is = f.net_is;
-  sound = f.sound;
-  mine = f.mine;
-  pays = f.pays;
-  told = f.told;
-  only = f.only;
-  stood = f.stood;
-  floor = f.floor;
-  seen_by_clock = f.seen_by_clock;
-  paid_by_clock = f.paid_by_clock;
-  past_by_clock = f.past_by_clock;
-  late = f.late;
-  clock_low = f.clock_low;
-  leads = leads;
-}
+    → Leads d k now many id (record v { rolled = n }) → Suits d k roll count id v → Suits d k now many id (record v { rolled = n })
+suits_anew d k roll count now many id v n leads f = assumption
 
 -- a seat that is not the master's suits whatever the roll word is, and however many seats there are
 pub other_roll : (d : Deed) (k : Ledger) (roll count now many j : ℕ) (u : View) → j ≢ k.chief → Suits d k roll count j u → Suits d k now many j u
@@ -54,22 +37,15 @@ rolls d slots id me n on chief room s h sized at small =
       w,
       keeps,
       tt,
-      record {
-        ledger = k;
-        network = h.network;
-        size = length-set s.words 0 n ∙ h.size;
-        stands = λ y l. get_or-set_other s.words 0 (y + 1) n 0 (λ e. absurd (omega (arith, e))) ∙ h.stands y l;
-        lawful = h.lawful;
-        known = h.known;
-        held = λ b l. sits_set s.views id v w (k.owner b) (λ u. holds u.shown b ≡ true) at refl (λ e. e) (h.held b l);
-        led = sits_set s.views id v w k.chief (λ u. u.shown.master ≡ true) at refl (λ e. e) h.led;
-        fits = subst (λ (y : ℕ × ℕ). (j : ℕ) (u : View) → get_elem? (set s.views id w) j ≡ some u → u.live ≡ true → Suits d k y.0 y.1 j u)
-            (λ i. (sym roll i, sym (length-set s.views id w) i))
-            (fits_set d k n (length s.views) s.views id w
-            (λ j u apart e t. other_roll d k (slice_index s.words 0) (length s.views) n (length s.views) j u (λ c. apart (c ∙ sym (f.leads chief).0)) (h.fits j u e t))
-            (λ _. rolled_suits d k (slice_index s.words 0) (length s.views) id v n room f));
-        rung = rung_same d k.trace s.words s.views id v at on h.rung (set s.words 0 n) w (λ b. get_or-set_other s.words 0 (length d.net.debts + 1 + b) n 0 (λ e. absurd (omega (arith, e))))
-            (λ g. record { seen = g.seen; pend = g.pend; owed = g.owed; level = g.level; fresh = g.fresh }) refl refl refl;
-      },
+      kept_again d s.words (set s.words 0 n) s.views id v w k.trace h at refl refl refl (length-set s.words 0 n)
+          (λ y l. get_or-set_other s.words 0 (y + 1) n 0 (λ e. absurd (omega (arith, e))) ∙ h.stands y l)
+          h.lawful
+          (subst (λ (y : ℕ × ℕ). (j : ℕ) (u : View) → get_elem? (set s.views id w) j ≡ some u → u.live ≡ true → Suits d k y.0 y.1 j u)
+          (λ i. (sym roll i, sym (length-set s.views id w) i))
+          (fits_set d k n (length s.views) s.views id w
+          (λ j u apart e t. other_roll d k (slice_index s.words 0) (length s.views) n (length s.views) j u (λ c. apart (c ∙ sym (f.leads chief).0)) (h.fits j u e t))
+          (λ _. rolled_suits d k (slice_index s.words 0) (length s.views) id v n room f)))
+          (rung_same d k.trace s.words s.views id v at on h.rung (set s.words 0 n) w (λ b. get_or-set_other s.words 0 (length d.net.debts + 1 + b) n 0 (λ e. absurd (omega (arith, e))))
+          (λ g. assumption) refl refl refl),
       refl,
     )

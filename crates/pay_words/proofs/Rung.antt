@@ -66,26 +66,21 @@ module _ (d : Deed) (t : Traces) (words : List ℕ) (views : List View) (id : �
     seen_tower = record w { seen = changed x p.value w.seen; pend = changed x false w.pend }
 
     looked_has : HasBells d w v → HasBells d seen_tower (showing v (looked v.shown x p))
-    looked_has g = record {
-      seen = λ y l m. dite (ℕ_discrete y x)
-          (λ e. ap (slice_index (set v.shown.sights x p.value)) e ∙ get_or-set_same v.shown.sights x p.value 0 (omega (arith, lt, size)) ∙ sym (changed_here x p.value w.seen y e))
-          (λ ne. get_or-set_other v.shown.sights x y p.value 0 ne ∙ g.seen y l m ∙ sym (changed_else x p.value w.seen y ne));
-      pend = λ y l m. dite (ℕ_discrete y x)
-          (λ e. ap (is_marked (set v.shown.pending x false)) e ∙ get_or-set_same v.shown.pending x false false (omega (arith, lt, also)) ∙ sym (changed_here x false w.pend y e))
-          (λ ne. get_or-set_other v.shown.pending x y false false ne ∙ g.pend y l m ∙ sym (changed_else x false w.pend y ne));
-      owed = g.owed;
-      level = g.level;
-      fresh = g.fresh;
-    }
+    looked_has g =
+        let seen : (y : ℕ) → y < n → holds v.shown (creditor_of net y) ≡ true → slice_index (set v.shown.sights x p.value) y ≡ seen_tower.seen y = λ y l m. dite (ℕ_discrete y x)
+        (λ e. ap (slice_index (set v.shown.sights x p.value)) e ∙ get_or-set_same v.shown.sights x p.value 0 (omega (arith, lt, size)) ∙ sym (changed_here x p.value w.seen y e))
+        (λ ne. get_or-set_other v.shown.sights x y p.value 0 ne ∙ g.seen y l m ∙ sym (changed_else x p.value w.seen y ne)) in
+        let pend : (y : ℕ) → y < n → holds v.shown (creditor_of net y) ≡ true → is_marked (set v.shown.pending x false) y ≡ seen_tower.pend y = λ y l m. dite (ℕ_discrete y x)
+        (λ e. ap (is_marked (set v.shown.pending x false)) e ∙ get_or-set_same v.shown.pending x false false (omega (arith, lt, also)) ∙ sym (changed_here x false w.pend y e))
+        (λ ne. get_or-set_other v.shown.pending x y false false ne ∙ g.pend y l m ∙ sym (changed_else x false w.pend y ne)) in
+        assumption (seen, pend, g)
 
     other_has : (u : View) → (holds u.shown (creditor_of net x) ≡ true → ⊥) → HasBells d w u → HasBells d seen_tower u
-    other_has u away g = record {
-      seen = λ y l m. g.seen y l m ∙ sym (changed_else x p.value w.seen y (λ e. away (subst (λ (z : ℕ). holds u.shown (creditor_of net z) ≡ true) e m)));
-      pend = λ y l m. g.pend y l m ∙ sym (changed_else x false w.pend y (λ e. away (subst (λ (z : ℕ). holds u.shown (creditor_of net z) ≡ true) e m)));
-      owed = g.owed;
-      level = g.level;
-      fresh = g.fresh;
-    }
+    other_has u away g =
+        let apart = λ (y : ℕ) (m : holds u.shown (creditor_of net y) ≡ true) (e : y ≡ x). away (subst (λ (z : ℕ). holds u.shown (creditor_of net z) ≡ true) e m) in
+        let seen = λ (y : ℕ) (l : y < n) (m : holds u.shown (creditor_of net y) ≡ true). g.seen y l m ∙ sym (changed_else x p.value w.seen y (apart y m)) in
+        let pend = λ (y : ℕ) (l : y < n) (m : holds u.shown (creditor_of net y) ≡ true). g.pend y l m ∙ sym (changed_else x false w.pend y (apart y m)) in
+        assumption (seen, pend, g)
 
     still : (y : ℕ) → y ≢ x → IsCalled net words w y → IsCalled net words seen_tower y
     still y ne c = called_still net words words w seen_tower y refl (changed_else x false w.pend y ne) c
@@ -121,24 +116,17 @@ module _ (d : Deed) (t : Traces) (words : List ℕ) (views : List View) (id : �
     owing = record w { owed = changed x true w.owed }
 
     raised_has : HasBells d w v → HasBells d owing (showing v (raised v.shown x to))
-    raised_has g = record {
-      seen = g.seen;
-      pend = g.pend;
-      owed = λ y l o. dite (ℕ_discrete y x)
-          (λ e. ap (is_marked (set v.shown.owes_ring x true)) e ∙ get_or-set_same v.shown.owes_ring x true false (omega (arith, lt, size)) ∙ sym (changed_here x true w.owed y e))
-          (λ ne. get_or-set_other v.shown.owes_ring x y true false ne ∙ g.owed y l o ∙ sym (changed_else x true w.owed y ne));
-      level = g.level;
-      fresh = g.fresh;
-    }
+    raised_has g =
+        let owed : (y : ℕ) → y < n → holds v.shown (debtor_of net y) ≡ true → is_marked (set v.shown.owes_ring x true) y ≡ owing.owed y = λ y l o. dite (ℕ_discrete y x)
+        (λ e. ap (is_marked (set v.shown.owes_ring x true)) e ∙ get_or-set_same v.shown.owes_ring x true false (omega (arith, lt, size)) ∙ sym (changed_here x true w.owed y e))
+        (λ ne. get_or-set_other v.shown.owes_ring x y true false ne ∙ g.owed y l o ∙ sym (changed_else x true w.owed y ne)) in
+        assumption (owed, g)
 
     others_owe : (u : View) → (holds u.shown (debtor_of net x) ≡ true → ⊥) → HasBells d w u → HasBells d owing u
-    others_owe u away g = record {
-      seen = g.seen;
-      pend = g.pend;
-      owed = λ y l o. g.owed y l o ∙ sym (changed_else x true w.owed y (λ e. away (subst (λ (z : ℕ). holds u.shown (debtor_of net z) ≡ true) e o)));
-      level = g.level;
-      fresh = g.fresh;
-    }
+    others_owe u away g =
+        let owed = λ (y : ℕ) (l : y < n) (o : holds u.shown (debtor_of net y) ≡ true). g.owed y l o
+        ∙ sym (changed_else x true w.owed y (λ e. away (subst (λ (z : ℕ). holds u.shown (debtor_of net z) ≡ true) e o))) in
+        assumption (owed, g)
 
     same_bell : (b : ℕ) → bell net now b ≡ bell net words b
     same_bell b = get_or-set_other words (x + 1) (n + 1 + b) m 0 (λ e. absurd (omega (arith, e, lt)))

@@ -32,15 +32,7 @@ module _ (v : View) (p : Purse) (clock seats : ℕ) (h : IsKeptIn v p clock seat
   clock_in_limit = omega (arith, h.clock_is, h.sound.clock_below, h.sound.network.owed_in_limit)
 
   pub kept_look : (x : ℕ) (q : Payment) (now : ℕ) → now ≡ max clock q.stamp → IsSound (looked v.shown x q) → IsKeptIn (showing v (looked v.shown x q)) p now seats
-  kept_look x q now e sound = record {
-    live = h.live;
-    sound = sound;
-    clock_is = e ∙ ap (λ (n : ℕ). max n q.stamp) h.clock_is;
-    seats_are = h.seats_are;
-    some_workers = h.some_workers;
-    at_worker = h.at_worker;
-    at_master = h.at_master;
-  }
+  kept_look x q now e sound = assumption (e ∙ ap (λ (n : ℕ). max n q.stamp) h.clock_is)
 
   pub kept_raise : (x to : ℕ) → x < length v.shown.net.debts → v.shown.master ≡ false → IsSound (raised v.shown x to) → IsKeptIn (showing v (raised v.shown x to)) (record p { own = set p.own x to }) (clock + 1) seats
   kept_raise x to lt plain sound = record {
@@ -134,15 +126,7 @@ same_workers s t u v place e f g h = as_many u v place f h ∙ sym (as_many s t 
 
 -- the master once it has left a number in the roll word
 pub kept_rolled : (v : View) (p : Purse) (clock seats n : ℕ) → IsKeptIn v p clock seats → IsKeptIn (record v { rolled = n }) p clock seats
-kept_rolled v p clock seats n h = record {
-  live = h.live;
-  sound = h.sound;
-  clock_is = h.clock_is;
-  seats_are = h.seats_are;
-  some_workers = h.some_workers;
-  at_worker = h.at_worker;
-  at_master = h.at_master;
-}
+kept_rolled v p clock seats n h = assumption
 
 pub may_hand : (v : View) (n workers i : ℕ) → v.live ≡ true → v.shown.master ≡ true → HoldsAllOf workers i v.shown → v.shown.seats + 2 ≤ n → MayHand workers i (record v { rolled = n })
 may_hand v n workers i on chief all room = record { live = on; chief = chief; all = all; room = room }
@@ -153,15 +137,7 @@ holds_within s t ws vs i j e f g all = subst (λ (y : ℕ × ℕ × Chair). Hold
 -- what a seat has in memory does not depend on bells
 pub kept_belled : (v : View) (p : Purse) (clock seats : ℕ) (pending owing fresh : List Bool) (taken : ℕ) (acts : List Act) → IsSound (belled v.shown pending owing fresh taken acts) → IsKeptIn v p clock seats
     → IsKeptIn (showing v (belled v.shown pending owing fresh taken acts)) p clock seats
-kept_belled v p clock seats pending owing fresh taken acts sound h = record {
-  live = h.live;
-  sound = sound;
-  clock_is = h.clock_is;
-  seats_are = h.seats_are;
-  some_workers = h.some_workers;
-  at_worker = h.at_worker;
-  at_master = h.at_master;
-}
+kept_belled v p clock seats pending owing fresh taken acts sound h = assumption
 
 pub kept_rung : (v : View) (p : Purse) (clock seats b : ℕ) → IsKeptIn v p clock seats → IsKeptIn (showing v (rung v.shown b)) p clock seats
 kept_rung v p clock seats b h = kept_belled v p clock seats v.shown.pending _ v.shown.fresh v.shown.taken _ (sound_rung v.shown b h.sound) h

@@ -7,12 +7,13 @@ use lib.ListN.{get_elem?}
 use Rattle.atomic_table.specs.Table.{Splits}
 use Rattle.atomic_table.proofs.Lists.{at_longer, at_last}
 use Rattle.clr_net.specs.Net.{Net, debtor_of}
+use Rattle.clear_core.specs.declared.event.Raise.{Raise}
 use Rattle.pay_words.specs.declared.deed.Deed.{Deed}
 use Rattle.pay_words.specs.declared.view.Shown.{Shown}
 use Rattle.pay_words.specs.declared.view.View.{View}
 use Rattle.pay_words.specs.Views.{IsSound, HoldsAllOf, holds, is_of_worker, handed, without}
-use Rattle.pay_words.specs.Traces.{Traces, raises_of}
-use Rattle.pay_words.specs.Kept.{Ledger, Suits, Sits, Tower, HasBells, IsRung, taken_of, made_of, own_raises, rest_of, part_of}
+use Rattle.pay_words.specs.Traces.{Traces, In, raises_of}
+use Rattle.pay_words.specs.Kept.{Ledger, Leads, Suits, Sits, Tower, HasBells, IsRung, taken_of, made_of, own_raises, rest_of, part_of}
 use Rattle.pay_words.proofs.Tables.{length-tabled}
 use Rattle.pay_words.proofs.Marks.{marked_if, marked, both_marked, marked_without}
 use Rattle.pay_words.proofs.Views.{rule, fits_set, sits_set}
@@ -22,25 +23,9 @@ use Rattle.std.proofs.lemmas.List.Sums.{sum_by-append, sum_by-cons}
 -- the lists of a sound seat for other banks, of which it holds each
 sound_part : (s : Shown) (banks : List Bool) (t : Shown) → IsSound s → length banks ≡ length s.net.banks → ((b : ℕ) → Rattle.pay_words.specs.Views.is_marked banks b ≡ true → holds s b ≡ true)
     → t ≡ record s { master = t.master; banks = banks; raises = t.raises; seats = t.seats; taken = t.taken; acts = t.acts } → IsSound t
-sound_part s banks t h size all e = subst IsSound (sym e) (record {
-  network = h.network;
-  over = record {
-    banks = size;
-    sights = h.over.sights;
-    sight_stamps = h.over.sight_stamps;
-    looks = h.over.looks;
-    paid = h.over.paid;
-    paid_stamps = h.over.paid_stamps;
-    floor = h.over.floor;
-    pending = h.over.pending;
-    owes_ring = h.over.owes_ring;
-    fresh = h.over.fresh;
-  };
-  pays_within = λ x lt mine. h.pays_within x lt (all (debtor_of s.net x) mine);
-  sights_below = h.sights_below;
-  paid_below = h.paid_below;
-  clock_below = h.clock_below;
-})
+sound_part s banks t h size all e =
+    let within = λ (x : ℕ) (lt : x < length s.net.debts) (mine : Rattle.pay_words.specs.Views.is_marked banks (debtor_of s.net x) ≡ true). h.pays_within x lt (all (debtor_of s.net x) mine) in
+    subst IsSound (sym e) (assumption (size, within, h))
 
 module _ (workers i : ℕ) (s : Shown) where
   abbrev pub goes : ℕ → Bool
@@ -78,61 +63,38 @@ module _ (d : Deed) (k : Ledger) (roll count id : ℕ) (v : View) (workers i : �
   told_alone x lt mine = f.told x lt mine ∙ ap (λ (b : Bool). raises_of x k.base ++ raises_of x (own_raises b v.shown.raises)) chief
 
   part_suits : Suits d next roll (count + 1) count (part_of workers i v)
-  part_suits = record {
-    net_is = f.net_is;
-    sound = sound_handed workers i v.shown all f.sound;
-    mine = λ b e. cond-true (goes workers i v.shown b) count (k.owner b) e;
-    pays = λ x lt e. f.pays x lt (goes_from workers i v.shown all _ e);
-    told = λ x lt e. told_alone x lt (goes_from workers i v.shown all _ e);
-    only = λ r j. absurd j;
-    stood = f.stood;
-    floor = f.floor;
-    seen_by_clock = f.seen_by_clock;
-    paid_by_clock = λ x lt e. f.paid_by_clock x lt (goes_from workers i v.shown all _ e);
-    past_by_clock = f.past_by_clock;
-    late = λ r j. absurd j;
-    clock_low = f.clock_low;
-    leads = λ e. absurd (true≢false (sym e));
-  }
+  part_suits =
+      let its = goes_from workers i v.shown all in
+      let mine = λ (b : ℕ) (e : goes workers i v.shown b ≡ true). cond-true (goes workers i v.shown b) count (k.owner b) e in
+      let pays = λ (x : ℕ) (lt : x < length d.net.debts) (e : goes workers i v.shown (debtor_of d.net x) ≡ true). f.pays x lt (its _ e) in
+      let told = λ (x : ℕ) (lt : x < length d.net.debts) (e : goes workers i v.shown (debtor_of d.net x) ≡ true). told_alone x lt (its _ e) in
+      let stamps = λ (x : ℕ) (lt : x < length d.net.debts) (e : goes workers i v.shown (debtor_of d.net x) ≡ true). f.paid_by_clock x lt (its _ e) in
+      let only : (r : Raise) → ⊥ → (r.debt.0 < length d.net.debts) × (goes workers i v.shown (debtor_of d.net r.debt.0) ≡ true) = λ r j. absurd j in
+      let late : (r : Raise) → ⊥ → (p : Raise) → In p d.past → p.stamp < r.stamp = λ r j. absurd j in
+      let leads : Leads d next roll (count + 1) count (part_of workers i v) = λ e. absurd (true≢false (sym e)) in
+      assumption (mine, pays, told, stamps, only, late, leads, sound_handed workers i v.shown all f.sound, f)
 
   rest_suits : v.shown.seats + 2 ≤ v.rolled → Suits d next roll (count + 1) id (rest_of workers i v)
-  rest_suits room = let l = f.leads chief in record {
-    net_is = f.net_is;
-    sound = sound_without workers i v.shown f.sound;
-    mine = λ b e. let g = stays_if workers i v.shown b e in cond-false (goes workers i v.shown b) count (k.owner b) g.1 ∙ f.mine b g.0;
-    pays = λ x lt e. f.pays x lt (stays_if workers i v.shown _ e).0;
-    told = λ x lt e. f.told x lt (stays_if workers i v.shown _ e).0;
-    only = λ r j. absurd (subst (λ (b : Bool). Rattle.pay_words.specs.Traces.In r (own_raises b v.shown.raises)) chief j);
-    stood = f.stood;
-    floor = f.floor;
-    seen_by_clock = f.seen_by_clock;
-    paid_by_clock = λ x lt e. f.paid_by_clock x lt (stays_if workers i v.shown _ e).0;
-    past_by_clock = f.past_by_clock;
-    late = f.late;
-    clock_low = f.clock_low;
-    leads = λ e. (l.0, l.1, l.2, omega (arith, l.3), omega (arith, room));
-  }
+  rest_suits room =
+      let l = f.leads chief in
+      let its = λ (b : ℕ) (e : holds (without workers i v.shown) b ≡ true). (stays_if workers i v.shown b e).0 in
+      let mine = λ (b : ℕ) (e : holds (without workers i v.shown) b ≡ true). cond-false (goes workers i v.shown b) count (k.owner b) (stays_if workers i v.shown b e).1 ∙ f.mine b (its b e) in
+      let pays = λ (x : ℕ) (lt : x < length d.net.debts) (e : holds (without workers i v.shown) (debtor_of d.net x) ≡ true). f.pays x lt (its _ e) in
+      let told = λ (x : ℕ) (lt : x < length d.net.debts) (e : holds (without workers i v.shown) (debtor_of d.net x) ≡ true). f.told x lt (its _ e) in
+      let stamps = λ (x : ℕ) (lt : x < length d.net.debts) (e : holds (without workers i v.shown) (debtor_of d.net x) ≡ true). f.paid_by_clock x lt (its _ e) in
+      let only : (r : Raise) → In r (own_raises v.shown.master v.shown.raises) → (r.debt.0 < length d.net.debts) × (holds (without workers i v.shown) (debtor_of d.net r.debt.0) ≡ true) =
+      λ r j. absurd (subst (λ (b : Bool). In r (own_raises b v.shown.raises)) chief j) in
+      let leads : Leads d next roll (count + 1) id (rest_of workers i v) = λ e. (l.0, l.1, l.2, omega (arith, l.3), omega (arith, room)) in
+      assumption (mine, pays, told, stamps, only, leads, sound_without workers i v.shown f.sound, f)
 
   left_suits : (j : ℕ) (u : View) → j ≢ id → Suits d k roll count j u → Suits d next roll (count + 1) j u
-  left_suits j u apart g = record {
-    net_is = g.net_is;
-    sound = g.sound;
-    mine = λ b e. ⊎_elim
-        (λ (t : goes workers i v.shown b ≡ true). absurd (apart (sym (g.mine b e) ∙ f.mine b (goes_from workers i v.shown all b t))))
-        (λ (t : goes workers i v.shown b ≡ false). cond-false (goes workers i v.shown b) count (k.owner b) t ∙ g.mine b e)
-        (cases_Bool (goes workers i v.shown b));
-    pays = g.pays;
-    told = g.told;
-    only = g.only;
-    stood = g.stood;
-    floor = g.floor;
-    seen_by_clock = g.seen_by_clock;
-    paid_by_clock = g.paid_by_clock;
-    past_by_clock = g.past_by_clock;
-    late = g.late;
-    clock_low = g.clock_low;
-    leads = λ e. absurd (apart ((g.leads e).0 ∙ sym (f.leads chief).0));
-  }
+  left_suits j u apart g =
+      let mine : (b : ℕ) → holds u.shown b ≡ true → next.owner b ≡ j = λ b e. ⊎_elim
+      (λ (t : goes workers i v.shown b ≡ true). absurd (apart (sym (g.mine b e) ∙ f.mine b (goes_from workers i v.shown all b t))))
+      (λ (t : goes workers i v.shown b ≡ false). cond-false (goes workers i v.shown b) count (k.owner b) t ∙ g.mine b e)
+      (cases_Bool (goes workers i v.shown b)) in
+      let leads : Leads d next roll (count + 1) j u = λ e. absurd (apart ((g.leads e).0 ∙ sym (f.leads chief).0)) in
+      assumption (mine, leads, g)
 
 sits_longer : (l m : List View) (j : ℕ) (P : View → Type 0) → Sits l j P → Sits (l ++ m) j P
 sits_longer l m j P t = (t.0, at_longer l m j t.0 t.1, t.2, t.3)

@@ -40,15 +40,6 @@ in_split [] ys r i = inr i
 in_split (x ∷ xs) ys r (inl e) = inl (inl e)
 in_split (x ∷ xs) ys r (inr i) = ⊎_elim (λ (j : In r xs). inl (inr j)) (λ (j : In r ys). inr j) (in_split xs ys r i)
 
-pub in_left : (xs ys : List Raise) (r : Raise) → In r xs → In r (xs ++ ys)
-in_left [] ys r i = absurd i
-in_left (x ∷ xs) ys r (inl e) = inl e
-in_left (x ∷ xs) ys r (inr i) = inr (in_left xs ys r i)
-
-pub in_right : (xs ys : List Raise) (r : Raise) → In r ys → In r (xs ++ ys)
-in_right [] ys r i = i
-in_right (x ∷ xs) ys r i = inr (in_right xs ys r i)
-
 pub in_filter : (p : Raise → Bool) (rs : List Raise) (r : Raise) → In r (filter p rs) → In r rs × (p r ≡ true)
 in_filter p [] r i = absurd i
 in_filter p (a ∷ rs) r i = go (in_filter p rs r) (p a) refl i

@@ -1,5 +1,5 @@
 -- The list of all views when one of them changes.
-use Rattle.std.proofs.Common.{◌≡◌, ◌≢◌, ℕ, zero, suc, ◌<◌, List, [], ◌∷◌, length, set, true, sym, ap, ◌∙◌, subst, ⊎_elim, arith, length-set}
+use Rattle.std.proofs.Common.{◌≡◌, ◌≢◌, ℕ, zero, suc, ◌+◌, ◌<◌, Bool, List, [], ◌∷◌, length, set, true, sym, ap, ◌∙◌, subst, ⊎_elim, arith, length-set}
 use Rattle.std.specs.Prelude.{slice_index}
 use mathlib.Core.Option.{some, some-ne-none, some-injective}
 use mathlib.Core.Logic.{dite}
@@ -9,8 +9,10 @@ use Rattle.atomic_table.specs.Table.{State}
 use Rattle.atomic_table.proofs.Lists.{at_set, set_here, set_else}
 use Rattle.pay_words.specs.declared.deed.Deed.{Deed}
 use Rattle.pay_words.specs.declared.view.View.{View}
-use Rattle.pay_words.specs.Views.{holds}
-use Rattle.pay_words.specs.Kept.{Ledger, Suits, Sits, IsKept}
+use Rattle.pay_words.specs.Words.{word_of}
+use Rattle.pay_words.specs.Traces.{Traces, IsLawful, ending}
+use Rattle.pay_words.specs.Views.{holds, is_marked}
+use Rattle.pay_words.specs.Kept.{Ledger, Suits, Sits, IsKept, IsRung}
 
 abbrev pub rule : Deed → State (Unit {0}) View → Type 0
 rule d s = IsKept d s.words s.views
@@ -51,6 +53,26 @@ module _ (d : Deed) (k : Ledger) (roll : ℕ) where
   fits_again words views id w same others mine =
       subst (λ (y : ℕ × ℕ). (j : ℕ) (u : View) → get_elem? (set views id w) j ≡ some u → u.live ≡ true → Suits d k y.0 y.1 j u)
       (λ i. (sym same i, sym (length-set views id w) i)) (fits_set (length views) views id w others mine)
+
+-- a step of the seat `id`, which holds the banks that it held, keeps the rule where words, raises,
+-- seats and bells go together again
+pub kept_again : (d : Deed) (words now : List ℕ) (views : List View) (id : ℕ) (v w : View) (t : Traces) (h : IsKept d words views)
+    → get_elem? views id ≡ some v → w.live ≡ v.live → w.shown.banks ≡ v.shown.banks → w.shown.master ≡ v.shown.master → length now ≡ length words
+    → ((x : ℕ) → x < length d.net.debts → slice_index now (x + 1) ≡ word_of (ending (t x))) → IsLawful d.net t
+    → ((j : ℕ) (u : View) → get_elem? (set views id w) j ≡ some u → u.live ≡ true → Suits d (record h.ledger { trace = t }) (slice_index now 0) (length (set views id w)) j u)
+    → IsRung d t now (set views id w) → IsKept d now (set views id w)
+kept_again d words now views id v w t h at on banks chief long stands lawful fits rung = record {
+  ledger = record h.ledger { trace = t };
+  network = h.network;
+  size = long ∙ h.size;
+  stands = stands;
+  lawful = lawful;
+  known = h.known;
+  held = λ b l. sits_set views id v w (h.ledger.owner b) (λ u. holds u.shown b ≡ true) at on (λ e. ap (λ (bs : List Bool). is_marked bs b) banks ∙ e) (h.held b l);
+  led = sits_set views id v w h.ledger.chief (λ u. u.shown.master ≡ true) at on (λ e. chief ∙ e) h.led;
+  fits = fits;
+  rung = rung;
+}
 
 -- two seats do not hold the same bank
 pub not_both : (d : Deed) (k : Ledger) (roll count i j : ℕ) (u v : View) (b : ℕ) → j ≢ i → Suits d k roll count i v → holds v.shown b ≡ true → Suits d k roll count j u → holds u.shown b ≡ true → ⊥

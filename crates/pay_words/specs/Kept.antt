@@ -32,6 +32,12 @@ abbrev pub own_raises : Bool → List Raise → List Raise
 own_raises true rs = []
 own_raises false rs = rs
 
+-- the master alone hands out seats, and the number of each is below the roll word
+abbrev pub Leads : Deed → Ledger → ℕ → ℕ → ℕ → View → Type 0
+Leads d k roll count id v = v.shown.master ≡ true → (id ≡ k.chief)
+    × (k.base ≡ d.past ++ v.shown.raises) × (v.rolled ≡ roll) × (count ≤ v.shown.seats + 1)
+    × (v.shown.seats + 1 ≤ v.rolled)
+
 -- what the rule says of the view of the live seat `id`, one of `count`
 pub record Suits (d : Deed) (k : Ledger) (roll count id : ℕ) (v : View) : Type 0 where
   pub net_is : v.shown.net ≡ d.net
@@ -60,10 +66,7 @@ pub record Suits (d : Deed) (k : Ledger) (roll count id : ℕ) (v : View) : Type
   pub past_by_clock : (r : Raise) → In r d.past → r.stamp ≤ v.shown.clock
   pub late : (r : Raise) → In r v.shown.raises → (p : Raise) → In p d.past → p.stamp < r.stamp
   pub clock_low : v.shown.clock ≤ total d.net k.trace
-  -- the master alone hands out seats, and the number of each is below the roll word
-  pub leads : v.shown.master ≡ true
-      → (id ≡ k.chief) × (k.base ≡ d.past ++ v.shown.raises)
-      × (v.rolled ≡ roll) × (count ≤ v.shown.seats + 1) × (v.shown.seats + 1 ≤ v.rolled)
+  pub leads : Leads d k roll count id v
 
 -- a live seat with this view has the place `id`
 abbrev pub Sits : List View → ℕ → (View → Type 0) → Type 0

@@ -7,4 +7,5 @@ pub mod Seats
 pub mod Belongs
 pub mod Ends
 pub mod Sealed
+pub mod Standing
 pub mod Cases

@@ -1,15 +1,13 @@
-ghost use Rattle.clear_core.specs.Clearing.{least, part, pay, receipts};
+ghost use Rattle.clear_core.specs.Clearing.{least, part, receipts};
 ghost use Rattle.clear_core.specs.History.{ordered};
 ghost use Rattle.clr_net.specs.Net.{creditor_of, debtor_of};
-ghost use Rattle.clr_net.specs.Amounts.{IsAtMost};
 ghost use Rattle.pay_words.specs.Belongs.{Belongs};
-ghost use Rattle.pay_words.specs.Ends.{AreAfter, AreLawful, HaveLowStamps, Replay, payments_of};
-ghost use Rattle.pay_words.specs.Ends.{values};
+ghost use Rattle.pay_words.specs.Ends.{Ends};
 ghost use Rattle.pay_words.specs.Kept.{TakeTells, after_take};
 ghost use Rattle.pay_words.specs.Views.{HasSeenAll, HasSeenFloor, HoldsAll, HoldsAllOf, IsAt};
 ghost use Rattle.pay_words.specs.Views.{IsCalm, OwesNoRing, OwesRing, handed, holds, is_marked};
 ghost use Rattle.pay_words.specs.Views.{looked, opening, raised, rejoined, rung, took, without};
-ghost use Rattle.std.specs.Prelude.{◌≡◌, ℕ, ◌+◌, ◌<◌, ◌≤◌, ◌++◌, IfOk, OnErr, OnOk, if◌then◌else◌};
+ghost use Rattle.std.specs.Prelude.{◌≡◌, ◌+◌, ◌<◌, ◌≤◌, ◌++◌, IfOk, OnErr, OnOk, if◌then◌else◌};
 ghost use Rattle.std.specs.Prelude.{false, length, slice_index, true};
 
 use crate::deed::{Deed, Founding, deed_of};
@@ -342,16 +340,7 @@ impl Board {
         requires is_the_master { master.shows.master ≡ true }
         requires banks { HoldsAll master.shows }
         requires into { length into.old ≡ length self.net.debts }
-        ensures payments { into.new ≡ payments_of master.shows }
-        ensures below_least { IsAtMost (values into.new) (least self.net) }
-        ensures covered { IsAtMost (values into.new) (pay self.net (values into.new)) }
-        ensures lawful { AreLawful self.net (self.past ++ master.shows.raises) into.new }
-        ensures replays { Replay self.net (self.past ++ master.shows.raises) into.new }
-        ensures low_stamps { HaveLowStamps (self.past ++ master.shows.raises) into.new }
-        ensures low_in_order { HaveLowStamps (ordered (self.past ++ master.shows.raises)) into.new }
-        ensures after_past { AreAfter self.past master.shows.raises }
-        ensures few_bells { master.shows.taken ≤ length self.net.banks
-            + length master.shows.raises }
+        ensures ends { Ends self.net self.past master.shows into.new }
     {
         let Board {
             table,
@@ -383,16 +372,7 @@ impl Board {
         requires into { length into.old ≡ length self.net.debts }
         requires net { net ≡ self.net }
         requires journal { journal.raises ≡ ordered (self.past ++ master.shows.raises) }
-        ensures payments { into.new ≡ payments_of master.shows }
-        ensures below_least { IsAtMost (values into.new) (least self.net) }
-        ensures covered { IsAtMost (values into.new) (pay self.net (values into.new)) }
-        ensures lawful { AreLawful self.net (self.past ++ master.shows.raises) into.new }
-        ensures replays { Replay self.net (self.past ++ master.shows.raises) into.new }
-        ensures low_stamps { HaveLowStamps (self.past ++ master.shows.raises) into.new }
-        ensures low_in_order { HaveLowStamps (ordered (self.past ++ master.shows.raises)) into.new }
-        ensures after_past { AreAfter self.past master.shows.raises }
-        ensures few_bells { master.shows.taken ≤ length self.net.banks
-            + length master.shows.raises }
+        ensures ends { Ends self.net self.past master.shows into.new }
         ensures record_of { result ≡ record {
           net = self.net;
           journal = ordered (self.past ++ master.shows.raises);

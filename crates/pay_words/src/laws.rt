@@ -6,8 +6,10 @@ ghost use Rattle.clr_net.specs.Amounts.{IsAtMost};
 ghost use Rattle.clr_net.specs.Net.{Net, creditor_of, debtor_of};
 ghost use Rattle.pay_words.specs.Belongs.{Belongs};
 ghost use Rattle.pay_words.specs.Ends.{HaveLowStamps, payments_of, values};
+ghost use Rattle.pay_words.specs.Standing.{KeepsStampsLow, StaysBelowLeast};
 ghost use Rattle.pay_words.specs.Traces.{start_of};
-ghost use Rattle.pay_words.specs.Views.{HoldsAll, HoldsAllOf, IsOver, handed, holds, is_marked};
+ghost use Rattle.pay_words.specs.Views.{HoldsAll, HoldsAllOf, IsOver, Panel, handed, holds};
+ghost use Rattle.pay_words.specs.Views.{is_marked};
 ghost use Rattle.pay_words.specs.Views.{is_of_worker, rejoined, rung, took, without};
 ghost use Rattle.pay_words.specs.Words.{unpaid};
 ghost use Rattle.pay_words.specs.declared.payment.Payment.{Payment};
@@ -62,23 +64,35 @@ pub fn empty_past_belongs()
     ensures { (net : Net) → Belongs net (start_of net []) [] }
 {}
 
+/// At no moment is a payment word of a board above the least clearing payments, nor its stamp above
+/// the sum of what is paid: so it is between any two atomic steps, whichever seats have come back.
+#[tactic(auto, using(crate::proofs::Standing::stays_below_least, crate::proofs::Standing::keeps_stamps_low))]
+pub fn no_word_is_above_the_least()
+    ensures values { (board : Panel) → StaysBelowLeast board }
+    ensures stamps { (board : Panel) → KeepsStampsLow board }
+{}
+
 /// Where the master holds all banks, it holds those of each worker.
+#[tactic(auto, using(crate::proofs::Handing::holds_of_all))]
 pub fn all_banks_are_those_of_each_worker()
     ensures { (workers i : ℕ) (s : Shown) → HoldsAll s → HoldsAllOf workers i s }
 {}
 
 /// The seat of a worker holds all banks of the worker.
+#[tactic(auto, using(crate::proofs::Handing::holds_of_handed))]
 pub fn seat_holds_the_banks_of_its_worker()
     ensures { (workers i : ℕ) (s : Shown) → HoldsAllOf workers i (handed workers i s) }
 {}
 
 /// When the banks of one worker are handed out, the master still holds those of another.
+#[tactic(auto, using(crate::proofs::Handing::holds_of_others))]
 pub fn banks_of_other_workers_stay()
     ensures { (workers i j : ℕ) (s : Shown) → i ≢ j → HoldsAllOf workers j s
         → HoldsAllOf workers j (without workers i s) }
 {}
 
 /// When a seat is taken back, its banks are the master's again.
+#[tactic(auto, using(crate::proofs::Handing::holds_of_back))]
 pub fn banks_come_back()
     ensures { (workers i : ℕ) (s t : Shown)
         → ((b : ℕ) → b < length s.net.banks → is_of_worker workers i b ≡ true → holds t b ≡ true)
@@ -86,6 +100,7 @@ pub fn banks_come_back()
 {}
 
 /// And the master holds what it held before.
+#[tactic(auto, using(crate::proofs::Handing::holds_of_kept))]
 pub fn no_bank_is_lost()
     ensures { (workers i : ℕ) (s t : Shown) → HoldsAllOf workers i s
         → HoldsAllOf workers i (rejoined s t) }
@@ -98,7 +113,7 @@ pub fn banks_of_all_workers_are_all_banks()
 {}
 
 /// The seat of a worker holds the worker's banks alone.
-#[tactic(auto, using(crate::proofs::Places::handed_at))]
+#[tactic(auto, using(crate::proofs::Tables::tabled_at))]
 pub fn seat_holds_no_other_bank()
     ensures { (workers i : ℕ) (s : Shown) (b : ℕ) → b < length s.net.banks
         → holds (handed workers i s) b ≡ is_of_worker workers i b }
@@ -112,7 +127,7 @@ pub fn held_bank_is_of_the_network()
 
 /// Of the debts that the banks of a seat owe, the master shows what the seat showed. What the seat
 /// paid becomes the floor.
-#[tactic(auto, using(crate::proofs::Places::paid_back, crate::proofs::Places::paid_stamp_back, crate::proofs::Places::floor_back, crate::proofs::Places::ring_back))]
+#[tactic(auto, using(crate::proofs::Marks::chosen_at))]
 pub fn payments_come_back()
     ensures paid { (s t : Shown) (x : ℕ) → x < length s.net.debts
         → slice_index (rejoined s t).paid x
@@ -133,7 +148,7 @@ pub fn payments_come_back()
 {}
 
 /// Of the debts to the banks of a seat, the master shows what the seat saw.
-#[tactic(auto, using(crate::proofs::Places::sight_back, crate::proofs::Places::sight_stamp_back, crate::proofs::Places::looks_back, crate::proofs::Places::pending_back))]
+#[tactic(auto, using(crate::proofs::Marks::chosen_at))]
 pub fn sights_come_back()
     ensures sights { (s t : Shown) (x : ℕ) → x < length s.net.debts
         → slice_index (rejoined s t).sights x
@@ -154,7 +169,7 @@ pub fn sights_come_back()
 {}
 
 /// Of the banks of a seat, the master shows as fresh those that the seat showed so.
-#[tactic(auto, using(crate::proofs::Places::fresh_back))]
+#[tactic(auto, using(crate::proofs::Marks::chosen_at))]
 pub fn fresh_marks_come_back()
     ensures { (s t : Shown) (b : ℕ) → b < length s.net.banks
         → is_marked (rejoined s t).fresh b
@@ -162,7 +177,7 @@ pub fn fresh_marks_come_back()
 {}
 
 /// Once the bell of a bank was rung no debt owes it a ring, and the others owe what they owed.
-#[tactic(auto, using(crate::proofs::Places::owes_ring_after))]
+#[tactic(auto, using(crate::proofs::Tables::tabled_at))]
 pub fn ring_is_owed_no_more()
     ensures { (s : Shown) (b x : ℕ) → x < length s.net.debts
         → is_marked (rung s b).owes_ring x
@@ -171,7 +186,7 @@ pub fn ring_is_owed_no_more()
 
 /// Once the bell of a bank was taken each debt to it is pending, and the others are as they were.
 /// The bank is fresh no more.
-#[tactic(auto, using(crate::proofs::Places::pending_after, crate::proofs::Places::fresh_no_more, crate::proofs::Places::fresh_else))]
+#[tactic(auto, using(crate::proofs::Tables::tabled_at))]
 pub fn taken_bell_calls()
     ensures pending { (s : Shown) (b x : ℕ) → x < length s.net.debts
         → is_marked (took s b).pending x ≡ (is_marked s.pending x || (creditor_of s.net x == b)) }

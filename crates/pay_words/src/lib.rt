@@ -12,6 +12,16 @@
 //! cost one atomic step. Handing out a seat and taking one back cost no more: time that does not
 //! grow with the network, and no memory. Making a board costs a walk over all debts, and for each
 //! worker a list of their values, four bytes each. Closing it costs one walk.
+//!
+//! Contracts and proofs call what they see by these words:
+//!
+//! - `Place`: a table of words; `Panel`: a board; `Chair`: a seat, and what it shows (`Shown`).
+//! - `View`: what the rule of the table knows of a seat: what it shows, and whether it lives still.
+//! - `Deed`: what a board is made for, its network and its past; a `Founding` has a deed.
+//! - `Chosen`: a worker whose banks go to a new seat.
+//! - `Ledger`: what no single seat knows of banks and raises; `Tower`: the same of bells.
+//! - `Purse`: the lists of payments that a seat has in memory.
+//! - `Sealed`: a record of a board.
 #![tactic(auto)]
 
 mod board;

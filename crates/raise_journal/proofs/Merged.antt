@@ -1,9 +1,9 @@
 -- Raises that are merged are the same raises, and in order they are the same list.
-use Rattle.std.proofs.Common.{◌≡◌, ◌⊎◌, ℕ, zero, suc, ◌+◌, ◌-◌, ◌<◌, ◌≤◌, not, Bool, true, false, cond, List, [], ◌∷◌, ◌++◌, length, length-append, length-drop, get_or, set, take, drop, refl, sym, ap, ◌∙◌, subst, ⊎_elim, arith, add-one, append_assoc}
+use Rattle.std.proofs.Common.{◌≡◌, ◌⊎◌, ℕ, zero, suc, ◌+◌, ◌-◌, ◌<◌, ◌≤◌, not, Bool, true, false, cond, List, [], ◌∷◌, ◌++◌, length, length-drop, get_or, set, take, drop, refl, sym, ap, ◌∙◌, subst, ⊎_elim, arith, add-one, append_assoc}
 use Rattle.std.proofs.lemmas.List.{append-nil, drop-set, drop_all, drop_at, get_or_default, length-set, take-append-drop, take-set-le, take_all, take_at, take_more}
 use Rattle.std.specs.List.Sorted.{IsPermutation}
-use Rattle.std.proofs.lemmas.List.Sorted.{IsPermutation-refl, IsPermutation-cons, IsPermutation-middle, IsPermutation-append, IsPermutation-append_left, IsPermutation-append_right, IsPermutation-sym, IsPermutation-trans, length_permutation}
-use Rattle.std.proofs.lemmas.Bool.{cases_lt, not-false, not-true}
+use Rattle.std.proofs.lemmas.List.Sorted.{IsPermutation-refl, IsPermutation-cons, IsPermutation-middle, IsPermutation-append, IsPermutation-append_left, IsPermutation-append_right, IsPermutation-sym, IsPermutation-trans}
+use Rattle.std.proofs.lemmas.Bool.{not-false, not-true}
 use Rattle.clear_core.specs.declared.event.Raise.{Raise}
 use Rattle.clear_core.specs.History.{may_precede, with_raise, ordered}
 use Rattle.clear_core.proofs.Ordered.{InTurn, follows, in_turn}
@@ -66,9 +66,6 @@ ordered_moved xs rs qs moved = ordered_permuted (xs ++ rs) (xs ++ qs) (IsPermuta
 -- a list that has grown by raises has in order what it has with them at its end
 pub grown_ordered : (old new rs : List Raise) → HasGrownBy old new rs → ordered new ≡ ordered (old ++ rs)
 grown_ordered old new rs h = ap ordered h.is ∙ ordered_moved old rs h.added h.moved
-
-pub grown_longer : (old new rs : List Raise) → HasGrownBy old new rs → length new ≡ length old + length rs
-grown_longer old new rs h = omega (arith, ap length h.is, length-append old h.added, length_permutation rs h.added h.moved)
 
 -- it grows by none, by raises at its end, and by more and more raises
 pub grown_none : (old : List Raise) → HasGrownBy old old []
@@ -268,17 +265,6 @@ placed_whole all rs kept c e p o n =
 -- raises that were looked at in pairs: each before a place may precede the next
 abbrev pub AreInTurnTo : List Raise → ℕ → Type 0
 AreInTurnTo rs n = (k : ℕ) → k + 1 < n → may_precede (get_or rs k no_raise) (get_or rs (k + 1) no_raise) ≡ true
-
--- one more pair was looked at
-pub in_turn_more : (rs : List Raise) (n : ℕ) → 1 ≤ n → AreInTurnTo rs n → may_precede (get_or rs (n - 1) no_raise) (get_or rs n no_raise) ≡ true → AreInTurnTo rs (n + 1)
-in_turn_more rs n few h e k l = ⊎_elim
-    (λ (below : k + 1 < n). h k below)
-    (λ (is : n ≤ k + 1).
-    let last : n ≡ k + 1 = omega arith in
-    let before : n - 1 ≡ k = omega arith in
-    subst (λ m. may_precede (get_or rs k no_raise) (get_or rs m no_raise) ≡ true) last
-    (subst (λ m. may_precede (get_or rs m no_raise) (get_or rs n no_raise) ≡ true) before e))
-    (cases_lt (k + 1) n)
 
 -- all pairs were looked at
 pub in_turn_whole : (rs : List Raise) (n : ℕ) → length rs ≤ n → AreInTurnTo rs n → AreInOrder rs

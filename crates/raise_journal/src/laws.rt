@@ -4,6 +4,7 @@ ghost use Rattle.clear_core.specs.History.{Stands, replayed};
 ghost use Rattle.clear_core.specs.declared.event.Raise.{Raise};
 ghost use Rattle.clr_net.specs.Limits.{IsNetwork};
 ghost use Rattle.clr_net.specs.Net.{Net};
+ghost use Rattle.net_check.specs.declared.TheConstants.{MAX_DIGITS};
 ghost use Rattle.net_csv.specs.Printing.{KeepsNames};
 ghost use Rattle.raise_journal.specs.ReadBack.{IsInLimits};
 ghost use Rattle.raise_journal.specs.ReadJournal.{journal_of};
@@ -35,9 +36,9 @@ pub fn printed_journals_are_read_back()
         → journal_of net (journal_text net rs) ≡ Ok rs }
 {}
 
-/// So it is with a line of how many rounds there were after it.
+/// So it is with a line of how many rounds there were after it, whatever number a file can have.
 pub fn closed_journals_are_read_back()
     ensures { (net : Net) (rs : List Raise) (rounds : ℕ) → IsNetwork net → KeepsNames net
-        → IsInLimits net rs → rounds < 2 ^ 63
+        → IsInLimits net rs → rounds < 10 ^ MAX_DIGITS
         → journal_of net (journal_text net rs ++ rounds_line rounds) ≡ Ok rs }
 {}

@@ -1,11 +1,15 @@
 ghost use Rattle.pay_words.specs.Traces.{start_of};
 ghost use Rattle.pay_words.specs.Views.{HoldsAll, IsAt, opening};
+ghost use Rattle.settle.specs.Drives.{IsPlan};
 ghost use Rattle.std.specs.Prelude.{◌≡◌, ◌≤◌, IfOk, [], length};
 
 use clear_core::Raise;
+use clr_edge::Gate;
 use clr_net::{BankId, Mem, Network};
 use pay_words::{Board, PaySeat, Payment};
+use settle::{Plan, drive};
 use std::alloc::Global;
+use std::thread::Threads;
 
 // What stands on a debt before its first raise.
 pub(crate) const UNPAID: Payment = Payment { value: 0, stamp: 0 };
@@ -20,6 +24,23 @@ pub(crate) fn new_board(alloc: Global, net: &Network, workers: u32) -> Result<(B
         × (r.1.shows ≡ opening net.now (start_of net.now []))) }
 {
     Board::make(alloc, net, workers, &[UNPAID, UNPAID], &[])
+}
+
+// The rounds, the visits and the raises of a run that is driven on such a board.
+pub(crate) fn driven_by_hand<R: Threads + Sync, G: Gate + Sync>(
+    rt: &R,
+    alloc: Global,
+    net: &Network,
+    plan: Plan,
+    gate: &G,
+) -> Result<[u64; 3], Mem>
+    requires debts { length net.now.debts ≡ 2 }
+    requires plan { IsPlan plan }
+{
+    let (board, mut master) = new_board(alloc, net, plan.workers)?;
+    let told = drive(rt, alloc, net, plan, &[], &board, &mut master, gate)?;
+    let raises = told.journal.as_slice().len() as u64;
+    Ok([told.rounds, told.visits, raises])
 }
 
 // The first ten raises: the stamp, the debt and what is paid from then on.

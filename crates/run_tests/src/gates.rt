@@ -1,4 +1,6 @@
 use clr_edge::Gate;
+use clr_net::Mem;
+use std::alloc::Global;
 use std::sync::atomic::{AtomicU64, Ordering};
 
 // Waits a while until a number is reached, and answers whether it was.
@@ -141,11 +143,12 @@ pub(crate) fn new_paid_before(turn: u64) -> PaidBefore {
     }
 }
 
-// Counts the calls of the gate, those that tell a first visit, and those that tell a fifth worker,
-// or another visit of a worker than the first and the next.
+// Counts the calls of the gate, those that tell a first visit, those that tell a 65th worker, or
+// another visit of a worker than the first and the next, and the workers that are told.
 #[derive(Drop)]
 pub(crate) struct Numbers {
-    last: [AtomicU64; 4],
+    // The last visit of each worker, 0 where there is none.
+    last: Vec<AtomicU64>,
     calls: AtomicU64,
     firsts: AtomicU64,
     others: AtomicU64,
@@ -168,25 +171,31 @@ impl Gate for Numbers {
 }
 
 impl Numbers {
-    pub(crate) fn new() -> Numbers {
-        Numbers {
-            last: [
-                AtomicU64::new(0),
-                AtomicU64::new(0),
-                AtomicU64::new(0),
-                AtomicU64::new(0),
-            ],
+    pub(crate) fn new(alloc: Global) -> Result<Numbers, Mem> {
+        let mut last = Vec::new(alloc);
+        for _ in 0..64 {
+            last.push(AtomicU64::new(0))?;
+        }
+        Ok(Numbers {
+            last,
             calls: AtomicU64::new(0),
             firsts: AtomicU64::new(0),
             others: AtomicU64::new(0),
-        }
+        })
     }
 
-    pub(crate) fn counts(&self) -> [u64; 3] {
+    pub(crate) fn counts(&self) -> [u64; 4] {
+        let mut workers = 0;
+        for last in &self.last {
+            if last.load(Ordering::SeqCst) != 0 {
+                workers = u64::saturating_add(workers, 1);
+            }
+        }
         [
             self.calls.load(Ordering::SeqCst),
             self.firsts.load(Ordering::SeqCst),
             self.others.load(Ordering::SeqCst),
+            workers,
         ]
     }
 }

@@ -1,10 +1,10 @@
-ghost use Rattle.std.specs.Prelude.{◌≡◌, ◌≤◌, IfOk, length};
+ghost use Rattle.std.specs.Prelude.{◌≡◌, ◌<◌, ◌≤◌, IfOk, length};
 
 use clr_net::{Mem, Network};
-use net_samples::{add_bank, add_debt, chain, ring};
+use net_samples::{add_bank, add_debt, chain, ring, woven};
 use std::alloc::Global;
 
-// The networks of two debts on which runs are tried.
+// The networks on which runs are tried.
 #[derive(Clone, Copy)]
 pub(crate) enum Sample {
     Chain,
@@ -13,6 +13,20 @@ pub(crate) enum Sample {
     LongRing,
     // 700 banks.
     TwoPairs,
+    // 1,000 banks, none of which has a unit.
+    TwoPoorPairs,
+    // So many banks, which owe round a circle.
+    Woven(u32),
+    // So many banks, of which each from this number on owes a unit to the bank as many before it.
+    Stairs(u32, u32),
+}
+
+// Adds a bank, named by its number.
+fn add_numbered(alloc: Global, net: &mut Network, number: u32, cash: u64) -> Result<(), Mem>
+    requires { number < 1000 }
+{
+    let name = [b'A' + (number / 32) as u8, b'A' + (number % 32) as u8];
+    add_bank(alloc, net, &name, cash)
 }
 
 // Adds A and B, which owe one another 150 units. A has one.
@@ -23,36 +37,64 @@ fn add_long_ring(alloc: Global, net: &mut Network) -> Result<(), Mem> {
     add_debt(net, 1, 0, 150)
 }
 
-// Adds 700 banks of nothing, but that the bank 6 owes the bank 2 a unit and the bank 7 owes the
-// bank 3 one. Each of both pairs is of one worker, where there are one, two or four.
-fn add_two_pairs(alloc: Global, net: &mut Network) -> Result<(), Mem> {
-    for number in 0..700_u32 {
-        let name = [b'A' + (number / 32) as u8, b'A' + (number % 32) as u8];
-        let cash = if number == 6 || number == 7 { 1 } else { 0 };
-        add_bank(alloc, net, &name, cash)?;
+// Adds so many banks of nothing, but that the bank 6 owes the bank 2 a unit and the bank 7 owes the
+// bank 3 one, and both have this. Each of both pairs is of one worker, where there are one, two or
+// four.
+fn add_two_pairs(alloc: Global, net: &mut Network, banks: u32, cash: u64) -> Result<(), Mem>
+    requires { banks ≤ 1000 }
+{
+    for number in 0..banks {
+        let cash = if number == 6 || number == 7 { cash } else { 0 };
+        add_numbered(alloc, net, number, cash)?;
     }
     add_debt(net, 6, 2, 1)?;
     add_debt(net, 7, 3, 1)
 }
 
+// Adds the banks of stairs. The last ones, as many as a step goes over, have a unit each, which
+// goes down a step in each sweep over the banks.
+fn add_stairs(alloc: Global, net: &mut Network, banks: u32, step: u32) -> Result<(), Mem>
+    requires { (1 ≤ step) × (banks ≤ 1000) }
+{
+    for number in 0..banks {
+        let cash = u64::from(banks - number <= step);
+        add_numbered(alloc, net, number, cash)?;
+    }
+    for number in step..banks {
+        add_debt(net, number, number - step, 1)?;
+    }
+    Ok(())
+}
+
 fn made_by_hand(alloc: Global, sample: Sample) -> Result<Network, Mem> {
     let mut net = Network::empty(alloc);
     match sample {
-        Sample::TwoPairs => add_two_pairs(alloc, &mut net)?,
-        _ => add_long_ring(alloc, &mut net)?,
+        Sample::LongRing => add_long_ring(alloc, &mut net)?,
+        Sample::TwoPairs => add_two_pairs(alloc, &mut net, 700, 1)?,
+        Sample::TwoPoorPairs => add_two_pairs(alloc, &mut net, 1000, 0)?,
+        Sample::Stairs(banks, step) => {
+            add_stairs(alloc, &mut net, banks.min(1000), step.max(1))?;
+        }
+        _ => {}
     }
     Ok(net)
 }
 
-// A network of two debts.
-pub(crate) fn net_of(alloc: Global, sample: Sample) -> Result<Network, Mem>
+// The network of a sample.
+pub(crate) fn net_of(alloc: Global, sample: Sample) -> Result<Network, Mem> {
+    match sample {
+        Sample::Chain => chain(alloc),
+        Sample::Ring => ring(alloc),
+        Sample::Woven(banks) => woven(alloc, banks),
+        _ => made_by_hand(alloc, sample),
+    }
+}
+
+// The same, which has two debts.
+pub(crate) fn pair_of(alloc: Global, sample: Sample) -> Result<Network, Mem>
     ensures { IfOk result (λ net. length net.debts ≡ 2) }
 {
-    let net = match sample {
-        Sample::Chain => chain(alloc)?,
-        Sample::Ring => ring(alloc)?,
-        _ => made_by_hand(alloc, sample)?,
-    };
+    let net = net_of(alloc, sample)?;
     if net.debts() != 2 {
         return Err(Mem);
     }
@@ -65,7 +107,6 @@ fn add_late_banks(alloc: Global, net: &mut Network, turn: u32) -> Result<(), Mem
     requires { (1 ≤ turn) × (turn ≤ 100) }
 {
     for number in 0..2 * turn + 2 {
-        let name = [b'A' + (number / 32) as u8, b'A' + (number % 32) as u8];
         let cash = if number == 2 * turn - 2 {
             7
         } else if number == 2 * turn - 1 {
@@ -73,7 +114,7 @@ fn add_late_banks(alloc: Global, net: &mut Network, turn: u32) -> Result<(), Mem
         } else {
             0
         };
-        add_bank(alloc, net, &name, cash)?;
+        add_numbered(alloc, net, number, cash)?;
     }
     Ok(())
 }
@@ -93,8 +134,7 @@ pub(crate) fn late_chain(alloc: Global, turn: u32) -> Result<Network, Mem>
 pub(crate) fn wide_ring(alloc: Global) -> Result<Network, Mem> {
     let mut net = Network::empty(alloc);
     for number in 0..300_u32 {
-        let name = [b'A' + (number / 32) as u8, b'A' + (number % 32) as u8];
-        add_bank(alloc, &mut net, &name, u64::from(number == 0))?;
+        add_numbered(alloc, &mut net, number, u64::from(number == 0))?;
     }
     for number in 0..300_u32 {
         add_debt(&mut net, number, (number + 1) % 300, 1)?;

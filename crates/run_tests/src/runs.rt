@@ -1,12 +1,13 @@
 ghost use Rattle.clr_net.specs.Samples.{chain as chain_net};
 ghost use Rattle.std.specs.Prelude.{◌≡◌, ◌<◌, ◌≤◌, All, length};
 ghost use Rattle.settle.specs.Between.{IsBetween};
+ghost use Rattle.settle.specs.Drives.{IsPlan};
 ghost use Rattle.settle.specs.Runs.{CanGoOn};
 
-use crate::boards::{first_raises, new_board, take_bells};
+use crate::boards::{driven_by_hand, first_raises, new_board, take_bells};
 use crate::gates::{Numbers, new_meeting, new_paid_before, new_turns};
-use crate::nets::{Sample, late_chain, net_of};
-use clear_core::{Journal, Raise, Scratch};
+use crate::nets::{Sample, late_chain, net_of, pair_of};
+use clear_core::{Raise, Scratch};
 use clear_least::central;
 use clr_edge::{Gate, OpenGate};
 use clr_net::{Amounts, BankId, Mem, Network};
@@ -14,8 +15,8 @@ use net_samples::{add_bank, add_debt, chain, ring, woven};
 use pay_words::{Board, PaySeat};
 use raise_journal::{Verdict, replay};
 use settle::{
-    Plan, Settled, calls_two_workers, nobody_can_pay_more, offices_of, round_and_ask, settle,
-    settle_from, settle_owned,
+    Plan, Run, RunState, Settled, calls_two_workers, nobody_can_pay_more, offices_of,
+    round_and_ask, settle, settle_from, settle_owned,
 };
 use std::alloc::Global;
 use std::sync::atomic::Ordering;
@@ -71,8 +72,7 @@ fn run<R: Threads + Sync, G: Gate + Sync>(
     plan: Plan,
     gate: &G,
 ) -> Result<Told, Mem>
-    requires workers { (1 ≤ plan.workers) × (plan.workers ≤ 64) }
-    requires sweeps { (1 ≤ plan.sweeps) × (plan.sweeps ≤ 1000) }
+    requires { IsPlan plan }
 {
     let settled = settle(rt, alloc, net, plan, gate)?;
     Ok(told_of(&settled))
@@ -85,8 +85,7 @@ fn run_chain<R: Threads + Sync, G: Gate + Sync>(
     plan: Plan,
     gate: &G,
 ) -> Result<Told, Mem>
-    requires workers { (1 ≤ plan.workers) × (plan.workers ≤ 64) }
-    requires sweeps { (1 ≤ plan.sweeps) × (plan.sweeps ≤ 1000) }
+    requires { IsPlan plan }
 {
     let net = chain(alloc)?;
     run(rt, alloc, &net, plan, gate)
@@ -98,8 +97,7 @@ fn run_ring<R: Threads + Sync, G: Gate + Sync>(
     plan: Plan,
     gate: &G,
 ) -> Result<Told, Mem>
-    requires workers { (1 ≤ plan.workers) × (plan.workers ≤ 64) }
-    requires sweeps { (1 ≤ plan.sweeps) × (plan.sweeps ≤ 1000) }
+    requires { IsPlan plan }
 {
     let net = ring(alloc)?;
     run(rt, alloc, &net, plan, gate)
@@ -134,8 +132,7 @@ fn one_unit_goes_round_a_ring(rt: HostRuntime) -> Result<(), Fail> {
 // Whether a run on the ring by a plan pays all by ten raises, with a seat for each worker in each
 // round. One worker that sweeps often enough finds it all in its first round.
 fn pays_all<R: Threads + Sync>(rt: &R, alloc: Global, plan: Plan) -> Result<bool, Mem>
-    requires workers { (1 ≤ plan.workers) × (plan.workers ≤ 64) }
-    requires sweeps { (1 ≤ plan.sweeps) × (plan.sweeps ≤ 1000) }
+    requires { IsPlan plan }
 {
     let told = run_ring(rt, alloc, plan, &OpenGate)?;
     let paid = told.paid;
@@ -180,20 +177,25 @@ fn a_chain_takes_two_rounds(rt: HostRuntime) -> Result<(), Fail> {
     Ok(())
 }
 
-// A run of four workers without a bank.
-fn run_none<R: Threads + Sync>(rt: &R, alloc: Global) -> Result<Told, Mem> {
+// A run without a bank.
+fn run_none<R: Threads + Sync>(rt: &R, alloc: Global, workers: u32) -> Result<Told, Mem>
+    requires { (1 ≤ workers) × (workers ≤ 64) }
+{
     let net = Network::empty(alloc);
-    let plan = Plan {
-        workers: 4,
-        sweeps: 1,
-    };
+    let plan = Plan { workers, sweeps: 1 };
     run(rt, alloc, &net, plan, &OpenGate)
 }
 
 #[test]
 fn no_bank_takes_one_round(rt: HostRuntime) -> Result<(), Fail> {
-    let told = run_none(&rt, rt.alloc())?;
-    assert_eq!(rt; (told.debts, told.rounds, told.visits), (0, 1, 0));
+    for workers in [1, 4] {
+        let told = run_none(&rt, rt.alloc(), workers)?;
+        assert_eq!(rt;
+            (told.debts, told.rounds, told.visits),
+            (0, 1, 0),
+            "{workers}"
+        );
+    }
     Ok(())
 }
 
@@ -203,33 +205,30 @@ fn asked_after<R: Threads + Sync, G: Gate + Sync>(
     rt: &R,
     alloc: Global,
     net: &Network,
-    workers: u32,
+    plan: Plan,
     board: &Board,
     master: &mut PaySeat,
     gate: &G,
     rounds: u32,
 ) -> Result<[bool; 2], Mem>
-    requires board { (net.now ≡ board.now.net) × (board.now.table.workers ≡ workers) }
+    requires board { (net.now ≡ board.now.net) × (board.now.table.workers ≡ plan.workers) }
     requires master { (master.old.table ≡ board.now.table) × IsBetween net.now master.old.shows }
     requires rounds { (rounds ≤ 10) × (master.old.shows.seats ≡ 0) }
-    requires workers { (1 ≤ workers) × (workers ≤ 64) }
+    requires plan { IsPlan plan }
 {
-    let plan = Plan { workers, sweeps: 1 };
-    let mut journal = Journal::empty(alloc);
-    let mut offices = offices_of(alloc, net, workers)?;
+    let run = Run {
+        rt,
+        alloc,
+        net,
+        plan,
+        board,
+        gate,
+    };
+    let offices = offices_of(alloc, net, plan.workers)?;
+    let mut state = RunState::of(alloc, &[], offices)?;
     let mut down = false;
     for _ in 0..rounds {
-        down = round_and_ask(
-            rt,
-            alloc,
-            net,
-            plan,
-            board,
-            master,
-            gate,
-            &mut journal,
-            &mut offices,
-        )?;
+        down = round_and_ask(&run, master, &mut state)?;
     }
     let now = nobody_can_pay_more(net, board, master);
     Ok([down, now])
@@ -240,69 +239,75 @@ fn asked<R: Threads + Sync, G: Gate + Sync>(
     rt: &R,
     alloc: Global,
     net: &Network,
-    workers: u32,
+    plan: Plan,
     gate: &G,
     rounds: u32,
 ) -> Result<[bool; 2], Mem>
     requires net { (length net.now.debts ≡ 2) × (rounds ≤ 10) }
-    requires workers { (1 ≤ workers) × (workers ≤ 64) }
+    requires plan { IsPlan plan }
 {
-    let (board, mut master) = new_board(alloc, net, workers)?;
-    asked_after(rt, alloc, net, workers, &board, &mut master, gate, rounds)
+    let (board, mut master) = new_board(alloc, net, plan.workers)?;
+    asked_after(rt, alloc, net, plan, &board, &mut master, gate, rounds)
 }
 
-// The same, by one worker.
-fn asked_of<R: Threads + Sync>(
+// The same, of a sample.
+fn asked_of<R: Threads + Sync, G: Gate + Sync>(
     rt: &R,
     alloc: Global,
     sample: Sample,
+    plan: Plan,
+    gate: &G,
     rounds: u32,
-) -> Result<[bool; 2], Mem> {
-    let net = net_of(alloc, sample)?;
-    asked(rt, alloc, &net, 1, &OpenGate, rounds.min(10))
+) -> Result<[bool; 2], Mem>
+    requires rounds { rounds ≤ 10 }
+    requires plan { IsPlan plan }
+{
+    let net = pair_of(alloc, sample)?;
+    asked(rt, alloc, &net, plan, gate, rounds)
 }
 
-// A network, so many rounds, and whether all bells are down then. Without a round no answer is
-// given.
-const ASKED: [(Sample, u32, bool); 7] = [
-    (Sample::Chain, 0, false),
-    (Sample::Chain, 1, true),
-    (Sample::Ring, 1, false),
-    (Sample::Ring, 5, false),
-    (Sample::Ring, 6, true),
-    (Sample::TwoPairs, 1, false),
-    (Sample::TwoPairs, 2, true),
+// A network, the sweeps of one worker, so many rounds, and whether all bells are down then. Without
+// a round no answer is given.
+const ASKED: [(Sample, u32, u32, bool); 8] = [
+    (Sample::Chain, 1, 0, false),
+    (Sample::Chain, 1, 1, true),
+    (Sample::Ring, 1, 1, false),
+    (Sample::Ring, 1, 5, false),
+    (Sample::Ring, 1, 6, true),
+    (Sample::Ring, 7, 1, true),
+    (Sample::TwoPairs, 1, 1, false),
+    (Sample::TwoPairs, 1, 2, true),
 ];
-
-// The first case in which it is not so.
-fn first_unasked<R: Threads + Sync>(rt: &R, alloc: Global) -> Result<Option<usize>, Mem> {
-    for (place, (sample, rounds, wanted)) in ASKED.iter().enumerate() {
-        if asked_of(rt, alloc, *sample, *rounds)? != [*wanted; 2] {
-            return Ok(Some(place));
-        }
-    }
-    Ok(None)
-}
 
 #[test]
 fn the_bells_are_down_once_nobody_can_pay_more(rt: HostRuntime) -> Result<(), Fail> {
-    let wrong = first_unasked(&rt, rt.alloc())?;
-    assert_eq!(rt; wrong, None);
+    for (place, (sample, sweeps, rounds, wanted)) in ASKED.iter().enumerate() {
+        let plan = Plan {
+            workers: 1,
+            sweeps: (*sweeps).clamp(1, 1000),
+        };
+        let told = asked_of(&rt, rt.alloc(), *sample, plan, &OpenGate, (*rounds).min(10))?;
+        assert_eq!(rt; told, [*wanted; 2], "{place}");
+    }
     Ok(())
 }
 
-// The answer of a round of three workers of the chain, made by hand, and how many of them met.
-fn met_by_hand<R: Threads + Sync>(rt: &R, alloc: Global) -> Result<u64, Mem> {
-    let net = net_of(alloc, Sample::Chain)?;
-    let gate = new_meeting(3, 0);
-    asked(rt, alloc, &net, 3, &gate, 1)?;
+// How many workers of the chain meet in a round that is made by hand.
+fn met_by_hand<R: Threads + Sync>(rt: &R, alloc: Global, workers: u32) -> Result<u64, Mem>
+    requires { (1 ≤ workers) × (workers ≤ 64) }
+{
+    let gate = new_meeting(u64::from(workers), 0);
+    let plan = Plan { workers, sweeps: 1 };
+    asked_of(rt, alloc, Sample::Chain, plan, &gate, 1)?;
     Ok(gate.met.load(Ordering::SeqCst))
 }
 
 #[test]
 fn a_round_by_hand_has_all_workers_at_once(rt: HostRuntime) -> Result<(), Fail> {
-    let met = met_by_hand(&rt, rt.alloc())?;
-    assert_eq!(rt; met, 3);
+    for workers in [2, 3] {
+        let met = met_by_hand(&rt, rt.alloc(), workers)?;
+        assert_eq!(rt; met, u64::from(workers));
+    }
     Ok(())
 }
 
@@ -316,46 +321,43 @@ fn two_called(alloc: Global, net: &Network, workers: u32, up: [u32; 3]) -> Resul
 }
 
 // Workers, the banks whose bells are up, and whether they call two of the workers. There is no bank
-// 700.
-const CALLING: [(u32, [u32; 3], bool); 14] = [
+// 1,000.
+const CALLING: [(u32, [u32; 3], bool); 18] = [
     (2, [0, 1, 2], true),
     (2, [0, 1, 1], true),
     (2, [1, 2, 2], true),
     (2, [0, 2, 2], false),
     (2, [1, 1, 1], false),
-    (2, [700, 700, 700], false),
+    (2, [1000, 1000, 1000], false),
     (3, [0, 2, 2], true),
     (3, [2, 2, 2], false),
     (1, [0, 1, 2], false),
     (2, [5, 698, 698], true),
     (2, [4, 6, 698], false),
+    (2, [700, 999, 999], true),
+    (4, [703, 999, 999], false),
     (5, [5, 610, 695], false),
-    (5, [5, 610, 699], true),
+    (5, [5, 610, 999], true),
+    (8, [5, 701, 997], false),
+    (8, [5, 701, 998], true),
     (64, [3, 67, 640], true),
 ];
 
-// The first case on a network in which it is not so.
-fn first_uncalled(alloc: Global, net: &Network) -> Result<Option<usize>, Mem>
-    requires { length net.now.debts ≡ 2 }
-{
+// The first case in which it is not so, on 1,000 banks.
+fn first_uncalled(alloc: Global) -> Result<Option<usize>, Mem> {
+    let net = pair_of(alloc, Sample::TwoPoorPairs)?;
     for (place, (workers, up, wanted)) in CALLING.iter().enumerate() {
         let workers = (*workers).clamp(1, 64);
-        if two_called(alloc, net, workers, *up)? != *wanted {
+        if two_called(alloc, &net, workers, *up)? != *wanted {
             return Ok(Some(place));
         }
     }
     Ok(None)
 }
 
-// The same, on 700 banks.
-fn uncalled(alloc: Global) -> Result<Option<usize>, Mem> {
-    let net = net_of(alloc, Sample::TwoPairs)?;
-    first_uncalled(alloc, &net)
-}
-
 #[test]
 fn bells_of_two_workers_call_both(rt: HostRuntime) -> Result<(), Fail> {
-    let wrong = uncalled(rt.alloc())?;
+    let wrong = first_uncalled(rt.alloc())?;
     assert_eq!(rt; wrong, None);
     Ok(())
 }
@@ -425,17 +427,30 @@ fn a_bank_passes_the_gate_before_it_looks(rt: HostRuntime) -> Result<(), Fail> {
 }
 
 // A network, workers and sweeps; the rounds, visits, raises and seats of a run; and the calls of
-// its gate, those of a first visit, and those of a wrong one.
-type Counted = (Sample, u32, u32, [u64; 4], [u64; 3]);
+// its gate, those of a first visit, those of a wrong one, and the workers.
+type Counted = (Sample, u32, u32, [u64; 4], [u64; 4]);
 
 // On the long ring there are two visits in each of 150 rounds and one in the last, numbered anew in
 // each; by sweeps enough all are of the first. Of the 700 banks two are visited a second time.
-const COUNTED: [Counted; 5] = [
-    (Sample::Ring, 1, 1, [6, 11, 10, 6], [11, 6, 0]),
-    (Sample::LongRing, 1, 1, [151, 301, 300, 151], [301, 151, 0]),
-    (Sample::LongRing, 1, 1000, [2, 301, 300, 2], [301, 1, 0]),
-    (Sample::TwoPairs, 1, 1, [2, 702, 2, 2], [702, 2, 0]),
-    (Sample::TwoPairs, 4, 1, [2, 702, 2, 8], [702, 6, 0]),
+const COUNTED: [Counted; 6] = [
+    (Sample::Ring, 1, 1, [6, 11, 10, 6], [11, 6, 0, 1]),
+    (
+        Sample::LongRing,
+        1,
+        1,
+        [151, 301, 300, 151],
+        [301, 151, 0, 1],
+    ),
+    (Sample::LongRing, 1, 1000, [2, 301, 300, 2], [301, 1, 0, 1]),
+    (Sample::TwoPairs, 1, 1, [2, 702, 2, 2], [702, 2, 0, 1]),
+    (Sample::TwoPairs, 4, 1, [2, 702, 2, 8], [702, 6, 0, 4]),
+    (
+        Sample::TwoPoorPairs,
+        64,
+        1,
+        [1, 1000, 0, 64],
+        [1000, 64, 0, 64],
+    ),
 ];
 
 // What a run on a network comes to in such numbers.
@@ -444,17 +459,31 @@ fn counted<R: Threads + Sync>(
     alloc: Global,
     sample: Sample,
     plan: Plan,
-) -> Result<([u64; 4], [u64; 3]), Mem>
-    requires workers { (1 ≤ plan.workers) × (plan.workers ≤ 64) }
-    requires sweeps { (1 ≤ plan.sweeps) × (plan.sweeps ≤ 1000) }
+) -> Result<([u64; 4], [u64; 4]), Mem>
+    requires { IsPlan plan }
 {
     let net = net_of(alloc, sample)?;
-    let gate = Numbers::new();
+    let gate = Numbers::new(alloc)?;
     let told = run(rt, alloc, &net, plan, &gate)?;
     Ok((
         [told.rounds, told.visits, told.made, told.seats],
         gate.counts(),
     ))
+}
+
+// The same of a run that is driven on a board made by hand, but for the seats.
+fn driven<R: Threads + Sync>(
+    rt: &R,
+    alloc: Global,
+    sample: Sample,
+    plan: Plan,
+) -> Result<([u64; 3], [u64; 4]), Mem>
+    requires { IsPlan plan }
+{
+    let net = pair_of(alloc, sample)?;
+    let gate = Numbers::new(alloc)?;
+    let told = driven_by_hand(rt, alloc, &net, plan, &gate)?;
+    Ok((told, gate.counts()))
 }
 
 #[test]
@@ -466,6 +495,8 @@ fn the_gate_is_told_the_worker_and_the_visit(rt: HostRuntime) -> Result<(), Fail
         };
         let told = counted(&rt, rt.alloc(), *sample, plan)?;
         assert_eq!(rt; told, (*run, *gate), "{place}");
+        let told = driven(&rt, rt.alloc(), *sample, plan)?;
+        assert_eq!(rt; told, ([run[0], run[1], run[2]], *gate), "{place} by hand");
     }
     Ok(())
 }

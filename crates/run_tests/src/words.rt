@@ -99,7 +99,10 @@ fn raise_beside_look<R: Threads + Sync>(
 }
 
 // A board for two workers on which nothing is paid, its master, and the seats of both workers.
-fn two_seats(alloc: Global, net: &Network) -> Result<(Board, PaySeat, PaySeat, PaySeat), Mem>
+pub(crate) fn two_seats(
+    alloc: Global,
+    net: &Network,
+) -> Result<(Board, PaySeat, PaySeat, PaySeat), Mem>
     requires debts { length net.now.debts ≡ 2 }
     ensures board { IfOk result (λ r. (r.0.net ≡ net.now) × (r.0.past ≡ [])
         × (r.0.table.workers ≡ 2)) }

@@ -1,18 +1,20 @@
+ghost use Rattle.bank_worker.specs.Visits.{IsAllCalm, IsSameCrew, MayRest};
 ghost use Rattle.clr_net.specs.Samples.{chain as chain_net, ring as ring_net};
+ghost use Rattle.clr_net.specs.declared.TheConstants.{MAX_BANKS};
 ghost use Rattle.pay_words.specs.Traces.{start_of};
-ghost use Rattle.pay_words.specs.Views.{IsAt, opening};
+ghost use Rattle.pay_words.specs.Views.{IsAt, OwesNoRing, opening};
 ghost use Rattle.settle.specs.Between.{IsBetween};
-ghost use Rattle.std.specs.Prelude.{◌≡◌, ◌<◌, ◌≤◌, [], OnOk, length};
+ghost use Rattle.std.specs.Prelude.{◌≡◌, ◌+◌, ◌*◌, ◌<◌, ◌≤◌, [], OnOk, length};
 
 use crate::boards::{NONE, first_raises, new_board, take_bells};
 use crate::gates::FirstVisits;
+use crate::words::two_seats;
 use bank_worker::{BankSet, SeatBack, Visit, Worker};
-use clear_core::Journal;
 use clr_edge::OpenGate;
-use clr_net::{BankId, DebtId, Mem, Network};
+use clr_net::{BankId, DebtId, MAX_BANKS, Mem, Network};
 use net_samples::{chain, ring};
 use pay_words::{Board, PaySeat};
-use settle::{Plan, offices_of, round};
+use settle::{Plan, Run, RunState, Way, offices_of, round};
 use std::alloc::Global;
 use std::sync::atomic::{AtomicU64, Ordering};
 use std::test::Fail;
@@ -44,29 +46,23 @@ fn rounds_on<R: Threads + Sync>(
     ensures table { master.new.table ≡ master.old.table }
     ensures between { OnOk result (IsBetween net.now master.new.shows) }
 {
-    let plan = Plan { workers: 1, sweeps };
-    let mut journal = Journal::empty(alloc);
-    let mut offices = offices_of(alloc, net, 1)?;
+    let run = Run {
+        rt,
+        alloc,
+        net,
+        plan: Plan { workers: 1, sweeps },
+        board,
+        gate: &OpenGate,
+    };
+    let offices = offices_of(alloc, net, 1)?;
+    let mut state = RunState::of(alloc, &[], offices)?;
     let mut told = [(0, 0, 0); 6];
     for number in 0..rounds {
-        let before = journal.as_slice().len();
-        let mut called = BankSet::all();
-        let (units, visits) = round(
-            rt,
-            alloc,
-            net,
-            plan,
-            board,
-            master,
-            &OpenGate,
-            &mut journal,
-            &mut offices,
-            &mut called,
-            false,
-        )?;
-        told[number] = (units, visits, journal.as_slice().len() - before);
+        let before = state.journal.as_slice().len();
+        let (units, visits) = round(&run, master, &mut state, Way::InTurn)?;
+        told[number] = (units, visits, state.journal.as_slice().len() - before);
     }
-    let raises = first_raises(journal.as_slice());
+    let raises = first_raises(state.journal.as_slice());
     let up = [false; 3];
     Ok(Told {
         rounds: told,
@@ -196,6 +192,57 @@ fn third_of_ring(alloc: Global) -> Result<(usize, Option<u64>, u64), Mem> {
 fn a_worker_without_banks_makes_no_visit(rt: HostRuntime) -> Result<(), Fail> {
     let told = third_of_ring(rt.alloc())?;
     assert_eq!(rt; told, (0, Some(0), 0));
+    Ok(())
+}
+
+// A round of a worker: its units.
+fn heard_in(board: &Board, worker: &mut Worker) -> Result<u64, Mem>
+    requires seat { IsAt board.now worker.old.seat }
+    requires visits { worker.old.visits ≤ 1000000 }
+    requires idle { OwesNoRing worker.old.seat.shows × IsAllCalm worker.old.seat.shows
+        × MayRest worker.old.seat.shows worker.old.desks }
+    ensures same { IsSameCrew worker.old worker.new }
+    ensures visits { worker.new.visits ≤ worker.old.visits + 7 * MAX_BANKS }
+    ensures idle { OnOk result (OwesNoRing worker.new.seat.shows × IsAllCalm worker.new.seat.shows
+        × MayRest worker.new.seat.shows worker.new.desks) }
+{
+    prove!(worker.desks() <= MAX_BANKS as usize);
+    match worker.round(board, 7, &OpenGate) {
+        Visit::Raised(units) => Ok(units),
+        Visit::Mem => Err(Mem),
+    }
+}
+
+// The rounds of the second worker of the ring: the units of each, and all visits after it. Before
+// the second round A has paid it a unit and has not rung it yet, and before the third A has.
+fn heard(alloc: Global, net: &Network) -> Result<[(u64, u64); 3], Mem>
+    requires { net.now ≡ ring_net }
+{
+    let (board, _master, mut first, second) = two_seats(alloc, net)?;
+    let mut worker = match Worker::make(alloc, net, second, 1, 2) {
+        Ok(worker) => worker,
+        Err(SeatBack { seat: _ }) => return Err(Mem),
+    };
+    let one = heard_in(&board, &mut worker)?;
+    let visits = worker.visits();
+    board.raise(&mut first, DebtId(0), 1);
+    let two = heard_in(&board, &mut worker)?;
+    let more = worker.visits();
+    board.ring(&mut first, BankId(1));
+    let three = heard_in(&board, &mut worker)?;
+    Ok([(one, visits), (two, more), (three, worker.visits())])
+}
+
+// The same, on the ring.
+fn heard_on_ring(alloc: Global) -> Result<[(u64, u64); 3], Mem> {
+    let net = ring(alloc)?;
+    heard(alloc, &net)
+}
+
+#[test]
+fn a_bank_whose_bell_is_down_is_not_visited(rt: HostRuntime) -> Result<(), Fail> {
+    let told = heard_on_ring(rt.alloc())?;
+    assert_eq!(rt; told, [(0, 1), (0, 1), (1, 2)]);
     Ok(())
 }
 

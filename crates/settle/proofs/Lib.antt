@@ -13,3 +13,4 @@ pub mod ByHand
 pub mod OtherCash
 pub mod Calling
 pub mod InTurn
+pub mod Made

@@ -1,26 +1,24 @@
 -- What a round of all workers and a run ask of their board, its master and their plan.
-use Rattle.std.specs.Prelude.{◌≡◌, ◌+◌, ◌<◌, List}
+use Rattle.std.specs.Prelude.{◌≡◌, List}
 use Rattle.clr_net.specs.Net.{Net}
 use Rattle.clear_core.specs.declared.event.Raise.{Raise}
-use Rattle.bank_worker.specs.Offices.{OfficeView}
 use Rattle.pay_words.specs.Traces.{start_of}
 use Rattle.pay_words.specs.Views.{Chair, Panel, opening}
 use Rattle.settle.specs.Between.{IsBetween}
+use Rattle.settle.specs.Calls.{RestAreSettled}
 use Rattle.settle.specs.Drives.{IsPlan}
 use Rattle.settle.specs.Offices.{AreOffices}
 use Rattle.settle.specs.declared.plan.Plan.{Plan}
+use Rattle.settle.specs.declared.state.RunState.{RunState}
 
--- the workers of a plan may make a round: the board is of the network and of as many workers, its
--- master stands between two rounds and may hand out a seat to each, and each worker has its office
-pub record MayRound (board : Panel) (net : Net) (plan : Plan) (master : Chair) (os : List OfficeView)
+-- a run on this board stands between two rounds: its master does, each worker has its office, and
+-- each bank that is not called is settled
+pub record IsReady (board : Panel) (net : Net) (plan : Plan) (master : Chair) (state : RunState)
     : Type 0 where
-  pub limits : IsPlan plan
-  pub workers_are : plan.workers ≡ board.table.workers
-  pub net_is : net ≡ board.net
   pub table_is : master.table ≡ board.table
   pub between : IsBetween net master.shows
-  pub few_seats : master.shows.seats + plan.workers < 4294967295
-  pub offices : AreOffices net plan.workers plan.workers os
+  pub offices : AreOffices net plan.workers plan.workers state.offices.items
+  pub called : RestAreSettled net state.called master.shows
 
 -- a run may be driven: the network, the past and the workers are those of the board, which its
 -- master has just opened

@@ -1,5 +1,5 @@
 -- The master between two rounds, and the workers of a round.
-use Rattle.std.specs.Prelude.{◌≡◌, ◌≢◌, ◌⊎◌, ℕ, zero, suc, ◌+◌, ◌*◌, ◌%◌, ◌<◌, ◌≤◌, ◌++◌, true, false, List, [], length, sum, slice_index}
+use Rattle.std.specs.Prelude.{◌≡◌, ◌≢◌, ◌⊎◌, ℕ, zero, suc, ◌+◌, ◌*◌, ◌%◌, ◌<◌, ◌≤◌, ◌++◌, true, false, List, [], ◌∷◌, length, sum, sum_by, slice_index}
 use Rattle.pay_words.specs.Views.{Place}
 use Rattle.clear_core.specs.Clearing.{least}
 use Rattle.clr_net.specs.Amounts.{IsAtMost}
@@ -11,7 +11,7 @@ use Rattle.pay_words.specs.Views.{Panel, IsAt, IsOver, HoldsAll, OwesNoRing, han
 use Rattle.clear_core.specs.declared.event.Raise.{Raise}
 use Rattle.raise_journal.specs.Gathered.{HasGrownBy}
 use Rattle.settle.specs.declared.plan.Plan.{Plan}
-use Rattle.settle.specs.Rounds.{crew_at}
+use Rattle.settle.specs.Rounds.{AreRounded, crew_at}
 use Rattle.bank_worker.specs.Views.{Crew, Divides, desks_held}
 use Rattle.bank_worker.specs.Visits.{AddsRaises}
 
@@ -97,6 +97,22 @@ pub record IsBack (workers : ℕ) (net : Net) (s : Shown) (ws : List Crew) (t : 
   pub fresh : (b : ℕ) → b < length net.banks → n ≤ b % workers → b % workers < length ws
       → is_marked t.fresh b ≡ is_marked (shown_by workers ws b).fresh b
 
+-- the raises of some workers, those of the last worker first
+abbrev pub raises_of_all : List Crew → List Raise
+raises_of_all [] = []
+raises_of_all (w ∷ ws) = raises_of_all ws ++ w.seat.shows.raises
+
+-- the workers of a round, from the master that shows s to the one that shows t: each was handed its
+-- seat, and then did nothing but visits to which bells called it; all that was raised they raised,
+-- all visits that are counted they made, and of each bank the master shows what its worker left
+pub record IsRoundByVisits (net : Net) (plan : Plan) (units visits : ℕ) (s t : Shown) : Type 0 where
+  pub table : Place
+  pub workers : List Crew
+  pub rounded : AreRounded plan.sweeps units (crews plan.workers table s plan.workers) workers
+  pub raises : t.raises ≡ s.raises ++ raises_of_all workers
+  pub visits_are : visits ≡ sum_by (λ w. w.visits) workers
+  pub back : IsBack plan.workers net (without_first plan.workers plan.workers s) workers t 0
+
 -- a round that raised so many units by so many visits, from the master that shows s to the one that
 -- shows t
 pub record IsRoundOf (net : Net) (plan : Plan) (units visits : ℕ) (s t : Shown) : Type 0 where
@@ -112,6 +128,7 @@ pub record IsRoundOf (net : Net) (plan : Plan) (units visits : ℕ) (s t : Shown
   pub raises : AddsRaises units s t
   pub paid_low : IsAtMost t.paid (least net)
   pub sights_low : IsAtMost t.sights (least net)
+  pub by_visits : IsRoundByVisits net plan units visits s t
 
 -- what was added to the one list, in some order, is what was added to the other
 abbrev pub HaveGrownAlike : List Raise → List Raise → List Raise → List Raise → Type 0

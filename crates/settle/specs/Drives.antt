@@ -5,6 +5,7 @@ use Rattle.clr_net.specs.Net.{Net}
 use Rattle.clear_core.specs.Clearing.{Clears, least}
 use Rattle.clear_core.specs.History.{ordered, replayed}
 use Rattle.clear_core.specs.declared.event.Raise.{Raise}
+use Rattle.pay_words.specs.Views.{Panel}
 use Rattle.pay_words.specs.declared.view.Shown.{Shown}
 use Rattle.settle.specs.Bells.{IsIdle}
 use Rattle.settle.specs.Between.{IsRoundOf}
@@ -17,6 +18,13 @@ pub record IsPlan (plan : Plan) : Type 0 where
   pub few_workers : plan.workers ≤ 64
   pub some_sweeps : 1 ≤ plan.sweeps
   pub few_sweeps : plan.sweeps ≤ 1000
+
+-- a run on a board: it is of the board's network and of as many workers, and its plan is within the
+-- limits
+pub record IsRunOn (board : Panel) (net : Net) (plan : Plan) : Type 0 where
+  pub limits : IsPlan plan
+  pub workers_are : plan.workers ≡ board.table.workers
+  pub net_is : net ≡ board.net
 
 -- what the master shows as paid and as seen is nowhere above the least clearing payments
 abbrev pub IsBelowLeast : Net → Shown → Type 0

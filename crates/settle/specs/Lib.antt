@@ -7,3 +7,4 @@ pub mod Bells
 pub mod ByHand
 pub mod Calls
 pub mod Asks
+pub mod Made

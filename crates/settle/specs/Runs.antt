@@ -59,13 +59,15 @@ pub record IsWithinAfter (net : Net) (past : List Raise) (plan : Plan) (rounds v
   pub rounds_by_raises : rounds ≤ made + 1
 
 -- so many rounds, of so many visits in all, on a board that the past opened, to what is paid in the
--- end: the last of them raised nothing, and each before it raised a unit
+-- end: the last of them raised nothing, and each before it raised a unit. The journal has the past
+-- and what was raised in them, and nothing else
 pub record HasComeToRest (net : Net) (past : List Raise) (plan : Plan) (paid : List ℕ)
-    (rounds visits : ℕ) : Type 0 where
+    (journal : List Raise) (rounds visits : ℕ) : Type 0 where
   pub master : Shown
   pub rounds_are : EndsAtRest net plan (opening net (start_of net past)) master rounds
   pub visits_are : master.taken ≡ visits
   pub paid_is : master.paid ≡ paid
+  pub journal_is : journal ≡ ordered (past ++ master.raises)
 
 -- what a run that went on from a past came to: the least list that clears is paid; its journal is a
 -- lawful history of it, in order, within the limits of a journal file and one to go on from; its
@@ -81,4 +83,4 @@ pub record IsSettled (net : Net) (past : List Raise) (plan : Plan) (s : Settled)
   pub can_go_on : CanGoOn net s.sealed.journal
   pub record_is : IsRecordAfter net past plan s.rounds s.sealed
   pub bounds : IsWithinAfter net past plan s.rounds s.visits s.sealed.made
-  pub at_rest : HasComeToRest net past plan s.paid s.rounds s.visits
+  pub at_rest : HasComeToRest net past plan s.paid s.sealed.journal s.rounds s.visits

@@ -1,18 +1,15 @@
 ghost use Rattle.clear_core.specs.Clearing.{Clears, least};
-ghost use Rattle.settle.specs.Asks.{MayRound};
+ghost use Rattle.settle.specs.Asks.{IsReady};
 ghost use Rattle.settle.specs.Bells.{IsIdle};
-ghost use Rattle.settle.specs.Between.{IsBetween};
-ghost use Rattle.settle.specs.Offices.{AreOffices};
-ghost use Rattle.std.specs.Prelude.{◌≡◌, ◌+◌, ◌<◌, IfOk, OnOk, true};
+ghost use Rattle.settle.specs.Between.{HaveGrownAlike, IsRoundOf};
+ghost use Rattle.std.specs.Prelude.{◌≡◌, ◌+◌, ◌<◌, ℕ, IfOk, OnOk, true};
 
-use crate::plan::Plan;
+use crate::run::{Run, Way};
+use crate::state::RunState;
 use crate::teams::round;
-use bank_worker::{BankSet, Office};
-use clear_core::Journal;
 use clr_edge::Gate;
-use clr_net::{BankId, MAX_BANKS, Mem, Network};
+use clr_net::{BankId, Mem, Network};
 use pay_words::{Board, PaySeat};
-use std::alloc::Global;
 use std::thread::Threads;
 
 /// Whether all bells of a board are down, so that nobody can pay more. The master holds all banks,
@@ -38,43 +35,32 @@ pub fn nobody_can_pay_more(net: &Network, board: &Board, master: &mut PaySeat) -
     true
 }
 
-/// Makes a round as [`round`] does, and answers whether it was joined with all bells down.
+/// Makes a round as [`round`] does, of workers beside one another, and answers whether it was joined
+/// with all bells down.
 ///
 /// When a round in which no visit found want of memory is joined with all bells down, nobody can
 /// pay more: the payments are the least that clear the network. `Mem` is want of memory.
 pub fn round_and_ask<R: Threads + Sync, G: Gate + Sync>(
-    rt: &R,
-    alloc: Global,
-    net: &Network,
-    plan: Plan,
-    board: &Board,
+    run: &Run<'_, R, G>,
     master: &mut PaySeat,
-    gate: &G,
-    journal: &mut Journal,
-    offices: &mut Vec<Office>,
+    state: &mut RunState,
 ) -> Result<bool, Mem>
-    requires ready { MayRound board.now net.now plan master.old offices.old.items }
+    requires ready { IsReady run.now.board.now run.now.net.now run.now.plan master.old state.old }
+    requires seats { master.old.shows.seats + run.now.plan.workers < 4294967295 }
     ensures table { master.new.table ≡ master.old.table }
-    ensures between { OnOk result (IsBetween net.now master.new.shows) }
-    ensures offices { OnOk result (AreOffices net.now plan.workers plan.workers offices.new.items) }
-    ensures seats { OnOk result (master.new.shows.seats ≡ master.old.shows.seats + plan.workers) }
-    ensures clears { IfOk result (λ down. down ≡ true → Clears net.now master.new.shows.paid) }
-    ensures least { IfOk result (λ down. down ≡ true → master.new.shows.paid ≡ least net.now) }
+    ensures ready { OnOk result
+        (IsReady run.now.board.now run.now.net.now run.now.plan master.new state.new) }
+    ensures seats { OnOk result
+        (master.new.shows.seats ≡ master.old.shows.seats + run.now.plan.workers) }
+    ensures noted { OnOk result (HaveGrownAlike state.old.journal.raises state.new.journal.raises
+        master.old.shows.raises master.new.shows.raises) }
+    ensures round { OnOk result ((units : ℕ) × (visits : ℕ) × IsRoundOf run.now.net.now run.now.plan
+        units visits master.old.shows master.new.shows) }
+    ensures clears { IfOk result
+        (λ down. down ≡ true → Clears run.now.net.now master.new.shows.paid) }
+    ensures least { IfOk result
+        (λ down. down ≡ true → master.new.shows.paid ≡ least run.now.net.now) }
 {
-    prove!(net.banks() <= MAX_BANKS);
-    let mut called = BankSet::all();
-    let _raised = round(
-        rt,
-        alloc,
-        net,
-        plan,
-        board,
-        master,
-        gate,
-        journal,
-        offices,
-        &mut called,
-        true,
-    )?;
-    Ok(nobody_can_pay_more(net, board, master))
+    let _raised = round(run, master, state, Way::Beside)?;
+    Ok(nobody_can_pay_more(run.net, run.board, master))
 }

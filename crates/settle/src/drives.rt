@@ -1,17 +1,23 @@
+ghost use Rattle.pay_words.specs.Traces.{start_of};
+ghost use Rattle.pay_words.specs.Views.{opening};
+ghost use Rattle.pay_words.specs.Standing.{StaysBelowLeast};
 ghost use Rattle.settle.specs.Asks.{MayDrive};
 ghost use Rattle.settle.specs.Drives.{IsBelowLeast, IsDriven};
 ghost use Rattle.settle.specs.Offices.{AreOffices};
 ghost use Rattle.std.specs.Prelude.{◌≡◌, IfOk, OnOk};
 
 use crate::plan::{Driven, Plan};
+use crate::run::{Run, Threading, Way};
+use crate::state::RunState;
 use crate::teams::{calls_two_workers, offices_of, round};
-use bank_worker::{BankSet, Office};
-use clear_core::{Journal, Raise};
+use bank_worker::Office;
+use clear_core::Raise;
 use clr_edge::Gate;
 use clr_net::{MAX_BANKS, Mem, Network};
 use pay_words::{Board, PaySeat};
-use raise_journal::{in_order, merge_in};
+use raise_journal::in_order;
 use std::alloc::Global;
+use std::mem;
 use std::thread::Threads;
 
 // After a round of fewer visits threads would cost more than they save.
@@ -26,8 +32,9 @@ const MANY_VISITS: u64 = 512;
 ///
 /// The run ends after the first round that raised nothing; each round before it raised a unit.
 /// After Ok [`nobody_can_pay_more`](crate::nobody_can_pay_more) may be asked. After `Mem` the master
-/// may hold fewer banks, and the caller drops the board; what the master shows is never above the
-/// least clearing payments.
+/// may hold fewer banks, and the caller drops the board; neither a word of it nor what the master
+/// shows is ever above the least clearing payments.
+#[tactic(auto, using(pay_words::proofs::Standing::stays_below_least))]
 pub fn drive<R: Threads + Sync, G: Gate + Sync>(
     rt: &R,
     alloc: Global,
@@ -41,84 +48,89 @@ pub fn drive<R: Threads + Sync, G: Gate + Sync>(
     requires ready { MayDrive board.now net.now past.now plan master.old }
     ensures table { master.new.table ≡ master.old.table }
     ensures below_least { IsBelowLeast net.now master.new.shows }
+    ensures no_word_above { StaysBelowLeast board.now }
     ensures driven { IfOk result
         (IsDriven net.now past.now plan master.old.shows master.new.shows) }
 {
     let _clock = master.clock();
     let mut offices = offices_of(alloc, net, plan.workers)?;
-    let driven = drive_on(
+    let run = Run {
         rt,
         alloc,
         net,
         plan,
-        past,
         board,
-        master,
         gate,
-        &mut offices,
-        true,
-    );
+    };
+    let driven = drive_on(&run, past, master, &mut offices, Threading::Threads);
     let _clock = master.clock();
     driven
 }
 
-// The rounds themselves, by workers at these offices. Where it is not to start `threads`, they go
-// one after another always.
+// The rounds themselves, by workers at these offices.
 pub(crate) fn drive_on<R: Threads + Sync, G: Gate + Sync>(
-    rt: &R,
-    alloc: Global,
-    net: &Network,
-    plan: Plan,
+    run: &Run<'_, R, G>,
     past: &[Raise],
-    board: &Board,
     master: &mut PaySeat,
-    gate: &G,
     offices: &mut Vec<Office>,
-    threads: bool,
+    threading: Threading,
 ) -> Result<Driven, Mem>
-    requires ready { MayDrive board.now net.now past.now plan master.old }
-    requires offices { AreOffices net.now plan.workers plan.workers offices.old.items }
+    requires table { master.old.table ≡ run.now.board.now.table }
+    requires opened { master.old.shows ≡ opening run.now.net.now (start_of run.now.net.now past.now) }
+    requires offices { AreOffices run.now.net.now run.now.plan.workers run.now.plan.workers
+        offices.old.items }
     ensures table { master.new.table ≡ master.old.table }
-    ensures net { master.new.shows.net ≡ net.now }
-    ensures offices { OnOk result (AreOffices net.now plan.workers plan.workers offices.new.items) }
-    ensures driven { IfOk result
-        (IsDriven net.now past.now plan master.old.shows master.new.shows) }
+    ensures net { master.new.shows.net ≡ run.now.net.now }
+    ensures offices { OnOk result (AreOffices run.now.net.now run.now.plan.workers
+        run.now.plan.workers offices.new.items) }
+    ensures driven { IfOk result (IsDriven run.now.net.now past.now run.now.plan
+        master.old.shows master.new.shows) }
 {
-    let mut journal = Journal::empty(alloc);
-    merge_in(alloc, &mut journal, 0, past)?;
+    let held = mem::replace(offices, Vec::new(run.alloc));
+    let mut state = RunState::of(run.alloc, past, held)?;
     let _clock = master.clock();
-    prove!(net.banks() <= MAX_BANKS);
+    prove!(run.net.banks() <= MAX_BANKS);
     let mut rounds = 0;
     let mut visits = 0;
-    let mut many = false;
-    let mut called = BankSet::all();
+    let mut last = 0;
     loop {
-        let beside = plan.workers > 1
-            && (rounds == 0 && threads || many && calls_two_workers(net, board, plan.workers));
-        let (units, more) = round(
-            rt,
-            alloc,
-            net,
-            plan,
-            board,
-            master,
-            gate,
-            &mut journal,
-            offices,
-            &mut called,
-            beside,
-        )?;
+        let way = next_way(run, threading, rounds, last);
+        let (units, more) = round(run, master, &mut state, way)?;
         rounds += 1;
         visits += more;
-        many = threads && more >= MANY_VISITS;
+        last = more;
         if units == 0 {
             break;
         }
     }
+    let RunState {
+        journal,
+        offices: left,
+        called: _,
+    } = state;
+    *offices = left;
     let journal = in_order(journal)?;
     Ok(Driven {
         journal,
         rounds,
         visits,
     })
+}
+
+// How the workers go in the next round, after so many rounds, the last of so many visits.
+fn next_way<R: Threads + Sync, G: Gate + Sync>(
+    run: &Run<'_, R, G>,
+    threading: Threading,
+    rounds: u64,
+    last: u64,
+) -> Way {
+    let workers = run.plan.workers;
+    let beside = match threading {
+        Threading::Caller => false,
+        Threading::Threads if rounds == 0 => workers > 1,
+        Threading::Threads => {
+            last >= MANY_VISITS && calls_two_workers(run.net, run.board, workers)
+        }
+    };
+    if beside { Way::Beside } else { Way::InTurn }
 }

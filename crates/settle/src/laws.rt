@@ -9,10 +9,13 @@ ghost use Rattle.pay_words.specs.declared.view.Shown.{Shown};
 ghost use Rattle.settle.specs.Bells.{IsIdle};
 ghost use Rattle.settle.specs.Between.{IsBetween, crews};
 ghost use Rattle.settle.specs.ByHand.{after_round};
-ghost use Rattle.settle.specs.Drives.{IsPlan};
+ghost use Rattle.settle.specs.Drives.{AreRoundsFrom, IsPlan};
+ghost use Rattle.settle.specs.Made.{AreMadeByBells, IsJournalByBells, workers_of, workers_of_run};
 ghost use Rattle.settle.specs.Rounds.{AreRounded};
+ghost use Rattle.settle.specs.Runs.{IsSettled};
 ghost use Rattle.settle.specs.declared.plan.Plan.{Plan};
-ghost use Rattle.std.specs.Prelude.{◌≡◌, ℕ, List};
+ghost use Rattle.settle.specs.declared.runs.Settled.{Settled};
+ghost use Rattle.std.specs.Prelude.{◌≡◌, ◌*◌, ℕ, List};
 
 /// A board that was just opened stands between two rounds.
 pub fn opened_boards_stand_between_rounds()
@@ -34,4 +37,22 @@ pub fn boards_stand_between_rounds_after_each()
 #[tactic(auto, using(crate::proofs::AllDown::idle_between))]
 pub fn question_on_bells_may_be_asked_between_rounds()
     ensures { (net : Net) (s : Shown) → IsBetween net s → IsIdle net s }
+{}
+
+/// Whatever rounds were made one after another: all that was raised in them the very workers of these
+/// rounds raised, each of which did nothing but visits to which bells called it.
+pub fn raises_of_rounds_are_made_in_visits_by_bells()
+    ensures { (net : Net) (plan : Plan) (s t : Shown) (ns : List ℕ)
+        → (rounds : AreRoundsFrom net plan s ns t)
+        → AreMadeByBells (workers_of net plan s t ns rounds) s t }
+{}
+
+/// So it is in a whole run: beside the past the journal has what the workers of its rounds raised, in
+/// visits to which bells called, each raise once and in order, and no other raise. They are as many
+/// as rounds times workers, and made all visits that are counted.
+pub fn raises_of_a_run_are_made_in_visits_by_bells()
+    ensures { (net : Net) (past : List Raise) (plan : Plan) (settled : Settled)
+        → (run : IsSettled net past plan settled)
+        → IsJournalByBells past (workers_of_run run.at_rest.rounds_are)
+        (settled.rounds * plan.workers) settled.visits settled.sealed.journal }
 {}

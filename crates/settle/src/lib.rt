@@ -5,12 +5,16 @@ mod bells;
 mod drives;
 pub mod laws;
 mod plan;
+mod run;
 mod runs;
+mod state;
 mod teams;
 mod work;
 
 pub use bells::{nobody_can_pay_more, round_and_ask};
 pub use drives::drive;
 pub use plan::{Driven, Plan};
+pub use run::{Run, Way};
 pub use runs::{Settled, settle, settle_alone, settle_from, settle_owned, settle_owned_from};
+pub use state::RunState;
 pub use teams::{calls_two_workers, offices_of, round};

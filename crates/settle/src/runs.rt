@@ -8,6 +8,7 @@ ghost use Rattle.std.specs.Prelude.{◌≡◌, ◌<◌, [], All, IfOk, OnOk, len
 
 use crate::drives::drive_on;
 use crate::plan::{Driven, Plan};
+use crate::run::{Run, Threading};
 use crate::teams::{move_offices, offices_of};
 use bank_worker::Office;
 use clear_core::Raise;
@@ -87,7 +88,13 @@ pub fn settle_alone<R: Threads + Sync, G: Gate + Sync>(
     ensures offices { OnOk result (AreOffices net plan.workers plan.workers offices.new.items) }
 {
     move_offices(offices.as_mut_slice(), &net);
-    run_on(rt, alloc, net, plan, &[], gate, offices, false)
+    let by = Settler {
+        rt,
+        alloc,
+        plan,
+        gate,
+    };
+    run_on(&by, net, &[], offices, Threading::Caller)
 }
 
 /// Clears a network as [`settle`] does, from what the raises of a past left on its debts: those of
@@ -123,45 +130,57 @@ pub fn settle_owned_from<R: Threads + Sync, G: Gate + Sync>(
     ensures settled { IfOk result (IsSettled net past.now plan) }
 {
     let mut offices = offices_of(alloc, &net, plan.workers)?;
-    run_on(rt, alloc, net, plan, past, gate, &mut offices, true)
+    let by = Settler {
+        rt,
+        alloc,
+        plan,
+        gate,
+    };
+    run_on(&by, net, past, &mut offices, Threading::Threads)
 }
 
-// The run itself, by workers at these offices, which may start threads or not.
-fn run_on<R: Threads + Sync, G: Gate + Sync>(
-    rt: &R,
+// What makes runs: threads, memory, a plan, and the gate that is passed before each visit.
+#[derive(Drop)]
+struct Settler<'a, R: Threads + Sync, G: Gate + Sync> {
+    rt: &'a R,
     alloc: Global,
-    net: Network,
     plan: Plan,
+    gate: &'a G,
+    ghost limits: { IsPlan plan },
+}
+
+// The run itself, by workers at these offices.
+fn run_on<R: Threads + Sync, G: Gate + Sync>(
+    by: &Settler<'_, R, G>,
+    net: Network,
     past: &[Raise],
-    gate: &G,
     offices: &mut Vec<Office>,
-    threads: bool,
+    threading: Threading,
 ) -> Result<Settled, Mem>
-    requires plan { IsPlan plan }
     requires past { CanGoOn net past.now }
-    requires offices { AreOffices net plan.workers plan.workers offices.old.items }
-    ensures settled { IfOk result (IsSettled net past.now plan) }
-    ensures offices { OnOk result (AreOffices net plan.workers plan.workers offices.new.items) }
+    requires offices { AreOffices net by.now.plan.workers by.now.plan.workers offices.old.items }
+    ensures settled { IfOk result (IsSettled net past.now by.now.plan) }
+    ensures offices { OnOk result
+        (AreOffices net by.now.plan.workers by.now.plan.workers offices.new.items) }
 {
     prove!(net.banks() <= MAX_BANKS);
+    let alloc = by.alloc;
+    let plan = by.plan;
     let mut payments = payments_after(alloc, &net, past)?;
     let (board, mut master) = Board::make(alloc, &net, plan.workers, payments.as_slice(), past)?;
+    let run = Run {
+        rt: by.rt,
+        alloc,
+        net: &net,
+        plan,
+        board: &board,
+        gate: by.gate,
+    };
     let Driven {
         journal,
         rounds,
         visits,
-    } = drive_on(
-        rt,
-        alloc,
-        &net,
-        plan,
-        past,
-        &board,
-        &mut master,
-        gate,
-        offices,
-        threads,
-    )?;
+    } = drive_on(&run, past, &mut master, offices, threading)?;
     let sealed = board.seal(master, payments.as_mut_slice(), net, journal);
     let paid = values_of(alloc, payments.as_slice())?;
     Ok(Settled {

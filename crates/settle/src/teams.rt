@@ -1,18 +1,19 @@
 ghost use Rattle.clr_net.specs.Limits.{IsNetwork};
 ghost use Rattle.pay_words.specs.Views.{IsAt};
-ghost use Rattle.settle.specs.Asks.{MayRound};
+ghost use Rattle.settle.specs.Asks.{IsReady};
 ghost use Rattle.settle.specs.Bells.{IsIdle};
 ghost use Rattle.settle.specs.Between.{AreOfBoard, HaveGrownAlike, IsBack, IsBetween, IsRoundOf};
-ghost use Rattle.settle.specs.Between.{crews, raises_by, without_first};
+ghost use Rattle.settle.specs.Between.{crews, raises_by, raises_of_all, without_first};
 ghost use Rattle.raise_journal.specs.Gathered.{HasMerged};
-ghost use Rattle.settle.specs.Calls.{HaveCalledFrom, RestAreSettled};
+ghost use Rattle.settle.specs.Calls.{HaveCalledFrom};
 ghost use Rattle.settle.specs.Offices.{AreOffices, with_cash_of};
 ghost use Rattle.std.specs.Prelude.{◌≡◌, ◌+◌, ◌++◌, ◌<◌, ◌≤◌, ℕ, [], All, IfOk, OnOk};
 ghost use Rattle.std.specs.Prelude.{length, map, sum_by, true, vec_len};
 
-use crate::plan::Plan;
+use crate::run::{Run, Way};
+use crate::state::RunState;
 use crate::work::work_all;
-use bank_worker::{BankSet, Office, Visit, Worker};
+use bank_worker::{Office, Visit, Worker};
 use clear_core::{Journal, Raise};
 use clr_edge::Gate;
 use clr_net::{BankId, MAX_BANKS, Mem, Network};
@@ -49,34 +50,32 @@ pub(crate) fn move_offices(offices: &mut [Office], net: &Network)
 }
 
 // Hands a seat to each worker, from the first one on, which takes it to its office.
-fn open_workers(
-    alloc: Global,
-    net: &Network,
-    workers: u32,
-    board: &Board,
+fn open_workers<R: Threads + Sync, G: Gate + Sync>(
+    run: &Run<'_, R, G>,
     master: &mut PaySeat,
     offices: &mut Vec<Office>,
 ) -> Result<Vec<Worker>, Mem>
-    requires workers { (1 ≤ workers) × (workers ≤ 64) × (workers ≡ board.now.table.workers) }
-    requires net { net.now ≡ board.now.net }
-    requires offices { AreOffices net.now workers workers offices.old.items }
-    requires table { master.old.table ≡ board.now.table }
-    requires between { IsBetween net.now master.old.shows }
-    requires seats { master.old.shows.seats + workers < 4294967295 }
+    requires offices { AreOffices run.now.net.now run.now.plan.workers run.now.plan.workers
+        offices.old.items }
+    requires table { master.old.table ≡ run.now.board.now.table }
+    requires between { IsBetween run.now.net.now master.old.shows }
+    requires seats { master.old.shows.seats + run.now.plan.workers < 4294967295 }
     ensures table { master.new.table ≡ master.old.table }
     ensures net { master.new.shows.net ≡ master.old.shows.net }
-    ensures rest { OnOk result (master.new.shows ≡ without_first workers workers master.old.shows) }
-    ensures crews { IfOk result (λ ws.
-        ws.items ≡ crews workers board.now.table master.old.shows workers) }
+    ensures rest { OnOk result (master.new.shows
+        ≡ without_first run.now.plan.workers run.now.plan.workers master.old.shows) }
+    ensures crews { IfOk result (λ ws. ws.items ≡ crews run.now.plan.workers
+        run.now.board.now.table master.old.shows run.now.plan.workers) }
     ensures offices { OnOk result (offices.new.items ≡ []) }
 {
-    let mut crew = Vec::with_capacity(alloc, workers as usize)?;
+    let workers = run.plan.workers;
+    let mut crew = Vec::with_capacity(run.alloc, workers as usize)?;
     for number in 0..workers {
-        let seat = board.hand(alloc, master, number)?;
+        let seat = run.board.hand(run.alloc, master, number)?;
         let Some(office) = offices.pop() else {
             unreachable!()
         };
-        crew.push(Worker::with(alloc, office, seat))?;
+        crew.push(Worker::with(run.alloc, office, seat))?;
     }
     Ok(crew)
 }
@@ -84,47 +83,46 @@ fn open_workers(
 // Takes the seats of the workers back, from the last one on, merges their journals into what was
 // added since the round began, calls the creditors of their raises, and keeps their offices. Answers
 // how many visits they made.
-fn close_workers(
-    alloc: Global,
-    board: &Board,
+fn close_workers<R: Threads + Sync, G: Gate + Sync>(
+    run: &Run<'_, R, G>,
     master: &mut PaySeat,
     mut workers: Vec<Worker>,
-    journal: &mut Journal,
-    offices: &mut Vec<Office>,
-    called: &mut BankSet,
+    state: &mut RunState,
 ) -> Result<u64, Mem>
-    requires offices { offices.old.items ≡ [] }
-    requires workers { (1 ≤ board.now.table.workers) × (board.now.table.workers ≤ 64)
-        × (vec_len workers ≡ board.now.table.workers) }
-    requires network { IsNetwork board.now.net }
-    requires master { IsAt board.now master.old × (master.old.shows.master ≡ true) }
-    requires crew { AreOfBoard board.now workers.items }
+    requires offices { state.old.offices.items ≡ [] }
+    requires workers { vec_len workers ≡ run.now.board.now.table.workers }
+    requires network { IsNetwork run.now.board.now.net }
+    requires master { IsAt run.now.board.now master.old × (master.old.shows.master ≡ true) }
+    requires crew { AreOfBoard run.now.board.now workers.items }
     ensures table { master.new.table ≡ master.old.table }
     ensures net { master.new.shows.net ≡ master.old.shows.net }
-    ensures back { OnOk result (IsBack board.now.table.workers board.now.net master.old.shows
-        workers.items master.new.shows 0) }
-    ensures noted { OnOk result (HaveGrownAlike journal.old.raises journal.new.raises
+    ensures back { OnOk result (IsBack run.now.board.now.table.workers run.now.board.now.net
+        master.old.shows workers.items master.new.shows 0) }
+    ensures noted { OnOk result (HaveGrownAlike state.old.journal.raises state.new.journal.raises
         master.old.shows.raises master.new.shows.raises) }
     ensures visits { IfOk result (λ n. master.new.shows.taken ≡ master.old.shows.taken + n) }
     ensures sum { IfOk result (λ n. n ≡ sum_by (λ w. w.visits) workers.items) }
-    ensures offices { OnOk result (AreOffices board.now.net board.now.table.workers
-        board.now.table.workers offices.new.items) }
+    ensures offices { OnOk result (AreOffices run.now.board.now.net run.now.board.now.table.workers
+        run.now.board.now.table.workers state.new.offices.items) }
     ensures raises { OnOk result (length master.new.shows.raises
         ≡ length master.old.shows.raises + sum_by raises_by workers.items) }
-    ensures called { OnOk result (HaveCalledFrom 0 board.now.net called.new workers.items) }
+    ensures made { OnOk result (master.new.shows.raises
+        ≡ master.old.shows.raises ++ raises_of_all workers.items) }
+    ensures called { OnOk result
+        (HaveCalledFrom 0 run.now.board.now.net state.new.called workers.items) }
 {
-    let from = journal.as_slice().len();
+    let from = state.journal.as_slice().len();
     let count = workers.len();
     let mut visits = 0;
     while let Some(worker) = workers.pop() {
         visits += worker.visits();
-        worker.call_creditors(0, called);
+        worker.call_creditors(0, &mut state.called);
         let (seat, made, mut office) = worker.leave();
-        board.take_back(master, seat);
+        run.board.take_back(master, seat);
         let raises = made.as_slice();
-        add_raises(alloc, journal, from, raises, count)?;
+        add_raises(run.alloc, &mut state.journal, from, raises, count)?;
         office.keep(made);
-        offices.push(office)?;
+        state.offices.push(office)?;
     }
     Ok(visits)
 }
@@ -179,43 +177,34 @@ pub fn calls_two_workers(net: &Network, board: &Board, workers: u32) -> bool
 ///
 /// Workers that go one after another look at the bells of those banks alone that are called. A bank
 /// that is not called has seen what is paid to it, and pays its division, before the round and
-/// after it. [`BankSet::all`] will do for any round.
+/// after it.
 ///
 /// After Ok the master may begin another round, and
 /// [`nobody_can_pay_more`](crate::nobody_can_pay_more) may be asked. After `Mem`, which is want of
 /// memory, the master may hold fewer banks, and the caller drops the board.
 pub fn round<R: Threads + Sync, G: Gate + Sync>(
-    rt: &R,
-    alloc: Global,
-    net: &Network,
-    plan: Plan,
-    board: &Board,
+    run: &Run<'_, R, G>,
     master: &mut PaySeat,
-    gate: &G,
-    journal: &mut Journal,
-    offices: &mut Vec<Office>,
-    called: &mut BankSet,
-    beside: bool,
+    state: &mut RunState,
+    way: Way,
 ) -> Result<(u64, u64), Mem>
-    requires ready { MayRound board.now net.now plan master.old offices.old.items }
-    requires called { RestAreSettled net.now called.old master.old.shows }
+    requires ready { IsReady run.now.board.now run.now.net.now run.now.plan master.old state.old }
+    requires seats { master.old.shows.seats + run.now.plan.workers < 4294967295 }
     ensures table { master.new.table ≡ master.old.table }
     ensures net { master.new.shows.net ≡ master.old.shows.net }
-    ensures idle { OnOk result (IsIdle net.now master.new.shows) }
-    ensures between { OnOk result (IsBetween net.now master.new.shows) }
-    ensures offices { OnOk result (AreOffices net.now plan.workers plan.workers offices.new.items) }
+    ensures idle { OnOk result (IsIdle run.now.net.now master.new.shows) }
+    ensures ready { OnOk result
+        (IsReady run.now.board.now run.now.net.now run.now.plan master.new state.new) }
     ensures round { IfOk result (λ r.
-        IsRoundOf net.now plan r.0 r.1 master.old.shows master.new.shows) }
-    ensures noted { OnOk result (HaveGrownAlike journal.old.raises journal.new.raises
+        IsRoundOf run.now.net.now run.now.plan r.0 r.1 master.old.shows master.new.shows) }
+    ensures noted { OnOk result (HaveGrownAlike state.old.journal.raises state.new.journal.raises
         master.old.shows.raises master.new.shows.raises) }
-    ensures called { OnOk result (RestAreSettled net.now called.new master.new.shows) }
 {
-    let mut workers = open_workers(alloc, net, plan.workers, board, master, offices)?;
-    let Visit::Raised(units) = work_all(rt, board, plan.sweeps, gate, &mut workers, called, beside)
-    else {
+    let mut workers = open_workers(run, master, &mut state.offices)?;
+    let Visit::Raised(units) = work_all(run, &mut workers, &mut state.called, way) else {
         return Err(Mem);
     };
-    let visits = close_workers(alloc, board, master, workers, journal, offices, called)?;
+    let visits = close_workers(run, master, workers, state)?;
     let _clock = master.clock();
     Ok((units, visits))
 }

@@ -5,6 +5,7 @@ ghost use Rattle.settle.specs.Rounds.{AreReady, AreRounded};
 ghost use Rattle.std.specs.Prelude.{◌≡◌, ◌+◌, ◌*◌, ◌++◌, ◌^◌, ◌<◌, ◌≤◌, ℕ, length};
 ghost use Rattle.std.specs.Thread.{IsSync};
 
+use crate::run::{Run, Way};
 use bank_worker::{BankSet, Visit, Worker};
 use clr_edge::Gate;
 use pay_words::Board;
@@ -13,26 +14,25 @@ use std::thread::{Threads, join_mut};
 // A round of each of these workers: beside one another, over all their banks, or one after another,
 // over those that are called. No bank need be called any more once they went beside one another.
 pub(crate) fn work_all<R: Threads + Sync, G: Gate + Sync>(
-    rt: &R,
-    board: &Board,
-    sweeps: u32,
-    gate: &G,
+    run: &Run<'_, R, G>,
     workers: &mut [Worker],
     called: &mut BankSet,
-    beside: bool,
+    way: Way,
 ) -> Visit
-    requires sweeps { (1 ≤ sweeps) × (sweeps ≤ 1000) }
-    requires some { (1 ≤ length workers.old) × (length workers.old ≤ 64) }
-    requires ready { AreReady board.now workers.old }
+    requires some { length workers.old ≡ run.now.plan.workers }
+    requires ready { AreReady run.now.board.now workers.old }
     requires called { AllCalledOrSettled called.old workers.old }
     requires apart { AreApart workers.old }
-    ensures rounded { WhenRaised result (λ n. AreRounded sweeps n workers.old workers.new) }
+    ensures rounded { WhenRaised result
+        (λ n. AreRounded run.now.plan.sweeps n workers.old workers.new) }
 {
-    if beside {
-        *called = BankSet::none();
-        work(rt, board, sweeps, gate, workers)
-    } else {
-        in_turn(board, sweeps, gate, workers, called)
+    let sweeps = run.plan.sweeps;
+    match way {
+        Way::Beside => {
+            *called = BankSet::none();
+            work(run.rt, run.board, sweeps, run.gate, workers)
+        }
+        Way::InTurn => in_turn(run.board, sweeps, run.gate, workers, called),
     }
 }
 

@@ -2,12 +2,13 @@ mod fetches;
 mod hostile;
 mod networks;
 mod records;
+mod sinks;
 mod tasks;
 mod threads;
 mod twelve_banks;
 
 use clear_top::{Ended, Status, run};
-use clr_edge::{Gate, MemShelf, MemSink, OpenGate, Shelf};
+use clr_edge::{Gate, MemShelf, MemSink, OpenGate, Shelf, Sink};
 use pay_words::Record;
 use std::alloc::Global;
 use std::process::Abort;
@@ -74,12 +75,12 @@ debtor,creditor,class,claim\nA,B,1,10\nB,C,1,9\n";
 type Numbers = (u64, u32, u64, usize);
 
 // How a run of these words ends, and the numbers of its record. Each test comes here.
-fn run_words<R: Threads + Sync, F: Shelf, G: Gate + Sync>(
+fn run_words<R: Threads + Sync, F: Shelf, O: Sink, G: Gate + Sync>(
     rt: &R,
     alloc: Global,
     words: &[&str],
     files: &mut F,
-    (out, err): (&mut MemSink, &mut MemSink),
+    (out, err): (&mut O, &mut MemSink),
     gate: &G,
 ) -> (Status, Option<Numbers>) {
     let Ended { status, sealed } = run(rt, alloc, words, files, out, err, gate);
@@ -99,12 +100,12 @@ fn numbers_of(record: &Record) -> Numbers {
 }
 
 // A run of a command line.
-fn run_line<R: Threads + Sync, F: Shelf, G: Gate + Sync>(
+fn run_line<R: Threads + Sync, F: Shelf, O: Sink, G: Gate + Sync>(
     rt: &R,
     alloc: Global,
     line: &str,
     files: &mut F,
-    sinks: (&mut MemSink, &mut MemSink),
+    sinks: (&mut O, &mut MemSink),
     gate: &G,
 ) -> Result<(Status, Option<Numbers>), Fail> {
     let words = line.split_whitespace().collect::<Vec<&str>>(alloc)?;
@@ -120,7 +121,7 @@ fn same_code<R: Abort>(rt: &R, line: &str, code: u8, wanted: u8) {
 }
 
 // Runs a line, and compares the code, and what is told by seven bytes a put, for which there is so
-// much room.
+// much room. Where there is none, the first put fails.
 fn tells<R: Threads + Sync + Abort, G: Gate + Sync>(
     rt: &R,
     alloc: Global,
@@ -130,7 +131,7 @@ fn tells<R: Threads + Sync + Abort, G: Gate + Sync>(
     gate: &G,
     (room, code, message): (usize, u8, &str),
 ) -> Result<Option<Numbers>, Fail> {
-    let mut err = MemSink::with_room(alloc, room, 7, 0)?;
+    let mut err = MemSink::with_room(alloc, room, 7, u64::from(room == 0))?;
     let (status, numbers) = run_line(rt, alloc, line, files, (out, &mut err), gate)?;
     same(rt, line, err.written(), message.as_bytes());
     same_code(rt, line, status.code(), code);
@@ -380,8 +381,10 @@ fn files_that_are_missing(rt: HostRuntime) -> Result<(), Fail> {
     let no_debts = "clearing: cannot read d.csv\n";
     let mut files = MemShelf::make(alloc);
     ends(&rt, alloc, CLEAR, &mut files, (3, "", no_banks))?;
-    files.add("b.csv", b"no header")?;
-    ends(&rt, alloc, CLEAR, &mut files, (3, "", no_debts))?;
+    for banks in ["no header", CHAIN_BANKS] {
+        files.add("b.csv", banks.as_bytes())?;
+        ends(&rt, alloc, CLEAR, &mut files, (3, "", no_debts))?;
+    }
     // A message of which nothing can be written changes nothing.
     runs_on(&rt, alloc, CLEAR, &mut files, 0, &OpenGate, (0, 3, ""))?;
     Ok(())
@@ -398,16 +401,18 @@ fn an_output_that_breaks(rt: HostRuntime) -> Result<(), Fail> {
     Ok(())
 }
 
-// Ends for a banks file that is no text of banks, and for nothing else.
+// Ends for a banks file that is no text of banks, and for nothing else: the debts file has this
+// name.
 fn no_banks<R: Threads + Sync + Abort>(
     rt: &R,
     alloc: Global,
     banks: &[u8],
+    debts: &str,
     message: &str,
 ) -> Result<(), Fail> {
     let mut files = MemShelf::make(alloc);
     files.add("b.csv", banks)?;
-    files.add("d.csv", CHAIN_DEBTS.as_bytes())?;
+    files.add(debts, CHAIN_DEBTS.as_bytes())?;
     ends(rt, alloc, CLEAR, &mut files, (4, "", message))
 }
 
@@ -419,14 +424,16 @@ fn banks_files_that_are_no_text(rt: HostRuntime) -> Result<(), Fail> {
         &rt,
         alloc,
         b"name,cash,rule\n\xFF,7,order\n",
+        "d.csv",
         "clearing: banks row 1: name (3)\n",
     )?;
-    // Longer than a banks file may be.
+    // Longer than a banks file may be, and there is no debts file.
     let long = vec![in alloc; b'\n'; 8_388_609]?;
     no_banks(
         &rt,
         alloc,
         long.as_slice(),
+        "other.csv",
         "clearing: banks row 0: file size (14)\n",
     )
 }

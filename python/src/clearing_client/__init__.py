@@ -21,6 +21,9 @@ enough, and the debts between them:
 ... ]
 >>> net = cc.Network(banks, debts)
 
+`Network.from_matrix`, `from_list`, `from_totals` and `from_workbook` take sheets as they come,
+and raise `SheetError` with all that is wrong.
+
 In place of these records: two DataFrames, two dicts of columns, one networkx graph, or the
 names of the two files. All amounts are whole units of account, integers, and stay exact; with
 decimals choose a smaller unit, such as one cent. A lower class of debts (1 to 9) is paid in
@@ -83,8 +86,9 @@ number  scenario       estate  outside_paid  paid  owed  equity  defaults  cash
      1  half               84             0    41    82      43         2    43
      2  Oak loses all      85             0    60    82      25         2    25
 
-`map_stress` runs many networks and any number of scenarios side by side. `bounds()` has the
-least and the greatest payments and the waves of default, `costs(keep)` what is lost where
+`map_stress` and `map_outcomes` run many networks and any number of scenarios side by side, on
+this machine or by an executor of others; their results come one after another, whole or in
+sums. `bounds()` has the least and the greatest payments and the waves of default, `costs(keep)` what is lost where
 estates are sold in haste, and `compress()` cancels cycles of debts.
 
 Evidence
@@ -104,6 +108,7 @@ OutputError        5, the output cannot be written
 OutOfMemoryError   6, want of memory
 NoProgramError     8, or none: there is no program, or it cannot be built
 StatusError        any other: it was ended by a signal, or is another program
+SheetError         none: a sheet makes no network
 TableError         none: a table cannot be written as a file, as an amount is not whole
 TextError          none: a text is not one that the program prints
 MissingPackageError    none: a call wants pandas, numpy or networkx
@@ -118,8 +123,8 @@ which, the row, the kind of fault, and the record:
 banks 1 rule 5 ('Ash', '20', 'pro rata')
 
 The program is the one that the environment variable CLEARING names; else that of the
-repository that the package or the working folder stands in, which is built first where it is
-not built yet; else `clearing` on the path.
+repository or the installation that the package stands in, which a repository builds first
+where it is not built yet; else `clearing` on the path, whose absolute entries alone count.
 """
 from .errors import ClearingError as ClearingError
 from .errors import MissingPackageError as MissingPackageError
@@ -127,20 +132,24 @@ from .errors import NoProgramError as NoProgramError
 from .errors import OutOfMemoryError as OutOfMemoryError
 from .errors import OutputError as OutputError
 from .errors import RefusedError as RefusedError
+from .errors import SheetError as SheetError
 from .errors import StatusError as StatusError
 from .errors import TableError as TableError
 from .errors import TextError as TextError
 from .errors import UnreadableError as UnreadableError
 from .errors import UsageError as UsageError
-from .network import Network, generate, map_stress, read
+from .many import map_outcomes, map_stress
+from .network import Network, generate, read
 from .program import find_program
 from .records import Bank as Bank
+from .records import BankCounts as BankCounts
 from .records import Bound as Bound
 from .records import CostStanding as CostStanding
 from .records import Debt as Debt
 from .records import Payment as Payment
 from .records import Raise as Raise
 from .records import Rank as Rank
+from .records import ScenarioSums as ScenarioSums
 from .records import Standing as Standing
 from .records import Wave as Wave
 from .results import Bounds as Bounds
@@ -153,6 +162,7 @@ from .results import Defaults as Defaults
 from .results import Generated as Generated
 from .results import Journal as Journal
 from .results import Outcome as Outcome
+from .results import Outcomes as Outcomes
 from .results import Rescue as Rescue
 from .results import Result as Result
 from .results import Stress as Stress
@@ -168,6 +178,7 @@ __all__ = [
     "Table",
     "find_program",
     "generate",
+    "map_outcomes",
     "map_stress",
     "read",
 ]

@@ -2,27 +2,9 @@
 from __future__ import annotations
 
 import importlib
-from typing import Any, Dict, Optional, Tuple, Type
+from typing import Any, Dict, Optional, Sequence, Tuple, Type
 
-KINDS: Dict[int, Tuple[str, str]] = {
-    1: ("header", "the first record is missing, or not the header's words"),
-    2: ("fields", "the record has not as many fields as the header"),
-    3: ("name", "a field is not a name"),
-    4: ("number", "a field is not 1 to 20 digits"),
-    5: ("rule", "a field is not one of the six rules"),
-    6: ("limit", "a number is outside its limit"),
-    7: ("double bank", "the bank was named before"),
-    8: ("unknown bank", "no bank has the name"),
-    9: ("self debt", "debtor and creditor are the same bank"),
-    10: ("class", "a field is not one digit from 1 to 9"),
-    11: ("double debt", "a debt of this debtor, creditor and class came before"),
-    12: ("too many", "one more bank, debt, scenario or raise than the limit"),
-    13: ("total", "the claims so far pass 10,000,000"),
-    14: ("file size", "the file is longer than its limit"),
-    15: ("unknown debt", "no debt has this debtor, creditor and class"),
-    16: ("toml", "the scenarios file is not UTF-8, or not TOML"),
-    17: ("shape", "the document, or a scenario, is not of its shape"),
-}
+from .format import KINDS as KINDS
 
 
 class ClearingError(Exception):
@@ -51,6 +33,14 @@ class TableError(ClearingError, ValueError):
         self.file, self.row, self.field, self.value = table, row, field, value
         place = f" row {row}" if row else ""
         super().__init__(f"{table}{place}{', ' + field if field else ''}: {what}")
+
+
+class SheetError(ClearingError, ValueError):
+    """A sheet that makes no network. `faults` has what is wrong, each in a line with its place as the sheet counts it."""
+
+    def __init__(self, faults: Sequence[str]) -> None:
+        self.faults = tuple(faults)
+        super().__init__("\n".join(self.faults))
 
 
 class UsageError(ClearingError, ValueError):

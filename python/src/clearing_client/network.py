@@ -1,18 +1,19 @@
 """A network of banks and debts, and the tasks of the program on it."""
 from __future__ import annotations
 
+import contextlib
 import csv
 import io
 import os
 import pathlib
 import tempfile
-from concurrent.futures import ThreadPoolExecutor
 from functools import cached_property
-from typing import Any, Callable, Dict, Iterable, List, Mapping, Optional, Sequence, Tuple, Type, TypeVar, Union
+from typing import IO, Any, Dict, Iterable, Iterator, List, Mapping, Optional, Tuple, Type, TypeVar, Union
 
 from . import tabular
 from .errors import RefusedError, TableError, TextError, UnreadableError
-from .program import Done, fault_of, run
+from .format import MAX_BYTES
+from .program import Done, fault_of, run, started
 from .records import Bank, Debt, Raise
 from .results import (
     Bounds,
@@ -29,16 +30,18 @@ from .results import (
     Verdict,
     graph_of,
 )
-from .scenarios import MOST, Scenario, Scenarios
+from .scenarios import Scenario, Scenarios
+from .sheets import made_of
 from .table import Table, words_of
 from .texts import parse
 
 T = TypeVar("T", bound=Result)
 File = Union[str, "os.PathLike[str]"]
 ScenariosLike = Union[Scenarios, Iterable[Union[Scenario, Mapping[str, Any]]], File]
+Third = Tuple[str, str, bytes]  # a file's option, its ending, and its bytes
 JournalLike = Union[Journal, Table[Raise], Iterable[Raise], File]
 
-LARGEST = 8_388_608
+LARGEST = MAX_BYTES["banks"]
 """How many bytes a banks, debts or scenarios file may have; one more is handed over, for the program to refuse."""
 
 
@@ -73,6 +76,47 @@ class Network:
             banks, debts = tabular.tables_of_graph(banks)
         self._banks = read_file(banks) if is_file(banks) else tabular.banks_csv(banks, rule)
         self._debts = read_file(debts) if is_file(debts) else tabular.debts_csv(debts, class_)
+
+    # Of sheets, as the tools read them
+
+    summary: Tuple[Tuple[str, Optional[int], Any, str], ...] = ()
+    """What was done to the sheet that a network is of: records of what it is, a count, an amount and a detail."""
+
+    @classmethod
+    def from_matrix(cls, matrix: Any, **options: Any) -> "Network":
+        """The network of a matrix of liabilities: a file of comma-separated records, a workbook (.xlsx, .ods) or a DataFrame with
+        the names as its index. The options are the words of `tools/from_matrix.py` with `_` for `-`, such as `table`, `sheet`,
+        `cash`, `outside`, `no_outside`, `unit`, `round`, `drop`, `groups`. Raises `SheetError` with every fault found."""
+        return cls._of_sheet("matrix", matrix, options)[0]
+
+    @classmethod
+    def from_list(cls, exposures: Any, **options: Any) -> "Network":
+        """The network of a list of exposures and a `table` of banks. The options are the words of `tools/from_list.py`, such as
+        `debtor`, `creditor`, `amount`, `sum`, `where={"date": "2025-12-31"}`, `rate={"currency": "rates.csv"}`, `duplicates`."""
+        return cls._of_sheet("list", exposures, options)[0]
+
+    @classmethod
+    def from_totals(cls, totals: Any, **options: Any) -> Union["Network", List["Network"]]:
+        """A network in which each bank owes and is owed what a table says; with `samples`, a list of them. The options are the words
+        of `tools/from_totals.py`, such as `method`, `seed`, `known`, `most`."""
+        made = cls._of_sheet("totals", totals, options)
+        return made if options.get("samples") else made[0]
+
+    @classmethod
+    def from_workbook(cls, workbook: Any, banks: str = "banks", debts: str = "debts", **options: Any) -> "Network":
+        """The network of a workbook with a sheet of banks (name, cash, rule, outside) and one of debts (debtor, creditor, class,
+        claim); the options are those of `from_list`."""
+        named = {"sheet": debts, "table": workbook, "table_sheet": banks, "amount": "claim", **options}
+        return cls._of_sheet("list", workbook, named)[0]
+
+    @classmethod
+    def _of_sheet(cls, kind: str, sheet: Any, options: Mapping[str, Any]) -> List["Network"]:
+        made, nets = made_of(kind, sheet, options), []
+        for banks, debts in made.files:
+            net = cls.__new__(cls)
+            net._banks, net._debts, net.summary = banks, debts, made.summary
+            nets.append(net)
+        return nets
 
     def __repr__(self) -> str:
         return f"<Network of {len(self._banks)} bytes of banks and {len(self._debts)} bytes of debts>"
@@ -162,7 +206,7 @@ class Network:
         return self._ask(Clearing, "clear", *effort(workers, sweeps), *show)
 
     def central(self) -> Clearing:
-        """The same payments, by rounds in which all banks pay at once."""
+        """The same payments, computed on one thread."""
         return self._ask(Clearing, "central")
 
     def defaults(self, workers: int = 4, sweeps: int = 1) -> Defaults:
@@ -262,30 +306,62 @@ class Network:
 
     # How the program is asked
 
+    def __getstate__(self) -> Dict[str, bytes]:
+        """What goes to another process: the two files."""
+        return {"_banks": self._banks, "_debts": self._debts}
+
     def _ask(
         self,
         kind: Type[T],
         task: str,
         *words: object,
-        third: Optional[Tuple[str, str, bytes]] = None,
+        third: Optional[Third] = None,
         known: object = None,
     ) -> T:
-        """Runs a task on the files, and reads its text. A third file has its option, its ending and its bytes."""
+        """Runs a task on the files, and reads its text."""
+        with self._words(task, words, third) as line:
+            done = run(line)
+        if done.status not in (0, 7):
+            raise self._fault(done, [task, *map(str, words)], third, known)
+        return read_as(text_of(done), kind).told(text_of(done), self)
+
+    @contextlib.contextmanager
+    def _stream(self, task: str, *words: object, third: Third, known: object = None) -> Iterator[IO[bytes]]:
+        """Runs a task on the files. Its text is read as it comes; that the run failed is said where all is read."""
+        with self._words(task, words, third) as line, started(line) as (stream, end):
+            try:
+                yield stream
+            except TextError:
+                stream.read()
+                if end()[0] == 0:
+                    raise
+            status, message = end()
+        if status != 0:
+            raise self._fault(Done(status, b"", message), [task, *map(str, words)], third, known)
+
+    @contextlib.contextmanager
+    def _words(self, task: str, words: Tuple[object, ...], third: Optional[Third]) -> Iterator[List[Union[str, bytes]]]:
+        """The command line of a task, whose files stand in a folder as long as it runs."""
         with tempfile.TemporaryDirectory(prefix="clearing-") as name:
             folder = pathlib.Path(name)
             line: List[Union[str, bytes]] = [task]
-            files = [("banks", "csv", self._banks), ("debts", "csv", self._debts), *([third] if third else [])]
-            for option, ending, data in files:
+            for option, ending, data in self._files(third):
                 path = folder / f"{option}.{ending}"
                 path.write_bytes(data)
                 line += [f"--{option}", os.fsencode(path)]
             line += [word if isinstance(word, bytes) else str(word) for word in words]
             if any("\0" in word for word in line if isinstance(word, str)):
                 raise TableError("words", 0, "", words, "a word has a character NUL")
-            done = run(line)
-        if done.status not in (0, 7):
-            raise with_record(fault_of(done, [task, *map(str, words)]), {one: data for one, _, data in files}, known)
-        return read_as(text_of(done), kind).told(text_of(done), self)
+            yield line
+
+    def _files(self, third: Optional[Third]) -> List[Third]:
+        """The files of a run."""
+        return [("banks", "csv", self._banks), ("debts", "csv", self._debts), *([third] if third else [])]
+
+    def _fault(self, done: Done, words: List[str], third: Optional[Third], known: object) -> Exception:
+        """The exception for a run that failed, with the record that it is about."""
+        files = {option: data for option, _, data in self._files(third)}
+        return with_record(fault_of(done, words), files, known)
 
 
 def read_as(text: str, kind: Type[T]) -> T:
@@ -388,7 +464,7 @@ def fields_at(data: bytes, row: int, passing: bool = False) -> Optional[Tuple[st
     return None
 
 
-# Without a network of one's own, and many of them
+# Without a network of one's own
 
 
 def generate(seed: int, size: int, tries: int, workers: int = 4, sweeps: int = 1) -> Generated:
@@ -416,52 +492,3 @@ def read(text: Union[str, "os.PathLike[str]"]) -> Result:
         return parse(read_file(text, None).decode("utf-8-sig"))
     except UnicodeDecodeError as fault:
         raise TextError(0, f"{os.fspath(text)} is not UTF-8") from fault
-
-
-def map_stress(
-    networks: Iterable[Network],
-    scenarios: ScenariosLike,
-    jobs: Optional[int] = None,
-    workers: int = 1,
-    sweeps: int = 1,
-) -> List[Stress]:
-    """What the same scenarios leave of each network, in order, by so many runs of the program side by side (as many as
-    there are processors, where it is not said). More scenarios than a file may have are cut into several runs and put together
-    again. The first fault ends it; the runs that have begun are ended first.
-
-    >>> nets = [Network({"A": cash, "B": 0}, {("A", "B"): 10}) for cash in (10, 20)]
-    >>> [[one.total.defaults for one in left.scenarios] for left in map_stress(nets, Scenarios.cuts([0, 100]))]
-    [[0, 1], [0, 0]]
-    """
-    parts: List[Tuple[int, Union[Scenarios, bytes]]]
-    if is_file(scenarios):
-        parts = [(0, read_file(scenarios))]
-    else:
-        every = as_scenarios(scenarios)
-        parts = [(at, every[at : at + MOST]) for at in range(0, len(every), MOST)] or [(0, every)]
-
-    def stress(net: Network, before: int, part: Union[Scenarios, bytes]) -> Stress:
-        try:
-            return net._stress(part, workers, sweeps)
-        except RefusedError as fault:
-            row = fault.row + before if fault.file == "scenarios" and fault.row else fault.row
-            raise RefusedError(fault.file, row, fault.kind, fault.number, fault.record) from fault
-
-    nets = list(networks)
-    with ThreadPoolExecutor(jobs or os.cpu_count() or 1) as pool:
-        runs = [[pool.submit(stress, net, before, part) for before, part in parts] for net in nets]
-        try:
-            return [joined([one.result() for one in row], net) for row, net in zip(runs, nets)]
-        except BaseException:
-            pool.shutdown(wait=True, cancel_futures=True)
-            raise
-
-
-def joined(parts: Sequence[Stress], net: Network) -> Stress:
-    """The outcomes of several files of scenarios, numbered as if they were one."""
-    if len(parts) == 1:
-        return parts[0]
-    outcomes = [one for part in parts for one in part.scenarios]
-    for number, outcome in enumerate(outcomes, 1):
-        object.__setattr__(outcome, "number", number)
-    return Stress(tuple(outcomes)).told("\n".join(part.text for part in parts), net)

@@ -1,6 +1,7 @@
 """Finds the program `clearing` and runs it."""
 from __future__ import annotations
 
+import contextlib
 import os
 import pathlib
 import re
@@ -8,7 +9,7 @@ import shutil
 import subprocess
 import sys
 import threading
-from typing import IO, List, NamedTuple, Optional, Sequence, Union
+from typing import IO, Callable, Iterator, List, NamedTuple, Optional, Sequence, Tuple, Union
 
 from .errors import (
     ClearingError,
@@ -34,36 +35,50 @@ class Done(NamedTuple):
     message: str
 
 
-def repository_of(folder: pathlib.Path) -> Optional[pathlib.Path]:
-    """The repository of the program that a folder stands in."""
-    for above in (folder, *folder.parents):
-        if (above / "clearing").is_file() and (above / "crates" / "clear_main").is_dir():
-            return above
-    return None
+def on_path(name: str) -> Optional[str]:
+    """The file of a command, which is looked for in the absolute entries of the path alone."""
+    return shutil.which(name, path=os.pathsep.join(filter(os.path.isabs, os.get_exec_path())))
 
 
 def find_program() -> str:
-    """The program: what the environment variable CLEARING names, a file or a command; else the script of the repository
-    that this package or the working folder stands in, which builds the program first where it is not built yet; else
-    `clearing` on the path."""
+    """The program: what the environment variable CLEARING names, a file or a command; else that of the repository or the
+    installation that this package stands in, which the repository's script builds first where it is not built yet; else
+    `clearing` on the path. Of the path the absolute entries alone are looked at."""
     named = os.environ.get("CLEARING")
     if named:
-        found = shutil.which(named)
+        found = shutil.which(named) if os.sep in named else on_path(named)
         if found is None:
             raise NoProgramError(f"CLEARING names {named}, which is no program")
-        return os.path.abspath(found)
-    for folder in (pathlib.Path(__file__).resolve().parent, pathlib.Path.cwd()):
-        root = repository_of(folder)
-        if root is not None:
-            return str(root / "clearing")
-    found = shutil.which("clearing")
+        return proved(found)
+    packages = pathlib.Path(__file__).resolve().parents[1]
+    root = packages.parents[1]
+    if packages == root / "python" / "src" and (root / "clearing").is_file():
+        return str(root / "clearing")
+    found = on_path("clearing")
     if found is None:
-        raise NoProgramError("no program `clearing`: set CLEARING to it, work in its repository, or put it on the path")
-    return found
+        raise NoProgramError("no program `clearing`: set CLEARING to it, or put it on the path")
+    return proved(found)
+
+
+def proved(found: str) -> str:
+    """The whole name of a program, which is not the script `first-look` or what that has built."""
+    if os.path.basename(os.path.realpath(found)) == "first-look":
+        raise NoProgramError(f"{found} is a first look, which is not proved; CLEARING is to name the proved program")
+    return os.path.abspath(found)
 
 
 def run(words: Sequence[Union[str, bytes]]) -> Done:
     """Runs the program with these words to its end. What it says while it is built goes to standard error at once."""
+    with started(words) as (stream, end):
+        output = stream.read()
+        status, message = end()
+    return Done(status, output, message)
+
+
+@contextlib.contextmanager
+def started(words: Sequence[Union[str, bytes]]) -> Iterator[Tuple[IO[bytes], Callable[[], Tuple[int, str]]]]:
+    """A run of the program: what it prints, as a stream, and what waits for its end and tells the status and the message.
+    It is killed where it is left before its end."""
     program = find_program()
     # Names are UTF-8 for the program, whatever the locale says; names of files are bytes already.
     line = [os.fsencode(program), *(word if isinstance(word, bytes) else word.encode() for word in words)]
@@ -72,18 +87,20 @@ def run(words: Sequence[Union[str, bytes]]) -> Done:
         process = subprocess.Popen(line, stdin=subprocess.DEVNULL, stdout=subprocess.PIPE, stderr=subprocess.PIPE)
     except OSError as fault:
         raise NoProgramError(f"{program} cannot be started: {fault.strerror}") from fault
+    assert process.stdout is not None and process.stderr is not None
+    listener = threading.Thread(target=listen, args=(process.stderr, messages), daemon=True)
+
+    def end() -> Tuple[int, str]:
+        listener.join()
+        return process.wait(), b"".join(messages).decode("utf-8", "replace")
+
     with process:
         try:
-            assert process.stdout is not None and process.stderr is not None
-            listener = threading.Thread(target=listen, args=(process.stderr, messages), daemon=True)
             listener.start()
-            output = process.stdout.read()
-            listener.join()
-            status = process.wait()
+            yield process.stdout, end
         except BaseException:
             process.kill()
             raise
-    return Done(status, output, b"".join(messages).decode("utf-8", "replace"))
 
 
 def listen(stream: IO[bytes], messages: List[bytes]) -> None:

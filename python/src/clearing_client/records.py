@@ -167,6 +167,27 @@ class ScenarioTotals(NamedTuple):
     cash: int
 
 
+class ScenarioSums(NamedTuple):
+    """A scenario in sums: all cash that it leaves before clearing, what is paid and paid outside, what banks keep, how many
+    default, and how many of these by their own fundamentals. Cash is what is paid outside and kept."""
+
+    scenario: str
+    cash: int
+    paid: int
+    outside_paid: int
+    equity: int
+    defaults: int
+    fundamental: int
+
+
+class BankCounts(NamedTuple):
+    """A bank over all scenarios: in how many it defaults, and in how many of these by its own fundamentals."""
+
+    bank: str
+    defaults: int
+    fundamental: int
+
+
 class CheckTotals(NamedTuple):
     """How many banks and debts there are, all claims together, and all cash together."""
 

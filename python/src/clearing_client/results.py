@@ -12,6 +12,7 @@ from typing import TYPE_CHECKING, Any, Dict, List, Optional, Tuple, Type, TypeVa
 from .errors import package
 from .records import (
     Bank,
+    BankCounts,
     Bound,
     CheckTotals,
     CompressionTotals,
@@ -27,6 +28,7 @@ from .records import (
     RescueTotals,
     ScenarioPayment,
     ScenarioStanding,
+    ScenarioSums,
     ScenarioTotals,
     Standing,
     Sums,
@@ -266,6 +268,17 @@ class Stress(Result):
 
     def tables(self) -> Dict[str, Table[Any]]:
         return {"payments": self.payments, "standings": self.standings, "totals": self.total}
+
+
+@dataclass(frozen=True)
+class Outcomes(Result):
+    """Scenarios in sums: a record for each scenario, in order, and for each bank in how many of them it defaults."""
+
+    scenarios: Table[ScenarioSums]
+    banks: Table[BankCounts]
+
+    def tables(self) -> Dict[str, Table[Any]]:
+        return {"scenarios": self.scenarios, "banks": self.banks}
 
 
 def stacked(record: Type[R], parts: List[Tuple[int, str, Table[Any]]]) -> Table[R]:

@@ -8,9 +8,6 @@ from typing import Any, Dict, Iterable, Iterator, List, Mapping, Sequence, Tuple
 from .errors import TableError
 from .tabular import whole_of
 
-MOST = 100
-"""How many scenarios a file may have."""
-
 Losses = Union[Mapping[str, float], Iterable[Tuple[str, float]]]
 
 

@@ -7,11 +7,13 @@ its end, as a text without it was cut short and its last number may be too.
 from __future__ import annotations
 
 import sys
-from typing import Any, Callable, Dict, List, Optional, Sequence, Tuple, Type, TypeVar, get_type_hints
+from typing import Any, Callable, Dict, Iterable, Iterator, List, Optional, Sequence, Tuple, Type, TypeVar, get_type_hints
 
 from .errors import TextError
+from .format import STATES
 from .records import (
     Bank,
+    BankCounts,
     Bound,
     CheckTotals,
     CostStanding,
@@ -21,6 +23,7 @@ from .records import (
     Payment,
     Raise,
     Rank,
+    ScenarioSums,
     Standing,
     Totals,
     Wave,
@@ -36,6 +39,7 @@ from .results import (
     Generated,
     Journal,
     Outcome,
+    Outcomes,
     Rescue,
     Result,
     Stress,
@@ -45,7 +49,6 @@ from .table import Table, words_of
 
 R = TypeVar("R", bound=Tuple[Any, ...])
 
-STATES = ("sound", "fundamental", "contagion")
 YES_NO = {"yes": True, "no": False}
 MAX_DIGITS = 40
 
@@ -66,6 +69,7 @@ BOUNDS = header_of(Bound)
 WAVES = header_of(Wave)
 RANKS = header_of(Rank)
 JOURNAL = header_of(Raise)
+SUMS = header_of(ScenarioSums)
 
 
 def lines_of(text: str) -> List[str]:
@@ -126,10 +130,10 @@ def records_of(record: Type[R], lines: Sequence[str], at: int, without: str = ""
 
 
 class Lines:
-    """The lines of a text, and how far they are read."""
+    """The lines of a text, or of a part of it that so many lines stand before, and how far they are read."""
 
-    def __init__(self, lines: List[str]) -> None:
-        self.lines, self.at = lines, 0
+    def __init__(self, lines: List[str], before: int = 0) -> None:
+        self.lines, self.at, self.before = lines, 0, before
 
     @property
     def next(self) -> Optional[str]:
@@ -139,7 +143,7 @@ class Lines:
     def fail(self, wanted: str) -> TextError:
         """What is wrong where the next line is not what it should be."""
         found = "the end of the text" if self.next is None else f"the line {self.next[:80]}"
-        return TextError(self.at + 1, f"not {wanted}, but {found}")
+        return TextError(self.before + self.at + 1, f"not {wanted}, but {found}")
 
     def take(self, line: str) -> None:
         """Goes on behind a line that must be the next; the empty one stands between two tables."""
@@ -157,7 +161,7 @@ class Lines:
 
     def numbers(self, word: str, count: int = 1) -> List[int]:
         """The numbers of the next line behind its word."""
-        return [numbers_of([field], self.at)[0] for field in self.fields(word, count)]
+        return [numbers_of([field], self.before + self.at)[0] for field in self.fields(word, count)]
 
     def end(self) -> None:
         """The text must end here."""
@@ -172,7 +176,7 @@ class Lines:
         self.at = stop - last
         if self.at < start:
             raise self.fail("lines of sums below a table")
-        return records_of(record, self.lines[start : self.at], start + 1, without)
+        return records_of(record, self.lines[start : self.at], self.before + start + 1, without)
 
 
 def read_clearing(lines: Lines) -> Result:
@@ -211,14 +215,26 @@ def read_stress(lines: Lines) -> Stress:
     while lines.next is not None:
         if outcomes:
             lines.take("")
-        if not (lines.next or "").startswith("scenario,"):
-            raise lines.fail("a line with scenario")
-        name = (lines.next or "").partition(",")[2]
-        lines.at += 1
-        payments = lines.table(Payment, until=(STANDINGS_1, STANDINGS_2))
-        left = read_standings(lines)
-        outcomes.append(Outcome(len(outcomes) + 1, name, payments, left.standings, left.total))
+        outcomes.append(read_outcome(lines, len(outcomes) + 1))
     return Stress(tuple(outcomes))
+
+
+def read_outcome(lines: Lines, number: int) -> Outcome:
+    """What the scenario of a number leaves."""
+    if not (lines.next or "").startswith("scenario,"):
+        raise lines.fail("a line with scenario")
+    name = (lines.next or "").partition(",")[2]
+    lines.at += 1
+    payments = lines.table(Payment, until=(STANDINGS_1, STANDINGS_2))
+    left = read_standings(lines)
+    return Outcome(number, name, payments, left.standings, left.total)
+
+
+def read_outcomes(lines: Lines) -> Outcomes:
+    """Scenarios in sums, and the counts of the banks."""
+    scenarios = lines.table(ScenarioSums)
+    lines.take("")
+    return Outcomes(scenarios, lines.table(BankCounts))
 
 
 def read_banks(lines: Lines) -> Table[Bank]:
@@ -282,6 +298,7 @@ def read_verdict(lines: Lines) -> Verdict:
 READERS: Dict[str, Callable[[Lines], Result]] = {
     PAYMENTS: read_clearing,
     JOURNAL: read_journal,
+    SUMS: read_outcomes,
     STANDINGS_1: read_standings,
     STANDINGS_2: read_standings,
     BOUNDS: read_bounds,
@@ -320,3 +337,53 @@ def parse(text: str) -> Result:
     result = reader(lines)
     lines.end()
     return result.told(text)
+
+
+def decoded(stream: Iterable[bytes]) -> Iterator[str]:
+    """The lines of a text that is read as it comes, in the same way as `lines_of` reads one that is there."""
+    for at, line in enumerate(stream, 1):
+        try:
+            text = line.decode("utf-8-sig" if at == 1 else "utf-8")
+        except UnicodeDecodeError as fault:
+            raise TextError(at, "the line is not UTF-8") from fault
+        if not text.endswith("\n"):
+            raise TextError(at, "the line has no end: the text was cut short")
+        yield text[:-2] if text.endswith("\r\n") else text[:-1]
+
+
+def outcomes_in(stream: Iterable[bytes], before: int = 0) -> Iterator[Outcome]:
+    """The outcomes of what `stress` prints, one after another as the lines of a stream come: no more than one is held.
+    They are numbered on from so many before them. Refuses what `parse` refuses, once it comes to it.
+
+    >>> [one.name for one in outcomes_in([])]
+    []
+    """
+    number, at = before, 0
+    part: List[str] = []
+    for line in decoded(stream):
+        if line:
+            part.append(line)
+            continue
+        number += 1
+        yield whole_outcome(Lines(part, at), number)
+        at, part = at + len(part) + 1, []
+    if at or part:
+        yield whole_outcome(Lines(part, at), number + 1)
+
+
+def whole_outcome(lines: Lines, number: int) -> Outcome:
+    """The outcome that these lines say, all of them."""
+    outcome = read_outcome(lines, number)
+    lines.end()
+    return outcome
+
+
+def without_payments(stream: Iterable[bytes]) -> Iterator[bytes]:
+    """What `stress` prints without the lines of payments, which are passed over unread as they come."""
+    first = f"{PAYMENTS}\n".encode()
+    ends = [f"{header}\n".encode() for header in (STANDINGS_1, STANDINGS_2)]
+    passing = False
+    for line in stream:
+        if not passing or line in ends:
+            yield line
+            passing = line == first

@@ -59,7 +59,7 @@ fn files_failing(alloc: Global, fail_at: u64) -> Result<MemShelf, Fail> {
     let mut files = shelf(alloc, CHAIN_BANKS, CHAIN_DEBTS)?;
     files.add(
         "j.csv",
-        b"stamp,debtor,creditor,class,to\n1,A,B,1,7\n2,B,C,1,8\n",
+        b"stamp,debtor,creditor,class,to\n1,A,B,1,7\n2,B,C,1,8\nrounds,2\n",
     )?;
     files.add("s.toml", b"scenario = [{name = \"none\"}]")?;
     files.add("bad.toml", b"scenario = [{cut = 5}]")?;

@@ -1,7 +1,7 @@
 //! Each task on the twelve banks and on a generated network of 200 banks, by the length and a digest
-//! of its text. The texts are those that a plain model of clearing gives, `bench/model.py`, which
-//! shares no code with the program; what is compressed, for which more than one answer is right, was
-//! judged by it. And files with one bank or debt more than a network may have.
+//! of its text. The texts are those that a plain model of clearing gives, `tests/system/model.py`,
+//! which shares no code with the program; what is compressed, for which more than one answer is
+//! right, was judged by it. And files with one bank or debt more than a network may have.
 
 use super::{CENTRAL, REPLAY, ends, same, shelf, tells, twelve_banks};
 use clr_edge::{MemShelf, MemSink, OpenGate};

@@ -1,6 +1,6 @@
 //! What a run answers beside its text: the record of the board, and the visits at the gate.
 
-use super::tasks::{RING_BANKS, RING_DEBTS, THREE_SCENARIOS};
+use super::tasks::{NO_DEBTS, RING_BANKS, RING_DEBTS, THREE_SCENARIOS};
 use super::{CHAIN_BANKS, CHAIN_DEBTS, Numbers, TWO_BANKS, runs_on, shelf_of_three};
 use clr_edge::{Gate, MemShelf, OpenGate};
 use std::alloc::Global;
@@ -95,20 +95,20 @@ fn tasks_on_one_board_answer_its_record(rt: HostRuntime) -> Result<(), Fail> {
     Ok(())
 }
 
-// Counts the visits of all workers, and keeps the greatest number of a visit in its round and of a
-// worker.
+// Counts the visits of all workers, keeps the greatest number of a visit in its round, and adds up
+// the numbers of the workers.
 #[derive(Drop)]
 struct Counter {
     visits: AtomicU64,
     last: AtomicU64,
-    worker: AtomicU64,
+    workers: AtomicU64,
 }
 
 impl Gate for Counter {
     fn at(&self, worker: u32, visit: u64) {
         self.visits.fetch_add(1, Ordering::SeqCst);
         self.last.fetch_max(visit, Ordering::SeqCst);
-        self.worker.fetch_max(u64::from(worker), Ordering::SeqCst);
+        self.workers.fetch_add(u64::from(worker), Ordering::SeqCst);
     }
 }
 
@@ -117,7 +117,7 @@ impl Counter {
         Counter {
             visits: AtomicU64::new(0),
             last: AtomicU64::new(0),
-            worker: AtomicU64::new(0),
+            workers: AtomicU64::new(0),
         }
     }
 
@@ -125,13 +125,13 @@ impl Counter {
         (
             self.visits.load(Ordering::SeqCst),
             self.last.load(Ordering::SeqCst),
-            self.worker.load(Ordering::SeqCst),
+            self.workers.load(Ordering::SeqCst),
         )
     }
 }
 
 // What a gate counts in a run that ends well: the visits, the greatest number of a visit in its
-// round, and the greatest number of a worker.
+// round, and the numbers of the workers in all visits together.
 fn counted_on<R: Threads + Sync + Abort>(
     rt: &R,
     alloc: Global,
@@ -155,28 +155,34 @@ fn counted<R: Threads + Sync + Abort>(
     counted_on(rt, alloc, line.as_str(), &mut files)
 }
 
-const TASKS: [(&str, u64, u64); 6] = [
-    ("clear --banks b.csv --debts d.csv", 11, 11),
-    ("defaults --banks b.csv --debts d.csv", 11, 11),
-    ("bounds --banks b.csv --debts d.csv", 11, 11),
-    ("rescue --banks b.csv --debts d.csv --bank A", 13, 11),
-    (STRESS, 11, 11),
-    ("gen --seed 1 --size 2 --tries 0", 2, 2),
+// A task, its visits on the ring and the greatest number of one in its round, and its runs.
+const TASKS: [(&str, u64, u64, u64); 6] = [
+    ("clear --banks b.csv --debts d.csv", 11, 11, 1),
+    ("defaults --banks b.csv --debts d.csv", 11, 11, 1),
+    ("bounds --banks b.csv --debts d.csv", 11, 11, 1),
+    ("rescue --banks b.csv --debts d.csv --bank A", 13, 11, 2),
+    (STRESS, 11, 11, 1),
+    ("gen --seed 1 --size 3 --tries 0", 3, 3, 1),
 ];
 
-const RING: [&str; 3] = [RING_BANKS, RING_DEBTS, "scenario = [{name = \"as it is\"}]"];
+const AS_IT_IS: &str = "scenario = [{name = \"as it is\"}]";
 
-// Runs a task on the ring by one worker and by two.
+const THREE_BANKS: &str = "name,cash,rule\nA,0,order\nB,0,order\nC,0,order\n";
+
+// Runs a task on the ring by one worker, and on three banks without debts by three.
 fn passes<R: Threads + Sync + Abort>(
     rt: &R,
     alloc: Global,
-    (task, visits, last): (&str, u64, u64),
+    (task, visits, last, runs): (&str, u64, u64, u64),
 ) -> Result<(), Fail> {
-    let one = counted(rt, alloc, (task, "--workers 1 --sweeps 7"), RING)?;
+    let ring = [RING_BANKS, RING_DEBTS, AS_IT_IS];
+    let one = counted(rt, alloc, (task, "--workers 1 --sweeps 7"), ring)?;
     assert_eq!(rt; one, (visits, last, 0), "{task}");
-    // The second worker visits the second bank.
-    let two = counted(rt, alloc, (task, "--workers 2 --sweeps 1"), RING)?;
-    assert_eq!(rt; two.2, 1, "{task}");
+    // In each run the workers 0, 1 and 2 visit a bank each.
+    let still = [THREE_BANKS, NO_DEBTS, AS_IT_IS];
+    let three = counted(rt, alloc, (task, "--workers 3 --sweeps 1"), still)?;
+    let of_all = runs.saturating_mul(3);
+    assert_eq!(rt; three, (of_all, 1, of_all), "{task}");
     Ok(())
 }
 
@@ -195,8 +201,20 @@ const OWE_SIXTY: &str = "debtor,creditor,class,claim\nA,B,1,60\nB,A,1,60\n";
 
 // A task by one worker with sweeps enough, its banks, the visits, and the greatest number of one in
 // its round.
-const IN_ONE_ROUND: [(&str, &str, u64, u64); 2] = [
+const IN_ONE_ROUND: [(&str, &str, u64, u64); 7] = [
     ("clear --banks b.csv --debts d.csv", RING_BANKS, 121, 121),
+    ("defaults --banks b.csv --debts d.csv", RING_BANKS, 121, 121),
+    ("bounds --banks b.csv --debts d.csv", RING_BANKS, 121, 121),
+    (STRESS, RING_BANKS, 121, 121),
+    // A plain model of visits makes as many, in fifteen sweeps.
+    ("gen --seed 7 --size 7 --tries 28", "", 51, 51),
+    // All is paid before the bank is saved, and each bank is visited once more.
+    (
+        "rescue --banks b.csv --debts d.csv --bank A",
+        RING_BANKS,
+        123,
+        121,
+    ),
     // Nothing is paid before the bank is saved, in a visit of each bank.
     (
         "rescue --banks b.csv --debts d.csv --bank A",
@@ -210,7 +228,8 @@ const IN_ONE_ROUND: [(&str, &str, u64, u64); 2] = [
 fn a_job_has_as_many_sweeps_as_it_says(rt: HostRuntime) -> Result<(), Fail> {
     for (task, banks, visits, last) in &IN_ONE_ROUND {
         let plan = "--workers 1 --sweeps 1000";
-        let told = counted(&rt, rt.alloc(), (task, plan), [banks, OWE_SIXTY, ""])?;
+        let texts = [banks, OWE_SIXTY, AS_IT_IS];
+        let told = counted(&rt, rt.alloc(), (task, plan), texts)?;
         assert_eq!(rt; told, (*visits, *last, 0), "{task}");
     }
     Ok(())

@@ -423,7 +423,7 @@ const SAVE_C: &str = "rescue --banks b.csv --debts d.csv --bank C";
 
 const SAVE_X: &str = "rescue --banks b.csv --debts d.csv --bank X";
 
-const SAVED: [Done<'static>; 3] = [
+const SAVED: [Done<'static>; 5] = [
     (
         SAVE_B,
         CHAIN_BANKS,
@@ -441,6 +441,19 @@ const SAVED: [Done<'static>; 3] = [
         CHAIN_BANKS,
         CHAIN_DEBTS,
         "rescue,C,0\nshort,0\n\ndebtor,creditor,class,claim,paid\nA,B,1,10,7\nB,C,1,9,8\n",
+    ),
+    // Banks without a unit, to which nobody owes anything.
+    (
+        SAVE_A,
+        "name,cash,rule,outside\nA,0,order,6000000\nB,0,order,0\n",
+        "debtor,creditor,class,claim\nA,B,1,1000000\n",
+        "rescue,A,7000000\nshort,1\n\ndebtor,creditor,class,claim,paid\nA,B,1,1000000,1000000\n",
+    ),
+    (
+        SAVE_B,
+        "name,cash,rule,outside\nB,0,equal,1000000000\n",
+        NO_DEBTS,
+        "rescue,B,1000000000\nshort,1\n\ndebtor,creditor,class,claim,paid\n",
     ),
 ];
 

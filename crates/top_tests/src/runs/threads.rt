@@ -2,7 +2,7 @@
 //! scenarios, whose boards start no threads of their own.
 
 use super::tasks::NO_DEBTS;
-use super::{TWO_BANKS, runs_on, shelf_of_three};
+use super::{runs_on, shelf_of_three};
 use clr_edge::Gate;
 use std::alloc::Global;
 use std::process::Abort;
@@ -41,13 +41,27 @@ impl Gate for Meeting {
     }
 }
 
-// A line on two banks without debts, a file of scenarios, the first visits that are skipped, for
+const FOUR_BANKS: &str = "name,cash,rule\nA,0,order\nB,0,order\nC,0,order\nD,0,order\n";
+
+const FOUR_SCENARIOS: &str = "scenario = [{name=\"1\"},{name=\"2\"},{name=\"3\"},{name=\"4\"}]";
+
+const TWELVE_SCENARIOS: &str = "scenario = [{name=\"1\"},{name=\"2\"},{name=\"3\"},\
+    {name=\"4\"},{name=\"5\"},{name=\"6\"},{name=\"7\"},{name=\"8\"},{name=\"9\"},\
+    {name=\"10\"},{name=\"11\"},{name=\"12\"}]";
+
+// A line on four banks without debts, a file of scenarios, the first visits that are skipped, for
 // how many the others wait, and how many do not do so in vain. Each worker has one first visit in a
 // run.
 type Case<'a> = (&'a str, &'a str, u64, u64, u64);
 
-const CASES: [Case<'static>; 4] = [
+const CASES: [Case<'static>; 11] = [
     ("clear --banks b.csv --debts d.csv --workers 2", "", 0, 2, 2),
+    ("clear --banks b.csv --debts d.csv --workers 4", "", 0, 4, 4),
+    // Four workers, where the line does not say how many.
+    ("clear --banks b.csv --debts d.csv", "", 0, 4, 4),
+    ("defaults --banks b.csv --debts d.csv", "", 0, 4, 4),
+    ("bounds --banks b.csv --debts d.csv", "", 0, 4, 4),
+    ("gen --seed 1 --size 4 --tries 0", "", 0, 4, 4),
     // The second run too.
     (
         "rescue --banks b.csv --debts d.csv --bank A --workers 2",
@@ -55,6 +69,13 @@ const CASES: [Case<'static>; 4] = [
         2,
         4,
         2,
+    ),
+    (
+        "rescue --banks b.csv --debts d.csv --bank A --workers 4",
+        "",
+        4,
+        8,
+        4,
     ),
     // The first worker waits in vain, and the second finds it there.
     (
@@ -66,10 +87,18 @@ const CASES: [Case<'static>; 4] = [
     ),
     (
         "stress --banks b.csv --debts d.csv --scenarios s.toml --workers 1",
-        "scenario = [{name=\"1\"},{name=\"2\"},{name=\"3\"},{name=\"4\"}]",
+        FOUR_SCENARIOS,
         0,
         4,
         4,
+    ),
+    // Four at a time; those that come later find as many come already.
+    (
+        "stress --banks b.csv --debts d.csv --scenarios s.toml --workers 1",
+        TWELVE_SCENARIOS,
+        0,
+        4,
+        12,
     ),
 ];
 
@@ -78,14 +107,14 @@ fn meets<R: Threads + Sync + Abort>(
     alloc: Global,
     (line, scenarios, skipped, wanted, met): Case<'_>,
 ) -> Result<(), Fail> {
-    let mut files = shelf_of_three(alloc, [TWO_BANKS, NO_DEBTS, scenarios])?;
+    let mut files = shelf_of_three(alloc, [FOUR_BANKS, NO_DEBTS, scenarios])?;
     let gate = Meeting {
         skipped,
         wanted,
         come: AtomicU64::new(0),
         met: AtomicU64::new(0),
     };
-    runs_on(rt, alloc, line, &mut files, 2000, &gate, (100, 0, ""))?;
+    runs_on(rt, alloc, line, &mut files, 4000, &gate, (100, 0, ""))?;
     assert_eq!(rt; gate.met.load(Ordering::SeqCst), met, "{line}");
     Ok(())
 }

@@ -1,3 +1,4 @@
+use Rattle.std.specs.Prelude.{◌==◌}
 use Rattle.std.proofs.Common.{◌∙◌, get_or, ap, arith}
 use Rattle.bank_worker.specs.BankSets.{is_in}
 use Rattle.bank_worker.specs.Called.{StayIn}
@@ -15,7 +16,7 @@ loop-raise-preserved c =
     let creditor = get_or noted (get_or rs n (a_raise 0 0 0)).debt.0 0 in
     elim c.if-debt-debts.branch [
       | then-debt-debts w ↦
-          let stay : StayIn c.loop-raise.called c.if-debt-debts.called = λ b old. ap (λ s. is_in s b) w.called-is ∙ stay_in c.loop-raise.called w.add.new.self creditor w.add.ensures b old in
+          let stay : StayIn c.loop-raise.called c.if-debt-debts.called = λ b old. ap (λ s. is_in s b) w.called-is ∙ stay_in c.loop-raise.called w.add.new.self (λ b. b == creditor) w.add.ensures b old in
           record {
             kept = λ b old. stay b (h.kept b old);
             creditors = called_more noted c.loop-raise.called c.if-debt-debts.called rs n (a_raise 0 0 0) (omega arith) h.creditors stay

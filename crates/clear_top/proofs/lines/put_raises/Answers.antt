@@ -28,7 +28,8 @@ loop-done-preserved g c =
       room = omega (arith, c.loop-done.invariant.room, c.print_raises.ensures.room);
       written = rw (upto f c.args.raises.now done c.min-count.result)
           (rw (← c.as_slice.ensures.value ∙ c.print_raises.ensures.lines)
-          (whole_then_whole _ _ _ c.loop-done.invariant.written (c.in_ok-put_all.ensures.written, c.in_ok-put_all.ensures.well)));
+          (whole_then_whole _ _ _ c.loop-done.invariant.written c.in_ok-put_all.ensures.written));
+      no_fall = omega (arith, c.loop-done.invariant.no_fall, c.put_all.ensures.faults);
     }
 
 pub returns-in_err-put_all-clause-part : goal.returns-in_err-put_all-clause-part
@@ -38,4 +39,5 @@ returns-in_err-put_all-clause-part g c =
     (rw (← c.as_slice.ensures.value ∙ c.print_raises.ensures.lines)
     (on_err c.from_residual.result
     (part_in_front _
-    (whole_then_part _ _ _ c.loop-done.invariant.written (c.in_err-put_all.ensures.part, c.in_err-put_all.ensures.failed)))))
+    (whole_then_part _ _ _ c.loop-done.invariant.written c.loop-done.invariant.no_fall
+    (c.in_err-put_all.ensures.part, c.in_err-put_all.ensures.failed)))))

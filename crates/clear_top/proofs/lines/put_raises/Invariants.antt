@@ -14,6 +14,7 @@ invariant-loop-done g l =
       room : ROOM ≤ vec_capacity l.room;
       written : TakesWhole (sink_call (sink.written l.fn.sink) (sink.written l.sink) (sink.faults l.fn.sink) (sink.faults l.sink))
           (flat_map (raise_line l.net) (take l.done l.raises));
+      no_fall : sink.faults l.fn.sink ≤ sink.faults l.sink;
     }
 
 abbrev pub decreases-loop-done : goal.decreases-loop-done

@@ -1,7 +1,8 @@
 -- The network of the record is the network, and its journal was made in the first run.
-use Rattle.std.proofs.Common.{◌<◌, ◌≡◌, IfOk, length, sym, ◌∙◌, subst}
+use Rattle.std.proofs.Common.{◌<◌, ◌≡◌, [], IfOk, length, sym, ◌∙◌, subst}
 use Rattle.clear_core.specs.Clearing.{least}
-use Rattle.clear_top.specs.Meaning.{IsRun, Rescues}
+use Rattle.settle.specs.Runs.{IsSettled}
+use Rattle.clear_top.specs.Meaning.{Rescues}
 use Rattle.clear_top.proofs.saving.save.Goals as goal
 
 pub save_after-requires-clause-bank : goal.save_after-requires-clause-bank
@@ -11,15 +12,15 @@ save_after-requires-clause-bank g c = λ κs lives.
 pub save_after-requires-clause-paid : goal.save_after-requires-clause-paid
 save_after-requires-clause-paid g c = λ κs lives.
     subst (λ n. c.as_slice.result.now ≡ least n) (sym (c.net.ensures ∙ c.in_ok-paid.ensures.record_is.net_is))
-    (c.as_slice.ensures ∙ c.in_ok-paid.ensures.paid)
+    (c.as_slice.ensures ∙ c.in_ok-paid.ensures.settled.paid)
 
 pub save_after-requires-clause-run : goal.save_after-requires-clause-run
-save_after-requires-clause-run g c = λ κs lives.
-    let rounds = c.in_ok-paid.field-0.rounds in (
-      rounds,
-      subst (λ n. IsRun n c.journal.result.now rounds) (sym (c.net.ensures ∙ c.in_ok-paid.ensures.record_is.net_is))
-          (subst (λ j. IsRun c.args.net j rounds) (sym c.journal.ensures) c.in_ok-paid.ensures.run),
-    )
+save_after-requires-clause-run g c = λ κs lives. (
+  c.in_ok-paid.field-0,
+  subst (λ n. IsSettled n [] c.args.clearer.now.plan c.in_ok-paid.field-0)
+      (sym (c.net.ensures ∙ c.in_ok-paid.ensures.record_is.net_is)) c.in_ok-paid.ensures.settled,
+  sym c.journal.ensures,
+)
 
 pub returns : goal.returns
 returns g c =

@@ -15,8 +15,8 @@ use Rattle.clear_top.proofs.work.work.Goals as goal
 -- the scenarios are of the network in the input
 pub report_scenarios-requires-clause-scenarios : goal.report_scenarios-requires-clause-scenarios
 report_scenarios-requires-clause-scenarios g c κs within =
-    subst (All (IsScenarioOf c.input.inside.net)) (sym c.as_slice.ensures.value)
-    (subst (IsUsable source.FilesAndScenarios) (sym c.input.view_is)
+    subst (All (IsScenarioOf c.input-in-Stress.inside.net)) (sym c.as_slice.ensures.value)
+    (subst (IsUsable source.FilesAndScenarios) (sym c.input-in-Stress.view_is)
     (subst (λ t. IsUsable (source_of t) c.args.input) c.in-Stress.is c.requires.usable))
 
 -- a task that clears on one board comes to what is reported of it
@@ -32,3 +32,10 @@ pub returns-in-Clear : goal.returns-in-Clear
 returns-in-Clear g c =
     by_report c.args.job.now c.args.input c.report.result c.args.job.now.task c.in-Clear.is
     (rw c.net_of.ensures at (rw c.of-clearer.ensures.plan at c.report.ensures))
+
+pub returns-in-Costs : goal.returns-in-Costs
+returns-in-Costs g c =
+    let r = c.clear_with_costs.result in
+    let job = c.args.job.now in
+    subst (λ t. IfOk r (ComesTo t job c.args.input)) (sym c.in-Costs.is)
+    (subst (λ i. IfOk r (ComesTo task.Costs job i)) c.input-in-Costs.view_is c.clear_with_costs.ensures)

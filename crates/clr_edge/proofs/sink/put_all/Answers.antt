@@ -15,5 +15,5 @@ loop-done-preserved g c =
       written = put.written
           ∙ (λ i. with_bytes (before.written i) (take n (rest i)))
           ∙ with_bytes-front (g.S.Sink.written c.args.sink.now) c.args.bytes.now c.loop-done.done n;
-      well = put.well ∙ before.well;
+      no_fall = omega (arith, before.no_fall, put.faults);
     }

@@ -9,7 +9,7 @@ invariant-loop-done g l =
     record {
       within : l.done ≤ length l.bytes;
       written : sink.written l.sink ≡ with_bytes (sink.written l.fn.sink) (take l.done l.bytes);
-      well : sink.faults l.sink ≡ sink.faults l.fn.sink;
+      no_fall : sink.faults l.fn.sink ≤ sink.faults l.sink;
     }
 
 abbrev pub decreases-loop-done : goal.decreases-loop-done

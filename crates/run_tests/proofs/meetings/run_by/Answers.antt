@@ -6,7 +6,7 @@ use Rattle.run_tests.proofs.meetings.run_by.Goals as goal
 pub settle_alone-requires-clause-offices : goal.settle_alone-requires-clause-offices
 settle_alone-requires-clause-offices g c κs within = record {
   other = c.args.net.now;
-  banks = ap (λ n. map (of_cash 0) n.banks) c.in_ok-copy.ensures;
-  debts = ap (λ n. n.debts) c.in_ok-copy.ensures;
-  offices = c.in_ok-offices.ensures;
+  banks = ap (λ n. map (of_cash 0) n.banks) c.in_ok-copy-in-Alone.ensures;
+  debts = ap (λ n. n.debts) c.in_ok-copy-in-Alone.ensures;
+  offices = c.in_ok-offices-in-Alone.ensures;
 }

@@ -1,60 +1,59 @@
-use Rattle.std.proofs.Common.{[], refl, ap, ◌∙◌, subst, arith}
+use Rattle.std.proofs.Common.{refl, sym, ap, ◌∙◌, subst, arith}
 use Rattle.clr_net.specs.Amounts.{IsAtMost}
 use Rattle.clr_net.specs.Net.{Net}
 use Rattle.clear_core.specs.Clearing.{least}
 use Rattle.pay_words.specs.declared.view.Shown.{Shown}
-use Rattle.raise_journal.specs.Gathered.{HasGrownBy, HasMerged}
+use Rattle.settle.specs.Offices.{AreOffices}
 use Rattle.settle.proofs.Calling.{all_called}
 use Rattle.settle.proofs.Driving.{driven_none, driven_more, driven_out, fewer_left, rounds_low, seats_low, visits_low}
 use Rattle.settle.proofs.drives.drive_on.Goals as goal
 
-pub loop-beside-init : goal.loop-beside-init
-loop-beside-init g c =
-    let past = c.args.past.now in
+pub loop-state-init : goal.loop-state-init
+loop-state-init g c =
+    let net = c.args.run.now.net.now in
+    let w = c.args.run.now.plan.workers in
     let s = c.args.master.now.shows in
-    let opened = c.requires.ready.opened in
-    let begun : HasGrownBy [] c.merge_in.new.journal.raises past = subst (λ rs. HasMerged rs c.merge_in.new.journal.raises 0 past) c.empty-journal.ensures c.in_ok-merge_in.ensures.merged in
+    let opened = c.requires.opened in
+    let network = c.banks.ensures.network in
+    let state = c.in_ok-state.ensures in
+    let low = subst (λ (n : Net). IsAtMost s.paid (least n)) (ap (λ (u : Shown). u.net) opened) c.clock-clock.ensures.paid_below_least in
+    let driven = driven_none network opened low state.journal in
     record {
       table = refl;
-      offices = c.requires.offices;
-      called = all_called c.args.net.now c.all-called.result s c.banks.ensures.network c.all-called.ensures;
-      driven = driven_none c.banks.ensures.network opened (subst (λ (n : Net). IsAtMost s.paid (least n)) (ap (λ (u : Shown). u.net) opened) c.clock-clock.ensures.paid_below_least) begun;
+      ready = record {
+        table_is = c.requires.table;
+        between = driven.between;
+        offices = subst (λ os. AreOffices net w w os) (sym (ap (λ v. v.items) (state.offices ∙ c.replace-held.ensures.value))) c.requires.offices;
+        called = all_called net c.in_ok-state.state.called s network state.called;
+      };
+      driven = driven;
     }
 
-pub round-requires-clause-ready : goal.round-requires-clause-ready
-round-requires-clause-ready g c κs within =
-    let asks = c.requires.ready in
-    let inv = c.loop-beside.invariant in
-    record {
-      limits = asks.limits;
-      workers_are = asks.workers_are;
-      net_is = asks.net_is;
-      table_is = inv.table ∙ asks.table_is;
-      between = inv.driven.between;
-      few_seats = seats_low inv.driven asks.limits.few_workers;
-      offices = inv.offices;
-    }
+pub round-requires-clause-seats : goal.round-requires-clause-seats
+round-requires-clause-seats g c κs within = seats_low c.loop-state.invariant.driven c.args.run.now.on_board.limits.few_workers
 
 pub overflow_add-rounds : goal.overflow_add-rounds
-overflow_add-rounds g c = record { fits = omega (arith, rounds_low c.loop-beside.invariant.driven) }
+overflow_add-rounds g c = record { fits = omega (arith, rounds_low c.loop-state.invariant.driven) }
 
 pub overflow_add-visits : goal.overflow_add-visits
 overflow_add-visits g c = record {
-  fits = omega (arith, visits_low c.loop-beside.invariant.driven c.requires.ready.limits.few_sweeps c.in_ok-units.ensures.round.visits_by_banks);
+  fits = omega (arith, visits_low c.loop-state.invariant.driven c.args.run.now.on_board.limits.few_sweeps c.in_ok-units.ensures.round.visits_by_banks);
 }
 
-pub loop-beside-smaller : goal.loop-beside-smaller
-loop-beside-smaller g c = fewer_left c.in_ok-units.ensures.round c.if-units-eq0.false
+pub loop-state-smaller : goal.loop-state-smaller
+loop-state-smaller g c = fewer_left c.in_ok-units.ensures.round c.if-units-eq0.false
 
-pub loop-beside-preserved : goal.loop-beside-preserved
-loop-beside-preserved g c = record {
-  table = c.in_ok-units.ensures.table ∙ c.loop-beside.invariant.table;
-  offices = c.in_ok-units.ensures.offices;
-  called = c.in_ok-units.ensures.called;
-  driven = driven_more c.loop-beside.invariant.driven c.in_ok-units.ensures.between c.in_ok-units.ensures.round c.in_ok-units.ensures.noted c.if-units-eq0.false;
-}
+pub loop-state-preserved : goal.loop-state-preserved
+loop-state-preserved g c =
+    let after = c.in_ok-units.ensures in
+    record {
+      table = after.table ∙ c.loop-state.invariant.table;
+      ready = after.ready;
+      driven = driven_more c.loop-state.invariant.driven after.ready.between after.round after.noted c.if-units-eq0.false;
+    }
 
 pub returns-clause-driven : goal.returns-clause-driven
 returns-clause-driven g c =
-    driven_out c.loop-beside.invariant.driven c.in_ok-units.ensures.between c.in_ok-units.ensures.round c.in_ok-units.ensures.noted c.if-units-eq0.true
-    (ap (λ (u : Shown). u.taken) c.requires.ready.opened) _ c.in_ok-journal.ensures
+    let after = c.in_ok-units.ensures in
+    driven_out c.loop-state.invariant.driven after.ready.between after.round after.noted c.if-units-eq0.true
+    (ap (λ (u : Shown). u.taken) c.requires.opened) _ c.in_ok-journal.ensures

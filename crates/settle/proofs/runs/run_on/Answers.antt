@@ -29,17 +29,9 @@ pub make-requires-clause-belongs : goal.make-requires-clause-belongs
 make-requires-clause-belongs g c =
     subst (λ ps. Belongs c.args.net ps c.args.past.now) (sym (c.as_slice.ensures.value ∙ c.in_ok-payments.ensures)) c.requires.past
 
-pub drive_on-requires-clause-ready : goal.drive_on-requires-clause-ready
-drive_on-requires-clause-ready g c κs within =
-    let panel = c.in_ok-board.ensures.board in
-    record {
-      limits = c.requires.plan;
-      net_is = sym panel.0;
-      past_is = sym panel.1;
-      workers_are = sym panel.2;
-      table_is = c.in_ok-board.ensures.master.0;
-      opened = c.in_ok-board.ensures.master.1 ∙ ap (opening c.args.net) (c.as_slice.ensures.value ∙ c.in_ok-payments.ensures);
-    }
+pub drive_on-requires-clause-opened : goal.drive_on-requires-clause-opened
+drive_on-requires-clause-opened g c κs within =
+    c.in_ok-board.ensures.master.1 ∙ ap (opening c.args.net) (c.as_slice.ensures.value ∙ c.in_ok-payments.ensures)
 
 pub returns : goal.returns
 returns g c =
@@ -52,22 +44,23 @@ returns g c =
     let paid = c.in_ok-paid.paid in
     let panel = c.in_ok-board.ensures.board in
     let rs = c.in_ok-board.board.past ++ t.raises in
-    let seal = c.seal-sealed.ensures in
+    let seal = c.seal-sealed.ensures.ends in
+    let record_of = c.seal-sealed.ensures.record_of in
     let journal = c.seal-sealed.result.journal in
     let network = c.banks.ensures.network in
     let debts : length t.net.debts ≡ length net.debts = ap (λ (m : Net). length m.debts) d.settled.idle.net_is in
-    let noted : journal ≡ ordered rs = ap (λ (r : Sealed). r.journal) seal.record_of in
+    let noted : journal ≡ ordered rs = ap (λ (r : Sealed). r.journal) record_of in
     let belongs : Belongs net into journal =
     subst (λ js. Belongs net into js) (sym noted) (subst (λ (m : Net). Belongs m into (ordered rs)) panel.0 seal.lawful) in
-    let many : p.len ≡ length into = omega (arith, p.ok.0, ap length c.in_ok-payments.ensures, length-tabled (length net.debts) (λ x. last_payment x past), ap length seal.payments, length-payments_of t, debts) in
+    let many : p.len ≡ length into = omega (arith, p.ok.0, ap length c.in_ok-payments.ensures, length-tabled (length net.debts) (λ x. last_payment x past), ap length seal.payments_are, length-payments_of t, debts) in
     let written : paid ≡ values into = c.in_ok-paid.ensures ∙ ap values (c.as_slice-2.ensures.value ∙ written_over p.len into p.items many) in
     let over : length t.paid ≡ length t.net.debts = omega (arith, ap length d.settled.paid, ap length (least_clears net), length-pay net (least net), debts) in
-    let least_paid : paid ≡ least net = written ∙ ap values seal.payments ∙ values_shown t over ∙ d.settled.paid in
+    let least_paid : paid ≡ least net = written ∙ ap values seal.payments_are ∙ values_shown t over ∙ d.settled.paid in
     let replays : replayed net journal ≡ paid = replayed_is net journal ∙ ap values (sym belongs.start_is) ∙ sym written in
     let low_stamps : All (λ r. r.stamp ≤ sum paid) journal = subst (λ js. All (λ (r : Raise). r.stamp ≤ sum paid) js) (sym noted)
     (subst (λ P. All (λ (r : Raise). r.stamp ≤ sum P) (ordered rs)) (sym written) seal.low_in_order) in
     let opened : c.in_ok-board.master.shows ≡ opening net (start_of net past) = c.in_ok-board.ensures.master.1 ∙ ap (opening net) (c.as_slice.ensures.value ∙ c.in_ok-payments.ensures) in
-    let made : c.seal-sealed.result.made ≡ length t.raises = ap (λ (r : Sealed). r.made) seal.record_of in
+    let made : c.seal-sealed.result.made ≡ length t.raises = ap (λ (r : Sealed). r.made) record_of in
     record {
       offices = c.in_ok-journal.ensures.offices;
       settled = record {
@@ -80,13 +73,13 @@ returns g c =
         within_limits = within_limits net journal paid network belongs.stands replays least_paid low_stamps;
         can_go_on = subst (λ ps. Belongs net ps journal) belongs.start_is belongs;
         record_is = record {
-          net_is = ap (λ (r : Sealed). r.net) seal.record_of ∙ panel.0;
+          net_is = ap (λ (r : Sealed). r.net) record_of ∙ panel.0;
           raises = ordered t.raises;
           journal_is = noted ∙ ap (λ ps. ordered (ps ++ t.raises)) panel.1
               ∙ ordered_after_all past t.raises (subst (λ ps. AreAfter ps t.raises) panel.1 seal.after_past) ∙ ap (λ ps. ps ++ ordered t.raises) c.requires.past.in_order;
           made = made ∙ sym (length-ordered t.raises);
-          workers = ap (λ (r : Sealed). r.workers) seal.record_of ∙ panel.2;
-          seats = ap (λ (r : Sealed). r.seats) seal.record_of ∙ d.seats;
+          workers = ap (λ (r : Sealed). r.workers) record_of ∙ panel.2;
+          seats = ap (λ (r : Sealed). r.seats) record_of ∙ d.seats;
         };
         bounds = record {
           rounds_in_bounds = d.bounds;
@@ -96,9 +89,10 @@ returns g c =
         };
         at_rest = record {
           master = t;
-          rounds_are = subst (λ (s : Shown). EndsAtRest net c.args.plan s t c.in_ok-journal.field-0.rounds) opened d.at_rest;
+          rounds_are = subst (λ (s : Shown). EndsAtRest net c.args.by.now.plan s t c.in_ok-journal.field-0.rounds) opened d.at_rest;
           visits_are = omega (arith, d.visits, ap (λ (u : Shown). u.taken) opened);
           paid_is = d.settled.paid ∙ sym least_paid;
+          journal_is = noted ∙ ap (λ ps. ordered (ps ++ t.raises)) panel.1;
         };
       };
     }

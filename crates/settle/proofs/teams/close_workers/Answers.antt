@@ -1,4 +1,4 @@
-use Rattle.std.proofs.Common.{◌≡◌, ◌+◌, ◌-◌, ◌≤◌, ◌++◌, ◌∷◌, [], length, length-append, sym, ap, ◌∙◌, subst, arith, rules, sum_by}
+use Rattle.std.proofs.Common.{◌≡◌, ◌+◌, ◌-◌, ◌≤◌, ◌++◌, ◌∷◌, [], drop, length, length-append, sym, ap, ◌∙◌, subst, arith, rules, sum_by}
 use Rattle.std.proofs.lemmas.List.Sums.{sum_by_push}
 use Rattle.pay_words.specs.declared.view.Shown.{Shown}
 use Rattle.pay_words.specs.Views.{OwesNoRing, rejoined}
@@ -6,28 +6,30 @@ use Rattle.bank_worker.specs.Called.{AreCreditorsIn}
 use Rattle.bank_worker.specs.Views.{Crew}
 use Rattle.clr_net.specs.Net.{Net}
 use Rattle.raise_journal.specs.Gathered.{HasMerged}
-use Rattle.settle.specs.Between.{IsBack, IsOfBoard, raises_by}
+use Rattle.settle.specs.Between.{IsBack, IsOfBoard, raises_by, raises_of_all}
 use Rattle.settle.specs.Calls.{HaveCalledFrom}
 use Rattle.settle.specs.Offices.{AreOffices}
 use Rattle.settle.specs.Rounds.{crew_at}
 use Rattle.settle.proofs.Calling.{called_from}
 use Rattle.settle.proofs.Offices.{held_by, office_more, seat_serves}
-use Rattle.settle.proofs.Returned.{IsLast, back_more, grown_more, known_banks, last_of}
+use Rattle.settle.proofs.Returned.{IsLast, back_more, grown_more, known_banks, last_of, raises_more}
 use Rattle.settle.proofs.teams.close_workers.Goals as goal
+use Rattle.settle.proofs.teams.close_workers.Given.{Over}
 use Rattle.settle.proofs.teams.close_workers.Goals.{In-Some}
 
 -- the worker whose seat comes back
-last : (c : In-Some) → IsLast c.args.board.now c.args.workers.items c.loop-worker.workers.items c.pop.new.self.items c.in-Some.worker
-last c = last_of c.args.board.now c.args.workers.items c.loop-worker.workers.items c.pop.new.self.items c.in-Some.worker c.requires.crew c.loop-worker.invariant.left c.in-Some.ensures.items
+last : (g : Over) (c : In-Some g) → IsLast c.args.run.now.board.now c.args.workers.items c.loop-worker.workers.items c.pop.new.self.items c.in-Some.worker
+last g c = last_of c.args.run.now.board.now c.args.workers.items c.loop-worker.workers.items c.pop.new.self.items c.in-Some.worker c.requires.crew c.loop-worker.invariant.left c.in-Some.ensures.items
 
 pub overflow_add-visits : goal.overflow_add-visits
-overflow_add-visits c =
-    let h = last (goal.at.overflow_add-visits c).In-Some in
-    record { fits = omega (arith, h.more, h.left.few, h.own.few_visits, c.visits-visits.ensures, c.loop-worker.invariant.low, c.requires.workers.1, c.requires.workers.2, c.args.workers.ok) }
+overflow_add-visits g c =
+    let on_board = c.args.run.now.on_board in
+    let h = last g (goal.at.overflow_add-visits g c).In-Some in
+    record { fits = omega (arith, h.more, h.left.few, h.own.few_visits, c.visits-visits.ensures, c.loop-worker.invariant.low, c.requires.workers, on_board.limits.few_workers, on_board.workers_are, c.args.workers.ok) }
 
 pub take_back-requires : goal.take_back-requires
-take_back-requires c =
-    let own = (last (goal.at.take_back-requires c).In-Some).own in
+take_back-requires g c =
+    let own = (last g (goal.at.take_back-requires g c).In-Some).own in
     let inv = c.loop-worker.invariant in
     let seat = c.leave-seat.ensures.seat in
     record {
@@ -39,43 +41,43 @@ take_back-requires c =
     }
 
 pub loop-worker-preserved : goal.loop-worker-preserved
-loop-worker-preserved c =
+loop-worker-preserved g c =
     let ws = c.args.workers.items in
     let rest = c.pop.new.self.items in
     let w = c.in-Some.worker in
     let s = c.args.master.now.shows in
     let m = c.loop-worker.master.shows in
     let n = length rest in
-    let net = c.args.board.now.net in
-    let k = c.args.board.now.table.workers in
+    let net = c.args.run.now.board.now.net in
+    let k = c.args.run.now.board.now.table.workers in
     let inv = c.loop-worker.invariant in
     let is = c.in-Some.ensures.items in
-    let h = last (goal.at.loop-worker-preserved c).In-Some in
+    let h = last g (goal.at.loop-worker-preserved g c).In-Some in
     let seat = c.leave-seat.ensures.seat in
     let shown : c.take_back.new.master.shows ≡ rejoined m (crew_at ws n).seat.shows =
     c.take_back.ensures.rejoined ∙ ap (rejoined m) (ap (λ s. s.shows) seat ∙ ap (λ (k : Crew). k.seat.shows) h.is) in
-    let back = back_more c.args.board.now s m ws n (subst (IsOfBoard c.args.board.now n) h.is h.own) (subst (IsBack k net s ws m) h.more inv.back) (known_banks net c.requires.network) in
+    let back = back_more c.args.run.now.board.now s m ws n (subst (IsOfBoard c.args.run.now.board.now n) h.is h.own) (subst (IsBack k net s ws m) h.more inv.back) (known_banks net c.requires.network) in
     let made : c.as_slice-raises.result.now ≡ (crew_at ws n).seat.shows.raises = c.as_slice-raises.ensures ∙ c.leave-seat.ensures.same ∙ ap (λ s. s.shows.raises) seat ∙ ap (λ (k : Crew). k.seat.shows.raises) h.is in
     record {
       table = c.take_back.ensures.table ∙ inv.table;
       back = subst (λ (u : Shown). IsBack k net s ws u n) (sym shown) back;
       left = h.left;
       offices =
-          let room : n + 1 ≤ k = omega (arith, h.more, inv.left.few, c.requires.workers.2, c.args.workers.ok) in
-          let serves = seat_serves net w.seat.shows k n c.leave-seat.result.2 (sym h.own.at.1) (held_by c.args.board.now n w h.own)
+          let room : n + 1 ≤ k = omega (arith, h.more, inv.left.few, c.requires.workers, c.args.workers.ok) in
+          let serves = seat_serves net w.seat.shows k n c.leave-seat.result.2 (sym h.own.at.1) (held_by c.args.run.now.board.now n w h.own)
           c.leave-seat.ensures.office (c.leave-seat.ensures.worker ∙ h.own.worker) in
-          let before = subst (λ m. AreOffices net k (k - m) c.loop-worker.offices.items) h.more inv.offices in
-          let after = office_more net k (k - (n + 1)) n c.loop-worker.offices.items c.leave-seat.result.2 before (omega arith) serves in
+          let before = subst (λ m. AreOffices net k (k - m) c.loop-worker.state.offices.items) h.more inv.offices in
+          let after = office_more net k (k - (n + 1)) n c.loop-worker.state.offices.items c.leave-seat.result.2 before (omega arith) serves in
           let count : k - (n + 1) + 1 ≡ k - n = omega arith in
-          subst (AreOffices net k (k - n)) (sym (c.in_ok-push.ensures.items ∙ ap (λ o. c.loop-worker.offices.items ++ o ∷ []) c.keep.ensures))
-          (subst (λ m. AreOffices net k m (c.loop-worker.offices.items ++ c.leave-seat.result.2 ∷ [])) count after);
-      noted = grown_more c.args.journal.now.raises c.loop-worker.journal.raises c.add_raises.new.journal.raises s.raises m.raises c.take_back.new.master.shows.raises (crew_at ws n).seat.shows.raises
+          subst (AreOffices net k (k - n)) (sym (c.in_ok-push.ensures.items ∙ ap (λ o. c.loop-worker.state.offices.items ++ o ∷ []) c.keep.ensures))
+          (subst (λ m. AreOffices net k m (c.loop-worker.state.offices.items ++ c.leave-seat.result.2 ∷ [])) count after);
+      noted = grown_more c.args.state.now.journal.raises c.loop-worker.state.journal.raises c.add_raises.new.journal.raises s.raises m.raises c.take_back.new.master.shows.raises (crew_at ws n).seat.shows.raises
           inv.noted
-          (subst (HasMerged c.loop-worker.journal.raises c.add_raises.new.journal.raises (length c.args.journal.now.raises)) made
-          (subst (λ k. HasMerged c.loop-worker.journal.raises c.add_raises.new.journal.raises k c.as_slice-raises.result.now) (ap length c.as_slice-from.ensures) c.in_ok-add_raises.ensures))
+          (subst (HasMerged c.loop-worker.state.journal.raises c.add_raises.new.journal.raises (length c.args.state.now.journal.raises)) made
+          (subst (λ k. HasMerged c.loop-worker.state.journal.raises c.add_raises.new.journal.raises k c.as_slice-raises.result.now) (ap length c.as_slice-from.ensures) c.in_ok-add_raises.ensures))
           (ap (λ (u : Shown). u.raises) shown);
-      called = called_from net c.loop-worker.called c.call_creditors.new.called ws n w.journal
-          (subst (λ m. HaveCalledFrom m net c.loop-worker.called ws) h.more inv.called) c.call_creditors.ensures.kept
+      called = called_from net c.loop-worker.state.called c.call_creditors.new.called ws n w.journal
+          (subst (λ m. HaveCalledFrom m net c.loop-worker.state.called ws) h.more inv.called) c.call_creditors.ensures.kept
           (sym c.leave-seat.ensures.journal ∙ c.leave-seat.ensures.same ∙ ap (λ s. s.shows.raises) seat ∙ ap (λ (k : Crew). k.seat.shows.raises) h.is)
           (subst (λ (m : Net). AreCreditorsIn m c.call_creditors.new.called w.journal) h.own.at.1 c.call_creditors.ensures.creditors);
       visits = omega (arith, ap (λ (u : Shown). u.taken) shown, inv.visits, c.visits-visits.ensures, h.own.by_bells, ap (λ (k : Crew). k.seat.shows.taken) h.is);
@@ -89,10 +91,17 @@ loop-worker-preserved c =
         sum_by_push raises_by rest w,
         ap raises_by h.is,
       );
+      made = raises_more s m c.take_back.new.master.shows ws n (length c.loop-worker.workers.items) h.more (omega (arith, h.more, inv.left.few)) inv.made shown;
       low = omega (arith, h.more, inv.low, c.visits-visits.ensures, h.own.few_visits);
     }
 
 pub returns-clause-called : goal.returns-clause-called
-returns-clause-called c i le li =
+returns-clause-called g c i le li =
     let none : length c.loop-worker.workers.items ≡ 0 = search rules in
     c.loop-worker.invariant.called i (omega (arith, none)) li
+
+pub returns-clause-made : goal.returns-clause-made
+returns-clause-made g c =
+    let ws = c.args.workers.items in
+    let none : length c.loop-worker.workers.items ≡ 0 = search rules in
+    c.loop-worker.invariant.made ∙ ap (λ n. c.args.master.now.shows.raises ++ raises_of_all (drop n ws)) none

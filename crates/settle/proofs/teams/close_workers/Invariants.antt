@@ -1,23 +1,24 @@
-use Rattle.std.proofs.Common.{◌≡◌, ◌+◌, ◌-◌, ◌*◌, ◌≤◌, length, sum_by}
-use Rattle.settle.specs.Between.{HaveGrownAlike, IsBack, raises_by}
+use Rattle.std.proofs.Common.{◌≡◌, ◌+◌, ◌-◌, ◌*◌, ◌≤◌, ◌++◌, drop, length, sum_by}
+use Rattle.settle.specs.Between.{HaveGrownAlike, IsBack, raises_by, raises_of_all}
 use Rattle.settle.specs.Calls.{HaveCalledFrom}
 use Rattle.settle.specs.Offices.{AreOffices}
 use Rattle.settle.proofs.Returned.{AreFirst}
 use Rattle.settle.proofs.teams.close_workers.Given as goal
 
 abbrev pub invariant-loop-worker : goal.invariant-loop-worker
-invariant-loop-worker l = record {
+invariant-loop-worker g l = record {
   table : l.master.table ≡ l.fn.master.table;
-  back : IsBack l.board.table.workers l.board.net l.fn.master.shows l.fn.workers.items l.master.shows (length l.workers.items);
+  back : IsBack l.run.board.now.table.workers l.run.board.now.net l.fn.master.shows l.fn.workers.items l.master.shows (length l.workers.items);
   left : AreFirst l.fn.workers.items l.workers.items;
-  offices : AreOffices l.board.net l.board.table.workers (l.board.table.workers - length l.workers.items) l.offices.items;
-  noted : HaveGrownAlike l.fn.journal.raises l.journal.raises l.fn.master.shows.raises l.master.shows.raises;
-  called : HaveCalledFrom (length l.workers.items) l.board.net l.called l.fn.workers.items;
+  offices : AreOffices l.run.board.now.net l.run.board.now.table.workers (l.run.board.now.table.workers - length l.workers.items) l.state.offices.items;
+  noted : HaveGrownAlike l.fn.state.journal.raises l.state.journal.raises l.fn.master.shows.raises l.master.shows.raises;
+  called : HaveCalledFrom (length l.workers.items) l.run.board.now.net l.state.called l.fn.workers.items;
   visits : l.master.shows.taken ≡ l.fn.master.shows.taken + l.visits;
   sum : l.visits + sum_by (λ w. w.visits) l.workers.items ≡ sum_by (λ w. w.visits) l.fn.workers.items;
   raises : length l.master.shows.raises + sum_by raises_by l.workers.items ≡ length l.fn.master.shows.raises + sum_by raises_by l.fn.workers.items;
+  made : l.master.shows.raises ≡ l.fn.master.shows.raises ++ raises_of_all (drop (length l.workers.items) l.fn.workers.items);
   low : l.visits + 1000000 * length l.workers.items ≤ 1000000 * length l.fn.workers.items;
 }
 
 abbrev pub decreases-loop-worker : goal.decreases-loop-worker
-decreases-loop-worker l = length l.workers.items
+decreases-loop-worker g l = length l.workers.items

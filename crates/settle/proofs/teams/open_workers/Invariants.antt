@@ -4,10 +4,10 @@ use Rattle.settle.specs.Between.{crews, without_first}
 use Rattle.settle.proofs.teams.open_workers.Given as goal
 
 abbrev pub invariant-loop-number : goal.invariant-loop-number
-invariant-loop-number l = record {
+invariant-loop-number g l = record {
   table : l.master.table ≡ l.fn.master.table;
   net : l.master.shows.net ≡ l.fn.master.shows.net;
-  rest : l.master.shows ≡ without_first l.workers l.number l.fn.master.shows;
-  offices : AreOffices l.net l.workers (l.workers - l.number) l.offices.items;
-  crew : l.crew.items ≡ crews l.workers l.board.table l.fn.master.shows l.number;
+  rest : l.master.shows ≡ without_first l.run.plan.workers l.number l.fn.master.shows;
+  offices : AreOffices l.run.net.now l.run.plan.workers (l.run.plan.workers - l.number) l.offices.items;
+  crew : l.crew.items ≡ crews l.run.plan.workers l.run.board.now.table l.fn.master.shows l.number;
 }

@@ -1,4 +1,4 @@
-use Rattle.std.proofs.Common.{◌≡◌, ◌≢◌, ℕ, ◌+◌, ◌*◌, ◌≤◌, List, length, sym, ap, ◌∙◌, subst, arith}
+use Rattle.std.proofs.Common.{◌≡◌, ◌≢◌, ℕ, ◌+◌, ◌*◌, ◌≤◌, ◌++◌, List, length, sym, ap, ◌∙◌, subst, arith}
 use Rattle.std.proofs.lemmas.List.{with_items_is}
 use Rattle.std.specs.Prelude.{sum_by}
 use Rattle.std.specs.Global.{Vec}
@@ -10,7 +10,7 @@ use Rattle.clr_net.specs.Limits.{IsNetwork}
 use Rattle.clr_net.specs.Net.{Net}
 use Rattle.clear_core.specs.Clearing.{least}
 use Rattle.pay_words.specs.declared.view.Shown.{Shown}
-use Rattle.settle.specs.Between.{HaveGrownAlike, IsBetween, raises_by}
+use Rattle.settle.specs.Between.{HaveGrownAlike, IsBack, IsBetween, raises_by, raises_of_all}
 use Rattle.settle.specs.Calls.{AllCalledOrSettled, AreApart, HaveCalledFrom}
 use Rattle.settle.specs.Offices.{AreOffices}
 use Rattle.settle.specs.Rounds.{AreReady, AreRounded}
@@ -31,65 +31,63 @@ all_back sweeps n v lent olds news e f h =
 
 pub work_all-requires-clause-some : goal.work_all-requires-clause-some
 work_all-requires-clause-some g c κs within =
-    let w = c.args.plan.workers in
-    let s = c.args.master.now.shows in
-    let board = c.args.board.now in
-    let lent = ap length c.deref_mut.ensures.value in
-    let made = ap length c.in_ok-workers.ensures.crews in
-    let many = length-crews w board.table s w in
-    (omega (arith, lent, made, many, c.requires.ready.limits.some_workers), omega (arith, lent, made, many, c.requires.ready.limits.few_workers))
+    ap length c.deref_mut.ensures.value ∙ ap length c.in_ok-workers.ensures.crews
+    ∙ length-crews c.args.run.now.plan.workers c.args.run.now.board.now.table c.args.master.now.shows c.args.run.now.plan.workers
 
 pub work_all-requires-clause-ready : goal.work_all-requires-clause-ready
 work_all-requires-clause-ready g c κs within =
-    let w = c.args.plan.workers in
+    let w = c.args.run.now.plan.workers in
     let s = c.args.master.now.shows in
-    let board = c.args.board.now in
-    subst (AreReady board) (sym (c.deref_mut.ensures.value ∙ c.in_ok-workers.ensures.crews)) (crews_ready board c.args.net.now w s w c.requires.ready.net_is c.requires.ready.between)
+    let board = c.args.run.now.board.now in
+    subst (AreReady board) (sym (c.deref_mut.ensures.value ∙ c.in_ok-workers.ensures.crews)) (crews_ready board c.args.run.now.net.now w s w c.args.run.now.on_board.net_is c.requires.ready.between)
 
 pub work_all-requires-clause-called : goal.work_all-requires-clause-called
 work_all-requires-clause-called g c κs within =
-    let w = c.args.plan.workers in
+    let w = c.args.run.now.plan.workers in
     let s = c.args.master.now.shows in
-    let called = c.args.called.now in
+    let called = c.args.state.now.called in
     subst (AllCalledOrSettled called) (sym (c.deref_mut.ensures.value ∙ c.in_ok-workers.ensures.crews))
-    (crews_called c.args.net.now w c.args.board.now.table s called c.requires.ready.between c.requires.called)
+    (crews_called c.args.run.now.net.now w c.args.run.now.board.now.table s called c.requires.ready.between c.requires.ready.called)
 
 pub work_all-requires-clause-apart : goal.work_all-requires-clause-apart
 work_all-requires-clause-apart g c κs within =
     subst AreApart (sym (c.deref_mut.ensures.value ∙ c.in_ok-workers.ensures.crews))
-    (crews_apart c.args.net.now c.args.plan.workers c.args.board.now.table c.args.master.now.shows c.requires.ready.between)
+    (crews_apart c.args.run.now.net.now c.args.run.now.plan.workers c.args.run.now.board.now.table c.args.master.now.shows c.requires.ready.between)
 
-pub close_workers-requires : goal.close_workers-requires
-close_workers-requires g c =
-    let w = c.args.plan.workers in
-    let s = c.args.master.now.shows in
-    let board = c.args.board.now in
-    let net = c.args.net.now in
+pub close_workers-requires-clause-workers : goal.close_workers-requires-clause-workers
+close_workers-requires-clause-workers g c κs within =
+    let run = c.args.run.now in
+    let w = run.plan.workers in
+    omega (arith, ap length c.in_ok-workers.ensures.crews, length-crews w run.board.now.table c.args.master.now.shows w, run.on_board.workers_are, c.in_ok-workers.workers.ok)
+
+pub close_workers-requires-clause-network : goal.close_workers-requires-clause-network
+close_workers-requires-clause-network g c κs within = subst IsNetwork c.args.run.now.on_board.net_is c.requires.ready.between.network
+
+pub close_workers-requires-clause-master : goal.close_workers-requires-clause-master
+close_workers-requires-clause-master g c κs within =
+    let w = c.args.run.now.plan.workers in
+    let between = c.requires.ready.between in
+    let rest = subst (IsRest w c.args.master.now.shows) (sym c.in_ok-workers.ensures.rest) (first_rest w w c.args.master.now.shows) in (
+      (c.open_workers.ensures.table ∙ c.requires.ready.table_is, rest.net ∙ between.net_is ∙ c.args.run.now.on_board.net_is),
+      rest.master ∙ between.master,
+    )
+
+pub close_workers-requires-clause-crew : goal.close_workers-requires-clause-crew
+close_workers-requires-clause-crew g c κs within =
+    let run = c.args.run.now in
+    let on_board = run.on_board in
     let news = (with_items c.in_ok-workers.workers c.work_all.new.workers).items in
-    let rounded = all_back c.args.plan.sweeps c.in-Raised.units c.in_ok-workers.workers _ _ _ c.deref_mut.ensures.value c.in_ok-workers.ensures.crews c.in-Raised.ensures.rounded in
-    let rest = subst (IsRest w s) (sym c.in_ok-workers.ensures.rest) (first_rest w w s) in
-    record {
-      workers = (
-        subst (λ n. 1 ≤ n) c.requires.ready.workers_are c.requires.ready.limits.some_workers,
-        subst (λ n. n ≤ 64) c.requires.ready.workers_are c.requires.ready.limits.few_workers,
-        omega (arith, ap length c.in_ok-workers.ensures.crews, length-crews w board.table s w, c.requires.ready.workers_are, c.in_ok-workers.workers.ok),
-      );
-      network = subst IsNetwork c.requires.ready.net_is c.requires.ready.between.network;
-      master = (
-        (c.open_workers.ensures.table ∙ c.requires.ready.table_is, rest.net ∙ c.requires.ready.between.net_is ∙ c.requires.ready.net_is),
-        rest.master ∙ c.requires.ready.between.master,
-      );
-      offices = c.in_ok-workers.ensures.offices;
-      crew = of_board board net s w c.args.plan.sweeps c.in-Raised.units news c.requires.ready.net_is c.requires.ready.workers_are c.requires.ready.limits.some_workers c.requires.ready.limits.few_sweeps c.requires.ready.between rounded;
-    }
+    let rounded = all_back run.plan.sweeps c.in-Raised.units c.in_ok-workers.workers _ _ _ c.deref_mut.ensures.value c.in_ok-workers.ensures.crews c.in-Raised.ensures.rounded in
+    of_board run.board.now run.net.now c.args.master.now.shows run.plan.workers run.plan.sweeps c.in-Raised.units news on_board.net_is on_board.workers_are on_board.limits.some_workers on_board.limits.few_sweeps
+    c.requires.ready.between rounded
 
 pub returns : goal.returns
 returns g c =
-    let w = c.args.plan.workers in
+    let w = c.args.run.now.plan.workers in
     let s = c.args.master.now.shows in
-    let board = c.args.board.now in
-    let net = c.args.net.now in
-    let sweeps = c.args.plan.sweeps in
+    let board = c.args.run.now.board.now in
+    let net = c.args.run.now.net.now in
+    let sweeps = c.args.run.now.plan.sweeps in
     let units = c.in-Raised.units in
     let news = (with_items c.in_ok-workers.workers c.work_all.new.workers).items in
     let m = c.open_workers.new.master.shows in
@@ -98,37 +96,51 @@ returns g c =
     let rest = subst (IsRest w s) (sym c.in_ok-workers.ensures.rest) (first_rest w w s) in
     let back = c.in_ok-visits.ensures.back in
     let over = c.clock-clock.ensures.over in
-    let here = c.requires.ready.net_is in
+    let on_board = c.args.run.now.on_board in
+    let here = on_board.net_is in
     let between = c.requires.ready.between in
-    let some = c.requires.ready.limits.some_workers in
-    let few = c.requires.ready.limits.few_sweeps in
+    let some = on_board.limits.some_workers in
+    let few = on_board.limits.few_sweeps in
     let same_net : t.net ≡ net = back.net_is ∙ sym here in
-    let again : IsBetween net t = between_again board net s w sweeps units news here c.requires.ready.workers_are some few between rounded m t over back
+    let again : IsBetween net t = between_again board net s w sweeps units news here on_board.workers_are some few between rounded m t over back
     (back.master ∙ rest.master ∙ between.master) in
     record {
       table = c.close_workers.ensures.table ∙ c.open_workers.ensures.table;
       net = c.close_workers.ensures.net ∙ c.open_workers.ensures.net;
       idle = idle_between net t again;
-      between = again;
-      offices = subst (λ k. AreOffices net k k c.close_workers.new.offices.items) (sym c.requires.ready.workers_are)
-          (subst (λ (m : Net). AreOffices m board.table.workers board.table.workers c.close_workers.new.offices.items) (sym here) c.in_ok-visits.ensures.offices);
+      ready = record {
+        table_is = c.close_workers.ensures.table ∙ c.open_workers.ensures.table ∙ c.requires.ready.table_is;
+        between = again;
+        offices = subst (λ k. AreOffices net k k c.close_workers.new.state.offices.items) (sym on_board.workers_are)
+            (subst (λ (m : Net). AreOffices m board.table.workers board.table.workers c.close_workers.new.state.offices.items) (sym here) c.in_ok-visits.ensures.offices);
+        called = rest_settled board net s w sweeps units news here on_board.workers_are some few between rounded m t over back c.close_workers.new.state.called again
+            (subst (λ (m : Net). HaveCalledFrom 0 m c.close_workers.new.state.called news) (sym here) c.in_ok-visits.ensures.called);
+      };
       round = record {
-        none_fell = none_fell board net s w sweeps units news here c.requires.ready.workers_are some few between rounded m t over back;
-        some_rose = some_rose board net s w sweeps units news here c.requires.ready.workers_are some few between rounded m t over back;
-        none_rose = none_rose board net s w sweeps units news here c.requires.ready.workers_are some few between rounded m t over back;
-        divide = all_divide board net s w sweeps units news here c.requires.ready.workers_are some few between rounded m t over back;
-        seen = all_seen board net s w sweeps units news here c.requires.ready.workers_are some few between rounded m t over back;
+        none_fell = none_fell board net s w sweeps units news here on_board.workers_are some few between rounded m t over back;
+        some_rose = some_rose board net s w sweeps units news here on_board.workers_are some few between rounded m t over back;
+        none_rose = none_rose board net s w sweeps units news here on_board.workers_are some few between rounded m t over back;
+        divide = all_divide board net s w sweeps units news here on_board.workers_are some few between rounded m t over back;
+        seen = all_seen board net s w sweeps units news here on_board.workers_are some few between rounded m t over back;
         visits_are = c.in_ok-visits.ensures.visits ∙ ap (λ k. k + c.in_ok-visits.visits) rest.taken;
         visits_by_banks = subst (λ k. k ≤ sweeps * length net.banks) (sym c.in_ok-visits.ensures.sum)
-            (few_in_round board net s w sweeps units news here c.requires.ready.workers_are some few between rounded);
+            (few_in_round board net s w sweeps units news here on_board.workers_are some few between rounded);
         raises =
             added_raises units s t (sum_by raises_by news) (c.in_ok-visits.ensures.raises ∙ ap (λ rs. length rs + sum_by raises_by news) rest.raises)
-            (some_raise board net s w sweeps units news here c.requires.ready.workers_are some few between rounded);
+            (some_raise board net s w sweeps units news here on_board.workers_are some few between rounded);
         seats = back.seats ∙ rest.seats;
         paid_low = subst (λ (n : Net). IsAtMost t.paid (least n)) same_net c.clock-clock.ensures.paid_below_least;
         sights_low = subst (λ (n : Net). IsAtMost t.sights (least n)) same_net c.clock-clock.ensures.sights_below_least;
+        by_visits = record {
+          table = board.table;
+          workers = news;
+          rounded = rounded;
+          raises = c.in_ok-visits.ensures.made ∙ ap (λ rs. rs ++ raises_of_all news) rest.raises;
+          visits_are = c.in_ok-visits.ensures.sum;
+          back = subst (λ (u : Shown). IsBack w net u news t 0) c.in_ok-workers.ensures.rest
+              (subst (λ k. IsBack k net m news t 0) (sym on_board.workers_are)
+              (subst (λ (n : Net). IsBack board.table.workers n m news t 0) (sym here) back));
+        };
       };
-      called = rest_settled board net s w sweeps units news here c.requires.ready.workers_are some few between rounded m t over back c.close_workers.new.called again
-          (subst (λ (m : Net). HaveCalledFrom 0 m c.close_workers.new.called news) (sym here) c.in_ok-visits.ensures.called);
-      noted = subst (λ rs. HaveGrownAlike c.args.journal.now.raises c.close_workers.new.journal.raises rs t.raises) rest.raises c.in_ok-visits.ensures.noted;
+      noted = subst (λ rs. HaveGrownAlike c.args.state.now.journal.raises c.close_workers.new.state.journal.raises rs t.raises) rest.raises c.in_ok-visits.ensures.noted;
     }

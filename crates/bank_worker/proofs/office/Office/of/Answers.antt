@@ -1,6 +1,6 @@
 use Rattle.std.proofs.Common.{◌≡◌, ap, ◌∙◌, subst, sym, rules}
 use Rattle.bank_worker.specs.BankSets.{AreSetOut}
-use Rattle.bank_worker.specs.declared.office.Tools.{Tools}
+use Rattle.bank_worker.specs.declared.office.Workspace.{Workspace}
 use Rattle.bank_worker.specs.Offices.{banks_of_worker}
 use Rattle.bank_worker.specs.Rings.{is_among}
 use Rattle.bank_worker.specs.Views.{banks_of}
@@ -27,5 +27,5 @@ returns-clause-office c =
       creditors = search rules;
       marks = search rules;
       room = search rules;
-      mine = subst (λ (t : Tools). AreSetOut t.mine t.workers banks) (sym c.in_ok-tools.ensures.ok) out;
+      mine = subst (λ (t : Workspace). AreSetOut t.mine t.workers banks) (sym c.in_ok-workspace.ensures.ok) out;
     }

@@ -1,30 +1,23 @@
 use Rattle.std.proofs.Common.{◌≡◌, drop, ap, ◌∙◌, subst}
-use Rattle.bank_worker.specs.declared.office.Tools.{Tools}
 use Rattle.bank_worker.specs.Called.{AreCreditorsIn}
-use Rattle.bank_worker.specs.Rings.{creditors_of}
 use Rattle.bank_worker.specs.Views.{Crew}
 use Rattle.bank_worker.proofs.Calling.{creditors_called, known_creditors}
 use Rattle.bank_worker.proofs.worker.Worker.call_creditors.Goals as goal
 
 pub call_all-requires : goal.call_all-requires
 call_all-requires c =
-    let net = c.self.inside.seat.shows.net in
-    let noted = c.as_slice-2.result.now in
-    let are : noted ≡ creditors_of net =
-    c.as_slice-2.ensures.value ∙ ap (λ (t : Tools). t.creditors.items) c.deref.ensures ∙ c.self.invariant.creditors_are in
-    record { banks = known_creditors net noted c.self.invariant.network are }
+    let office = c.self.invariant.office in
+    record { banks = known_creditors c.self.inside.seat.shows.net c.creditors.result.now office.network (c.creditors.ensures ∙ office.creditors) }
 
 pub returns : goal.returns
 returns c =
     let net = c.self.inside.seat.shows.net in
-    let noted = c.as_slice-2.result.now in
     let now = c.call_all.new.called in
     let made = c.split_at.result.1.now in
-    let are : noted ≡ creditors_of net =
-    c.as_slice-2.ensures.value ∙ ap (λ (t : Tools). t.creditors.items) c.deref.ensures ∙ c.self.invariant.creditors_are in
     let is : made ≡ drop c.args.from c.self.inside.journal.raises = c.split_at.ensures.back ∙ ap (drop c.args.from) c.as_slice.ensures in
     record {
       kept = c.call_all.ensures.kept;
       creditors = subst (λ (w : Crew). AreCreditorsIn w.seat.shows.net now (drop c.args.from w.journal)) c.self.view_is
-          (subst (AreCreditorsIn net now) is (creditors_called net noted now made are c.call_all.ensures.creditors));
+          (subst (AreCreditorsIn net now) is
+          (creditors_called net c.creditors.result.now now made (c.creditors.ensures ∙ c.self.invariant.office.creditors) c.call_all.ensures.creditors));
     }

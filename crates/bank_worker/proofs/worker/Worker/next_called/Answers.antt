@@ -1,7 +1,6 @@
 use Rattle.std.proofs.Common.{◌≡◌, ◌<◌, ◌+◌, get_or, length, sym, ap, ◌∙◌, subst, arith}
-use Rattle.bank_worker.specs.declared.office.Tools.{Tools}
 use Rattle.bank_worker.specs.BankSets.{AreSetOut, is_in}
-use Rattle.bank_worker.specs.Views.{Crew, banks_held, desk_at}
+use Rattle.bank_worker.specs.Views.{Crew, banks_held, banks_of, desk_at}
 use Rattle.bank_worker.proofs.Calling.{AreInPlace, before_place, in_place, none_called, place_ahead}
 use Rattle.bank_worker.proofs.Manned.{length_banks}
 use Rattle.bank_worker.proofs.worker.Worker.next_called.Goals as goal
@@ -9,37 +8,40 @@ use Rattle.bank_worker.proofs.worker.Worker.next_called.Goals as goal
 pub returns-in-Some : goal.returns-in-Some
 returns-in-Some c =
     let a = c.self.inside in
+    let held = banks_held a.seat.shows in
+    let desks = a.office.desks in
     let banks = c.banks-banks.result.now in
-    let mine = c.deref.result.now.mine in
-    let workers = c.deref-in-Some.result.now.workers in
+    let here : banks ≡ banks_of desks = c.banks-banks.ensures ∙ ap banks_of c.desks.ensures in
+    let mine = c.banks.result.now in
+    let workers = c.workers.result in
     let b = c.in-Some.bank.0 in
     let from = c.args.from in
-    let held = banks_held a.seat.shows in
-    let out = subst (λ (t : Tools). AreSetOut mine t.workers held) (sym c.deref-in-Some.ensures)
-    (subst (λ (t : Tools). AreSetOut t.mine a.tools.value.workers held) (sym c.deref.ensures) c.self.invariant.set_out) in
-    let h : AreInPlace banks mine workers = in_place a.seat.shows a.desks banks mine workers c.self.invariant.desks c.banks-banks.ensures out in
-    let more : length banks ≡ length c.args.self.now.desks = length_banks a.desks banks c.banks-banks.ensures ∙ ap (λ (w : Crew). length w.desks) c.self.view_is in
+    let out = subst (λ n. AreSetOut mine n held) (sym c.workers.ensures) (subst (λ set. AreSetOut set a.office.workers held) (sym c.banks.ensures) c.self.invariant.office.mine) in
+    let h : AreInPlace banks mine workers = in_place a.seat.shows desks banks mine workers c.self.invariant.office.desks here out in
+    let more : length banks ≡ length c.args.self.now.desks = length_banks desks banks here ∙ ap (λ (w : Crew). length w.desks) c.self.view_is in
     let lt : from < length banks = omega (arith, c.requires, more, c.if-from-banks.false) in
     let f = c.in-Some.ensures.first in
     record {
       ahead = place_ahead banks mine workers from b h lt f.0 f.1;
       none_before = λ k ge less l.
-          let lk : k < length a.desks = omega (arith, l, ap (λ (w : Crew). length w.desks) c.self.view_is) in
+          let lk : k < length desks = omega (arith, l, ap (λ (w : Crew). length w.desks) c.self.view_is) in
           sym (ap (λ (w : Crew). is_in c.args.called.now (desk_at w.desks k).bank) c.self.view_is)
-          ∙ none_called a.seat.shows a.desks banks mine c.args.called.now workers from k b c.self.invariant.desks c.banks-banks.ensures h c.in-Some.ensures.none_before ge lk
+          ∙ none_called a.seat.shows desks banks mine c.args.called.now workers from k b c.self.invariant.office.desks here h c.in-Some.ensures.none_before ge lk
           (before_place banks mine workers b k h f.1 less);
     }
 
 pub returns-in-None-clause-none_before : goal.returns-in-None-clause-none_before
 returns-in-None-clause-none_before c k ge less l =
     let a = c.self.inside in
-    let banks = c.banks-banks.result.now in
-    let mine = c.deref.result.now.mine in
-    let workers = a.tools.value.workers in
     let held = banks_held a.seat.shows in
-    let out = subst (λ (t : Tools). AreSetOut t.mine workers held) (sym c.deref.ensures) c.self.invariant.set_out in
-    let h : AreInPlace banks mine workers = in_place a.seat.shows a.desks banks mine workers c.self.invariant.desks c.banks-banks.ensures out in
-    let lk : k < length a.desks = omega (arith, l, ap (λ (w : Crew). length w.desks) c.self.view_is) in
+    let desks = a.office.desks in
+    let banks = c.banks-banks.result.now in
+    let here : banks ≡ banks_of desks = c.banks-banks.ensures ∙ ap banks_of c.desks.ensures in
+    let mine = c.banks.result.now in
+    let workers = a.office.workers in
+    let out = subst (λ set. AreSetOut set workers held) (sym c.banks.ensures) c.self.invariant.office.mine in
+    let h : AreInPlace banks mine workers = in_place a.seat.shows desks banks mine workers c.self.invariant.office.desks here out in
+    let lk : k < length desks = omega (arith, l, ap (λ (w : Crew). length w.desks) c.self.view_is) in
     let to = get_or banks k 0 + 1 in
     sym (ap (λ (w : Crew). is_in c.args.called.now (desk_at w.desks k).bank) c.self.view_is)
-    ∙ none_called a.seat.shows a.desks banks mine c.args.called.now workers c.args.from k to c.self.invariant.desks c.banks-banks.ensures h (c.in-None.ensures.none to) ge lk (omega arith)
+    ∙ none_called a.seat.shows desks banks mine c.args.called.now workers c.args.from k to c.self.invariant.office.desks here h (c.in-None.ensures.none to) ge lk (omega arith)

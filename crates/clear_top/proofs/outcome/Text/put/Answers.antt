@@ -1,23 +1,23 @@
 -- The pieces that were written whole, and of one piece a part.
-use Rattle.std.proofs.Common.{map, refl, ap, ◌∙◌, subst, arith}
+use Rattle.std.proofs.Common.{map, ap, ◌∙◌, subst, arith}
 use Rattle.std.specs.List.{concat}
 use Rattle.std.proofs.lemmas.List.{length-map, take_all}
-use Rattle.clr_edge.specs.Faults.{HasRisen}
 use Rattle.clr_edge.specs.Sink.{with_bytes, WritesPart}
-use Rattle.clear_top.proofs.Pieces.{on_err, piece_part, piece_taken, with_nothing}
+use Rattle.clear_top.proofs.Pieces.{on_err, piece_part, piece_taken, risen_since, with_nothing}
 use Rattle.clear_top.proofs.outcome.Text.put.Goals as goal
 
 pub loop-piece-init : goal.loop-piece-init
-loop-piece-init g c = (with_nothing (g.S.Sink.written c.args.sink.now), refl)
+loop-piece-init g c = record { taken = with_nothing (g.S.Sink.written c.args.sink.now); no_fall = omega arith }
 
 pub loop-piece-preserved : goal.loop-piece-preserved
 loop-piece-preserved g c =
-    let pieces = c.as_slice-pieces.result.now in (
-      piece_taken (λ piece. piece.items) pieces c.loop-piece.piece-index _ c.loop-piece-test.true _ _ _
-          c.loop-piece.invariant.0
-          (c.in_ok-put_all.ensures.written ∙ ap (with_bytes (g.S.Sink.written c.loop-piece.sink)) (c.as_slice.ensures.value ∙ ap (λ v. v.items) c.piece-item.is)),
-      c.in_ok-put_all.ensures.well ∙ c.loop-piece.invariant.1,
-    )
+    let pieces = c.as_slice-pieces.result.now in
+    record {
+      taken = piece_taken (λ piece. piece.items) pieces c.loop-piece.piece-index _ c.loop-piece-test.true _ _ _
+          c.loop-piece.invariant.taken
+          (c.in_ok-put_all.ensures.written ∙ ap (with_bytes (g.S.Sink.written c.loop-piece.sink)) (c.as_slice.ensures.value ∙ ap (λ v. v.items) c.piece-item.is));
+      no_fall = omega (arith, c.loop-piece.invariant.no_fall, c.put_all.ensures.faults);
+    }
 
 pub returns-in_err-put_all-clause-part : goal.returns-in_err-put_all-clause-part
 returns-in_err-put_all-clause-part g c =
@@ -27,18 +27,16 @@ returns-in_err-put_all-clause-part g c =
     on_err c.from_residual.result (
       subst (WritesPart start end) (ap (λ ps. concat (map (λ piece. piece.items) ps)) c.as_slice-pieces.ensures.value ∙ c.self.view_is)
           (piece_part (λ piece. piece.items) c.as_slice-pieces.result.now c.loop-piece.piece-index _ c.loop-piece-test.true start mid end
-          c.loop-piece.invariant.0
+          c.loop-piece.invariant.taken
           (subst (WritesPart mid end) (c.as_slice.ensures.value ∙ ap (λ v. v.items) c.piece-item.is) c.in_err-put_all.ensures.part)),
-      subst (λ n. HasRisen n (g.S.Sink.faults c.put_all.new.sink)) c.loop-piece.invariant.1 c.in_err-put_all.ensures.failed,
+      risen_since _ _ _ c.loop-piece.invariant.no_fall c.in_err-put_all.ensures.failed,
     )
 
 pub returns-clause-written : goal.returns-clause-written
 returns-clause-written g c =
     let start = g.S.Sink.written c.args.sink.now in
-    let texts = map (λ piece. piece.items) c.as_slice-pieces.result.now in (
-      c.loop-piece.invariant.0
-          ∙ ap (λ ts. with_bytes start (concat ts)) (take_all c.loop-piece.piece-index texts
-          (omega (arith, length-map c.as_slice-pieces.result.now (λ piece. piece.items), c.loop-piece-test.false)))
-          ∙ ap (with_bytes start) (ap (λ ps. concat (map (λ piece. piece.items) ps)) c.as_slice-pieces.ensures.value ∙ c.self.view_is),
-      c.loop-piece.invariant.1,
-    )
+    let texts = map (λ piece. piece.items) c.as_slice-pieces.result.now in
+    c.loop-piece.invariant.taken
+    ∙ ap (λ ts. with_bytes start (concat ts)) (take_all c.loop-piece.piece-index texts
+    (omega (arith, length-map c.as_slice-pieces.result.now (λ piece. piece.items), c.loop-piece-test.false)))
+    ∙ ap (with_bytes start) (ap (λ ps. concat (map (λ piece. piece.items) ps)) c.as_slice-pieces.ensures.value ∙ c.self.view_is)

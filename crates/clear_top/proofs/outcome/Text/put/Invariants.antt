@@ -1,4 +1,4 @@
-use Rattle.std.proofs.Common.{map, take}
+use Rattle.std.proofs.Common.{◌≤◌, map, take}
 use Rattle.std.specs.List.{concat}
 use Rattle.clear_top.specs.Ending.{TakesWhole, sink_call}
 use Rattle.clear_top.proofs.outcome.Text.put.Given as goal
@@ -7,5 +7,8 @@ use Rattle.clear_top.proofs.outcome.Text.put.Given as goal
 abbrev pub invariant-loop-piece : goal.invariant-loop-piece
 invariant-loop-piece g l =
     let sink = g.S.Sink in
-    TakesWhole (sink_call (sink.written l.initial.sink) (sink.written l.sink) (sink.faults l.initial.sink) (sink.faults l.sink))
-    (concat (take l.piece-index (map (λ piece. piece.items) l.pieces)))
+    record {
+      taken : TakesWhole (sink_call (sink.written l.initial.sink) (sink.written l.sink) (sink.faults l.initial.sink) (sink.faults l.sink))
+          (concat (take l.piece-index (map (λ piece. piece.items) l.pieces)));
+      no_fall : sink.faults l.initial.sink ≤ sink.faults l.sink;
+    }

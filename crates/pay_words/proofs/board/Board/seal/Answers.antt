@@ -1,9 +1,9 @@
 use Rattle.std.proofs.Common.{◌≡◌, ℕ, ◌+◌, ◌-◌, ◌++◌, ◌∙◌, List, length, ap, arith}
 use Rattle.std.proofs.lemmas.List.{length-append}
+use Rattle.clear_core.proofs.Ordered.{length-ordered}
 use Rattle.clear_core.specs.History.{ordered}
 use Rattle.clear_core.specs.declared.event.Raise.{Raise}
 use Rattle.pay_words.specs.Views.{Panel, Chair}
-use Rattle.pay_words.proofs.Orders.{length-ordered}
 use Rattle.pay_words.proofs.board.Board.seal.Goals as goal
 
 -- how long the journal is

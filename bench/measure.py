@@ -1,0 +1,338 @@
+#!/usr/bin/env python3
+"""How long the program takes, in times of something known on the same input in the same run.
+
+    bench/measure.py [OPTION ..] TABLE [INPUT ..]
+
+TABLE is one of
+  tasks    every task beside `clear` by one worker, on the hardest networks within the limits; `stress` is told by the scenario
+  rules    `clear` and `central` by each rule beside `order`; INPUT is `largest` or `star`
+  workers  `clear` by 1, 2 and 4 workers beside `central`
+  rounds   one round and all of them beside reading alone; and a round that moves one unit, with 19,990 debts at rest beside it
+           and without: of `clear` (INPUT `unit`) and of `bounds` (INPUT `fall`)
+  reading  files read, and a journal of a million raises printed and replayed (INPUT `journal`), beside `wc` of the same bytes
+  peer     everything beside an unverified peer, plain Rust that reads the same files and prints the same texts: payments of a
+           network, files of 8 MB (INPUT `full`), payments with their journal (`both`), a journal replayed and a hundred
+           scenarios (`stress`)
+  others   the payments beside what a user would take instead: Eisenberg and Noe's algorithm and plain repetition in numpy,
+           pro rata, in real numbers; and networkx, which loads the graph and clears nothing
+INPUT is a network of bench/inputs.py, such as largest-order, core-mixed or chain; all that the table has where none is named.
+
+Of each row the first column has milliseconds of the whole process, the least of some runs by turns. The others have times of it.
+`over` is above the limit, MB the most memory that was held, and `same` whether both printed the same bytes.
+"""
+import argparse
+import os
+import pathlib
+import shutil
+import subprocess
+import sys
+import tempfile
+
+BENCH = pathlib.Path(__file__).resolve().parent
+ROOT = BENCH.parent
+sys.dont_write_bytecode = True
+sys.path.insert(0, str(BENCH))
+import inputs  # noqa: E402
+import timing  # noqa: E402
+from timing import Fault  # noqa: E402
+
+ONE = ("--workers", "1")
+HARDEST = """largest-order largest-mixed tight-order tight-mixed core-order core-mixed star-order star-webster one-debtor chain leak
+    ring-10-forward ring-10-reverse ring-1000-forward ring-1000-reverse dry-ring-10-forward dry-ring-10-reverse
+    dry-ring-100-forward dry-ring-100-reverse dry-ring-1000-forward dry-ring-1000-reverse linked-1 linked-20""".split()
+OF_THE_PEER = """largest-order largest-webster largest-mixed ordinary tight-order tight-mixed core-order core-mixed star-order
+    star-webster ring-10-forward ring-10-reverse ring-1000-forward ring-1000-reverse""".split()
+OF_OTHERS = "ordinary largest-order tight-order core-order star-order ring-10-forward ring-1000-forward".split()
+# The programs of bench/others, and the modules that they want.
+OTHERS = {"fictitious": "numpy", "iteration": "numpy", "graph": "networkx"}
+
+
+class Table:
+    """Rows of ratios: what the first job took in milliseconds, and the others in times of it."""
+
+    def __init__(self, options, title, base, columns, memory=(), more=()):
+        self.options, self.columns, self.memory = options, [base, *columns], memory
+        self.base = options.beside or base
+        if self.base not in self.columns:
+            raise Fault(f"no column {self.base}; there are {', '.join(self.columns)}")
+        heads = [f"{self.base}, ms", *(name for name in self.columns if name != self.base), *(f"MB, {name}" for name in memory), *more]
+        self.widths = [max(len(head), 8) + 2 for head in heads]
+        self.print(title, heads)
+
+    def print(self, label, cells):
+        print(f"{label:38}" + "".join(f"{cell:>{width}}" for cell, width in zip(cells, self.widths)), flush=True)
+
+    def row(self, label, jobs, ends={}, parts={}, more=()):
+        """Measures jobs by their columns. `ends` has the statuses of those that end otherwise than with 0, `parts` the number by which the
+        time of one is divided, and `more` what stands at the end, by the least seconds."""
+        best = timing.least(jobs, self.options.runs, self.options.limit, ends)
+        best = {name: took and took / parts.get(name, 1) for name, took in best.items()}
+        base = best.get(self.base)
+        ratios = [timing.ratio(best.get(name), base) for name in self.columns if name != self.base]
+        held = [timing.memory(jobs[name]) if best.get(name) else "-" for name in self.memory]
+        self.print(label, [timing.ms(base), *ratios, *held, *(text(best) for text in more)])
+
+
+class Program:
+    """The words of the program's runs."""
+
+    def __init__(self):
+        if os.environ.get("CLEARING"):
+            self.path = os.path.realpath(os.environ["CLEARING"])
+            if os.path.basename(self.path) == "first-look":
+                raise Fault(f"{os.environ['CLEARING']} is a first look, which is not proved")
+        else:
+            # Built first, if need be.
+            subprocess.run([ROOT / "clearing"], stdin=subprocess.DEVNULL, capture_output=True)
+            self.path = str(ROOT / "crates/clear_main/out/clear_main")
+        if not os.access(self.path, os.X_OK):
+            raise Fault("the program is not built")
+
+    def on(self, task, files, *more):
+        return [self.path, task, "--banks", files[0], "--debts", files[1], *more]
+
+    def words(self, task, name, *more):
+        return self.on(task, inputs.made(name), *more)
+
+    def kept(self, path, words):
+        """Runs the program with its output in a file, which it names."""
+        with open(path, "wb") as file:
+            subprocess.run(words, stdin=subprocess.DEVNULL, stdout=file, check=True)
+        return path
+
+
+def last_in_default(program, name):
+    """The last bank of the file that does not pay all that it owes, or the first bank where each does."""
+    done = subprocess.run(program.words("defaults", name, *ONE), capture_output=True, encoding="utf-8", check=True)
+    rows = [line.split(",") for line in done.stdout.splitlines()[1:]]
+    return next((row[0] for row in reversed(rows) if row[-1] in ("fundamental", "contagion")), rows[0][0])
+
+
+def tasks(program, options):
+    """A ring without cash (`dry`) stands beside `clear` of the same ring with one unit at a bank. `rescue` saves the last bank that
+    defaults, and `replay` has the journal that `clear` prints."""
+    columns = "check central replay defaults stress bounds rescue compress costs".split()
+    table = Table(options, "every task", "clear", columns)
+    for name in options.inputs or HARDEST:
+        journal = program.kept(f"{name}-journal.csv", program.words("clear", name, "--show", "journal", *ONE))
+        more = {
+            "replay": ("--journal", journal),
+            "defaults": ONE,
+            "stress": ("--scenarios", inputs.cuts(), *ONE),
+            "rescue": ("--bank", last_in_default(program, name), *ONE),
+            "costs": ("--keep", "500"),
+            "bounds": ONE,
+        }
+        jobs = {"clear": program.words("clear", name.replace("dry-", "one-"), *ONE)}
+        jobs.update({task: program.words(task, name, *more.get(task, ())) for task in columns})
+        table.row(name, jobs, parts={"stress": inputs.SCENARIOS})
+
+
+def rules(program, options):
+    table = Table(options, "by each rule", inputs.RULES[0], inputs.RULES[1:])
+    for family in options.inputs or ["largest", "star"]:
+        for task in ("clear", "central"):
+            table.row(f"{family}, {task}", {rule: program.words(task, f"{family}-{rule}") for rule in inputs.RULES})
+
+
+def workers(program, options):
+    table = Table(options, "clear, by workers", "central", ["1", "2", "4"])
+    for name in options.inputs or [*(f"largest-{rule}" for rule in inputs.RULES), "ring-10-forward"]:
+        jobs = {"central": program.words("central", name)}
+        table.row(name, jobs | {count: program.words("clear", name, "--workers", count) for count in ("1", "2", "4")})
+
+
+def rounds(program, options):
+    chosen = options.inputs or ["largest-order", "largest-mixed", "tight-order", "star-order", "unit", "fall"]
+    names = [name for name in chosen if name not in ("unit", "fall")]
+    if names:
+        table = Table(options, "clear by one worker", "reading", ["one round", "all rounds"])
+    for name in names:
+        jobs = {"reading": inputs.refused(name), "one round": inputs.without_claims(name), "all rounds": inputs.made(name)}
+        table.row(name, {job: program.on("clear", files, *ONE) for job, files in jobs.items()}, ends={"reading": (4,)})
+    if names != chosen:
+        table = Table(options, "a unit a round", "alone", ["at rest"])
+    for kind, what, task, more in (("unit", "100,000 rounds of clear", "clear", ONE), ("fall", "9,000,000 rounds of bounds", "bounds", ())):
+        if kind in chosen:
+            table.row(what, {rest: program.words(task, f"{kind}-{rest.replace(' ', '-')}", *more) for rest in ("alone", "at rest")})
+
+
+def reading(program, options):
+    """Of a network the program reads both files and refuses the last record. Of a file of 8 MB it says what it finds."""
+    others = {"program": program.path} | ({"other": os.path.realpath(options.other)} if options.other else {})
+    table = Table(options, "bytes read or printed", "wc", ["cat", *others], memory=list(others))
+
+    def row(label, files, words, ends=(0,)):
+        jobs = {tool: [shutil.which(tool), *files] for tool in ("wc", "cat")}
+        jobs.update({name: [path, *words[1:]] for name, path in others.items()})
+        table.row(label, jobs, ends={name: ends for name in others})
+
+    for name in options.inputs or ["largest-order", "star-order", *inputs.FULL, "journal"]:
+        if name == "journal":
+            words = program.words("clear", "long-journal", *ONE, "--sweeps", "1000")
+            journal = program.kept("journal.csv", [*words, "--show", "journal"])
+            replay = program.words("replay", "long-journal", "--journal", journal)
+            check_replay(replay, words, options.limit)
+            row("a journal, its payments printed", [journal], words)
+            row("a journal printed", [journal], [*words, "--show", "journal"])
+            row("a journal replayed", [journal], replay)
+        elif name in inputs.FULL:
+            row(name, inputs.made(name), program.words("check", name))
+        else:
+            files = inputs.refused(name)
+            row(name, files, program.on("check", files), ends=(4,))
+
+
+def check_replay(replay, clear, limit):
+    """A Fault where a journal does not replay to the payments."""
+    replayed = timing.output(replay, limit)
+    if replayed is None or replayed.partition(b"\n\n")[2] != timing.output(clear, limit):
+        raise Fault("the journal does not replay to the payments")
+
+
+def built_peer():
+    """The peer, built in the current folder."""
+    if not shutil.which("rustc"):
+        raise Fault("rustc is not on the path")
+    flags = ["--edition", "2021", "-C", "opt-level=3", "-C", "codegen-units=1", "-C", "panic=abort"]
+    subprocess.run(["rustc", *flags, "-o", "peer", BENCH / "peer/peer.rs"], check=True)
+    return os.path.abspath("peer")
+
+
+def peer(program, options):
+    path = built_peer()
+    chosen = options.inputs or [*OF_THE_PEER, "full", "both", "stress"]
+    names = [name for name in chosen if name not in ("full", "both", "stress")]
+    if names:
+        payments_of_the_peer(program, path, options, names)
+    for kind, table in (("full", full_of_the_peer), ("both", journals_of_the_peer), ("stress", scenarios_of_the_peer)):
+        if kind in chosen:
+            table(program, path, options)
+
+
+def payments_of_the_peer(program, path, options, names):
+    ways = {"clear": ("clear",), "1 worker": ("clear", *ONE), "1 w., 1000 sweeps": ("clear", *ONE, "--sweeps", "1000")}
+    ways["central"] = ("central",)
+    table = Table(options, "the payments", "peer", ways, memory=["1 worker", "peer"], more=["same"])
+    for name in names:
+        jobs = {"peer": [path, "clear", *inputs.made(name)]}
+        jobs |= {way: program.words(task, name, *more) for way, (task, *more) in ways.items()}
+
+        def same(best, jobs=jobs):
+            told = {timing.same(jobs[way], jobs["peer"], options.limit) for way in ways if best[way]}
+            return "NO" if "NO" in told else "yes" if "yes" in told else "-"
+
+        table.row(name, jobs, more=[same])
+
+
+def beside_the_peer(title, path, options):
+    """A table of the program beside its peer, as a call that adds a row."""
+    table = Table(options, title, "peer", ["program"], memory=["program", "peer"], more=["same"])
+
+    def row(label, words, peer_words, compare=True):
+        both = {"peer": [path, *peer_words], "program": words}
+        table.row(label, both, more=[lambda _: timing.same(words, both["peer"], options.limit) if compare else "-"])
+    return row
+
+
+def full_of_the_peer(program, path, options):
+    row = beside_the_peer("debts files of 8,388,608 bytes, check", path, options)
+    for name in inputs.FULL:
+        row(name, program.words("check", name), ["clear", *inputs.made(name)], compare=False)
+
+
+def journals_of_the_peer(program, path, options):
+    row = beside_the_peer("payments and journal, --show both", path, options)
+    for name in ("long-journal", "tight-order", "core-mixed", "largest-order"):
+        for count, sweeps in (("1", "1"), ("1", "1000"), ("4", "1")):
+            words = program.words("clear", name, "--workers", count, "--sweeps", sweeps, "--show", "both")
+            peer_words = ["run", *inputs.made(name), count, sweeps, "both"]
+            row(f"{name}, {count} workers, {sweeps} sweeps", words, peer_words, compare=count == "1")
+
+
+def scenarios_of_the_peer(program, path, options):
+    row = beside_the_peer("a journal, a hundred scenarios", path, options)
+    journal = program.kept("journal.csv", program.words("clear", "long-journal", *ONE, "--sweeps", "1000", "--show", "journal"))
+    words = program.words("replay", "long-journal", "--journal", journal)
+    row("replay, long-journal", words, ["replay", *inputs.made("long-journal"), journal])
+    for count in ("1", "4"):
+        row(f"stress, largest-order, {count} workers",
+            program.words("stress", "largest-order", "--scenarios", inputs.cuts(), "--workers", count),
+            ["stress", *inputs.made("largest-order"), str(inputs.SCENARIOS)])
+
+
+def python_with(module):
+    """A Python that has a module: PYTHON, this one, or the system's; None where none has it."""
+    for python in filter(None, (os.environ.get("PYTHON"), sys.executable, "/usr/bin/python3")):
+        if os.access(python, os.X_OK) and not subprocess.run([python, "-c", f"import {module}"], capture_output=True).returncode:
+            return python
+    return None
+
+
+def distance(jobs):
+    """How far both programs in numpy are from each other, in units at one bank, or why one gave no answer."""
+    paid = []
+    for name in ("fictitious", "iteration"):
+        if name not in jobs:
+            return "-"
+        done = subprocess.run(jobs[name], capture_output=True, encoding="utf-8")
+        if done.returncode:
+            return done.stderr.strip().splitlines()[-1].partition(":")[0]
+        paid.append([float(word) for word in done.stdout.split()])
+    return f"{max((abs(a - b) for a, b in zip(*paid)), default=0):.3g}"
+
+
+def others(program, options):
+    pythons = {name: python_with(module) for name, module in OTHERS.items()}
+    for name in [name for name, python in pythons.items() if python is None]:
+        print(f"{name}: left out, since no Python here has {OTHERS[name]}", file=sys.stderr)
+    table = Table(options, "the payments", "clearing", list(OTHERS), more=["far, units"])
+    for name in options.inputs or OF_OTHERS:
+        files = inputs.made(name)
+        jobs = {"clearing": program.on("clear", files, *ONE)}
+        jobs |= {other: [python, "-B", str(BENCH / f"others/{other}.py"), *files] for other, python in pythons.items() if python}
+        # The system of equations of a ring without cash has no single answer.
+        table.row(name, jobs, ends={"fictitious": (0, 1)}, more=[lambda _, jobs=jobs: distance(jobs)])
+
+
+TABLES = {"tasks": tasks, "rules": rules, "workers": workers, "rounds": rounds, "reading": reading, "peer": peer, "others": others}
+# Inputs that are no networks.
+KINDS = {"rules": {"largest", "star"}, "rounds": {*inputs.NETWORKS, "unit", "fall"}, "reading": {*inputs.NETWORKS, *inputs.FULL, "journal"},
+         "peer": {*inputs.NETWORKS, "full", "both", "stress"}}
+
+
+def options_of(words):
+    parser = argparse.ArgumentParser(prog="measure.py", usage="bench/measure.py [OPTION ..] TABLE [INPUT ..]", description=__doc__,
+                                     formatter_class=argparse.RawDescriptionHelpFormatter)
+    parser.add_argument("table", metavar="TABLE", choices=TABLES)
+    parser.add_argument("inputs", metavar="INPUT", nargs="*")
+    parser.add_argument("--runs", type=int, default=5, metavar="N", help="how often each job is run (5)")
+    parser.add_argument("--limit", type=float, default=60, metavar="SECONDS", help="the longest time of a run (60)")
+    parser.add_argument("--beside", metavar="COLUMN", help="the column whose times the others are told in, in place of the first")
+    parser.add_argument("--other", metavar="PROGRAM", help="another build of the program, as a column of `reading`")
+    options = parser.parse_intermixed_args(words)
+    known = KINDS.get(options.table, set(inputs.NETWORKS))
+    unknown = [name for name in options.inputs if name not in known]
+    if unknown:
+        parser.error(f"no input {', '.join(unknown)} of {options.table}; there are {', '.join(sorted(known))}")
+    if options.runs < 1:
+        parser.error("a run at least")
+    return options
+
+
+def main(words):
+    options = options_of(words)
+    options.other = options.other and os.path.abspath(options.other)
+    try:
+        program = Program()
+        with tempfile.TemporaryDirectory() as folder:
+            os.chdir(folder)
+            TABLES[options.table](program, options)
+    except (Fault, OSError, subprocess.CalledProcessError) as fault:
+        print(f"measure.py: {fault}", file=sys.stderr)
+        return 1
+    return 0
+
+
+if __name__ == "__main__":
+    sys.exit(main(sys.argv[1:]))

@@ -1,0 +1,65 @@
+use Rattle.std.proofs.Common.{◌+◌, length, ap, ◌∙◌, arith}
+use Rattle.pay_words.specs.Views.{is_marked}
+use Rattle.bank_worker.specs.Called.{KeepsOthers}
+use Rattle.bank_worker.proofs.Calling.{called_still, calls_more, calls_none}
+use Rattle.bank_worker.proofs.Sweeping.{few_in_all, round_made, round_more, round_start, round_stopped}
+use Rattle.bank_worker.proofs.worker.Worker.go_round.Goals as goal
+
+pub loop-init : goal.loop-init
+loop-init g c = record {
+  round = round_start c.args.self.now c.requires.idle.0 c.requires.idle.1 c.desks-desks.ensures.no_rings c.desks-desks.ensures.held;
+  called = c.requires.called;
+  others = λ b other is. is;
+  rung = calls_none c.args.self.now c.args.called.now;
+}
+
+pub sweep-requires-clause-visits : goal.sweep-requires-clause-visits
+sweep-requires-clause-visits g c =
+    omega (arith, few_in_all c.loop.counter (length c.args.self.now.desks) (omega arith) (omega (arith, c.desks-desks.ensures.desks, c.desks-desks.ensures.few)), c.loop.invariant.round.at_most)
+
+pub sweep-requires-clause-called : goal.sweep-requires-clause-called
+sweep-requires-clause-called g c =
+    called_still c.loop.self.seat.shows c.loop.self.desks c.loop.called c.call_anew.new.called c.call_anew.ensures.kept c.loop.invariant.called
+
+pub overflow_add-units : goal.overflow_add-units
+overflow_add-units g c =
+    record { fits = omega (arith, few_in_all c.loop.counter (length c.args.self.now.desks) (omega arith) (omega (arith, c.desks-desks.ensures.desks, c.desks-desks.ensures.few)), c.loop.invariant.round.low, c.in-Raised.ensures.few, ap (λ ds. length ds) c.loop.invariant.round.gone.grows.same.desks) }
+
+pub loop-preserved : goal.loop-preserved
+loop-preserved g c =
+    let e = c.in-Raised.ensures in
+    let h = c.loop.invariant in
+    let stay = c.call_anew.ensures.kept in
+    let kept : KeepsOthers c.loop.self.seat.shows c.loop.called c.sweep.new.called = λ b other is. e.others b other (stay b is) in
+    record {
+      round = round_more c.args.self.now c.loop.self c.sweep.new.self c.loop.counter c.in-Raised.more c.loop.units e.visits e.gone e.settled e.few h.round;
+      called = λ k lk _. record { divides = e.settled.divide k lk; seen = e.settled.seen k lk };
+      others = λ b other is. kept b (ap (λ bs. is_marked bs b) h.round.gone.grows.same.seat.banks ∙ other) (h.others b other is);
+      rung = calls_more c.args.self.now c.loop.self c.sweep.new.self c.loop.called c.sweep.new.called h.round.gone.grows.same.seat kept h.rung e.rung;
+    }
+
+pub returns-in-Mem : goal.returns-in-Mem
+returns-in-Mem g c =
+    let e = c.in-Mem.ensures in
+    let h = c.loop.invariant in
+    let stay = c.call_anew.ensures.kept in
+    let kept : KeepsOthers c.loop.self.seat.shows c.loop.called c.sweep.new.called = λ b other is. e.others b other (stay b is) in
+    record {
+      round = round_stopped c.args.self.now c.loop.self c.sweep.new.self c.args.sweeps c.loop.counter c.loop.units (omega arith) h.round e.same e.visits e.mem;
+      others = λ b other is. kept b (ap (λ bs. is_marked bs b) h.round.gone.grows.same.seat.banks ∙ other) (h.others b other is);
+      rung = calls_more c.args.self.now c.loop.self c.sweep.new.self c.loop.called c.sweep.new.called h.round.gone.grows.same.seat kept h.rung e.rung;
+    }
+
+pub returns-then-self-visits : goal.returns-then-self-visits
+returns-then-self-visits g c =
+    let e = c.in-Raised.ensures in
+    let h = c.loop.invariant in
+    let stay = c.call_anew.ensures.kept in
+    let kept : KeepsOthers c.loop.self.seat.shows c.loop.called c.sweep.new.called = λ b other is. e.others b other (stay b is) in
+    record {
+      round = round_made c.args.self.now c.sweep.new.self (c.loop.counter + 1) c.args.sweeps (c.loop.units + c.in-Raised.more) (omega arith) (omega arith) c.requires.sweeps.1
+          (omega (arith, c.desks-desks.ensures.desks, c.desks-desks.ensures.few))
+          (round_more c.args.self.now c.loop.self c.sweep.new.self c.loop.counter c.in-Raised.more c.loop.units e.visits e.gone e.settled e.few h.round);
+      others = λ b other is. kept b (ap (λ bs. is_marked bs b) h.round.gone.grows.same.seat.banks ∙ other) (h.others b other is);
+      rung = calls_more c.args.self.now c.loop.self c.sweep.new.self c.loop.called c.sweep.new.called h.round.gone.grows.same.seat kept h.rung e.rung;
+    }

@@ -1,0 +1,119 @@
+-- By which workers the raises of a run were made.
+use Rattle.std.proofs.Common.{◌≡◌, ℕ, suc, ◌+◌, ◌*◌, ◌<◌, All, List, [], ◌∷◌, ◌++◌, length, length-append, refl, sym, ap, ◌∙◌, arith, append-nil, append_assoc, sum_by}
+use Rattle.std.proofs.lemmas.Grind.{flat_map-append}
+use Rattle.std.proofs.lemmas.List.Elements.{All-append, All-push}
+use Rattle.std.proofs.lemmas.List.Sums.{sum_by-append, sum_by_push}
+use Rattle.clr_net.specs.Net.{Net}
+use Rattle.clear_core.specs.History.{ordered}
+use Rattle.clear_core.specs.declared.event.Raise.{Raise}
+use Rattle.pay_words.specs.declared.view.Shown.{Shown}
+use Rattle.pay_words.specs.Traces.{start_of}
+use Rattle.pay_words.specs.Views.{opening}
+use Rattle.bank_worker.specs.Views.{Crew}
+use Rattle.settle.specs.Between.{IsRoundByVisits, crews, raises_of_all}
+use Rattle.settle.specs.Drives.{AreRoundsFrom}
+use Rattle.settle.specs.Made.{AreMadeByBells, IsAllByBells, IsJournalByBells, Shift, raises_in, shifts, workers_of, workers_of_run}
+use Rattle.settle.specs.Rounds.{crew_at}
+use Rattle.settle.specs.Runs.{IsSettled}
+use Rattle.settle.specs.declared.plan.Plan.{Plan}
+use Rattle.settle.specs.declared.runs.Settled.{Settled}
+use Rattle.settle.proofs.Handed.{crew_there, length-crews}
+
+abbrev visits_in : List Shift → ℕ
+visits_in xs = sum_by (λ w. w.new.visits) xs
+
+-- these are the workers of one round, as they ended
+record AreOf (ws : List Crew) (xs : List Shift) : Type 0 where
+  by_bells : All IsAllByBells xs
+  raises : raises_in xs ≡ raises_of_all ws
+  visits : visits_in xs ≡ sum_by (λ w. w.visits) ws
+  as_many : length xs ≡ length ws
+
+-- so they are where each of them did nothing but visits by bells
+shifts_made : (os ws : List Crew) → length ws ≡ length os
+    → ((i : ℕ) → i < length os → IsAllByBells (record { old = crew_at os i; new = crew_at ws i })) → AreOf ws (shifts os ws)
+shifts_made [] [] l h = record { by_bells = λ k d lt. absurd (omega (arith, lt)); raises = refl; visits = refl; as_many = refl }
+shifts_made [] (w ∷ ws) l h = absurd (omega (arith, l))
+shifts_made (o ∷ os) [] l h = absurd (omega (arith, l))
+shifts_made (o ∷ os) (w ∷ ws) l h =
+    let own : Shift = record { old = o; new = w } in
+    let rest = shifts os ws in
+    let a = shifts_made os ws (omega (arith, l)) (λ i lt. h (suc i) (omega (arith, lt))) in
+    let each : sum_by (λ (k : Crew). k.visits) (w ∷ ws) ≡ 0 + w.visits + sum_by (λ (k : Crew). k.visits) ws = sum_by-append (λ (k : Crew). k.visits) (w ∷ []) ws in
+    record {
+      by_bells = All-push IsAllByBells rest own a.by_bells (h 0 (omega arith));
+      raises = flat_map-append (λ (x : Shift). x.new.seat.shows.raises) rest (own ∷ [])
+          ∙ ap (λ rs. rs ++ raises_in (own ∷ [])) a.raises ∙ ap (λ rs. raises_of_all ws ++ rs) (append-nil w.seat.shows.raises);
+      visits = sum_by_push (λ (x : Shift). x.new.visits) rest own ∙ omega (arith, a.visits, each);
+      as_many = omega (arith, length-append rest (own ∷ []), a.as_many);
+    }
+
+-- the workers of a round, which were handed their seats as it began
+made_in_round : (net : Net) (plan : Plan) (units visits : ℕ) (s t : Shown) (r : IsRoundByVisits net plan units visits s t)
+    → AreOf r.workers (shifts (crews plan.workers r.table s plan.workers) r.workers)
+made_in_round net plan units visits s t r =
+    let w = plan.workers in
+    let os = crews w r.table s w in
+    shifts_made os r.workers r.rounded.as_many (λ i lt.
+    let m = r.rounded.each i lt in
+    let is = crew_there w r.table s w i (omega (arith, lt, length-crews w r.table s w)) in
+    record {
+      no_visit = ap (λ (c : Crew). c.visits) is;
+      no_act = ap (λ (c : Crew). c.seat.shows.acts) is;
+      no_raise = ap (λ (c : Crew). c.seat.shows.raises) is;
+      units = m.units;
+      by_visits = m.rounded.by_visits;
+    })
+
+-- the workers of rounds one after another
+pub made_in_rounds : (net : Net) (plan : Plan) (s t : Shown) (ns : List ℕ) (rounds : AreRoundsFrom net plan s ns t)
+    → AreMadeByBells (workers_of net plan s t ns rounds) s t
+made_in_rounds net plan s t [] is = record {
+  by_bells = λ k d lt. absurd (omega (arith, lt));
+  raises = ap (λ (u : Shown). u.raises) is ∙ sym (append-nil s.raises);
+  visits = omega (arith, ap (λ (u : Shown). u.taken) is);
+}
+made_in_rounds net plan s t (n ∷ ns) (m, visits, before, r) =
+    let xs = workers_of net plan s m ns before in
+    let ys = shifts (crews plan.workers r.by_visits.table m plan.workers) r.by_visits.workers in
+    let a = made_in_rounds net plan s m ns before in
+    let b = made_in_round net plan n visits m t r.by_visits in
+    record {
+      by_bells = All-append IsAllByBells xs ys a.by_bells b.by_bells;
+      raises = r.by_visits.raises ∙ ap (λ rs. m.raises ++ rs) (sym b.raises) ∙ ap (λ rs. rs ++ raises_in ys) a.raises
+          ∙ append_assoc s.raises (raises_in xs) (raises_in ys)
+          ∙ ap (λ rs. s.raises ++ rs) (sym (flat_map-append (λ (x : Shift). x.new.seat.shows.raises) xs ys));
+      visits = omega (arith, r.visits_are, r.by_visits.visits_are, a.visits, b.visits, sum_by-append (λ (x : Shift). x.new.visits) xs ys);
+    }
+
+-- they are as many as rounds times workers
+as_many_in : (net : Net) (plan : Plan) (s t : Shown) (ns : List ℕ) (rounds : AreRoundsFrom net plan s ns t)
+    → length (workers_of net plan s t ns rounds) ≡ length ns * plan.workers
+as_many_in net plan s t [] is = omega arith
+as_many_in net plan s t (n ∷ ns) (m, visits, before, r) =
+    let w = plan.workers in
+    let xs = workers_of net plan s m ns before in
+    let ys = shifts (crews w r.by_visits.table m w) r.by_visits.workers in
+    omega (
+      arith,
+      length-append xs ys,
+      as_many_in net plan s m ns before,
+      (made_in_round net plan n visits m t r.by_visits).as_many,
+      r.by_visits.rounded.as_many,
+      length-crews w r.by_visits.table m w,
+    )
+
+-- the workers of a run
+pub journal_made : (net : Net) (past : List Raise) (plan : Plan) (settled : Settled) (run : IsSettled net past plan settled)
+    → IsJournalByBells past (workers_of_run run.at_rest.rounds_are) (settled.rounds * plan.workers) settled.visits settled.sealed.journal
+journal_made net past plan settled run =
+    let rest = run.at_rest in
+    let s = opening net (start_of net past) in
+    let ns = 0 ∷ rest.rounds_are.raised in
+    let made = made_in_rounds net plan s rest.master ns rest.rounds_are.ran in
+    record {
+      as_many = as_many_in net plan s rest.master ns rest.rounds_are.ran ∙ ap (λ n. n * plan.workers) (omega (arith, rest.rounds_are.as_many));
+      by_bells = made.by_bells;
+      journal_is = rest.journal_is ∙ ap (λ rs. ordered (past ++ rs)) made.raises;
+      visits_are = omega (arith, made.visits, rest.visits_are);
+    }

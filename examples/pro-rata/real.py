@@ -1,0 +1,47 @@
+"""Clears the two files of a folder in real numbers, pro rata, as Eisenberg and Noe (2001) do: the greatest payments.
+
+Usage: python3 real.py FOLDER [--one-class]
+
+A bank in default pays each debt of a class the same share of its claim, whatever its rule; its outside claim comes first. With
+--one-class all debts have one class. Prints what is paid on all debts, in units to a tenth, and which banks leave debts unpaid.
+"""
+import csv
+import pathlib
+import sys
+
+
+def read(folder, one_class):
+    """The banks by name, and the debts: debtor, creditor, class and claim."""
+    with open(folder / "banks.csv", encoding="utf-8") as file:
+        banks = {row["name"]: float(row["cash"]) - float(row.get("outside") or 0) for row in csv.DictReader(file)}
+    with open(folder / "debts.csv", encoding="utf-8") as file:
+        rows = [row for row in csv.DictReader(file) if row["debtor"]]
+    return banks, [(row["debtor"], row["creditor"], "1" if one_class else row["class"], float(row["claim"])) for row in rows]
+
+
+def paid_at_once(banks, debts, paid):
+    """What each debt is paid when each bank divides its cash and what it received of these payments."""
+    left = dict(banks)
+    for (_, creditor, _, _), amount in zip(debts, paid):
+        left[creditor] += amount
+    share = {}
+    for rank in sorted({debt[2] for debt in debts}):
+        for bank in banks:
+            owed = sum(claim for debtor, _, place, claim in debts if (debtor, place) == (bank, rank))
+            given = min(owed, max(left[bank], 0))
+            left[bank] -= given
+            share[bank, rank] = given / owed if owed else 0
+    return [claim * share[debtor, rank] for debtor, _, rank, claim in debts]
+
+
+def main(folder, one_class):
+    banks, debts = read(pathlib.Path(folder), one_class)
+    paid, last = [claim for *_, claim in debts], None
+    while last is None or max(map(abs, (a - b for a, b in zip(paid, last)))) > 1e-7:
+        paid, last = paid_at_once(banks, debts, paid), paid
+    short = {debtor for (debtor, _, _, claim), amount in zip(debts, paid) if amount < claim - 1e-6}
+    print(f"paid {sum(paid):.1f}, banks that leave debts unpaid: {len(short)}", *(bank for bank in banks if bank in short), sep="\n")
+
+
+if __name__ == "__main__":
+    main(sys.argv[1], "--one-class" in sys.argv[2:])

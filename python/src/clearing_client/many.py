@@ -1,0 +1,246 @@
+"""Many networks and any number of scenarios, side by side: in processes of this machine, or by an executor of others.
+
+The results come one after another, in the order of the networks and scenarios, so that what is held does not grow with them: a
+run has a few scenarios, and few runs are begun ahead of what is taken. Where an iterator is left before its end, what has not
+begun is called off.
+"""
+from __future__ import annotations
+
+import contextlib
+import multiprocessing
+import operator
+import os
+import signal
+from collections import deque
+from concurrent.futures import Executor, ProcessPoolExecutor
+from typing import IO, Any, Callable, Deque, Dict, Iterable, Iterator, List, NamedTuple, Optional, Tuple, TypeVar, Union
+
+from . import tabular
+from .errors import RefusedError
+from .format import MAX_SCENARIOS
+from .network import Network, ScenariosLike, as_scenarios, effort, is_file, read_file, toml_bytes
+from .records import BankCounts, ScenarioSums
+from .results import Outcome, Outcomes
+from .scenarios import Scenarios
+from .table import Table
+from .texts import outcomes_in, without_payments
+
+P = TypeVar("P")
+
+RECORDS = 50_000
+"""About how many records the outcomes of one run have, at least those of one scenario."""
+MOST_SUMMED = 25
+"""How many scenarios are summed up in a run."""
+
+
+class Part(NamedTuple):
+    """Scenarios of one run, or a file of them; how many stand before them, and whether they are the last."""
+
+    scenarios: Union[Scenarios, bytes]
+    before: int
+    last: bool
+    workers: int
+    sweeps: int
+
+
+class Sums(NamedTuple):
+    """Scenarios of one run in sums, and for each bank in how many of them it defaults, and in how many by its own doing."""
+
+    scenarios: List[ScenarioSums]
+    names: List[str]
+    defaults: List[int]
+    fundamental: List[int]
+
+
+def map_stress(
+    networks: Iterable[Network],
+    scenarios: ScenariosLike,
+    jobs: Optional[int] = None,
+    workers: int = 1,
+    sweeps: int = 1,
+    executor: Optional[Executor] = None,
+) -> Iterator[Outcome]:
+    """What the same scenarios leave of each network: an `Outcome` for each network and scenario, in the order of the
+    networks, and for each of them in that of the scenarios, as they come. `network` and `number` say whose it is.
+
+    networks   an iterable, of which no more are taken ahead than are begun
+    scenarios  as for `Network.stress`, but any number of them; a file has at most 100, and is one run
+    jobs       how many runs go side by side, as many as there are processors where it is not said
+    executor   what runs them, an `Executor` of `concurrent.futures` or what is used like one, such as Dask's
+               `client.get_executor()` or mpi4py's `MPIPoolExecutor()`; processes of this machine where it is not said. Its
+               workers need this package and the program, as `find_program` finds it there. It is not shut down.
+
+    The first fault is raised in the place of its outcome, and ends it.
+
+    >>> nets = [Network({"A": cash, "B": 0}, {("A", "B"): 10}) for cash in (10, 20)]
+    >>> [(one.number, one.total.defaults) for one in map_stress(nets, Scenarios.cuts([0, 100]))]
+    [(1, 0), (2, 1), (1, 0), (2, 0)]
+    """
+    known = scenarios_of(scenarios)
+    tasks = (
+        (net, part)
+        for net in networks
+        for part in parts_of(known, most_in_a_run(net), workers, sweeps)
+    )
+    return outcomes_of(in_turn(stressed, tasks, jobs, executor))
+
+
+def map_outcomes(
+    networks: Iterable[Network],
+    scenarios: ScenariosLike,
+    jobs: Optional[int] = None,
+    workers: int = 1,
+    sweeps: int = 1,
+    executor: Optional[Executor] = None,
+) -> Iterator[Outcomes]:
+    """What the same scenarios leave of each network in sums: an `Outcomes` for each network, in order, as they come. The
+    words are those of `map_stress`. Of each scenario its seven sums are kept, and no payment.
+
+    >>> nets = [Network({"A": cash, "B": 0}, {("A", "B"): 10}) for cash in (10, 20)]
+    >>> first, second = map_outcomes(nets, Scenarios.cuts([0, 100]))
+    >>> print(first.scenarios)
+    scenario  cash  paid  outside_paid  equity  defaults  fundamental
+    cut 0       10    10             0      10         0            0
+    cut 100      9     9             0       9         1            1
+    >>> second.banks[0]
+    BankCounts(bank='A', defaults=0, fundamental=0)
+    """
+    known = scenarios_of(scenarios)
+    tasks = ((net, part) for net in networks for part in parts_of(known, MOST_SUMMED, workers, sweeps))
+    return summed_up(in_turn(summed, tasks, jobs, executor))
+
+
+def scenarios_of(scenarios: ScenariosLike) -> Union[Scenarios, bytes]:
+    """The scenarios, or a file of them as it is."""
+    return read_file(scenarios) if is_file(scenarios) else as_scenarios(scenarios)
+
+
+def parts_of(scenarios: Union[Scenarios, bytes], most: int, workers: int, sweeps: int) -> Iterator[Part]:
+    """The scenarios in runs of at most so many; one run where there is none, as it reads the network."""
+    if isinstance(scenarios, bytes):
+        yield Part(scenarios, 0, True, workers, sweeps)
+        return
+    for at in range(0, max(1, len(scenarios)), most):
+        yield Part(scenarios[at : at + most], at, at + most >= len(scenarios), workers, sweeps)
+
+
+def most_in_a_run(net: Network) -> int:
+    """How many scenarios of a network have not too many records."""
+    records = sum(max(data.count(b"\n"), data.count(b"\r")) for data in (net._banks, net._debts))
+    return min(MAX_SCENARIOS, max(1, RECORDS // max(1, records)))
+
+
+# What is done here
+
+
+def in_turn(
+    work: Callable[[Network, Part], P],
+    tasks: Iterable[Tuple[Network, Part]],
+    jobs: Optional[int],
+    executor: Optional[Executor],
+) -> Iterator[Tuple[Network, Part, P]]:
+    """What the work makes of each task, in order. Besides those at work as many may wait to be taken."""
+    at_a_time = jobs or getattr(executor, "_max_workers", None) or os.cpu_count() or 1
+    own = None if executor is not None else own_pool(at_a_time)
+    pool: Any = executor if own is None else own
+    begun: Deque[Tuple[Network, Part, Any]] = deque()
+    try:
+        for net, part in tasks:
+            begun.append((net, part, pool.submit(work, net, part)))
+            if len(begun) >= 2 * at_a_time:
+                yield taken(begun)
+        while begun:
+            yield taken(begun)
+    finally:
+        for _, _, left in begun:
+            left.cancel()
+        if own is not None:
+            own.shutdown(wait=True)
+
+
+def taken(begun: Deque[Tuple[Network, Part, Any]]) -> Tuple[Network, Part, Any]:
+    """The first of those that have begun, with what it made."""
+    net, part, run = begun.popleft()
+    return net, part, run.result()
+
+
+def own_pool(jobs: int) -> ProcessPoolExecutor:
+    """Processes of this machine. They are forked where that can be, so that a script needs no `if __name__ == "__main__"`."""
+    how = "fork" if "fork" in multiprocessing.get_all_start_methods() else None
+    return ProcessPoolExecutor(jobs, multiprocessing.get_context(how), initializer=end_at_interrupt)
+
+
+def end_at_interrupt() -> None:
+    """An interrupt from the keyboard ends a process and its run in silence; that it came, the first process says."""
+    signal.signal(signal.SIGINT, signal.SIG_DFL)
+
+
+def outcomes_of(done: Iterator[Tuple[Network, Part, List[Outcome]]]) -> Iterator[Outcome]:
+    """The outcomes of the runs, each with its network."""
+    for net, _, outcomes in done:
+        for outcome in outcomes:
+            yield outcome.told("", net)
+
+
+def summed_up(done: Iterator[Tuple[Network, Part, Sums]]) -> Iterator[Outcomes]:
+    """The sums of the runs of each network together."""
+    parts: List[Sums] = []
+    for net, part, sums in done:
+        parts.append(sums)
+        if part.last:
+            yield together(parts, net)
+            parts = []
+
+
+def together(parts: List[Sums], net: Network) -> Outcomes:
+    """The sums of several runs of one network, with the text that says them."""
+    counts = [list(map(sum, zip(*(getattr(part, word) for part in parts)))) for word in ("defaults", "fundamental")]
+    scenarios = Table.of(ScenarioSums, [one for part in parts for one in part.scenarios])
+    banks = Table(BankCounts, [parts[0].names, *counts])
+    return Outcomes(scenarios, banks).told(text_of_table(scenarios) + "\n" + text_of_table(banks), net)
+
+
+def text_of_table(table: Table[Any]) -> str:
+    """A table as the program prints tables."""
+    return tabular.csv_of({name: list(map(str, table.column(name))) for name in table.columns}).decode()
+
+
+# What is done by a worker
+
+
+@contextlib.contextmanager
+def stream_of(net: Network, part: Part) -> Iterator[IO[bytes]]:
+    """What `stress` prints for the scenarios of a run, as it comes. A fault counts scenarios on from those before it."""
+    is_text = isinstance(part.scenarios, bytes)
+    document = part.scenarios if isinstance(part.scenarios, bytes) else toml_bytes(part.scenarios)
+    third, known = ("scenarios", "toml", document), None if is_text else part.scenarios
+    try:
+        with net._stream("stress", *effort(part.workers, part.sweeps), third=third, known=known) as stream:
+            yield stream
+    except RefusedError as fault:
+        row = fault.row + part.before if fault.file == "scenarios" and fault.row else fault.row
+        raise RefusedError(fault.file, row, fault.kind, fault.number, fault.record) from fault
+
+
+def stressed(net: Network, part: Part) -> List[Outcome]:
+    """The outcomes of a run, numbered on from those before it. Parsed where it runs."""
+    with stream_of(net, part) as stream:
+        return list(outcomes_in(stream, part.before))
+
+
+def summed(net: Network, part: Part) -> Sums:
+    """The sums of a run, of which no more than one scenario is held."""
+    scenarios: List[ScenarioSums] = []
+    names: List[str] = []
+    counts: Dict[str, List[int]] = {}
+    with stream_of(net, part) as stream:
+        for outcome in outcomes_in(without_payments(stream)):
+            states, sums = outcome.standings.column("state"), outcome.total
+            own = [state == "fundamental" for state in states]
+            line = (sums.cash, sums.paid, sums.outside_paid, sums.equity, sums.defaults, sum(own))
+            scenarios.append(ScenarioSums(outcome.name, *line))
+            names = outcome.standings.column("bank")
+            for word, falls in (("defaults", [state != "sound" for state in states]), ("fundamental", own)):
+                counts[word] = list(map(operator.add, counts.get(word, [0] * len(names)), falls))
+    names = names or net.banks.column("name")
+    return Sums(scenarios, names, *(counts.get(word, [0] * len(names)) for word in ("defaults", "fundamental")))

@@ -1,0 +1,1 @@
+"""Asks the program many times what would break a network, and what would save it."""

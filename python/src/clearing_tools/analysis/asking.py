@@ -1,0 +1,114 @@
+"""What is asked many times: the network, and how its banks stand in many scenarios or as things are, by the one parser of the
+program's texts."""
+import json
+import os
+import tempfile
+from collections import namedtuple
+
+from clearing_client import texts
+from clearing_client.errors import TextError
+from clearing_client.format import MAX_BYTES, MAX_SCENARIOS
+from clearing_client.records import Standing
+from clearing_client.results import Check, Defaults
+
+from .. import files
+from ..exports.workbook import content_of
+from ..runner import Failed, groups_of, program
+
+# Names, cash, rules and what is owed outside, by the banks' places; and the debts as records.
+Network = namedtuple("Network", "names cash rules outside debts")
+
+
+def answer_of(asking, words, kind):
+    """The answer to some words of the program, which is a result of this kind."""
+    try:
+        answer = texts.parse(asking.answer(words).decode())
+    except (TextError, UnicodeDecodeError) as fault:
+        raise Failed(f"{program()} did not print what `clearing {words[0]}` does") from fault
+    if not isinstance(answer, kind):
+        raise Failed(f"{program()} did not print what `clearing {words[0]}` does")
+    return answer
+
+
+def network_of(asking, words):
+    """The network as `clearing check` prints it."""
+    check = answer_of(asking, ["check", *words], Check)
+    columns = (check.banks.column(name) for name in ("name", "cash", "rule", "outside"))
+    return Network(*columns, list(check.debts))
+
+
+def defaults_of(asking, words):
+    """How the banks stand, by `clearing defaults`: a table of standings."""
+    return answer_of(asking, ["defaults", *words, "--workers", "1"], Defaults).standings
+
+
+def in_default(standings):
+    """The places of the banks in default, each with its state."""
+    return {place: state for place, state in enumerate(standings.column("state")) if state != "sound"}
+
+
+def scenario_text(cut, losses):
+    """A scenario with a cut per mille and losses, each a bank's name and units."""
+    lines = ['[[scenario]]\nname = "s"\n', f"cut = {cut}\n"]
+    for bank, amount in losses:
+        lines.append(f"[[scenario.loss]]\nbank = {json.dumps(bank, ensure_ascii=False)}\namount = {amount}\n")
+    return "".join(lines).encode()
+
+
+def scenario_groups(texts):
+    """The numbers of scenarios, in groups that a file of scenarios may have, for all processors."""
+    for group in groups_of(range(len(texts)), MAX_SCENARIOS):
+        part, size = [], 0
+        for number in group:
+            if part and size + len(texts[number]) > MAX_BYTES["scenarios"]:
+                yield part
+                part, size = [], 0
+            part.append(number)
+            size += len(texts[number])
+        yield part
+
+
+def stress(asking, folder, words, texts, take, what):
+    """What `take` makes of the table of standings of each scenario, in their order."""
+    groups = list(scenario_groups(texts))
+
+    def work(group):
+        handle, name = tempfile.mkstemp(suffix=".toml", dir=folder)
+        with open(handle, "wb") as file:
+            file.writelines(texts[number] for number in group)
+        output = asking.answer(["stress", *words, "--scenarios", name, "--workers", "1"])
+        os.unlink(name)
+        made = [take(standings) for standings in tables_of(output)]
+        if len(made) != len(group):
+            raise Failed(f"{program()} did not print a table for each scenario")
+        return made
+
+    return [made for part in asking.all(work, groups, what) for made in part]
+
+
+def tables_of(output):
+    """The table of standings of each scenario of what `clearing stress` prints. The payments are passed over unread."""
+    output = b"\n" + output
+    for header, without in ((texts.STANDINGS_1, "outside_paid"), (texts.STANDINGS_2, "")):
+        # No name has a comma or an end of a line, so that no other line is a header. A table ends at an empty line, or with the output.
+        mark = f"\n{header}\n".encode()
+        at = output.find(mark)
+        while at >= 0:
+            end = output.find(b"\n\n", at + 1)
+            lines = output[at : end if end >= 0 else len(output)].decode().strip("\n").split("\n")
+            try:
+                yield texts.records_of(Standing, lines[1:-2], 1, without)  # without the header, `total` and `cash`
+            except TextError as fault:
+                raise Failed(f"{program()} did not print what `clearing stress` does") from fault
+            at = output.find(mark, at + 1)
+
+
+def write(header, records, output, title="table"):
+    """Writes a table whole, or to standard output where there is no name; as a workbook where its ending asks for one. It ends with 5
+    where it cannot be written."""
+    write_tables({title: [header, *records]}, output)
+
+
+def write_tables(tables, output):
+    """Writes tables, each its records by its title."""
+    files.put(content_of(tables, output), output, status=5, folders=False)

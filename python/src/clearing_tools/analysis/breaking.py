@@ -1,0 +1,130 @@
+"""Finds for each bank the least cut of all cash at which it is no longer sound.
+
+In:   --banks FILE and --debts FILE, as `clearing` reads them
+      --loss BANK      asks for the least loss of this bank alone, in units, in place of a cut of all cash
+Out:  CSV on standard output, or in --output FILE: `bank,cut,state`, a line for each bank in file order. The cut is per mille, and the
+      state is that in which the bank is at this cut: `fundamental` or `contagion`. Where no cut breaks the bank the cut is 1001 and the
+      state `sound`. With --loss the header is `bank,loss,state`, and where not even all the cash of BANK breaks a bank, the loss is that
+      cash and one more. 0 is a bank that is in default as things are.
+      --picture FILE   a curve: how many banks are in default at each cut or loss, by how they stand at it. The kind of picture
+                       is the ending: .svg, .png or .pdf. It wants matplotlib.
+
+A smaller shock hurts nobody (stress::laws::milder_shock_hurts_nobody). So each bank has one such number, and it is sound exactly below
+it (stress::laws::sound_exactly_below_the_breaking_cut). It is found by `clearing stress`, a hundred scenarios a run, each round of which
+parts what is left for each bank. Answers that do not agree with the law are an error, which is told.
+
+The environment variable CLEARING names the program, the repository's where it is not set.
+
+Ends with 0; 1 where the program fails, an answer is against the law or a picture cannot be written; 2 where the words are not understood, an
+output would be written over an input, or matplotlib is missing; 3 where a file cannot be read; 4 where one is refused; 5 where the output cannot
+be written; 130 at an interrupt.
+
+Example:
+    tools/breaking.py --banks banks.csv --debts debts.csv --picture breaking.svg >breaking.csv
+"""
+from clearing_client.format import MAX_CUT, MAX_SCENARIOS
+
+from .. import cli
+from ..drawing import style
+from ..runner import Asking, Failed, command, processors, work_folder
+from . import asking as ask
+
+
+class Ranges:
+    """For each bank the greatest shock at which it is known to be sound, and the least at which it is known not to be."""
+
+    def __init__(self, banks, most):
+        self.low, self.high, self.state = [-1] * banks, [most + 1] * banks, ["sound"] * banks
+
+    def open(self):
+        """The pairs with shocks in between, each once."""
+        return sorted({(low, high) for low, high in zip(self.low, self.high) if high - low > 1})
+
+    def points(self, count):
+        """About so many shocks that part what is open evenly."""
+        found, pairs = set(), self.open()
+        each = max(1, count // max(1, len(pairs)))
+        for low, high in pairs:
+            parts = min(each + 1, high - low)
+            found.update(low + (high - low) * part // parts for part in range(1, parts))
+        return sorted(found)
+
+    def take(self, shock, states):
+        for bank, state in enumerate(states):
+            if state == "sound":
+                self.low[bank] = max(self.low[bank], shock)
+            elif shock < self.high[bank]:
+                self.high[bank], self.state[bank] = shock, state
+            if self.low[bank] >= self.high[bank]:
+                raise Failed(
+                    f"the program says that a bank is sound at {self.low[bank]} and not at {self.high[bank]}, a smaller shock: "
+                    "this is against stress::laws::milder_shock_hurts_nobody"
+                )
+
+
+def find(asking, folder, files, banks, most, text_of, is_drawn=False, states_of=lambda standings: standings.column("state"), count=None):
+    """The ranges, closed, where `text_of` makes the scenario of a shock, `states_of` gives the states of the banks that are asked for, and
+    about so many shocks are tried in a round. For a picture also those from which on a bank is in default by its own fundamentals, which a
+    smaller shock does not make it either."""
+    ranges, deep = Ranges(banks, most), Ranges(banks, most)
+    while points := sorted({*ranges.points(count or MAX_SCENARIOS * processors()), *(deep.points(MAX_SCENARIOS) if is_drawn else [])}):
+        texts = [text_of(shock) for shock in points]
+        for shock, states in zip(points, ask.stress(asking, folder, files, texts, states_of, "group of scenarios")):
+            ranges.take(shock, states)
+            if is_drawn:
+                deep.take(shock, [state if state == "fundamental" else "sound" for state in states])
+    return ranges, deep
+
+
+def draw(pyplot, ranges, deep, most, words):
+    """How many banks are in default at each shock, by how they stand at it; the axis ends soon behind the last change."""
+    falls = sorted(shock for shock in ranges.high if shock <= most)
+    depths = sorted(shock for shock in deep.high if shock <= most)
+    figure, axes = pyplot.subplots(figsize=(9, 4.6), layout="constrained")
+    last = max(falls + depths, default=most)
+    right = min(max(last * 1.06, 1), 1.01 * max(most, 1))
+    steps = sorted({0, right, *falls, *depths})
+    fundamental = [sum(shock <= step for shock in depths) for step in steps]
+    fallen = [sum(shock <= step for shock in falls) for step in steps]
+    for cause, below, above in (("fundamental", [0] * len(steps), fundamental), ("contagion", fundamental, fallen)):
+        axes.fill_between(steps, below, above, step="post", color=style.LIGHT[cause], label=f"{cause} at it", linewidth=0)
+    axes.step(steps, fallen, where="post", color="#1a1a1a", linewidth=0.8)
+    already = sum(shock == 0 for shock in falls)
+    axes.set_title(f"{len(falls)} of {len(ranges.high)} banks are in default at some point, {already} of them as things are", fontsize=11, loc="left", pad=26)
+    axes.set_xlim(0, right)
+    axes.set_ylim(0, max(1, len(falls)) * 1.08)
+    axes.yaxis.get_major_locator().set_params(integer=True)
+    axes.xaxis.set_major_formatter(lambda units, _: f"{units:,.0f}")
+    axes.set_xlabel(words)
+    axes.set_ylabel("banks in default")
+    # Above the axes, where no curve runs.
+    axes.legend(loc="lower left", bbox_to_anchor=(-0.01, 0.99), ncol=2, frameon=False, fontsize=9)
+    axes.spines[["top", "right"]].set_visible(False)
+    return figure
+
+
+@command()
+def main():
+    parser = cli.files_parser(__doc__)
+    parser.add_argument("--loss", metavar="BANK", help="ask for the least loss of this bank alone")
+    parser.add_argument("--output", metavar="FILE", help="the CSV, standard output where it is not given")
+    parser.add_argument("--picture", metavar="FILE", help="the picture to write")
+    asked = parser.parse_args()
+    cli.keep_inputs([asked.banks, asked.debts], [asked.output, asked.picture])
+    pyplot = style.pyplot_of() if asked.picture else None
+    asking, files = Asking(), cli.words_of(asked)
+    network = ask.network_of(asking, files)
+    if asked.loss is None:
+        most, kind, words = MAX_CUT, "cut", "cut of all cash, per mille"
+        text_of = lambda cut: ask.scenario_text(cut, [])
+    elif asked.loss in network.names:
+        most, kind = network.cash[network.names.index(asked.loss)], "loss"
+        words = f"loss of {style.in_short(asked.loss)}, in units"
+        text_of = lambda loss: ask.scenario_text(0, [(asked.loss, loss)])
+    else:
+        raise Failed(f"no bank has the name {asked.loss!r}", 4)
+    with work_folder() as folder:
+        ranges, deep = find(asking, folder, files, len(network.names), most, text_of, bool(pyplot))
+    if pyplot:
+        style.save(draw(pyplot, ranges, deep, most, words), asked.picture, folders=False)
+    ask.write(("bank", kind, "state"), zip(network.names, ranges.high, ranges.state), asked.output)

@@ -1,0 +1,1 @@
+"""Says all that is wrong with files or with a command line, with a hint for each."""

@@ -1,0 +1,51 @@
+"""What is odd in names that the program takes: signs that are not seen, what a spreadsheet takes for a formula, letters of several
+scripts, and names that look the same."""
+import re
+import unicodedata
+
+from ..runner import UNSEEN, shown
+
+# What goes together in one name: scripts that one language writes side by side.
+TOGETHER = [{"LATIN", "CJK", "HIRAGANA", "KATAKANA", "HANGUL", "BOPOMOFO"}]
+SCRIPT = re.compile("([A-Z]+)[ -].*(?:LETTER|SYLLABLE|IDEOGRAPH)")
+
+
+def script_of(letter):
+    """The script of a letter by its name in Unicode, or nothing where it has none of its own."""
+    if not unicodedata.category(letter).startswith("L"):
+        return None
+    found = SCRIPT.match(unicodedata.name(unicodedata.normalize("NFKC", letter)[0], ""))
+    return found[1] if found and found[1] != "MODIFIER" else None
+
+
+def scripts_of(name):
+    """The scripts of a name that do not go together, in the order of its letters; none where they do."""
+    found = list(dict.fromkeys(script for script in map(script_of, name) if script)) if not name.isascii() else []
+    return [] if len(found) < 2 or any(set(found) <= kinds for kinds in TOGETHER) else found
+
+
+def look_of(name):
+    """A name as it looks: without what is not seen, with one blank where there are several, and with each letter in one form."""
+    seen = UNSEEN.sub(lambda found: " " if unicodedata.category(found[0]) == "Zs" else found[0] if found[0] == "<" else "", name)
+    return unicodedata.normalize("NFC", " ".join(seen.split()))
+
+
+# What a spreadsheet takes for a formula at the start of a cell.
+FORMULA = re.compile(r"[=+@-]")
+
+
+def oddities(names):
+    """What is odd in some names, each once: the place of the name, and what it is."""
+    first = {}
+    for at, name in enumerate(names):
+        signs = list(dict.fromkeys(sign for sign in UNSEEN.findall(name) if sign != "<"))
+        if signs:
+            yield at, f"the name {shown(name)!r} has {' and '.join(f'U+{ord(sign):04X}' for sign in signs)}, which is not seen"
+        if FORMULA.match(name):
+            yield at, f"a spreadsheet takes the name {shown(name)!r} for a formula; import what has it as text"
+        scripts = scripts_of(name)
+        if scripts:
+            yield at, f"the name {shown(name)!r} has letters of {' and '.join(script.capitalize() for script in scripts)}"
+        other = names[first.setdefault(look_of(name), at)]
+        if other != name:
+            yield at, f"the names {shown(other)!r} and {shown(name)!r} look the same"

@@ -1,0 +1,202 @@
+"""Says which word of a command line `clearing` does not understand, and why.
+
+In:  WORDS.., the words of a command line of `clearing`, as they were typed; the name of the program may stand before
+     them: tools/why.py clearing stress --banks b.csv --debts d.csv --scenario s.toml. Nothing is run, and no file is
+     read. `why.py --help` alone prints this; the words --help among others are looked at as the others are.
+Out: on standard output a line for each fault: the number of the word, the word, what is wrong, and, where one is known,
+     what to do; and last what the words ask for, or how many faults they have. `clearing` ends with status 2 exactly
+     where there is a fault.
+
+Ends with 0 where the words are understood, with 1 where they are not, with 2 where there are no words, and with 5 where the
+output cannot be written.
+"""
+import difflib
+import os
+import re
+import sys
+
+from clearing_client.format import MAX_BANKS, MAX_KEEP, MAX_SEED, MAX_SWEEPS, MAX_TRIES, MAX_WORKERS, is_name
+
+from .. import runner
+from ..runner import command
+
+# What each task requires, and what it may have.
+FILES = ["banks", "debts"]
+WORKERS = ["workers", "sweeps"]
+TASKS = {
+    "check": (FILES, []),
+    "clear": (FILES, WORKERS + ["show"]),
+    "central": (FILES, []),
+    "defaults": (FILES, WORKERS),
+    "stress": (FILES + ["scenarios"], WORKERS),
+    "replay": (FILES + ["journal"], []),
+    "gen": (["seed", "size", "tries"], WORKERS),
+    "convert": (FILES, []),
+    "bounds": (FILES, WORKERS),
+    "rescue": (FILES + ["bank"], WORKERS),
+    "compress": (FILES, []),
+    "costs": (FILES + ["keep"], []),
+}
+SHOWN = ["payments", "journal", "both"]
+# The value of each option: the name of a file or a bank, one of some words, or a number from one to another.
+OPTIONS = {
+    "banks": "file",
+    "debts": "file",
+    "scenarios": "file",
+    "journal": "file",
+    "bank": "bank",
+    "workers": (1, MAX_WORKERS),
+    "sweeps": (1, MAX_SWEEPS),
+    "show": SHOWN,
+    "seed": (0, MAX_SEED),
+    "size": (1, MAX_BANKS),
+    "tries": (0, MAX_TRIES),
+    "keep": (0, MAX_KEEP),
+}
+
+
+class Reader:
+    """Reads the words one after another, and gathers faults: the number of a word, 0 for the whole, and what is wrong."""
+
+    def __init__(self, words):
+        self.words, self.faults = words, []
+        self.task, self.given = None, {}
+        self.read()
+
+    def add(self, at, what, hint=""):
+        self.faults.append((at, what + (f"; {hint}" if hint else "")))
+
+    def read(self):
+        at, is_over = 0, False
+        while at < len(self.words):
+            word = self.words[at]
+            at += 1
+            if not is_utf8(word):
+                self.add(at, "it is not UTF-8")
+            elif word == "--" and not is_over:
+                is_over = True
+            elif word.startswith("--") and not is_over:
+                at = self.read_option(at, word)
+            elif word.startswith("-") and word != "-" and not is_over:
+                self.add(at, "there are no options of one dash", f"is it -{word}?" if word[1:] in OPTIONS else "")
+            elif self.task is None:
+                self.task = word
+                self.check_task(at, word)
+            else:
+                self.add(at, f"the task is {shown(self.task)} already, and it is the only word that is no option", self.stray_hint(at, word))
+        self.check_uses()
+
+    def read_option(self, at, word):
+        """Takes an option and its value, and gives the place behind them."""
+        name, sign, value = word[2:].partition("=")
+        place = at
+        if not sign and at < len(self.words) and not (self.words[at].startswith("-") and self.words[at] != "-"):
+            value, at, sign = self.words[at], at + 1, " "
+        if name not in OPTIONS:
+            self.add(place, f"there is no option --{name}", option_hint(name))
+            return at
+        if name in self.given:
+            self.add(place, f"--{name} stands in word {self.given[name][0]} already; an option is given once")
+            return at
+        self.given[name] = (place, value)
+        if not sign:
+            hint = "a value does not begin with a dash" if at < len(self.words) else ""
+            self.add(place, f"--{name} has no value", hint)
+        elif not is_utf8(value):
+            self.add(at, f"the value of --{name} is not UTF-8")
+        else:
+            wrong = value_fault(OPTIONS[name], value)
+            if wrong:
+                self.add(at if sign == " " else place, f"{shown(value)} is no value of --{name}: {wrong}")
+        return at
+
+    def check_task(self, at, word):
+        if word not in TASKS:
+            close = difflib.get_close_matches(word.casefold(), TASKS, 1)
+            hint = f"is it {close[0]}?" if close else f"the tasks are {', '.join(TASKS)}"
+            self.add(at, f"there is no task {shown(word)}", hint)
+
+    def stray_hint(self, at, word):
+        if word in OPTIONS:
+            return f"is it --{word}?"
+        return "a value with a blank in it stands between quotes" if at > 1 and not self.words[at - 2].startswith("-") else ""
+
+    def check_uses(self):
+        """What the task does not take, and what it requires."""
+        if self.task is None:
+            self.add(0, "there is no task", f"the tasks are {', '.join(TASKS)}")
+        if self.task not in TASKS:
+            return
+        required, allowed = TASKS[self.task]
+        for name, (at, _) in self.given.items():
+            if name not in required + allowed:
+                others = [task for task, uses in TASKS.items() if name in uses[0] + uses[1]]
+                self.add(at, f"{self.task} has no option --{name}", f"it is of {', '.join(others)}")
+        for name in required:
+            if name not in self.given:
+                self.add(0, f"{self.task} requires --{name}")
+
+
+def is_utf8(word):
+    return not any(0xD800 <= ord(c) <= 0xDFFF for c in word)
+
+
+def shown(text):
+    return runner.shown(repr(text))
+
+
+def option_hint(name):
+    if name in ("help", "h", "version"):
+        return "docs/FORMATS.md and the manual page say what there is"
+    close = difflib.get_close_matches(name.casefold().lstrip("-"), OPTIONS, 1)
+    return f"is it --{close[0]}?" if close else f"the options are {', '.join(f'--{option}' for option in OPTIONS)}"
+
+
+def value_fault(kind, value):
+    """What is wrong with a value of an option, or nothing."""
+    if kind == "file":
+        return "the name of a file is not empty, and does not begin with a dash" if value == "" or value.startswith("-") else None
+    if kind == "bank":
+        return bank_fault(value)
+    if kind is SHOWN:
+        return None if value in SHOWN else f"it is one of {', '.join(SHOWN)}"
+    least, most = kind
+    if not re.fullmatch("[0-9]{1,20}", value):
+        return "a number is 1 to 20 digits 0 to 9, and nothing else"
+    return None if least <= int(value) <= most else f"it is a number from {least:,} to {most:,}"
+
+
+def bank_fault(value):
+    if value.startswith("-"):
+        return "a bank whose name begins with a dash cannot be named"
+    if not 1 <= len(value.encode()) <= 64:
+        return "a name has 1 to 64 bytes"
+    return None if is_name(value) else "a name has no comma, double quote or control character"
+
+
+def faults_of(words):
+    """The faults of the words after the program's name, each with the number of its word, in the order of the words."""
+    return sorted(Reader(words).faults, key=lambda fault: fault[0] or len(words) + 1)
+
+
+@command("why.py")
+def main():
+    words = sys.argv[1:]
+    if words in (["--help"], ["-h"]):
+        print(f"usage: why.py WORDS..\n\n{__doc__.strip()}")
+        return 0
+    if not words:
+        print("why: error: there are no words; --help says more", file=sys.stderr)
+        return 2
+    before = 1 if os.path.basename(words[0]) == "clearing" else 0
+    words = words[before:]
+    reader = Reader(words)
+    faults = faults_of(words)
+    sys.stdout.reconfigure(encoding="utf-8", errors="backslashreplace")
+    for at, what in faults:
+        print(f"word {at + before} {shown(words[at - 1])}: {what}" if at else what)
+    if faults:
+        print("1 fault" if len(faults) == 1 else f"{len(faults)} faults")
+    else:
+        print(f"understood: the task {reader.task}")
+    return 1 if faults else 0

@@ -1,0 +1,74 @@
+"""The words of a command line that several tools take."""
+import argparse
+import os
+from typing import Any, Callable, List, NoReturn, Optional, Sequence
+
+from . import files
+from .runner import Failed, same_file, shown
+
+
+class Parser(argparse.ArgumentParser):
+    """A parser whose messages can be read, whatever the words are that it does not understand."""
+
+    def error(self, message: str) -> NoReturn:
+        """Tells the fault and ends with 2."""
+        super().error(shown(message))
+
+
+def parser_of(doc: Optional[str], **more: Any) -> Parser:
+    """A parser of words whose help is a text: its first paragraph before the words, the rest behind them."""
+    summary, _, rest = (doc or "").partition("\n\n")
+    return Parser(
+        description=summary, epilog=rest, formatter_class=argparse.RawDescriptionHelpFormatter, allow_abbrev=False, **more
+    )
+
+
+def parser_with(doc: Optional[str]) -> argparse.ArgumentParser:
+    """A parser of words whose help begins with a whole text, and which takes the beginning of a word for the word."""
+    return Parser(description=doc, formatter_class=argparse.RawDescriptionHelpFormatter)
+
+
+def files_parser(doc: Optional[str]) -> argparse.ArgumentParser:
+    """A parser of words that takes the two files of a network, with this text as its help."""
+    parser = parser_of(doc)
+    parser.add_argument("--banks", metavar="FILE", required=True, help="the banks file")
+    parser.add_argument("--debts", metavar="FILE", required=True, help="the debts file")
+    return parser
+
+
+def words_of(asked: argparse.Namespace) -> List[str]:
+    """The two files as words of the program."""
+    return [f"--banks={asked.banks}", f"--debts={asked.debts}"]
+
+
+def number_in(least: int, most: int) -> Callable[[str], int]:
+    """A reader of a number of 1 to 20 digits within limits, as the program takes it."""
+
+    def read(word: str) -> int:
+        if not (word.isascii() and word.isdigit() and len(word) <= 20 and least <= int(word) <= most):
+            raise argparse.ArgumentTypeError(f"{word!r} is not a number from {least:,} to {most:,}")
+        return int(word)
+
+    return read
+
+
+def parse_most(parser: argparse.ArgumentParser, what: str, most: int) -> argparse.Namespace:
+    """The words, with --most among them: how many of something are shown at most, at least 1."""
+    parser.add_argument("--most", metavar="N", type=int, default=most, help=f"how many {what} at most ({most})")
+    asked = parser.parse_args()
+    if asked.most < 1:
+        parser.error("--most is at least 1")
+    return asked
+
+
+def keep_inputs(inputs: Sequence[Optional[str]], outputs: Sequence[Optional[str]]) -> None:
+    """Fails where an output is one of the inputs, or another output. Who may not read the inputs may not read the outputs."""
+    files.READ.extend(name for name in inputs if name is not None)
+    taken = [name for name in inputs if name is not None]
+    for name in outputs:
+        if name is None:
+            continue
+        for other in taken:
+            if os.path.realpath(name) == os.path.realpath(other) or same_file(name, other):
+                raise Failed(f"{name} would be written over", 2)
+        taken.append(name)

@@ -1,0 +1,576 @@
+"""Checks a journal of raises, and the payments and defaults that go with it, without the program.
+
+In:   --banks FILE --debts FILE    the network (docs/FORMATS.md)
+      --journal FILE               what `clearing clear --show journal` prints, or a journal that anybody made
+      --payments FILE              what `clearing clear` prints
+      --defaults FILE              what `clearing defaults` prints
+Out:  a line for each thing looked at: `49 raises lawful`, `nobody can pay more`, `payments same`, `defaults same`, and what was
+      not checked. Where something is wrong the line says where, and the lines that would follow from it are left out.
+
+Ends with 0 where all holds; 1 where payments or defaults are not those of the journal; 2 where the words are not understood; 3 where
+a file cannot be read; 4 where a file is not of its format (its first fault is named as `clearing` names it); 5 where the output
+cannot be written; 7 where the journal is not lawful, or somebody can still pay; 130 at an interrupt.
+
+It shares no code with the program or with other tools. What follows is all that it stands on. All numbers are whole units.
+
+  Network. Banks, each with a name, cash, a rule, and what it owes outside; and debts, each with a debtor, a creditor, a class
+  of 1 to 9 and a claim. Payments say of each debt how much of its claim is paid.
+
+  Dividing. A bank divides its cash and what it has received, less what it owes outside; nothing where that is more. The classes 1
+  to 9 come in turn: each gets what is left, and at most its claims. Within a class units are given out one by one. A debt that
+  has all its claim is out. Of the others the next unit goes to the earliest, in file order, that none goes before. A debt of
+  claim c that has k units goes before one of claim d that has m units, by the bank's rule,
+
+      order  never                  jefferson  where c (m + 1) > d (k + 1)
+      equal  where k < m            webster    where c (2 m + 1) > d (2 k + 1)
+      losses where c - k > d - m    adams      where c m > d k
+
+  Clearing. Payments clear where every bank pays on each of its debts exactly what it gets so, from what these payments bring it.
+  Of all payments that clear there are the least: no others that clear pay less on any debt. They are what is asked for.
+
+  Journal. Raises, one after another, from nothing paid. A raise of a debt to an amount is lawful where its stamp is not below that of
+  the raise before, and the amount is above what is paid on the debt, and at most what the debt gets when its debtor divides what it
+  has by then. Lawful raises never pass the least payments that clear. So where they end in payments that clear, where nobody
+  can pay more, these are the least, whoever made the journal and in whatever order. That is a law, proved in this repository:
+  raise_journal::laws::lawful_journals_pay_the_least (and clear_core::laws::standing_journal_stays_below_least).
+
+  Standing. A bank's estate is its cash and what it received. Of it the bank pays outside what it owes there, as far as it goes; it
+  pays its debts; its equity is the rest. It is sound where it pays all that it owes. If not it is in default by its own
+  fundamentals where its cash and all claims on others are less than all that it owes, and else by contagion.
+"""
+import argparse
+import heapq
+import io
+import itertools
+import math
+import os
+import re
+import sys
+from collections import namedtuple
+
+Bank = namedtuple("Bank", "name cash rule outside")
+Debt = namedtuple("Debt", "debtor creditor rank claim")  # debtor and creditor by their place among the banks
+Network = namedtuple("Network", "banks debts")
+Verdict = namedtuple("Verdict", "kind numbers paid")  # of a journal: lawful, falls, unlawful or unfinished
+
+KINDS = {
+    "header": 1, "fields": 2, "name": 3, "number": 4, "rule": 5, "limit": 6, "double bank": 7, "unknown bank": 8, "self debt": 9,
+    "class": 10, "double debt": 11, "too many": 12, "total": 13, "file size": 14, "unknown debt": 15,
+}
+BANKS, BANKS_2 = b"name,cash,rule".split(b","), b"name,cash,rule,outside".split(b",")
+DEBTS, JOURNAL = b"debtor,creditor,class,claim".split(b","), b"stamp,debtor,creditor,class,to".split(b",")
+SIZES = {"banks": 8_388_608, "debts": 8_388_608, "journal": 1_600_000_000}
+MOST_TABLE = 8_388_608  # no payments or defaults are longer
+
+
+def shown(text):
+    """A text for one line of a terminal: what is not seen there, or would change how it is seen, stands as its code."""
+    text = os.fsdecode(text)
+    return "".join(c if c.isprintable() else f"<U+{ord(c):04X}>" for c in text)
+
+
+class Parser(argparse.ArgumentParser):
+    """A parser whose messages can be read, whatever the words are that it does not understand."""
+
+    def error(self, message):
+        super().error(shown(message))
+
+
+class Refused(Exception):
+    """The first fault of a file, as the program names it."""
+
+    def __init__(self, file, row, kind):
+        super().__init__(f"{file} row {row}: {kind} ({KINDS[kind]})")
+
+
+# Files.
+
+PLAIN = re.compile(rb"[^,\r\n]*")
+LINE_ENDS = re.compile(rb"[\r\n]*")
+QUOTES = re.compile(rb'"+')
+# No record has more fields than five. What stands in further ones is kept as one, without its commas and blanks.
+MOST_FIELDS = 6
+
+
+def quoted(data, at):
+    """The field that begins with a quote at a place, and the place behind it. Between quotes two quotes are one; what follows the closing
+    quote belongs to the field."""
+    found = QUOTES.match(data, at)
+    # An odd number of quotes at the start opens the field and leaves pairs; an even one closes it again.
+    if len(found[0]) % 2:
+        found = next((each for each in QUOTES.finditer(data, found.end()) if len(each[0]) % 2), None)
+    close = found.end() - 1 if found else len(data)
+    rest = PLAIN.match(data, close + 1)
+    return data[at + 1 : close].replace(b'""', b'"') + rest[0], rest.end()
+
+
+def records(data):
+    """The records of a file: lists of fields without the spaces and tabs at their ends. A line with no byte is none."""
+    data = data.removeprefix(b"\xef\xbb\xbf")
+    if b'"' not in data:
+        for line in io.BytesIO(data.replace(b"\r", b"\n") if b"\r" in data else data):
+            if line != b"\n":
+                fields = [field.strip(b" \t") for field in line.removesuffix(b"\n").split(b",", MOST_FIELDS)]
+                if len(fields) > MOST_FIELDS:
+                    fields[-1] = fields[-1].strip(b" \t,")
+                yield fields
+        return
+    at = LINE_ENDS.match(data).end()
+    while at < len(data):
+        fields = []
+        while True:
+            if data[at : at + 1] == b'"':
+                field, at = quoted(data, at)
+            else:
+                found = PLAIN.match(data, at)
+                field, at = found[0], found.end()
+            field = field.strip(b" \t")
+            if len(fields) <= MOST_FIELDS:
+                fields.append(field)
+            elif field:
+                fields[-1] = field
+            if data[at : at + 1] != b",":
+                break
+            at += 1
+        yield fields
+        at = LINE_ENDS.match(data, at).end()
+
+
+def rows(file, data, *headers):
+    """First the header, then each record that has a field with a byte, with its row."""
+    found = records(data)
+    header = next(found, None)
+    if header not in headers:
+        raise Refused(file, 0, "header")
+    yield 0, header
+    for row, fields in enumerate(found, 1):
+        if any(fields):
+            yield row, fields
+
+
+def must(holds, file, row, kind):
+    if not holds:
+        raise Refused(file, row, kind)
+
+
+def is_name(field):
+    try:
+        text = field.decode()
+    except UnicodeDecodeError:
+        return False
+    return 1 <= len(field) <= 64 and not any(c in ',"' or c < " " or "\x7f" <= c <= "\x9f" for c in text)
+
+
+def number(field, most, file, row):
+    must(field.isdigit() and len(field) <= 20, file, row, "number")
+    found = int(field)
+    must(found <= most, file, row, "limit")
+    return found
+
+
+def bank_of(field, places, file, row):
+    must(is_name(field), file, row, "name")
+    must(field in places, file, row, "unknown bank")
+    return places[field]
+
+
+def rank_of(field, file, row):
+    must(len(field) == 1 and field in b"123456789", file, row, "class")
+    return int(field)
+
+
+def read_banks(data):
+    found = rows("banks", data, BANKS, BANKS_2)
+    width = len(next(found)[1])
+    banks, names = [], set()
+    for row, fields in found:
+        at = "banks", row
+        must(len(banks) < 1000, *at, "too many")
+        must(len(fields) == width, *at, "fields")
+        must(is_name(fields[0]), *at, "name")
+        must(fields[0] not in names, *at, "double bank")
+        cash = number(fields[1], 10**12, *at)
+        must(fields[2].decode("latin-1") in KEYS, *at, "rule")
+        outside = number(fields[3], 10**11, *at) if width == 4 else 0
+        names.add(fields[0])
+        banks.append(Bank(fields[0], cash, fields[2].decode(), outside))
+    return banks
+
+
+def read_debts(data, banks):
+    found = rows("debts", data, DEBTS)
+    next(found)
+    places = {bank.name: place for place, bank in enumerate(banks)}
+    debts, seen, owed = [], set(), 0
+    for row, fields in found:
+        at = "debts", row
+        must(len(debts) < 20_000, *at, "too many")
+        must(len(fields) == 4, *at, "fields")
+        debtor = bank_of(fields[0], places, *at)
+        creditor = bank_of(fields[1], places, *at)
+        must(debtor != creditor, *at, "self debt")
+        rank = rank_of(fields[2], *at)
+        claim = number(fields[3], 10**6, *at)
+        must((debtor, creditor, rank) not in seen, *at, "double debt")
+        owed += claim
+        must(owed <= 10**7, *at, "total")
+        seen.add((debtor, creditor, rank))
+        debts.append(Debt(debtor, creditor, rank, claim))
+    return debts
+
+
+def check_sizes(files):
+    """The sizes of all files come before their contents."""
+    for file, size in SIZES.items():
+        must(len(files.get(file, b"")) <= size, file, 0, "file size")
+
+
+def read_network(banks_data, debts_data):
+    check_sizes({"banks": banks_data, "debts": debts_data})
+    banks = read_banks(banks_data)
+    return Network(banks, read_debts(debts_data, banks))
+
+
+class Journal:
+    """The raises of a journal file, (stamp, debt, to) each. At their end `rounds` is the number of its last line, or None."""
+
+    def __init__(self, data, network):
+        self.data, self.network, self.rounds = data, network, None
+
+    def __iter__(self):
+        banks = self.network.banks
+        places = {bank.name: place for place, bank in enumerate(banks)}
+        debts = {
+            (banks[debt.debtor].name, banks[debt.creditor].name, b"%d" % debt.rank): x
+            for x, debt in enumerate(self.network.debts)
+        }
+        found = rows("journal", self.data, JOURNAL)
+        next(found)
+        held, count = next(found, None), 0
+        while held is not None:
+            (row, fields), held = held, next(found, None)
+            if held is None and len(fields) == 2 and fields[0] == b"rounds" and fields[1].isdigit() and len(fields[1]) <= 20:
+                self.rounds = int(fields[1])
+                return
+            must(count < 10_000_000, "journal", row, "too many")
+            must(len(fields) == 5, "journal", row, "fields")
+            stamp = number(fields[0], 2**32 - 1, "journal", row)
+            x = debts.get((fields[1], fields[2], fields[3]))
+            if x is None:
+                bank_of(fields[1], places, "journal", row)
+                bank_of(fields[2], places, "journal", row)
+                rank_of(fields[3], "journal", row)
+                raise Refused("journal", row, "unknown debt")
+            yield stamp, x, number(fields[4], 10**6, "journal", row)
+            count += 1
+
+
+# Dividing.
+
+# For each unit of a claim c but the first k, up to the last, a key: the unit with the smallest is given out next, of those with the
+# same key that of the earliest debt. A debt that has k units goes before another exactly where the key of its next unit is smaller. Two
+# fractions of claims up to 10^6 that differ do so by at least 10^-12, so that 10^12 times each, rounded down, differ in the same way.
+KEYS = {
+    "order": lambda c, k: itertools.repeat(0, c - k),
+    "equal": lambda c, k: range(k, c),
+    "losses": lambda c, k: range(k - c, 0),
+    "jefferson": lambda c, k: ((j + 1) * 10**12 // c for j in range(k, c)),
+    "webster": lambda c, k: ((2 * j + 1) * 10**12 // c for j in range(k, c)),
+    "adams": lambda c, k: (j * 10**12 // c for j in range(k, c)),
+}
+
+
+class Division:
+    """What the debts of a bank get, by their place among all debts, as it gives out more and more units.
+
+    What is meant is that all units go out one by one, and so they do without `leaps`. With them, of many units most go out at once: a
+    class that can be paid in full is, and of the next one all units with a key below some bound, as they come before the others. The
+    last ones go out one by one. Both ways give the same."""
+
+    def __init__(self, rule, debts, leaps=True):
+        self.rule, self.debts, self.units = rule, debts, 0
+        self.many = 5 * len(debts) if leaps else math.inf
+        self.given = {x: 0 for x, _ in debts}
+        self.turns = self.one_by_one()
+
+    def one_by_one(self):
+        """The debts that get the next units, in turn, from what is given on; each with the key of its unit."""
+        return itertools.chain.from_iterable(
+            heapq.merge(
+                *(
+                    zip(KEYS[self.rule](debt.claim, self.given[x]), itertools.repeat(x))
+                    for x, debt in self.debts
+                    if debt.rank == rank
+                )
+            )
+            for rank in sorted({debt.rank for _, debt in self.debts})
+        )
+
+    def up_to(self, units):
+        """Gives out what is missing up to so many units in all."""
+        if units - self.units > self.many:
+            self.leap(units)
+        given = self.given
+        for _, x in itertools.islice(self.turns, max(0, units - self.units)):
+            given[x] += 1
+        self.units = max(self.units, units)
+
+    def leap(self, units):
+        """Gives out at once what surely goes out before so many units have."""
+        parts, given, left = {}, {}, units
+        for x, debt in self.debts:
+            # By the rule `order` a debt gets all before a later one of its class gets a unit, as if it were a class of its own.
+            parts.setdefault((debt.rank, x if self.rule == "order" else 0), {})[x] = debt.claim
+        for _, part in sorted(parts.items()):
+            claims = list(part.values())
+            whole = sum(claims) <= left
+            shares = claims if whole else [left] if len(claims) == 1 else BELOW[self.rule](claims, left)
+            given.update(zip(part, shares))
+            left -= sum(shares)
+            if not (whole and left):
+                break
+        if units - left > self.units:
+            self.given.update(given)
+            self.units, self.turns = units - left, self.one_by_one()
+
+
+# Of each claim of a class the number of units with a key below a bound. The bound is such that these are at most so many units in all,
+# which are at least one and fewer than all claims.
+
+def below_equal(claims, units):
+    """At most so many of each claim. The number rises until what is left of the units is not one for each claim that can take it."""
+    most = 0
+    while True:
+        left = units - sum(min(claim, most) for claim in claims)
+        step = left // sum(claim > most for claim in claims)
+        if not step:
+            return [min(claim, most) for claim in claims]
+        most += step
+
+
+def below_losses(claims, units):
+    """All but so many of each claim: what is not given out is lost in equal parts."""
+    lost = sum(claims) - units
+    part = max(below_equal(claims, lost))
+    part += sum(min(claim, part) for claim in claims) < lost
+    return [max(0, claim - part) for claim in claims]
+
+
+def below_divisor(first, step):
+    """For a rule whose keys are first, first + step, first + 2 step and so on, each by the claim: in proportion to the claims. A claim
+    has at most (bound c - first) / step + 1 units below the bound, which is chosen so that all of them together come to the units."""
+
+    def below(claims, units):
+        bound = max(0, (step * (units - len(claims)) + first * len(claims)) * 10**12 // sum(claims))
+        return [max(0, ((bound * claim - 1) // 10**12 - first) // step + 1) for claim in claims]
+
+    return below
+
+
+BELOW = {
+    "equal": below_equal,
+    "losses": below_losses,
+    "jefferson": below_divisor(1, 1),
+    "webster": below_divisor(1, 2),
+    "adams": below_divisor(0, 1),
+}
+
+
+def divisions(network, leaps=True):
+    rows_of = [[] for _ in network.banks]
+    for x, debt in enumerate(network.debts):
+        rows_of[debt.debtor].append((x, debt))
+    return [Division(bank.rule, row, leaps) for bank, row in zip(network.banks, rows_of)]
+
+
+# The journal.
+
+def follow(network, raises, leaps=True):
+    """The verdict on raises. As they are lawful, no bank has less as they go on, and its division goes on with them; where a bank has
+    what it had, its division is what it was."""
+    banks, debts = network
+    dividing = divisions(network, leaps)
+    units, paid, last, count = [bank.cash - bank.outside for bank in banks], [0] * len(debts), 0, 0
+    raises = iter(raises)
+
+    def wrong(kind, *numbers):
+        for _ in raises:  # a fault of the file comes before the verdict, wherever it stands
+            pass
+        return Verdict(kind, numbers, paid)
+
+    for stamp, x, to in raises:
+        count += 1
+        if stamp < last:
+            return wrong("falls", count, last, stamp)
+        i, creditor, _, _ = debts[x]
+        division = dividing[i]
+        if division.units < units[i]:
+            division.up_to(units[i])
+        allowed = division.given[x]
+        if to <= paid[x] or to > allowed:
+            return wrong("unlawful", count, paid[x], allowed)
+        units[creditor] += to - paid[x]
+        paid[x], last = to, stamp
+    for i, division in enumerate(dividing):
+        division.up_to(units[i])
+        for x, given in division.given.items():
+            if paid[x] != given:
+                return Verdict("unfinished", (i, x, paid[x], given), paid)
+    return Verdict("lawful", (count,), paid)
+
+
+# Texts.
+
+def line(*fields):
+    return b",".join(field if isinstance(field, bytes) else str(field).encode() for field in fields) + b"\n"
+
+
+def payments_text(network, paid):
+    text = [line(b"debtor", b"creditor", b"class", b"claim", b"paid")]
+    for debt, units in zip(network.debts, paid):
+        names = (network.banks[place].name for place in (debt.debtor, debt.creditor))
+        text.append(line(*names, debt.rank, debt.claim, units))
+    return b"".join(text)
+
+
+def standings(network, paid):
+    """For each bank its estate, what it pays outside, pays, owes and keeps, and its state."""
+    banks, debts = network
+    received, pays, owes, claims = ([0] * len(banks) for _ in range(4))
+    for debt, units in zip(debts, paid):
+        received[debt.creditor] += units
+        pays[debt.debtor] += units
+        owes[debt.debtor] += debt.claim
+        claims[debt.creditor] += debt.claim
+    for i, bank in enumerate(banks):
+        estate = bank.cash + received[i]
+        outside = min(bank.outside, estate)
+        if outside == bank.outside and pays[i] == owes[i]:
+            state = "sound"
+        else:
+            state = "fundamental" if bank.cash + claims[i] < bank.outside + owes[i] else "contagion"
+        yield [estate, outside, pays[i], owes[i], estate - outside - pays[i]], state
+
+
+def defaults_text(network, paid):
+    shown = any(bank.outside for bank in network.banks)
+    pick = (lambda numbers: numbers) if shown else (lambda numbers: numbers[:1] + numbers[2:])
+    text = [line(b"bank", *pick([b"estate", b"outside_paid", b"paid", b"owed", b"equity"]), b"state")]
+    totals, defaults = [0] * 5, 0
+    for bank, (numbers, state) in zip(network.banks, standings(network, paid)):
+        text.append(line(bank.name, *pick(numbers), state))
+        totals = [a + b for a, b in zip(totals, numbers)]
+        defaults += state != "sound"
+    text.append(line(b"total", *pick(totals), defaults))
+    text.append(line(b"cash", sum(bank.cash for bank in network.banks)))
+    return b"".join(text)
+
+
+def difference(name, given, made):
+    """`payments same`, or the first line in which a given text is not the one that was made."""
+    if given == made:
+        return f"{name} same"
+    there, here = given.split(b"\n"), made.split(b"\n")
+    at = next((at for at, (a, b) in enumerate(zip(there, here)) if a != b), min(len(there), len(here)))
+    show = lambda lines: repr(lines[at][:200].decode("utf-8", "replace")) if at < len(lines) else "nothing"
+    return f"{name} differ: line {at + 1} is {show(there)}, and by the journal {show(here)}"
+
+
+def told(network, verdict):
+    """The verdict in words, a line for each."""
+    kind, numbers, _ = verdict
+    if kind == "lawful":
+        return [f"{numbers[0]} raises lawful", "nobody can pay more"]
+    if kind == "falls":
+        return ["raise {0} is not lawful: the stamp {2} is below {1}, that of the raise before".format(*numbers)]
+    if kind == "unlawful":
+        return ["raise {} is not lawful: {} is paid, and its debtor may pay {}".format(*numbers)]
+    i, x, paid, units = numbers
+    names = [network.banks[place].name.decode() for place in (i, network.debts[x].creditor)]
+    return [f"{names[0]} can pay more: {names[1]}, class {network.debts[x].rank}, has {paid} and is to get {units}"]
+
+
+def judge(files):
+    """What is told of the contents of these files, by their options, and the status."""
+    try:
+        check_sizes(files)
+        network = read_network(files["banks"], files["debts"])
+        journal = Journal(files["journal"], network)
+        verdict = follow(network, journal)
+    except Refused as fault:
+        return [str(fault)], 4
+    lines, status = told(network, verdict), 0 if verdict.kind == "lawful" else 7
+    if status == 0:
+        for name, text_of in (("payments", payments_text), ("defaults", defaults_text)):
+            if name in files:
+                lines.append(difference(name, files[name], text_of(network, verdict.paid)))
+                status = status if lines[-1].endswith(" same") else 1
+            else:
+                lines.append(f"{name}: none given")
+    if journal.rounds is not None:
+        lines.append(f"rounds {journal.rounds}: not checked")
+    return lines, status
+
+
+def content_of(option, name):
+    """The bytes of a file, some more than the limit of a longer one."""
+    content = io.BytesIO()
+    with open(name, "rb") as file:
+        while content.tell() <= SIZES.get(option, MOST_TABLE) and (block := file.read(1 << 20)):
+            content.write(block)
+    return content.getvalue()
+
+
+def with_streams():
+    """Has the three standard streams where one is closed: what is written to standard output is then a fault."""
+    for number, way in ((0, os.O_RDONLY), (1, os.O_RDONLY), (2, os.O_WRONLY)):
+        try:
+            os.fstat(number)
+        except OSError:
+            os.open(os.devnull, way)  # the lowest number that is free is this one
+    sys.stdout = sys.stdout or open(1, "w", closefd=False)
+    sys.stderr = sys.stderr or open(2, "w", closefd=False)
+
+
+def main():
+    summary, _, rest = __doc__.partition("\n\n")
+    parser = Parser(
+        description=summary, epilog=rest, formatter_class=argparse.RawDescriptionHelpFormatter, allow_abbrev=False
+    )
+    for option, what in [("banks", "the banks file"), ("debts", "the debts file"), ("journal", "the journal")]:
+        parser.add_argument(f"--{option}", metavar="FILE", required=True, help=what)
+    parser.add_argument("--payments", metavar="FILE", help="the payments to be compared")
+    parser.add_argument("--defaults", metavar="FILE", help="the table of defaults to be compared")
+    files = {}
+    for option, name in vars(parser.parse_args()).items():
+        if name is not None:
+            try:
+                files[option] = content_of(option, name)
+            except (OSError, ValueError):
+                print(f"audit.py: cannot read {shown(name)}", file=sys.stderr)
+                return 3
+    lines, status = judge(files)
+    if status == 4:
+        print(f"audit.py: {lines[0]}", file=sys.stderr)
+    else:
+        try:
+            sys.stdout.buffer.write("".join(shown(each) + "\n" for each in lines).encode())
+            sys.stdout.flush()
+        except OSError as fault:
+            print(f"audit.py: cannot write the output: {fault.strerror}", file=sys.stderr)
+            os.dup2(os.open(os.devnull, os.O_WRONLY), sys.stdout.fileno())
+            return 5
+    return status
+
+
+def run():
+    """The command, which ends with the status."""
+    with_streams()
+    try:
+        sys.exit(main())
+    except KeyboardInterrupt:
+        sys.exit(130)
+
+
+if __name__ == "__main__":
+    run()

@@ -1,0 +1,207 @@
+"""What belongs to a folder of evidence: its networks, its commands, its names, and what follows from what."""
+import hashlib
+import os
+import re
+import stat
+from collections import namedtuple
+
+from .. import runner
+from ..runner import ROOT, Failed
+from . import audit, shock
+
+BUILT = ROOT / "crates/clear_main/out/clear_main"
+UNREAD, SUMS, BANKS, JOURNAL, TABLES, PROGRAM = 3, 4, 5, 6, 7, 8
+
+# The texts that each folder has beside the inputs and what is printed.
+TEXTS = ("README.txt", "SHA256SUMS", "commands.tsv", "versions.txt")
+# What a file of a folder may be called, and how long it may be at most.
+FILE = re.compile(r"inputs/(banks\.csv|debts\.csv|scenarios\.toml)|README\.txt|SHA256SUMS|commands\.tsv|versions\.txt|stress\.csv|rescue/rescue\.csv"
+                  r"|source/(command\.tsv|summary\.csv|[0-9]+-[^/\0\t\n]{1,200})|(as-is|scenario-[1-9][0-9]{0,2}|rescue|unit-less)/(banks|journal|payments|defaults)\.csv")
+MOST = {"journal.csv": audit.SIZES["journal"], "stress.csv": 400_000_000}
+MOST_OF_OTHERS, MOST_OF_SHEETS = 8_388_608, 400_000_000
+VERSIONS = re.compile(rb"repository [ -~]{1,200}\nprogram [0-9a-f]{64}\ntoolchain [ -~]{1,200}\npython [ -~]{1,100}\n")
+
+# A network of the evidence: what it is called, its folder, and its banks file, none where that is the one of the inputs.
+Part = namedtuple("Part", "label folder banks")
+
+README = """Evidence for what `clearing` says of a network.
+
+source/        the sheets that the two files were made of, with the command and its summary, where it began there
+inputs/        the files as they were given, or made of the source
+as-is/         the network as it is: a journal of raises, the payments, the defaults
+scenario-1/ .. what each scenario leaves: the banks file, and the same three
+rescue/        the banks file with the least sum that saves a bank, and the same three
+unit-less/     with a unit less
+commands.tsv   the words and the status of each run of the program, from this folder
+versions.txt   of the repository, the program and the toolchain
+SHA256SUMS     checksums of all files: `sha256sum --check SHA256SUMS`
+
+`tools/evidence.sh check FOLDER` of the repository checks all this with Python alone. docs/FORMATS.md there has the files, and
+tools/audit.py says in its first lines what they mean.
+"""
+
+
+def contents(name, most=MOST_OF_OTHERS):
+    """The bytes of a file as far as the limit of its kind, and one more of a longer one; it ends with 3 where it cannot be read."""
+    try:
+        with open(name, "rb") as file:
+            return file.read(most + 1)
+    except (OSError, ValueError) as fault:
+        raise Failed(f"cannot read {audit.shown(name)}", 3) from fault
+
+
+def checksum(content):
+    return hashlib.sha256(content).hexdigest()
+
+
+def checksum_of(name, copy=None):
+    """The checksum of a plain file, read block by block, as far as its limit; what is read is written to a copy where one is open.
+    Nothing but a plain file is opened, and no link is followed."""
+    is_sheet = os.path.basename(os.path.dirname(name)) == "source"
+    most = MOST_OF_SHEETS if is_sheet else MOST.get(os.path.basename(name), MOST_OF_OTHERS)
+    number = os.open(name, os.O_RDONLY | os.O_NOFOLLOW | os.O_NONBLOCK)
+    with open(number, "rb", buffering=0) as file:
+        if not stat.S_ISREG(os.fstat(number).st_mode):
+            raise OSError(0, "it is no plain file")
+        found, size = hashlib.sha256(), 0
+        while block := file.read(1 << 20):
+            size += len(block)
+            if size > most:
+                raise OSError(0, f"it is longer than {most:,} bytes")
+            found.update(block)
+            if copy is not None:
+                copy.write(block)
+    return found.hexdigest()
+
+
+# What belongs to an evidence.
+
+
+def read_rescue(text):
+    """The bank, the sum and what is lacking with a unit less, as `clearing rescue` prints them, and the payments."""
+    head, _, payments = text.partition(b"\n\n")
+    try:
+        (_, bank, added), (_, short) = (each.split(b",") for each in head.split(b"\n"))
+        # Byte for byte as it is printed.
+        if len(added) <= 20 and len(short) <= 20 and head == b"rescue,%s,%d\nshort,%d" % (bank, int(added), int(short)):
+            return bank, int(added), int(short), payments
+    except ValueError:
+        pass
+    raise Failed("rescue.csv is not what `clearing rescue` prints", UNREAD)
+
+
+def with_added(banks, name, units):
+    if all(bank.name != name for bank in banks):
+        raise Failed("rescue.csv is of a bank that the inputs do not have", UNREAD)
+    return [bank._replace(cash=bank.cash + (units if bank.name == name else 0)) for bank in banks]
+
+
+def parts_of(banks, scenarios, rescue):
+    parts = [Part("as it is", "as-is", None)]
+    for number, scenario in enumerate(scenarios, 1):
+        left = shock.banks_text(shock.left_by(banks, scenario))
+        parts.append(Part(f"scenario {number}", f"scenario-{number}", left))
+    if rescue:
+        bank, added, _, _ = read_rescue(rescue)
+        parts.append(Part("rescue", "rescue", shock.banks_text(with_added(banks, bank, added))))
+        if added:
+            parts.append(Part("a unit less", "unit-less", shock.banks_text(with_added(banks, bank, added - 1))))
+    return parts
+
+
+def words_of(part):
+    """The banks and the debts of a network, as words of a command that runs in the folder of the evidence."""
+    banks = f"{part.folder}/banks.csv" if part.banks is not None else "inputs/banks.csv"
+    return ["--banks", banks, "--debts", "inputs/debts.csv"]
+
+
+def commands_of(parts, has_scenarios, rescued):
+    """Each file that the program prints, with the words that make it."""
+    inputs = ["--banks", "inputs/banks.csv", "--debts", "inputs/debts.csv"]
+    commands = []
+    if has_scenarios:
+        commands.append(("stress.csv", ["stress", *inputs, "--scenarios", "inputs/scenarios.toml"]))
+    if rescued is not None:
+        commands.append(("rescue/rescue.csv", ["rescue", *inputs, "--bank", rescued]))
+    for part in parts:
+        files = words_of(part)
+        commands.append((f"{part.folder}/journal.csv", ["clear", *files, "--show", "journal", "--workers", "1"]))
+        commands.append((f"{part.folder}/payments.csv", ["clear", *files, "--workers", "1"]))
+        commands.append((f"{part.folder}/defaults.csv", ["defaults", *files, "--workers", "1"]))
+    return commands
+
+
+def names_of(parts, commands, has_scenarios):
+    """The names of all files of an evidence."""
+    inputs = ["inputs/banks.csv", "inputs/debts.csv", *(["inputs/scenarios.toml"] if has_scenarios else [])]
+    banks = [f"{part.folder}/banks.csv" for part in parts if part.banks is not None]
+    return {*TEXTS, *inputs, *banks, *(file for file, _ in commands)}
+
+
+def sums_text(sums):
+    """SHA256SUMS of the checksums of some files by their names."""
+    return b"".join(b"%s  %s\n" % (sums[name].encode(), os.fsencode(name)) for name in sorted(sums))
+
+
+def commands_text(commands):
+    """A line for each command: the file, the status, and the words, with tabs between. No word has a tab."""
+    lines = [["file", "status", "words"]] + [[file, "0", *words] for file, words in commands]
+    return "".join("\t".join(line) + "\n" for line in lines).encode()
+
+
+def stress_of(scenarios, parts, read):
+    """What `clearing stress` is to print, from the payments and defaults of each scenario."""
+    blocks = []
+    for scenario, part in zip(scenarios, parts[1:]):
+        tables = read(f"{part.folder}/payments.csv") + read(f"{part.folder}/defaults.csv")
+        blocks.append(b"scenario," + scenario.name.encode() + b"\n" + tables)
+    return b"\n".join(blocks)
+
+
+def state_of(defaults, place):
+    """How the bank of this place stands: its estate, and its state."""
+    fields = defaults.split(b"\n")[1 + place].split(b",")
+    return int(fields[1]), fields[-1]
+
+
+def rescue_holds(network, rescue, parts, read):
+    """Whether the bank is sound with the sum, and without its last unit lacks what the answer says."""
+    bank, added, short, payments = read_rescue(rescue)
+    place = [each.name for each in network.banks].index(bank)
+    due = network.banks[place].outside + sum(debt.claim for debt in network.debts if debt.debtor == place)
+    if payments != read("rescue/payments.csv") or state_of(read("rescue/defaults.csv"), place)[1] != b"sound":
+        return False
+    if not added:
+        return short == 0
+    estate, state = state_of(read("unit-less/defaults.csv"), place)
+    return state != b"sound" and due - estate == short
+
+
+def read_inputs(banks_data, debts_data, scenarios_data):
+    network = audit.read_network(banks_data, debts_data)
+    scenarios = shock.read_scenarios(scenarios_data, network.banks) if scenarios_data is not None else []
+    return network, scenarios
+
+
+
+# The program.
+
+
+def program_file():
+    """The file of the program that runs: what was built, where it is the repository's script that was named."""
+    named = runner.program()
+    return str(BUILT) if runner.same_file(named, ROOT / "clearing") and BUILT.exists() else named
+
+
+def program_sum():
+    """The checksum of that file; it ends with 2 where it cannot be read."""
+    found = hashlib.sha256()
+    try:
+        with open(program_file(), "rb") as file:
+            if not stat.S_ISREG(os.fstat(file.fileno()).st_mode):
+                raise OSError(0, "it is no file")
+            while block := file.read(1 << 20):
+                found.update(block)
+    except OSError as fault:
+        raise Failed(f"cannot read the program {audit.shown(runner.program())}", 2) from fault
+    return found.hexdigest()

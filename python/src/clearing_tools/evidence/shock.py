@@ -1,0 +1,270 @@
+"""Writes the banks file that a scenario leaves.
+
+In:   --banks FILE and --scenarios FILE, as `clearing stress` reads them, and --scenario N, the scenario's number from 1
+Out:  the banks file with what the scenario leaves of each bank's cash, on standard output, or in --output FILE, which must be none of
+      the inputs. It is in the form in which `clearing check` prints it, in version 2 where a bank owes something outside.
+
+Of a bank's cash c a cut k leaves c less c k / 1000, the quotient rounded down; then its loss is taken away, down to nothing at
+least. `clearing clear` and `clearing defaults` on that file print what `clearing stress` prints of the scenario.
+
+Scenarios are read by Python's module tomllib. Where that knows TOML 1.0 alone, what TOML 1.1 added is refused here, though the program
+reads it: the escape \\x41, and a line break or a last comma within the braces of an inline table.
+
+A file with thousands of tables or of points that no scenario has is refused as one of another shape (17), though the program may name an
+earlier fault of it.
+
+It shares no code with the program. Ends with 0; 2 where the words are not understood, there is no scenario of that number, or Python is
+older than 3.11, whose module tomllib is wanted; 3 where a file cannot be read; 4 where a file is refused, with its first fault
+as `clearing` names it; 5 where the output cannot be written; 130 at an interrupt.
+"""
+import argparse
+import os
+import re
+import signal
+import stat
+import sys
+import tempfile
+from collections import namedtuple
+
+from . import audit, bounds
+
+Scenario = namedtuple("Scenario", "name cut losses")  # losses by the bank's place
+
+MAX_BYTES, MAX_SCENARIOS, MAX_CUT, MAX_LOSS = 8_388_608, 100, 1000, 10**12
+
+
+class Failed(Exception):
+    """Why there is no banks file, and the `status` with which the tool ends."""
+
+    def __init__(self, message, status):
+        super().__init__(message)
+        self.status = status
+
+
+def refused(row, kind):
+    return Failed("scenarios row {}: {} ({})".format(row, kind, {**audit.KINDS, "toml": 16, "shape": 17}[kind]), 4)
+
+
+def document(data):
+    """The TOML document, all numbers of which are within 64 bits."""
+    try:
+        import tomllib
+    except ImportError as fault:
+        raise Failed("scenarios are read by Python's module tomllib, which came with 3.11", 2) from fault
+    try:
+        text = data.decode("utf-8-sig")
+        beyond = bounds.fault_of(text)
+        if beyond:
+            raise refused(0, beyond)
+        found = tomllib.loads(text)
+    except (UnicodeDecodeError, tomllib.TOMLDecodeError, RecursionError, ValueError) as fault:
+        raise refused(0, "toml") from fault
+    waiting = [found]
+    while waiting:
+        value = waiting.pop()
+        if isinstance(value, dict):
+            waiting.extend(value.values())
+        elif isinstance(value, list):
+            waiting.extend(value)
+        elif type(value) is int and not -(2**63) <= value < 2**63:
+            raise refused(0, "toml")
+    return found
+
+
+def has_shape(table, required, optional):
+    """Whether a value is a table with these keys alone, each of its type."""
+    if not isinstance(table, dict) or not set(required) <= set(table) <= set(required) | set(optional):
+        return False
+    types = {**required, **optional}
+    return all(type(value) is types[key] for key, value in table.items())
+
+
+def scenario_of(row, table, places):
+    if not has_shape(table, {"name": str}, {"cut": int, "loss": list}):
+        raise refused(row, "shape")
+    losses = table.get("loss", [])
+    if not all(has_shape(loss, {"bank": str, "amount": int}, {}) for loss in losses):
+        raise refused(row, "shape")
+    if not audit.is_name(table["name"].encode()):
+        raise refused(row, "name")
+    cut = table.get("cut", 0)
+    if not 0 <= cut <= MAX_CUT:
+        raise refused(row, "limit")
+    lost = {}
+    for loss in losses:
+        bank = loss["bank"].encode()
+        if bank not in places:
+            raise refused(row, "unknown bank")
+        if places[bank] in lost:
+            raise refused(row, "double bank")
+        if not 0 <= loss["amount"] <= MAX_LOSS:
+            raise refused(row, "limit")
+        lost[places[bank]] = loss["amount"]
+    return Scenario(table["name"], cut, lost)
+
+
+def read_scenarios(data, banks):
+    if len(data) > MAX_BYTES:
+        raise refused(0, "file size")
+    found = document(data)
+    tables = found.get("scenario", [])
+    if not set(found) <= {"scenario"} or not isinstance(tables, list):
+        raise refused(0, "shape")
+    places = {bank.name: place for place, bank in enumerate(banks)}
+    scenarios = []
+    for row, table in enumerate(tables, 1):
+        if row > MAX_SCENARIOS:
+            raise refused(row, "too many")
+        scenarios.append(scenario_of(row, table, places))
+    return scenarios
+
+
+def left_by(banks, scenario):
+    """The banks after a scenario."""
+    left = []
+    for place, bank in enumerate(banks):
+        after_cut = bank.cash - bank.cash * scenario.cut // 1000
+        left.append(bank._replace(cash=max(0, after_cut - scenario.losses.get(place, 0))))
+    return left
+
+
+def banks_text(banks):
+    """The banks file, as it is printed."""
+    second = any(bank.outside for bank in banks)
+    text = [audit.line(b"name", b"cash", b"rule", *([b"outside"] if second else []))]
+    text += [audit.line(bank.name, bank.cash, bank.rule, *([bank.outside] if second else [])) for bank in banks]
+    return b"".join(text)
+
+
+def contents(name, most=MAX_BYTES):
+    """The bytes of a file, one more than the limit of a longer one."""
+    try:
+        with open(name, "rb") as file:
+            return file.read(most + 1)
+    except (OSError, ValueError) as fault:
+        raise Failed(f"cannot read {audit.shown(name)}", 3) from fault
+
+
+def mask_of(inputs):
+    """What a new file is not to be allowed: what this user's mask says, and for whom one of the inputs is not to be read."""
+    mask = os.umask(0)
+    os.umask(mask)
+    for name in inputs:
+        try:
+            about = os.stat(name)
+        except (OSError, ValueError):
+            continue
+        if stat.S_ISREG(about.st_mode):
+            mask |= sum(group for group in (0o070, 0o007) if not about.st_mode & group & 0o044)
+    return mask
+
+
+DESCRIPTOR = re.compile(r"/dev/(stdin|stdout|stderr|fd/[0-9]+)|/proc/(self|thread-self|[0-9]+)/fd/[0-9]+")
+
+
+def check_own(name):
+    """Fails at a link or a pipe of another user on the way to a file, and at what is neither a file nor a stream."""
+    here, left, links = "/", os.path.join(os.getcwd(), name).split("/")[::-1], 0
+    while left:
+        part = left.pop()
+        place = os.path.dirname(here) if part == ".." else os.path.join(here, part)
+        about = os.lstat(place) if part not in ("", ".", "..") and os.path.lexists(place) else None
+        if about and (stat.S_ISLNK(about.st_mode) or stat.S_ISFIFO(about.st_mode)) and about.st_uid not in (0, os.geteuid()):
+            raise OSError(1, f"it is a {'link' if stat.S_ISLNK(about.st_mode) else 'pipe'} of another user")
+        if about and (stat.S_ISBLK(about.st_mode) or stat.S_ISSOCK(about.st_mode)):
+            raise OSError(1, "it is no file")
+        if about and stat.S_ISLNK(about.st_mode):
+            links += 1
+            if links > 40:
+                raise OSError(1, "it is a link of many links")
+            target = os.readlink(place)
+            here, left = "/" if target.startswith("/") else here, left + target.split("/")[::-1]
+        elif part not in ("", "."):
+            here = place
+
+
+def write(name, content, inputs=()):
+    """Writes a file whole and in the place of the old one, or as it is to a stream, or to standard output. Who may not read the inputs
+    may not read a new file."""
+    try:
+        if name is None:
+            with open(1, "wb", closefd=False) as out:
+                out.write(content)
+            return
+        is_open = DESCRIPTOR.fullmatch(os.path.abspath(name))
+        if not is_open:
+            check_own(name)
+        place = os.path.realpath(name)
+        mode = os.stat(name).st_mode if os.path.exists(name) else stat.S_IFREG
+        if is_open or stat.S_ISCHR(mode) or stat.S_ISFIFO(mode):
+            with open(name, "ab") as out:
+                out.write(content)
+            return
+        if os.path.exists(place) and not os.access(place, os.W_OK):
+            raise PermissionError(13, "Permission denied")
+        replace(place, content, 0o666 & ~mask_of(inputs))
+    except (OSError, ValueError) as fault:
+        raise Failed(f"cannot write {audit.shown(name or 'the output')}: {getattr(fault, 'strerror', fault)}", 5) from fault
+
+
+def replace(place, content, mode):
+    """Puts a file in its place, which keeps the mode of one of one's own that stands there, without setuid."""
+    if os.path.exists(place) and os.stat(place).st_uid == os.geteuid():
+        mode = stat.S_IMODE(os.stat(place).st_mode) & 0o777
+    handle, part = tempfile.mkstemp(prefix=".part-", dir=os.path.dirname(place))
+    try:
+        with open(handle, "wb") as out:
+            out.write(content)
+            os.fchmod(handle, mode)
+        os.replace(part, place)
+    except BaseException:
+        os.unlink(part)
+        raise
+
+
+def main():
+    summary, _, rest = __doc__.partition("\n\n")
+    parser = audit.Parser(
+        description=summary, epilog=rest, formatter_class=argparse.RawDescriptionHelpFormatter, allow_abbrev=False
+    )
+    parser.add_argument("--banks", metavar="FILE", required=True, help="the banks file")
+    parser.add_argument("--scenarios", metavar="FILE", required=True, help="the scenarios file")
+    parser.add_argument("--scenario", metavar="N", type=int, required=True, help="the scenario's number, from 1")
+    parser.add_argument("--output", metavar="FILE", help="the file to write, standard output where it is not given")
+    asked = parser.parse_args()
+    for name in (asked.banks, asked.scenarios):
+        if asked.output is not None and (os.path.realpath(name) == os.path.realpath(asked.output) or is_same(name, asked.output)):
+            raise Failed(f"{audit.shown(asked.output)} would be written over", 2)
+    banks_data, scenarios_data = contents(asked.banks), contents(asked.scenarios)
+    try:
+        audit.check_sizes({"banks": banks_data})
+        banks = audit.read_banks(banks_data)
+    except audit.Refused as fault:
+        raise Failed(str(fault), 4) from fault
+    scenarios = read_scenarios(scenarios_data, banks)
+    if not 1 <= asked.scenario <= len(scenarios):
+        raise Failed(f"{audit.shown(asked.scenarios)} has {len(scenarios)} scenarios, and none of the number {asked.scenario}", 2)
+    write(asked.output, banks_text(left_by(banks, scenarios[asked.scenario - 1])), (asked.banks, asked.scenarios))
+
+
+def is_same(one, other):
+    """Whether two names are those of one file that is there."""
+    try:
+        return os.path.samefile(one, other)
+    except OSError:
+        return False
+
+
+def run():
+    """The command, which ends with its status; what it cannot do is told. A request to end is an interrupt."""
+    for number in (signal.SIGTERM, signal.SIGHUP):
+        if signal.getsignal(number) is signal.SIG_DFL:
+            signal.signal(number, signal.default_int_handler)
+    audit.with_streams()
+    try:
+        main()
+    except Failed as fault:
+        print(f"{os.path.basename(sys.argv[0])}: {fault}", file=sys.stderr)
+        sys.exit(fault.status)
+    except KeyboardInterrupt:
+        sys.exit(130)

@@ -1,0 +1,100 @@
+"""Makes a graph of banks and debts, with what is paid and who defaults, for Gephi, igraph, networkx and others.
+
+In:  PAYMENTS and DEFAULTS, what `clear` (or `central`) and `defaults` printed for one network. With --banks FILE, the
+     banks file, also the cash of each bank, its rule and what it owes outside. Line ends of CR LF and a byte order
+     mark are read.
+Out: --out FILE, a graph in the format GraphML: directed, from debtor to creditor, with an edge for each debt, so that
+     two banks may have several. A bank's node is its name; its attributes are `label` (its name), estate,
+     outside_paid, paid, owed, equity, state (sound, fundamental or contagion), and cash, rule and outside. A debt's
+     are `weight` (its claim), class, claim, paid, unpaid and share (what is paid of the claim, 1 where nothing is
+     claimed). Amounts are whole units. In names U+FFFE and U+FFFF, which XML cannot hold, stand as <U+FFFE> and <U+FFFF>. It is written whole or not at all, and never over a file that is read.
+
+networkx is needed (Debian's package python3-networkx).
+
+Ends with 0, or with 1 and a message where a file is not as it should be, or with 2 where the words are not understood or
+networkx is not there.
+"""
+import io
+import re
+import sys
+
+from .. import cli, files
+from ..runner import Failed, command
+from ..texts import lines_of, read_accounts, read_payments, read_standings
+
+
+def banks_of(name):
+    """What `defaults` says of each bank, by its name: what is paid outside only where the text has it."""
+    standings = read_standings(name)
+    words = lines_of(name)[0].split(",")[1:]
+    return {bank.bank: {word: getattr(bank, word) for word in words} for bank in standings}
+
+
+# Of the characters that a name may have XML can hold all but two.
+BARRED = re.compile("[\ufffe\uffff]|<(?=U\\+(?:FFFE|FFFF|003C)>)")
+
+
+def xml_name(name):
+    """A name as XML can hold it: those two stand as <U+FFFE> and <U+FFFF>. Names that differ stay so."""
+    return BARRED.sub(lambda found: f"<U+{ord(found[0]):04X}>", name)
+
+
+def add_accounts(name, banks):
+    """Adds what the banks file says to what is known of each bank."""
+    accounts = read_accounts(name)[1]
+    for other in accounts.keys() ^ banks.keys():
+        raise Failed(f"{name} is not of the network of the others: see the bank {other}")
+    for bank, account in accounts.items():
+        banks[bank].update(account)
+
+
+def debts_of(name, banks):
+    """The debts with what is paid on each, in file order."""
+    owes = dict.fromkeys(banks, 0)
+    debts = []
+    for line, (debtor, creditor, class_, claim, paid) in enumerate(read_payments(name), 2):
+        for bank in (debtor, creditor):
+            if bank not in banks:
+                raise Failed(f"{name}: line {line}: the other text has no bank {bank!r}")
+        if paid > claim:
+            raise Failed(f"{name}: line {line}: more is paid than is claimed")
+        share = paid / claim if claim else 1.0
+        debts.append((debtor, creditor, {
+            "weight": claim, "class": class_, "claim": claim, "paid": paid, "unpaid": claim - paid, "share": share}))
+        owes[debtor] += claim
+    for bank, owed in owes.items():
+        if banks[bank]["owed"] != owed:
+            raise Failed(f"{name}: the debts of {bank} come to {owed}, and the other text says {banks[bank]['owed']}: are they of one network?")
+    return debts
+
+
+def graph_of(networkx, banks, debts):
+    graph = networkx.MultiDiGraph()
+    for name, bank in banks.items():
+        graph.add_node(xml_name(name), label=xml_name(name), **bank)
+    for at, (debtor, creditor, debt) in enumerate(debts, 1):
+        graph.add_edge(xml_name(debtor), xml_name(creditor), key=f"debt-{at}", **debt)
+    return graph
+
+
+@command("to_graphml")
+def main():
+    parser = cli.parser_of(__doc__)
+    parser.add_argument("payments", metavar="PAYMENTS", help="what `clear` or `central` printed")
+    parser.add_argument("defaults", metavar="DEFAULTS", help="what `defaults` printed")
+    parser.add_argument("--banks", metavar="FILE", help="the banks file")
+    parser.add_argument("--out", required=True, metavar="FILE", help="the file to write")
+    words = parser.parse_args()
+    banks = banks_of(words.defaults)
+    debts = debts_of(words.payments, banks)
+    if words.banks:
+        add_accounts(words.banks, banks)
+    try:
+        import networkx
+
+        networkx.MultiDiGraph
+    except (ImportError, AttributeError) as fault:
+        raise Failed(f"{sys.executable} has no networkx (Debian's package python3-networkx is for /usr/bin/python3)", 2) from fault
+    text = io.BytesIO()
+    networkx.write_graphml_xml(graph_of(networkx, banks, debts), text, encoding="utf-8")
+    files.write_all([(words.out, text.getvalue())], [words.payments, words.defaults, words.banks])

@@ -1,0 +1,147 @@
+"""Makes tidy tables of a text that `clearing` printed: one comma-separated file for each table.
+
+In:  OUTPUT, a file with what a task of `clearing` printed, or `-` for standard input. Which task, its text tells.
+Out: for each table of the text the file NAME-TABLE.csv, where NAME is that of OUTPUT without its ending, or `output`; in
+     the folder of OUTPUT (of standard input: the folder of the call), or in --folder. Or, with --out FILE.xlsx, one
+     workbook with a sheet for each table. On standard output the names of the files, one a line.
+
+A file has a header, then a record for each debt, bank, raise or scenario, and no line of sums, so that what reads tables adds
+up to what is there. The tables are payments, standings, journal, waves, ranks, banks and debts. The sums that the program
+printed, and what it printed once, such as `rounds`, are the table `totals`: one record, and for `stress` one for each
+scenario. What `stress` prints has the columns `number`, the scenario's from 1, and `scenario`, its name.
+
+With --unit, amounts are units times it, as decimal numbers; classes, stamps, ranks and counts stay.
+
+A name may be `NA` or `null`: read the tables with pandas.read_csv(.., keep_default_na=False), or read.csv(..,
+na.strings = character(0)).
+
+Ends with 0, or with 1 and a message where a file cannot be read, is not what `clearing` prints or cannot be written, or
+with 2 where the words are not understood. Then nothing is written.
+"""
+import contextlib
+import itertools
+import os
+import pathlib
+import sys
+import tempfile
+from decimal import Decimal
+
+from clearing_client.errors import TextError
+from clearing_client.records import ScenarioPayment, ScenarioStanding, ScenarioTotals
+from clearing_client.table import words_of
+from clearing_client.texts import SUMS, outcomes_in
+
+from .. import cli, files, money
+from ..runner import Failed, command
+from ..texts import parsed
+from .workbook import book_of, is_book
+
+AMOUNTS = set(
+    "claim paid least greatest estate outside_paid owed equity lost cash outside to added short cancelled had allowed".split()
+)
+SHOWN = {True: "yes", False: "no", None: ""}
+
+
+@contextlib.contextmanager
+def opened(output):
+    """The bytes of a file, or of standard input, as they come."""
+    if output == "-":
+        yield sys.stdin.buffer
+        return
+    try:
+        file = open(output, "rb")
+    except OSError as fault:
+        raise Failed(f"{output}: cannot be read: {fault}") from fault
+    with file:
+        yield file
+
+
+def tables_of(output, as_amount, undo):
+    """The files of the tables of a text, by their names. What `stress` printed is read one scenario at a time, and its tables are kept in
+    files without a name until they are written."""
+    name = "standard input" if output == "-" else output
+    with opened(output) as stream:
+        try:
+            first = stream.readline()
+            start = first.decode("utf-8-sig")
+            if start.startswith("scenario,") and start.rstrip("\r\n") != SUMS:
+                return stress_tables(name, itertools.chain([first], stream), as_amount, undo)
+            text = (first + stream.read()).decode("utf-8-sig").replace("\r\n", "\n")
+        except (OSError, UnicodeDecodeError) as fault:
+            raise Failed(f"{name}: cannot be read: {fault}") from fault
+    return {table: "".join(csv_lines(each, as_amount)) for table, each in parsed(name, text).tables().items()}
+
+
+def stress_tables(name, stream, as_amount, undo):
+    """The files of the tables of what `stress` printed, each record with the number and the name of its scenario."""
+    kinds = {"payments": ScenarioPayment, "standings": ScenarioStanding, "totals": ScenarioTotals}
+    made = {table: undo.enter_context(tempfile.TemporaryFile()) for table in kinds}
+    for table, kind in kinds.items():
+        made[table].write((",".join(words_of(kind)) + "\n").encode())
+    try:
+        for outcome in outcomes_in(stream):
+            for table, each in outcome.tables().items():
+                _, *rows = csv_lines(each, as_amount)
+                made[table].write("".join(f"{outcome.number},{outcome.name},{row}" for row in rows).encode())
+    except TextError as fault:
+        raise Failed(f"{name}: {fault}") from fault
+    return made
+
+
+def cell_of(name, value, as_amount):
+    """A value of a column as a text."""
+    if value is None or isinstance(value, bool):
+        return SHOWN[value]
+    return as_amount(value) if name in AMOUNTS else str(value)
+
+
+def csv_lines(table, as_amount):
+    """The lines of a file of a table. No name has a comma, a quote or the end of a line."""
+    columns = [[cell_of(name, value, as_amount) for value in table.column(name)] for name in table.columns]
+    return [",".join(row) + "\n" for row in [table.columns, *zip(*columns)]]
+
+
+def value_of(name, value, as_amount):
+    """A value of a column as a number or a text."""
+    if value is None or isinstance(value, (bool, str)):
+        return value if isinstance(value, str) else SHOWN[value]
+    return Decimal(as_amount(value)) if name in AMOUNTS else value
+
+
+def sheets_of(output, as_amount):
+    """The tables of a text as the sheets of a workbook: the records of each by its name, the header first."""
+    name = "standard input" if output == "-" else output
+    with opened(output) as stream:
+        try:
+            text = stream.read().decode("utf-8-sig").replace("\r\n", "\n")
+        except (OSError, UnicodeDecodeError) as fault:
+            raise Failed(f"{name}: cannot be read: {fault}") from fault
+    sheets = {}
+    for title, table in parsed(name, text).tables().items():
+        columns = [[value_of(column, value, as_amount) for value in table.column(column)] for column in table.columns]
+        sheets[title] = [table.columns, *zip(*columns)]
+    return sheets
+
+
+@command("tidy")
+def main():
+    parser = cli.parser_of(__doc__)
+    parser.add_argument("output", metavar="OUTPUT", help="what `clearing` printed; `-` is standard input")
+    money.add_unit(parser)
+    parser.add_argument("--folder", help="the folder of the tables, which is made where it is not there")
+    parser.add_argument("--out", metavar="FILE.xlsx", help="one workbook in place of the files")
+    words = parser.parse_args()
+    if words.out is not None and (words.folder is not None or not is_book(words.out)):
+        parser.error("--out is a file that ends with .xlsx, in place of --folder")
+    is_input = words.output == "-"
+    path = pathlib.Path("output" if is_input else words.output)
+    folder = path.parent if words.folder is None else pathlib.Path(words.folder)
+    as_amount = money.amount_by(words.unit)
+    with contextlib.ExitStack() as undo:
+        if words.out is not None:
+            tables = {words.out: book_of(sheets_of(words.output, as_amount))}
+        else:
+            made = tables_of(words.output, as_amount, undo)
+            tables = {folder / f"{path.stem}-{name}.csv": table for name, table in made.items()}
+        files.write_all(tables, [] if is_input else [words.output])
+    files.put(b"".join(os.fsencode(name) + b"\n" for name in tables))

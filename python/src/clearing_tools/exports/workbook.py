@@ -1,0 +1,95 @@
+"""Workbooks of tables, for outputs whose name ends with .xlsx: one sheet a table, its header frozen; numbers as numbers, and names as
+text that no spreadsheet takes for a formula. The same tables make the same bytes."""
+import datetime
+import io
+import re
+import sys
+import zipfile
+from decimal import Decimal
+
+from .. import files
+from ..runner import Failed
+
+DIGITS, MOST_ROWS = 15, 1_048_576
+EPOCH = (1980, 1, 1, 0, 0, 0)
+# What openpyxl says of when a workbook was made.
+MADE = re.compile(rb"(<dcterms:(?:created|modified)[^>]*>)[^<]*(?=<)")
+
+
+def is_book(name):
+    """Whether a file is to be a workbook, by its ending."""
+    return name is not None and str(name).casefold().endswith(".xlsx")
+
+
+def library():
+    try:
+        import openpyxl
+
+        openpyxl.Workbook
+    except (ImportError, AttributeError) as fault:
+        raise Failed(f"{sys.executable} has no openpyxl, which writes .xlsx (Debian's package python3-openpyxl is for /usr/bin/python3)", 2) from fault
+    return openpyxl
+
+
+def number_of(value):
+    """A number that a spreadsheet keeps to its last digit, or nothing."""
+    if isinstance(value, (int, Decimal)) and not isinstance(value, bool):
+        digits = str(value).lstrip("-").replace(".", "").lstrip("0")
+        return value if len(digits) <= DIGITS else None
+    return None
+
+
+def book_of(tables):
+    """The bytes of a workbook of some tables, each its records by its title, the header first. Fails where a text cannot stand in
+    one, or a table is too long."""
+    openpyxl = library()
+    from openpyxl.cell import WriteOnlyCell
+
+    book = openpyxl.Workbook(write_only=True)
+    for title, records in tables.items():
+        sheet = book.create_sheet(title)
+        sheet.freeze_panes = "A2"
+        for row, record in enumerate(records, 1):
+            if row > MOST_ROWS:
+                raise Failed(f"the table {title} has more than the {MOST_ROWS:,} rows of a sheet; write it as .csv")
+            sheet.append([cell_of(WriteOnlyCell, sheet, value) for value in record])
+    made = io.BytesIO()
+    book.save(made)
+    return without_dates(made)
+
+
+def cell_of(make, sheet, value):
+    """A cell of a number, or of a text as it is."""
+    number = number_of(value)
+    if number is not None:
+        cell = make(sheet, number)
+        if isinstance(number, Decimal) and number.as_tuple().exponent < 0:
+            cell.number_format = "0." + "0" * -number.as_tuple().exponent
+        return cell
+    text = "" if value is None else str(value)
+    if re.search("[\x00-\x08\x0b\x0c\x0e-\x1f\ufffe\uffff]", text):
+        raise Failed(f"{text!r} cannot stand in a workbook; write it as .csv")
+    cell = make(sheet, "x")
+    cell.value = text
+    cell.data_type = "s"
+    cell.quotePrefix = 1 if text[:1] in tuple("=+-@") else 0
+    return cell
+
+
+def without_dates(made):
+    """A workbook without the time at which it was made."""
+    plain = io.BytesIO()
+    with zipfile.ZipFile(made) as archive, zipfile.ZipFile(plain, "w", zipfile.ZIP_DEFLATED) as other:
+        for info in archive.infolist():
+            content = archive.read(info)
+            if info.filename == "docProps/core.xml":
+                content = MADE.sub(rb"\g<1>" + datetime.datetime(*EPOCH).strftime("%Y-%m-%dT%H:%M:%SZ").encode(), content)
+            entry = zipfile.ZipInfo(info.filename, EPOCH)
+            entry.compress_type = zipfile.ZIP_DEFLATED
+            other.writestr(entry, content)
+    return plain.getvalue()
+
+
+def content_of(tables, name):
+    """What a file of some tables has: a workbook by its ending, else comma-separated records, an empty line between tables."""
+    return book_of(tables) if is_book(name) else "\n".join(map(files.csv_text, tables.values()))

@@ -1,0 +1,206 @@
+"""How amounts are read as they stand in a sheet, and printed for people."""
+import re
+import unicodedata
+from fractions import Fraction
+
+BLANKS = " \t\u00a0\u2007\u2009\u202f"
+SAME_SIGN = {**{blank: " " for blank in BLANKS}, "\u2019": "'"}
+DASHES = "-\u2010\u2011\u2012\u2013\u2014\u2212"
+CURRENCIES = {"€": "EUR", "£": "GBP"}
+PLAIN = re.compile(r"[0-9]*([.,' ][0-9]*)*", re.ASCII)
+POWER = re.compile(r"([0-9]*)(?:([.,])([0-9]*))?[eE]([+-]?[0-9]{1,2})", re.ASCII)
+MOST_DIGITS = 40
+
+
+class Cell(str):
+    """A cell of a workbook: its text, and its number where it has one, or why it is none; with the currency of its format."""
+
+    value = None
+    fault = None
+    currency = None
+
+
+class Unread(Exception):
+    """A text that is no amount; with the kind of a question, where one answer serves many cells."""
+
+    def __init__(self, what, question=None):
+        super().__init__(what)
+        self.question = question
+
+
+class Amounts:
+    """Reads amounts as they stand in a sheet: with a decimal sign, separators between thousands, an exponent, or a currency.
+
+    What could be read in two ways is refused, unless --decimal or --thousands says which sign is which; so is a sign that is used
+    in two ways. A number of a workbook is itself."""
+
+    def __init__(self, decimal=None, thousands=None):
+        self.decimal, self.thousands = decimal, thousands
+        if decimal is None and thousands in (".", ","):
+            self.decimal = "," if thousands == "." else "."
+        # The use of each sign and the currency, with the text that showed it; what was read of texts, and the numbers of workbooks.
+        self.uses, self.currency, self.known, self.numbers = {}, None, {}, set()
+
+    def read(self, text):
+        """The amount in a cell: an integer or a fraction. Fails with `Unread` where it is none."""
+        if isinstance(text, Cell):
+            return self.of_cell(text)
+        amount = self.known.get(text)
+        if amount is None:
+            amount = self.known[text] = self.of_text(text)
+        return amount
+
+    def of_cell(self, cell):
+        if cell.fault:
+            raise Unread(f"{str(cell)!r} {cell.fault}")
+        if cell.value is None:
+            return self.of_text(str(cell))
+        if cell.value < 0:
+            raise Unread(below_zero(str(cell)))
+        if cell.currency and cell.value:
+            self.see_currency(cell.currency, str(cell))
+        if not isinstance(cell.value, int):
+            self.numbers.add(cell.value)
+        return cell.value
+
+    def of_text(self, text):
+        if text.isascii() and text.isdigit() and len(text) <= MOST_DIGITS:
+            return int(text)
+        text = "".join(SAME_SIGN.get(c, c) for c in text).strip(" ")
+        digits, currency = bare(text)
+        if digits == "" or all(c in DASHES for c in digits):
+            if currency and not digits:
+                raise Unread(f"{text!r} is not an amount")
+            return 0
+        amount = self.number(text, digits)
+        if is_negative(digits) and amount:
+            raise Unread(below_zero(text))
+        if currency:
+            self.see_currency(currency, text)
+        return amount
+
+    def see_currency(self, currency, text):
+        """Refuses a currency that is another than those before."""
+        self.currency = self.currency or (currency, text)
+        if self.currency[0] != currency:
+            raise Unread(f"{text!r} is of another currency than {self.currency[1]!r}: {currency}, not {self.currency[0]}; convert all amounts to one")
+
+    def number(self, text, digits):
+        if is_negative(digits):
+            digits = digits.strip(DASHES + "() ")
+        if not any(c.isascii() and c.isdigit() for c in digits) or len(digits) > 2 * MOST_DIGITS:
+            raise Unread(f"{text!r} is not an amount")
+        power = POWER.fullmatch(digits)
+        if power:
+            if power[2]:
+                self.use(text, power[2], "decimals")
+            return decimal_of(power[1], power[3] or "") * Fraction(10) ** int(power[4])
+        if not PLAIN.fullmatch(digits):
+            raise Unread(f"{text!r} is not an amount")
+        sign = self.decimal_sign(text, digits)
+        whole, _, part = digits.rpartition(sign) if sign else (digits, "", "")
+        separators = {c for c in whole if not c.isdigit()}
+        for c in separators:
+            self.use(text, c, "thousands")
+        if len(separators) > 1 or separators and not (is_in_threes(whole) or is_indian(whole)):
+            raise Unread(f"{text!r} is not an amount: its digits do not stand in groups of three")
+        if sign:
+            self.use(text, sign, "decimals")
+        return decimal_of("".join(c for c in whole if c.isdigit()), part)
+
+    def decimal_sign(self, text, digits):
+        """The sign before the decimals, or none where all signs stand between thousands."""
+        signs = [c for c in digits if not c.isdigit()]
+        last = signs[-1] if signs else None
+        if last not in (".", ","):
+            return None
+        if signs.count(last) > 1:
+            return None
+        if len(signs) > 1 or last == self.decimal:
+            return last
+        if self.decimal is not None or last == self.thousands:
+            return None
+        before, _, behind = digits.partition(last)
+        if self.thousands is not None or len(behind) != 3 or not 1 <= len(before) <= 3 or before[0] == "0":
+            return last
+        question = f"{text}: thousands or decimals? say --thousands {last} or --decimal {last}"
+        raise Unread(question, last)
+
+    def use(self, text, sign, use):
+        """Remembers a use of a sign, and refuses another of it, or two signs for decimals."""
+        said = {self.decimal: "decimals", self.thousands: "thousands"}
+        if sign in said and said[sign] != use or use == "decimals" and self.decimal not in (None, sign):
+            raise Unread(self.question_of(text, sign, use), ("sign", sign, use))
+        other = self.uses.get(sign)
+        if other and other[0] != use:
+            raise Unread(f"{text!r} has {sign!r} before {use}, and {other[1]!r} before {other[0]}; say --decimal or --thousands")
+        if use == "decimals":
+            for seen, (what, where) in self.uses.items():
+                if what == use and seen != sign:
+                    raise Unread(f"{text!r} has {sign!r} before its decimals, and {where!r} has {seen!r}; say --decimal")
+        self.uses.setdefault(sign, (use, text))
+
+    def question_of(self, text, sign, use):
+        """What is asked where a sheet has a sign otherwise than a word says."""
+        word = {"decimals": "--decimal", "thousands": "--thousands"}
+        said = word["thousands" if use == "decimals" and sign == self.thousands else "decimals"]
+        return f"{text!r} has {sign!r} before its {use}, and {said} says otherwise; is {word[use]} {sign} meant?"
+
+
+def below_zero(text):
+    return f"{text!r} is below 0; what a bank is owed stands as a debt of the bank that owes"
+
+
+def is_in_threes(whole):
+    return re.fullmatch(r"[0-9]{1,3}(\D[0-9]{3})+", whole) is not None
+
+
+def is_indian(whole):
+    """Whether digits stand as in India, such as 12,34,567: three at the end, and two in each group before."""
+    return re.fullmatch(r"[0-9]{1,2}(,[0-9]{2})+,[0-9]{3}", whole) is not None
+
+
+def bare(text):
+    """A text without a currency at one of its ends, and that currency or nothing."""
+    for pattern in (r"(?P<code>[^\W\d_]{3}|[^\W\d_]{0,3}\W)(?P<rest>.*)", r"(?P<rest>.*?)(?P<code>[^\W\d_]{3}|[^\W\d_]{0,2}\W)"):
+        found = re.fullmatch(pattern, text, re.DOTALL)
+        if found and is_currency(found["code"]):
+            return found["rest"].strip(" "), CURRENCIES.get(found["code"], found["code"])
+    return text, None
+
+
+def is_currency(code):
+    return re.fullmatch("[A-Z]{3}", code) is not None or unicodedata.category(code[-1]) == "Sc"
+
+
+def is_negative(text):
+    return text[0] in DASHES or text[-1] in DASHES or text[0] == "(" and text[-1] == ")"
+
+
+def decimal_of(whole, part):
+    if not whole + part or len(whole) > MOST_DIGITS or len(part) > MOST_DIGITS:
+        raise Unread(f"{whole}.{part} is not an amount")
+    number = Fraction(int(whole + part or "0"), 10 ** len(part))
+    return int(number) if number.denominator == 1 else number
+
+
+def shown(amount):
+    """An amount as a decimal number with commas between thousands."""
+    amount = Fraction(amount)
+    places = decimals_of(amount)
+    whole, part = divmod(abs(amount) * 10**places, 10**places)
+    text = f"{whole:,}" + (f".{int(part):0{places}d}" if places else "")
+    return f"-{text}" if amount < 0 else text
+
+
+def decimals_of(amount):
+    """How many decimals a number needs; a fraction without an end is cut at 12."""
+    if isinstance(amount, int) or amount.denominator == 1:
+        return 0
+    places, rest = 0, amount.denominator
+    while rest % 10 == 0:
+        places, rest = places + 1, rest // 10
+    for prime in (2, 5):
+        while rest % prime == 0:
+            places, rest = places + 1, rest // prime
+    return places if rest == 1 and places < 60 else 12

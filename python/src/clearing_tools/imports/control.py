@@ -1,0 +1,165 @@
+"""Lines of totals: found by their names or their numbers, and checked before they are dropped."""
+import math
+import unicodedata
+from fractions import Fraction
+
+from .amounts import Unread, decimals_of, shown
+from .tables import quoted
+
+# Names that lines of totals have.
+TOTALS = {
+    "total", "totals", "grand total", "subtotal", "sub-total", "sum", "sums", "σ", "∑", "summe", "gesamt", "gesamtsumme", "insgesamt",
+    "gesamtergebnis", "somme", "total général", "total general", "totale", "totali", "totaal", "suma", "soma", "summa", "razem",
+    "celkem", "yhteensä",
+}
+# So many of its cells must be the sums of the others, and above 0, for a line to be one of totals with cells that are wrong.
+WITNESSES, SHARE = 3, 5
+
+
+def is_called_total(name):
+    return unicodedata.normalize("NFKC", name).strip(" :.*").casefold() in TOTALS
+
+
+UNREAD = object()
+"""What stands for a text that is no amount, or may be one in two ways: nothing is said of its line's sum until it is read."""
+
+
+class Values:
+    """The amounts of some columns of a table as far as they can be read, without a fault: a list for each row, with None for what
+    is empty in a line that is called one of totals, or in a column that such a line may leave empty. They are whole
+    numbers, `scale` of which make one."""
+
+    def __init__(self, table, amounts, columns, may_be_empty=()):
+        self.table, self.columns = table, list(columns)
+        places = [table.columns[column] for column in self.columns]
+        open_ = [column in may_be_empty or is_called_total(column) for column in self.columns]
+        read = amounts.read
+
+        def value(text, may_be_empty):
+            try:
+                return None if may_be_empty and text == "" else read(text)
+            except Unread:
+                return UNREAD
+
+        self.rows = {}
+        for row, cells in table.cells.items():
+            may = [True] * len(open_) if is_called_total(row) else open_
+            self.rows[row] = [value(cells[at], open_at) for at, open_at in zip(places, may)]
+        self.scale = self.make_whole(amounts)
+
+    def make_whole(self, amounts):
+        """Makes whole numbers of the amounts, which are many: by how much each is more."""
+        known = [amount for amount in (*amounts.known.values(), *amounts.numbers) if not isinstance(amount, int)]
+        scale = 10 ** max(map(decimals_of, known), default=0)
+        if scale > 1:
+            for row, line in self.rows.items():
+                self.rows[row] = [value if value is None or value is UNREAD else value * scale if isinstance(value, int) else value.numerator * (scale // value.denominator) for value in line]
+        return scale
+
+
+def sum_of(values, scale):
+    """A sum, or None where a value is not read, and how far it may be off as sheets print it: half of its last digit for each value."""
+    if UNREAD in values:
+        return None, 0
+    there = [value for value in values if value is not None]
+    if scale == 1 or not there:
+        return sum(there), 0
+    places = decimals_of(Fraction(math.gcd(*there, scale), scale))
+    return sum(there), len(there) * scale // (2 * 10**places) if places else 0
+
+
+def wrong_places(line, sums, most):
+    """The places at which a line is not the sum of the others, where `sums` has it too, and how many of the others are above 0; or
+    None once there are more than so many."""
+    wrong, above = [], 0
+    for at, (value, (total, slack)) in enumerate(zip(line, sums)):
+        if total is None or value is None and total:
+            continue
+        value = value or 0
+        if abs(2 * value - total) > slack:
+            wrong.append(at)
+            if len(wrong) > most:
+                return None
+        elif value:
+            above += 1
+    return wrong, above
+
+
+def totals_in(lines, words, scale):
+    """The lines of totals, each with the places at which it is wrong: a place, its value and the sum of the others. Lines are called
+    so, or are the sums of all the others, but for a few places where at least three are; one that is to be dropped where two are."""
+    keep = words.keep
+    named = {name: line for name, line in lines.items() if name not in keep and is_called_total(name)}
+    others = {name: line for name, line in lines.items() if name not in named}
+    sums = [sum_of(column, scale) for column in zip(*others.values())]
+    found, rest = {}, sums
+    for name, line in others.items():
+        if name in keep or len(others) < 3:
+            continue
+        is_dropped = name in words.drop
+        judged = wrong_places(line, sums, max(1, len(line) // (2 if is_dropped else SHARE)))
+        if judged and judged[1] and (not judged[0] or judged[1] >= WITNESSES - is_dropped):
+            found[name] = [(at, line[at] or 0, sums[at][0] - (line[at] or 0)) for at in judged[0]]
+    if found and named:
+        rest = [sum_of(column, scale) for column in zip(*(line for name, line in others.items() if name not in found))]
+    for name, line in named.items():
+        cells = zip(range(len(line)), (None if value is UNREAD else value for value in line), rest)
+        found[name] = [(at, value, total) for at, value, (total, slack) in cells if None not in (value, total) and abs(value - total) > slack]
+    return {name: [(at, Fraction(value, scale), Fraction(total, scale)) for at, value, total in found[name]] for name in lines if name in found}
+
+
+class Totals:
+    """The lines of totals of a table, found before any is dropped: rows and columns by their names."""
+
+    def __init__(self, table, amounts, columns, banks, words, may_be_empty=()):
+        values = Values(table, amounts, columns, may_be_empty)
+        self.table, self.columns = table, values.columns
+        self.values = values
+        self.rows = totals_in(values.rows, words, values.scale)
+        self.across = {}
+        if banks:
+            places = {column: at for at, column in enumerate(values.columns)}
+            self.across = totals_in({column: [line[places[column]] for line in values.rows.values()] for column in banks}, words, values.scale)
+        self.names = list(values.rows)
+
+    def wrong_cells(self, name):
+        """The cells of a line of totals that are wrong: row, column, what stands there, and what the others come to."""
+        for at, value, total in self.rows.get(name, ()):
+            yield name, self.columns[at], value, total
+        for at, value, total in self.across.get(name, ()):
+            yield self.names[at], name, value, total
+
+    def check(self, name, faults, summary):
+        """Checks a line of totals that is dropped."""
+        cells = list(self.wrong_cells(name))
+        for row, column, value, total in cells:
+            faults.add(self.table, self.table.rows[row], column, wrong(name, value, total))
+        if not cells and (name in self.rows or name in self.across):
+            summary.tell("control totals that agree", 1, None, f"{said(name)} in {self.table.label}")
+
+    def refuse(self, faults, names=None):
+        """Refuses each line of totals that is still there. Gives their names."""
+        for name in {**self.rows, **self.across}:
+            if names is None or name in names:
+                is_row = name in self.rows
+                total_fault(faults, self.table, name, "row" if is_row else "column", list(self.wrong_cells(name)))
+        return {name for name in {**self.rows, **self.across} if names is None or name in names}
+
+
+def said(name):
+    return name or "the line without a name"
+
+
+def wrong(name, value, total):
+    return f"{said(name)} says {shown(value)}, and the others come to {shown(total)}: correct the sheet, or delete the line of totals"
+
+
+def total_fault(faults, table, name, kind, cells=()):
+    """Refuses a line of totals, and tells what is wrong in it."""
+    row = table.rows.get(name) if kind == "row" else 0
+    where = f"{name} is a {kind} of totals" if name else f"a {kind} of totals that has no name"
+    why = "its name says so" if is_called_total(name) else f"each of its cells is the sum of the others{' but for what is told below' if cells else ''}"
+    what = f"{where}: {why}; say --drop {quoted(name)}, or --keep {quoted(name)} if it is a bank"
+    faults.add(table, row, (name or "without a name") if kind == "column" else None, what)
+    for at, column, value, total in cells:
+        faults.add(table, table.rows[at], column, wrong(name, value, total))

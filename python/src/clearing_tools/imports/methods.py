@@ -1,0 +1,388 @@
+"""The networks of some totals: of maximum entropy, sparse, and drawn at random. All in whole units, with every total kept.
+
+`sparse` and `sample` draw from a generator of their own, and count with whole numbers and the four operations alone, so that a number
+makes the same networks for good."""
+from bisect import bisect_right
+from collections import deque
+from itertools import accumulate
+
+from ..runner import Progress
+from .generated import Pcg32
+
+MAX_STEPS = 2_000_000
+# How often claims are fitted to the totals at most: all of them, and those that are left of too many.
+FITTING, FITTING_ANEW = 10_000, 200
+
+
+class Draw:
+    """Numbers from 0 to below 1 by the generator of docs/DEFINITIONS.md."""
+
+    def __init__(self, seed):
+        self.words = Pcg32(seed, 0)
+
+    def random(self):
+        return self.words.word() / 2**32
+
+
+class Totals:
+    """What each bank owes and is owed in whole units, both of one sum, beside the claims that are known, by the places of debtor
+    and creditor."""
+
+    def __init__(self, names, owes, owed, fixed=()):
+        self.names, self.owes, self.owed, self.fixed = names, owes, owed, dict(fixed)
+        self.sum, self.size = sum(owes), len(names)
+
+    def is_open(self, debtor, creditor):
+        """Whether a claim is left to be made."""
+        return debtor != creditor and (debtor, creditor) not in self.fixed
+
+    def fixed_above_zero(self):
+        """The known claims that are there."""
+        return {pair: claim for pair, claim in self.fixed.items() if claim}
+
+    def left(self):
+        """What each bank owes and is owed beside the known claims."""
+        owes, owed = list(self.owes), list(self.owed)
+        for (debtor, creditor), claim in self.fixed.items():
+            owes[debtor] -= claim
+            owed[creditor] -= claim
+        return owes, owed
+
+
+# Whole claims
+
+def complete(owes, owed, is_open, claims, near=None):
+    """Adds to claims what is left of the totals: the largest first, and then along paths of claims that give way. Says whether the
+    totals are met; where no network has them, they are not. `near` has the open columns of each row, where they are few."""
+    owes, owed = list(owes), list(owed)
+    near = near or [range(len(owed))] * len(owes)
+    rows, columns = [{} for _ in owes], [{} for _ in owed]
+
+    def move(row, column, change):
+        claim = rows[row].get(column, 0) + change
+        if claim:
+            rows[row][column] = columns[column][row] = claim
+        else:
+            del rows[row][column], columns[column][row]
+
+    for (row, column), claim in claims.items():
+        move(row, column, claim)
+    order = sorted((at for at in range(len(owed)) if owed[at]), key=lambda at: -owed[at])
+    for row in sorted(range(len(owes)), key=lambda at: -owes[at]):
+        for column in order:
+            if not owes[row]:
+                break
+            part = min(owes[row], owed[column])
+            if part and is_open(row, column):
+                move(row, column, part)
+                owes[row] -= part
+                owed[column] -= part
+        order = [column for column in order if owed[column]]
+    met = all(along_paths(row, owes, owed, is_open, near, rows, columns, move) for row in range(len(owes)) if owes[row])
+    claims.clear()
+    claims.update(((row, column), claim) for row, line in enumerate(rows) for column, claim in line.items())
+    return met
+
+
+def along_paths(start, owes, owed, is_open, near, rows, columns, move):
+    """Brings what a row has left to columns that lack it. Says whether all of it could go."""
+    while owes[start]:
+        before_row, before_column, edge, end = {start: None}, {}, deque([start]), None
+        while edge and end is None:
+            row = edge.popleft()
+            for column in near[row]:
+                if column in before_column or not is_open(row, column):
+                    continue
+                before_column[column] = row
+                if owed[column]:
+                    end = column
+                    break
+                for other in columns[column]:
+                    if other not in before_row and is_open(other, column):
+                        before_row[other] = column
+                        edge.append(other)
+        if end is None:
+            return False
+        path, column = [], end
+        while column is not None:
+            row = before_column[column]
+            path.append((row, column, before_row[row]))
+            column = before_row[row]
+        part = min([owes[start], owed[end], *(rows[row][back] for row, _, back in path if back is not None)])
+        for row, column, back in path:
+            move(row, column, part)
+            if back is not None:
+                move(row, back, -part)
+        owes[start] -= part
+        owed[end] -= part
+    return True
+
+
+def some_network(totals):
+    """Claims beside the known ones that keep the totals, or None where there are none."""
+    claims = {}
+    return claims if complete(*totals.left(), totals.is_open, claims) else None
+
+
+# Maximum entropy
+
+def fitted(numpy, totals, support, most=FITTING):
+    """The real matrix of maximum entropy on the cells of a support, by iterative proportional fitting."""
+    owes, owed = (numpy.array(side, dtype=float) for side in totals.left())
+    matrix = numpy.outer(owes, owed) * support
+    for _ in range(most):
+        for axis, want in ((1, owes), (0, owed)):
+            have = matrix.sum(axis=axis)
+            scale = numpy.divide(want, have, out=numpy.zeros_like(want), where=have > 0)
+            matrix *= scale[:, None] if axis else scale[None, :]
+        if numpy.abs(matrix.sum(axis=1) - owes).max(initial=0) <= 1e-7:
+            break
+    return matrix
+
+
+def support_of(numpy, totals):
+    """The cells that are open."""
+    support = ~numpy.eye(totals.size, dtype=bool)
+    for debtor, creditor in totals.fixed:
+        support[debtor, creditor] = False
+    return support
+
+
+def whole(numpy, matrix, totals, support):
+    """Claims in whole units with exactly the totals: each cell rounded down, and up where most was cut off, one in each row and
+    column of those that are cut off alike; what is still left goes along paths of claims that give way."""
+    cells = numpy.floor(matrix + 1e-6).astype(numpy.int64)
+    owes, owed = (numpy.array(side) for side in totals.left())
+    rows, columns = owes - cells.sum(axis=1), owed - cells.sum(axis=0)
+    take_back(numpy, cells, rows, columns)
+    cut = numpy.where(support, matrix - cells, -1.0)
+    places = numpy.arange(totals.size)
+    beside = (places[None, :] - places[:, None]) % max(totals.size, 1)
+    for flat in numpy.lexsort((beside.ravel(), -numpy.round(cut, 6).ravel())):
+        row, column = divmod(int(flat), totals.size)
+        if rows[row] > 0 and columns[column] > 0 and cut[row, column] > 1e-6:
+            cells[row, column] += 1
+            rows[row] -= 1
+            columns[column] -= 1
+    claims = {(int(r), int(c)): int(cells[r, c]) for r, c in zip(*numpy.nonzero(cells))}
+    near = [numpy.flatnonzero(line).tolist() for line in support]
+    open_ = support.tolist()
+    complete(rows.tolist(), columns.tolist(), lambda row, column: open_[row][column], claims, near)
+    return claims
+
+
+def take_back(numpy, cells, rows, columns):
+    """Takes units from rows and columns that have too many."""
+    for row in numpy.flatnonzero(rows < 0):
+        while rows[row] < 0:
+            column = int(cells[row].argmax())
+            cells[row, column] -= 1
+            rows[row] += 1
+            columns[column] += 1
+    for column in numpy.flatnonzero(columns < 0):
+        while columns[column] < 0:
+            row = int(cells[:, column].argmax())
+            cells[row, column] -= 1
+            rows[row] += 1
+            columns[column] += 1
+
+
+def even(numpy, totals, most):
+    """The claims of the network of maximum entropy in whole units, and what was cut: the count, the sum and the largest of the claims
+    that were left out so that no more than `most` are there. Beside claims by which the totals can be kept, the largest stay, and
+    are fitted anew."""
+    support = support_of(numpy, totals)
+    claims = whole(numpy, fitted(numpy, totals, support), totals, support)
+    if len(claims) + len(totals.fixed) <= most:
+        return claims, None
+    kept = some_network(totals)
+    for pair in sorted(claims, key=lambda pair: (-claims[pair], pair)):
+        if len(kept) + len(totals.fixed) >= most:
+            break
+        kept.setdefault(pair, 0)
+    support[:] = False
+    for debtor, creditor in kept:
+        support[debtor, creditor] = True
+    lost = [claim for pair, claim in claims.items() if pair not in kept]
+    return whole(numpy, fitted(numpy, totals, support, FITTING_ANEW), totals, support), (len(lost), sum(lost), max(lost, default=0))
+
+
+# Minimum density
+
+def sparse(totals, draw):
+    """One run of loading pairs of banks until nothing is left: a pair is drawn the more likely the more what one has left differs
+    from the other, and loads all that both have left."""
+    owes, owed = totals.left()
+    claims, misses = {}, 0
+    debtors = [at for at in range(totals.size) if owes[at]]
+    creditors = sorted((at for at in range(totals.size) if owed[at]), key=lambda at: owed[at])
+    while debtors and creditors and misses < 200:
+        debtor, creditor = drawn_pair(debtors, creditors, owes, owed, draw)
+        if not totals.is_open(debtor, creditor):
+            misses += 1
+            continue
+        misses, load = 0, min(owes[debtor], owed[creditor])
+        claims[debtor, creditor] = claims.get((debtor, creditor), 0) + load
+        owes[debtor] -= load
+        owed[creditor] -= load
+        if not owes[debtor]:
+            debtors.remove(debtor)
+        creditors.remove(creditor)
+        if owed[creditor]:
+            creditors.insert(bisect_right([owed[at] for at in creditors], owed[creditor]), creditor)
+    complete(owes, owed, totals.is_open, claims)
+    return claims
+
+
+def drawn_pair(debtors, creditors, owes, owed, draw):
+    """A pair of a debtor and a creditor, as likely as what one has left is a multiple of what the other has; creditors are in the
+    order of what they have."""
+    sizes = [owed[at] for at in creditors]
+    inverse = [0.0, *accumulate(1 / size for size in sizes)]
+    sums = [0, *accumulate(sizes)]
+    likely = []
+    for debtor in debtors:
+        at, size = bisect_right(sizes, owes[debtor]), owes[debtor]
+        likely.append(size * inverse[at] + (sums[-1] - sums[at]) / size)
+    debtor = debtors[place_in(likely, draw)]
+    size = owes[debtor]
+    return debtor, creditors[place_in([size / other if other <= size else other / size for other in sizes], draw)]
+
+
+def place_in(weights, draw):
+    """A place drawn by weights."""
+    sums = list(accumulate(weights))
+    return min(bisect_right(sums, draw.random() * sums[-1]), len(sums) - 1)
+
+
+def sparsest(totals, tries, draw):
+    """The one of fewest claims of so many runs."""
+    told, best = Progress("run", tries), None
+    for _ in range(tries):
+        claims = sparse(totals, draw)
+        best = claims if best is None or len(claims) < len(best) else best
+        told.one_more()
+    told.end()
+    return best
+
+
+# Samples
+
+class Chain:
+    """A sampler over matrices of whole units with fixed totals and a diagonal of 0.
+
+    A step draws some claims and with them a cycle of cells that go down and up in turn, and then how far, from the distribution in
+    which a claim is there with a probability and its size above 0 is geometric. Along a cycle the sum of its cells stays, so that
+    only the number of cells that are 0 tells one place from another. Since claims are drawn of those that are there, a step is
+    taken as likely as the way back is to be drawn against the way there."""
+
+    def __init__(self, totals, density, draw, claims):
+        self.draw, self.totals, self.size = draw, totals, totals.size
+        self.cells, self.keys = dict(claims), list(claims)
+        self.places = {pair: at for at, pair in enumerate(self.keys)}
+        pairs = totals.size * (totals.size - 1) - len(totals.fixed)
+        mean = max((totals.sum - sum(totals.fixed.values())) / (density * pairs), 1.0) if pairs > 0 else 1.0
+        more = 1 - 1 / mean
+        # The weight of a claim of 1 against none, where each further unit weighs `more`; a cycle keeps the sum of units.
+        self.there = density * (1 - more) / (more or 1e-12)
+        self.none = 1 - density
+
+    def claim(self, debtor, creditor):
+        return self.cells.get((debtor, creditor), 0)
+
+    def step(self):
+        length, random, count = 2, self.draw.random, len(self.keys)
+        while length < self.size and random() < 0.3:
+            length += 1
+        if count < length:
+            return
+        down = [self.keys[int(random() * count)] for _ in range(length)]
+        if len({row for row, _ in down}) < length or len({column for _, column in down}) < length:
+            return
+        up = [(down[at][0], down[at + 1 - length][1]) for at in range(length)]
+        if not all(self.totals.is_open(*pair) for pair in up):
+            return
+        highs, lows = [self.cells.get(pair, 0) for pair in up], [self.cells[pair] for pair in down]
+        move = self.drawn(-min(highs), min(lows), highs, lows)
+        if move and self.is_taken(move, highs, lows, count):
+            for pair, cell in zip(up, highs):
+                self.put(pair, cell + move)
+            for pair, cell in zip(down, lows):
+                self.put(pair, cell - move)
+
+    def is_taken(self, move, highs, lows, count):
+        """Whether a step is taken: by how likely its cycle is drawn from where it leads, against how likely from here."""
+        after = count + sum((cell + move > 0) - (cell > 0) for cell in highs) + sum((cell - move > 0) - 1 for cell in lows)
+        ways = all(cell + move > 0 for cell in highs) + all(cell - move > 0 for cell in lows)
+        ratio = ways / (1 + all(cell > 0 for cell in highs))
+        for _ in range(len(lows)):
+            ratio = ratio * count / after
+        return ratio >= 1 or self.draw.random() < ratio
+
+    def put(self, pair, claim):
+        """Sets a cell."""
+        if claim and pair not in self.cells:
+            self.places[pair] = len(self.keys)
+            self.keys.append(pair)
+        if claim:
+            self.cells[pair] = claim
+        elif pair in self.cells:
+            at, last = self.places.pop(pair), self.keys.pop()
+            del self.cells[pair]
+            if last != pair:
+                self.keys[at], self.places[last] = last, at
+
+    def drawn(self, least, most, up, down):
+        """How far a cycle moves: each place between its ends has no cell at 0, and weighs the same."""
+        odds, ends = self.none / self.there, [1.0, 1.0]
+        for _ in range(sum(cell + least == 0 for cell in up)):
+            ends[0] *= odds
+        for _ in range(sum(cell - most == 0 for cell in down)):
+            ends[1] *= odds
+        between = most - least - 1
+        at = self.draw.random() * (ends[0] + ends[1] + between)
+        if at < ends[0]:
+            return least
+        if at < ends[0] + ends[1]:
+            return most
+        return least + 1 + min(int(at - ends[0] - ends[1]), between - 1)
+
+
+def sampled(totals, density, steps, samples, draw):
+    """Networks at random, one after another of one chain."""
+    chain = Chain(totals, density, draw, some_network(totals))
+    every = [steps if at == 0 else max(steps // 10, 1) for at in range(samples)]
+    all_steps = sum(every) if totals.size > 2 else 0
+    told, done = Progress("per cent of the steps", 100), 0
+    for count in every if all_steps else []:
+        for _ in range(count):
+            chain.step()
+            done += 1
+            if done * 100 // all_steps > told.done:
+                told.one_more()
+        yield dict(sorted(chain.cells.items()))
+    if not all_steps:
+        yield from (dict(sorted(chain.cells.items())) for _ in every)
+    told.end()
+
+
+# What is asked for
+
+def networks_of(numpy, totals, words):
+    """The networks that are asked for, each the claims by the places of debtor and creditor, and what was cut of the only one."""
+    draw, samples = Draw(words.seed), words.samples or 1
+    if words.method == "entropy":
+        claims, cut = even(numpy, totals, words.most)
+        return [{**totals.fixed_above_zero(), **claims}], cut
+    if words.method == "sparse":
+        tries = words.tries or min(20, max(1, 40_000_000 // max(totals.size, 1) ** 3))
+        made = [sparsest(totals, tries, draw) for _ in range(samples)]
+    else:
+        steps = words.steps or min(200 * totals.size * totals.size, MAX_STEPS)
+        made = list(sampled(totals, density_of(totals, words), steps, samples, draw))
+    return [{**totals.fixed_above_zero(), **claims} for claims in made], None
+
+
+def density_of(totals, words):
+    """How likely a claim is: as it is said, or 0.3, or less where that would come near the most debts."""
+    return words.density or min(0.3, 0.8 * words.most / max(totals.size * (totals.size - 1), 1))

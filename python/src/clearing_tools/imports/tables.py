@@ -1,0 +1,178 @@
+"""Tables of a sheet, with the names of columns in the header, and how their columns are found."""
+import re
+from fractions import Fraction
+
+from . import books
+from .amounts import Unread
+from .reading import rows_of
+
+# What a column may be called that has what is owed to others than the banks, and what shows that it is no debt.
+OUTSIDE = re.compile(
+    r"outside|extern|other liab|other debt|deposit|non.?bank|customer|einlagen|sonstige verb|übrige verb|dépôt|depot|autres dettes"
+    r"|autres engag|third.part|dritt|^el$", re.IGNORECASE)
+NO_DEBT = re.compile(r"asset|aktiv|actif|claim|forderung|créance|receiv|held|central bank", re.IGNORECASE)
+
+
+class Table:
+    """A sheet with the names of columns in its header; with names of rows in the first column, unless it is a list.
+
+    `rows` has the number of each row as the sheet counts it, by its name, or by its number in a list; `cells` its cells by the
+    places of `columns`."""
+
+    def __init__(self, name, words, faults, is_list=False, sheet=None, option="--sheet"):
+        found = rows_of(name, words, sheet, option)
+        self.name, self.label, self.faults, self.sheet, self.before = name, found.label, faults, found, option.removesuffix("sheet")
+        self.first, header = found.rows[0]
+        self.lead = 0 if is_list else 1
+        width = self.width_of(found.rows)
+        self.header = list(map(str, header[self.lead : width])) + [""] * (width - max(len(header), self.lead))
+        self.columns, self.rows, self.cells = {}, {}, {}
+        for at, column in enumerate(self.header):
+            if column in self.columns:
+                faults.add(self, 0, column or "without a name", "a second column of this name")
+            self.columns.setdefault(column, at)
+        self.letters = {column: books.letters(at + self.lead) for column, at in self.columns.items()}
+        for number, record in found.rows[1:]:
+            self.take(number, record, width, is_list)
+
+    def width_of(self, rows):
+        """How many columns there are: those of the header, without what is empty at its end and below."""
+        header = rows[0][1]
+        width = len(header)
+        if self.sheet.is_book:
+            return max(width, 1)
+        while width > self.lead and header[width - 1] == "" and not any(any(record[width - 1 :]) for _, record in rows[1:]):
+            width -= 1
+        return width
+
+    def take(self, number, record, width, is_list):
+        """Takes a row in."""
+        if self.sheet.is_book:
+            record = record + [""] * (width - len(record))
+        if len(record) > width and not any(record[width:]):
+            record = record[:width]
+        if len(record) != width:
+            self.faults.add(self, number, None, f"{len(record)} fields, and the header has {width}")
+        elif is_list:
+            self.rows[number], self.cells[number] = number, record
+        else:
+            name = record[0]
+            if getattr(name, "fault", None):
+                self.faults.add(self, number, None, f"the name {str(name)!r} {name.fault.replace(', and no amount', '')}, and no name")
+            elif name in self.rows:
+                self.faults.add(self, number, None, f"a second row {'of the name ' + name if name else 'without a name'}, beside row {self.rows[name]}")
+            else:
+                self.rows[str(name)], self.cells[str(name)] = number, record[1:]
+
+    def __contains__(self, column):
+        return column in self.columns
+
+    def cell(self, key, column):
+        """The cell of a row in a column, empty where there is no such column."""
+        at = self.columns.get(column)
+        return "" if at is None else self.cells[key][at]
+
+    def column(self, column):
+        """The cells of a column by their rows."""
+        at = self.columns[column]
+        return {key: cells[at] for key, cells in self.cells.items()}
+
+    def place(self, row, column):
+        """A place as words: with the cell as a spreadsheet names it where it is one."""
+        row = self.first if row == 0 else row
+        if self.sheet.is_book and row is not None and column in self.letters:
+            return f" {self.letters[column]}{row} (column {column})" if row != self.first else f" {self.letters[column]}{row}: column {column}"
+        return "".join([f" row {row}" if row is not None else "", f" column {column}" if column else ""])
+
+    def drop(self, name):
+        """Drops the row and the column of a name. Says whether there was one."""
+        found = name in self.rows or name in self.columns
+        self.rows.pop(name, None)
+        self.cells.pop(name, None)
+        if name in self.columns:
+            del self.columns[name]
+            self.header.remove(name)
+        return found
+
+
+class Cells:
+    """Reads the amounts of tables and gathers what is wrong."""
+
+    def __init__(self, amounts, faults):
+        self.amounts, self.faults = amounts, faults
+
+    def amount(self, table, row, column):
+        """The amount in a cell, 0 where it is not one."""
+        try:
+            return self.amounts.read(table.cell(row, column))
+        except Unread as unread:
+            self.unread(unread, table, row, column)
+            return Fraction(0)
+
+    def unread(self, unread, table, row, column):
+        """Tells of a cell that is no amount."""
+        if unread.question:
+            self.faults.ask(table, table.rows[row], column, unread, unread.question)
+        else:
+            self.faults.add(table, table.rows[row], column, unread)
+
+
+def quoted(name):
+    """A name as a word of the shell."""
+    return name if re.fullmatch(r"[\w./-]+", name) and not name.startswith("-") else "'" + name.replace("'", "'\\''") + "'"
+
+
+def need_column(faults, table, option, column, banks=()):
+    """Refuses a table without a column, by the option that gives it another name. Banks are not told among those it has. Where a
+    row below has the name, it may be the header."""
+    if column in table:
+        return
+    there = ", ".join(name for name in table.header if name not in banks)
+    below = next((number for number, row in table.sheet.rows[1:30] if column in row), None)
+    hint = f"; row {below} has it: is that the header? say {table.before}skip {below - 1}" if below else f"; say --{option} NAME"
+    faults.add(table, 0, None, f"no column {column}; it has {there or 'no other'}{hint}")
+
+
+def find_column(faults, words, table, option, banks=()):
+    """Finds a column that may be missing. One that an option names must be there, else it is of the usual name, or none. One of the
+    usual name but for capitals or spaces is asked for."""
+    word, usual = option.replace("-", "_"), option.split("-")[0]
+    column = getattr(words, word)
+    if column is not None:
+        need_column(faults, table, option, column, banks)
+        return
+    for column in table.header:
+        if column == usual and column not in words.drop:
+            setattr(words, word, usual)
+        elif column.strip().casefold() == usual and column not in banks and column not in words.drop:
+            what = f"its name is {usual} but for capitals or spaces; say --{option} {quoted(column)}, or rename it"
+            faults.add(table, 0, column, what)
+            setattr(words, word, column)
+
+
+def find_outside(faults, words, table, banks=()):
+    """Finds the columns of what is owed outside: those that are named, else `outside`, or none. One that looks like it is asked
+    for. Gives the columns that --no-outside passes over."""
+    if words.outside:
+        for column in words.outside:
+            need_column(faults, table, "outside", column, banks)
+        return []
+    words.outside = ["outside"] if "outside" in table and "outside" not in words.drop and not words.no_outside else []
+    like = [] if words.outside else [column for column in table.header if is_outside(table, column, words, banks)]
+    if words.no_outside:
+        return [*like, *(["outside"] if "outside" in table else [])]
+    for column in like:
+        if column.strip().casefold() == "outside":
+            what = f"its name is outside but for capitals or spaces; say --outside {quoted(column)}, or rename it"
+        else:
+            what = f"it may be what is owed outside; say --outside {quoted(column)}, or --no-outside"
+        faults.add(table, 0, column, what)
+    return like
+
+
+def is_outside(table, column, words, banks):
+    """Whether a column looks like what is owed to others: by its name, and something stands in it."""
+    taken = (words.cash, words.rule_column, getattr(words, "assets", None), getattr(words, "liabilities", None))
+    if column in banks or column in taken or column in words.drop:
+        return False
+    return bool(OUTSIDE.search(column)) and not NO_DEBT.search(column) and any(table.column(column).values())

@@ -1,0 +1,227 @@
+"""A network in the amounts of a sheet, and how it becomes whole units within the limits of docs/FORMATS.md."""
+import re
+from collections import defaultdict
+from dataclasses import dataclass, field
+from fractions import Fraction
+
+from clearing_client.format import MAX_BANKS, MAX_CASH, MAX_CLAIM, MAX_DEBTS, MAX_OUTSIDE, MAX_OWED, is_name
+from clearing_client.texts import DEBTS
+
+from .. import files
+from .amounts import decimals_of, shown
+
+NAME_BYTES = 64
+
+
+@dataclass
+class Bank:
+    name: str
+    cash: Fraction
+    rule: str
+    outside: Fraction
+
+
+@dataclass
+class Debt:
+    debtor: str
+    creditor: str
+    rank: int
+    amount: Fraction
+    # The table, row and column.
+    place: tuple
+
+
+@dataclass
+class Network:
+    """Banks and debts in amounts, the codes of names that are none, and the full names that labels have."""
+
+    banks: list
+    debts: list
+    has_outside: bool
+    codes: dict = field(default_factory=dict)
+    labels: dict = field(default_factory=dict)
+
+    def amounts(self):
+        """Each amount with its limit in units, what it is, and its place."""
+        for bank in self.banks:
+            yield bank.cash, MAX_CASH, f"the cash of {bank.name}"
+            yield bank.outside, MAX_OUTSIDE, f"what {bank.name} owes outside"
+        for debt in self.debts:
+            yield debt.amount, MAX_CLAIM, f"the claim of {debt.creditor} on {debt.debtor}"
+
+    def owed(self):
+        return sum(debt.amount for debt in self.debts)
+
+    def labels_text(self):
+        """The file of labels: a record for each bank that has a code or a full name."""
+        records = [(self.codes.get(bank.name, bank.name), self.labels.get(bank.name, bank.name)) for bank in self.banks]
+        return "code,name\n" + "".join(f"{code},{in_quotes(name)}\n" for code, name in records if code != name)
+
+
+def in_quotes(text):
+    """A field of a record, in quotes where it needs them."""
+    return '"' + text.replace('"', '""') + '"' if re.search('[,"\r\n]', text) else text
+
+
+def codes_of(names):
+    """A code for each of some names that the program refuses: the name without what it may not have, cut to 64 bytes."""
+    taken, codes = {name for name in names if is_name(name)}, {}
+    for name in names:
+        if is_name(name):
+            continue
+        plain = " ".join("".join(" " if c in ',"' or not is_name(f"x{c}x") else c for c in name).split()) or "bank"
+        code, number = cut(plain, NAME_BYTES), 1
+        while code in taken:
+            number += 1
+            code = f"{cut(plain, NAME_BYTES - len(str(number)) - 1)} {number}"
+        taken.add(code)
+        codes[name] = code
+    return codes
+
+
+def cut(text, most):
+    """The beginning of a text in so many bytes, at the end of a word where one is near."""
+    if len(text.encode()) <= most:
+        return text
+    short = text.encode()[:most].decode("utf-8", "ignore")
+    head = short.rpartition(" ")[0]
+    return head if len(head) > most // 2 else short.strip()
+
+
+def units_of(amount, unit):
+    return amount if unit == 1 and isinstance(amount, int) else round(Fraction(amount) / unit)
+
+
+def breaks(network, unit):
+    """What passes a limit in a unit, and by how much, each in a line."""
+    for amount, most, what in network.amounts():
+        units = units_of(amount, unit)
+        if units > most:
+            yield f"{what} is {shown(amount)}, in units {units:,}: {units - most:,} more than the most, {most:,}"
+    owed = sum(units_of(debt.amount, unit) for debt in network.debts)
+    if owed > MAX_OWED:
+        yield f"all claims come to {owed:,} units: {owed - MAX_OWED:,} more than the most, {MAX_OWED:,}"
+
+
+def handy_units(least):
+    """The units 1, 2 and 5 times a power of ten, from a power of ten on."""
+    while True:
+        for factor in (1, 2, 5):
+            yield least * factor
+        least *= 10
+
+
+def auto_unit(network):
+    """The smallest unit that keeps all limits, of 1, 2 and 5 times the powers of ten, and no finer than the amounts are."""
+    amounts = [amount for amount, _, _ in network.amounts()]
+    finest = Fraction(1, 10 ** max(map(decimals_of, amounts), default=0))
+    bound = max([Fraction(amount, most) for amount, most, _ in network.amounts()] + [Fraction(network.owed(), MAX_OWED)])
+    return next(unit for unit in handy_units(finest) if 2 * unit >= bound and not any(breaks(network, unit)))
+
+
+class Units:
+    """A network in whole units, and what was done to come to them."""
+
+    def __init__(self, network, words, faults, table):
+        self.network, self.unit = network, words.unit
+        self.is_auto = words.unit == "auto"
+        if self.is_auto:
+            self.unit = auto_unit(network)
+        elif any(breaks(network, self.unit)):
+            for line in breaks(network, self.unit):
+                faults.add(table, None, None, line)
+            unit = shown(auto_unit(network))
+            faults.add(table, None, None, f"a unit of {unit} keeps all limits on amounts (--unit {unit.replace(',', '')} --round, or --unit auto)")
+        self.check_counts(faults, table)
+        if not self.is_auto and not words.round:
+            for debt in network.debts:
+                if (Fraction(debt.amount) / self.unit).denominator != 1:
+                    faults.add(*debt.place, not_whole(debt.amount))
+
+    def check_counts(self, faults, table):
+        count = sum(1 for debt in self.network.debts if units_of(debt.amount, self.unit))
+        for found, most, what in [(len(self.network.banks), MAX_BANKS, "banks"), (count, MAX_DEBTS, "debts")]:
+            if found > most:
+                faults.add(table, None, None, f"{found:,} {what}, {found - most:,} more than the most, {most:,}")
+
+    def named(self, name):
+        return self.network.codes.get(name, name)
+
+    def banks_text(self):
+        header = ["name", "cash", "rule"] + ["outside"] * self.network.has_outside
+        records = []
+        for bank in self.network.banks:
+            outside = [units_of(bank.outside, self.unit)] if self.network.has_outside else []
+            records.append([self.named(bank.name), units_of(bank.cash, self.unit), bank.rule, *outside])
+        return files.csv_text([header, *records])
+
+    def debts_text(self):
+        records = [[self.named(d.debtor), self.named(d.creditor), d.rank, units_of(d.amount, self.unit)] for d in self.network.debts]
+        return files.csv_text([DEBTS.split(","), *(record for record in records if record[3])])
+
+    def tell(self, summary):
+        """Tells what was made, what was rounded, and what became 0."""
+        network, unit = self.network, self.unit
+        for what, amounts in [("cash", [b.cash for b in network.banks]), ("owed outside", [b.outside for b in network.banks]),
+                              ("debts", [d.amount for d in network.debts])]:
+            units = [units_of(amount, unit) for amount in amounts]
+            made, given = sum(units) * unit, Fraction(sum(amounts))
+            if what == "owed outside" and not network.has_outside:
+                continue
+            count = sum(map(bool, units)) if what == "debts" else len(network.banks)
+            off = f"; {shown(abs(made - given))} {'more' if made > given else 'less'} than the sheet's {shown(given)}" if made != given else ""
+            summary.tell(f"{what} made", count, made, f"in units of {shown(unit)}: {sum(units):,}{off}")
+        self.tell_rounding(summary)
+
+    def tell_rounding(self, summary):
+        unit = self.unit
+        off = [abs(units_of(a, unit) * unit - a) for a, _, _ in self.network.amounts()]
+        if any(off):
+            summary.tell("amounts rounded", sum(map(bool, off)), None, f"by {shown(sum(off))} together, the largest by {shown(max(off))}")
+        lost = [debt for debt in self.network.debts if debt.amount and not units_of(debt.amount, unit)]
+        if lost:
+            some = ", ".join(f"{debt.debtor} owes {debt.creditor} {shown(debt.amount)}" for debt in lost[:3])
+            summary.tell("debts that became 0", len(lost), sum(debt.amount for debt in lost), some + (", and others" if len(lost) > 3 else ""))
+
+
+def not_whole(amount):
+    return f"{shown(amount)} is not a whole number of units; take a smaller --unit, or --round"
+
+
+# Groups
+
+def grouped(network, groups, faults, table, summary):
+    """A network in which the banks of a group are one: debts within it are gone, all else adds up."""
+    names = {bank.name for bank in network.banks}
+    of = {bank: group for bank, group in groups.items() if bank in names}
+    unknown = [bank for bank in groups if bank not in names]
+    if unknown:
+        summary.tell("banks of groups that are not here", len(unknown), None, ", ".join(unknown[:20]))
+    for group in sorted(set(of.values())):
+        if group in names and of.get(group, group) != group:
+            faults.add(table, None, None, f"the group {group} has the name of a bank of another group")
+    made = {}
+    for bank in network.banks:
+        group = of.get(bank.name, bank.name)
+        if group not in made:
+            made[group] = Bank(group, bank.cash, bank.rule, bank.outside)
+            continue
+        made[group].cash += bank.cash
+        made[group].outside += bank.outside
+        if made[group].rule != bank.rule:
+            faults.add(table, None, None, f"the banks of the group {group} have the rules {made[group].rule} and {bank.rule}; give them one")
+    debts, within, summed = {}, [], defaultdict(int)
+    for debt in network.debts:
+        key = (of.get(debt.debtor, debt.debtor), of.get(debt.creditor, debt.creditor), debt.rank)
+        if key[0] == key[1]:
+            within.append(debt.amount)
+        elif key in debts:
+            debts[key].amount += debt.amount
+            summed[key] += 1
+        else:
+            debts[key] = Debt(*key, debt.amount, debt.place)
+    summary.tell("groups", len(set(of.values())), None, f"of {len(of):,} banks")
+    summary.tell("debts within groups, left out", len(within), sum(within))
+    if summed:
+        summary.tell("debts summed by groups", sum(summed.values()) + len(summed), None, f"into {len(summed):,}")
+    return Network(list(made.values()), list(debts.values()), network.has_outside, {}, network.labels)

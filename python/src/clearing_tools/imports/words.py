@@ -1,0 +1,167 @@
+"""The words of a command line that all tools for sheets take, what they write, and the banks of a table."""
+import argparse
+import codecs
+import sys
+from fractions import Fraction
+
+from clearing_client.format import MAX_BYTES, RULES, is_name
+
+from .. import cli, files
+from ..runner import Failed
+from .amounts import Amounts, Unread
+from .units import Bank, Units, codes_of, not_whole
+
+NAME_HINT = "is not a name: 1 to 64 bytes, no comma, quote or control character; with --label FILE it gets a code"
+
+
+def unit_in(word):
+    if word == "auto":
+        return word
+    try:
+        unit = Amounts(decimal=".").read(word)
+    except Unread:
+        unit = None
+    if not unit:
+        raise argparse.ArgumentTypeError(f"{word!r} is not a number above 0, nor auto")
+    return Fraction(unit)
+
+
+def delimiter_in(word):
+    word = "\t" if word in ("tab", "\\t") else word
+    if len(word) != 1 or word in '"\r\n':
+        raise argparse.ArgumentTypeError("a delimiter is one character, and neither a quote nor a line end")
+    return word
+
+
+def encoding_in(word):
+    try:
+        # What makes bytes of bytes, such as zlib, is no encoding of a text.
+        "a".encode(word)
+        return codecs.lookup(word).name
+    except (LookupError, ValueError):
+        raise argparse.ArgumentTypeError(f"{word!r} is no encoding") from None
+
+
+def count_in(word):
+    if not (word.isascii() and word.isdigit() and len(word) < 6):
+        raise argparse.ArgumentTypeError(f"{word!r} is not a number of rows")
+    return int(word)
+
+
+def pair_in(word):
+    """A column and a file or a value, with a sign of equality between them."""
+    if "=" not in word.strip("="):
+        raise argparse.ArgumentTypeError(f"{word!r} is not of the form COLUMN=..")
+    return word
+
+
+def add_words(parser):
+    """The words that all tools for sheets take."""
+    add = parser.add_argument
+    add("--sheet", metavar="NAME", help="the sheet of a workbook (the only one that has something in it)")
+    add("--cash", default="cash", metavar="NAME", help="the column of cash")
+    add("--outside", action="append", metavar="NAME", help="a column of what is owed to others (outside, or none); several add up")
+    add("--no-outside", action="store_true", help="no column is of what is owed to others")
+    add("--rule-column", metavar="NAME", help="the column of rules (rule, or none)")
+    add("--rule", default="webster", choices=RULES, help="the rule where there is no such column (webster)")
+    add("--class", dest="class_", type=int, default=1, choices=range(1, 10), help="the class of all debts (1)")
+    add("--unit", type=unit_in, default=Fraction(1), help="what a unit of account is worth in the sheet (1), or auto")
+    add("--round", action="store_true", help="round to whole units")
+    add("--decimal", choices=[".", ","], help="the sign before decimals")
+    add("--thousands", choices=[".", ",", "'", " "], help="the sign between thousands")
+    add("--drop", action="append", default=[], metavar="NAME", help="leave out the row and the column of this name; may be repeated")
+    add("--keep", action="append", default=[], metavar="NAME", help="a bank, though it looks like a line of totals; may be repeated")
+    add("--delimiter", type=delimiter_in, help="what stands between two fields (a comma, else a semicolon or a tab), or tab")
+    add("--encoding", type=encoding_in, default="utf-8", help="the encoding of the sheets (utf-8)")
+    add("--skip", type=count_in, default=0, metavar="N", help="rows above the header that are passed over (0)")
+    add("--label", metavar="FILE", help="the file of labels to write: a code for each name that the program refuses")
+    add("--label-column", metavar="NAME", help="the column of full names, which are the labels of the names")
+    add("--summary", metavar="FILE", help="the summary as a table, in place of standard error")
+
+
+def parser_of(doc, add_own, two_files=True):
+    """The parser of a tool that makes the two files of a sheet: its own words, the files to write, and what all such tools take."""
+    parser = cli.parser_of(doc)
+    add_own(parser.add_argument)
+    if two_files:
+        parser.add_argument("--banks", required=True, metavar="FILE", help="the banks file to write")
+        parser.add_argument("--debts", required=True, metavar="FILE", help="the debts file to write")
+    add_words(parser)
+    return parser
+
+
+def parsed(parser, words=None):
+    """The words of a command line, or some others."""
+    asked = parser.parse_args(words)
+    if asked.decimal and asked.decimal == asked.thousands:
+        parser.error("--decimal and --thousands are one sign")
+    if asked.no_outside and asked.outside:
+        parser.error("--no-outside and --outside are both said")
+    if asked.label_column and not asked.label:
+        parser.error("--label-column is for --label")
+    return asked
+
+
+def amounts_of(words):
+    return Amounts(words.decimal, words.thousands)
+
+
+def banks_of(table, names, words, cells):
+    """The banks of some names, with their columns of a table."""
+    banks = []
+    for name in names:
+        if not is_name(name) and not (words.label and name):
+            cells.faults.add(table, table.rows.get(name), None, f"{name!r} {NAME_HINT}")
+        if name not in table.rows:
+            cells.faults.add(table, None, None, f"no row for the bank {name}")
+            continue
+        rule = table.cell(name, words.rule_column) or words.rule if words.rule_column in table else words.rule
+        if words.rule_column in table and table.cell(name, words.rule_column) not in RULES:
+            cells.faults.add(table, table.rows[name], words.rule_column, f"{table.cell(name, words.rule_column)!r} is not one of {', '.join(RULES)}")
+        cash = whole(table, name, words.cash, words, cells)
+        outside = sum(whole(table, name, column, words, cells) for column in words.outside or [])
+        banks.append(Bank(name, cash, rule, outside))
+    return banks
+
+
+def whole(table, name, column, words, cells):
+    """An amount of a bank, which is to be a whole number of units unless amounts are rounded."""
+    amount = cells.amount(table, name, column)
+    if words.unit != "auto" and not words.round and (Fraction(amount) / words.unit).denominator != 1:
+        cells.faults.add(table, table.rows[name], column, not_whole(amount))
+    return amount
+
+
+def labels_in(network, table, words):
+    """The full names of the banks, where a column has them."""
+    if not words.label_column:
+        return {}
+    known = {bank.name for bank in network.banks}
+    return {name: str(text) for name, text in table.column(words.label_column).items() if text and name in known}
+
+
+def outputs_of(network, table, words, faults, summary):
+    """The files of a network, each with its text."""
+    if words.label:
+        network.codes = codes_of([bank.name for bank in network.banks])
+        if network.codes:
+            some = ", ".join(f"{code} for {name}" for name, code in list(network.codes.items())[:3])
+            summary.tell("codes in place of names", len(network.codes), None, some)
+    units = Units(network, words, faults, table)
+    faults.end_if_any()
+    units.tell(summary)
+    outputs = [(words.banks, units.banks_text()), (words.debts, units.debts_text())]
+    return outputs + ([(words.label, network.labels_text())] if words.label else [])
+
+
+def write(outputs, inputs, summary, words):
+    """Writes the files, all or none, and then tells what was done: on standard error, or in the file of the summary."""
+    for name, text in outputs:
+        if len(text.encode()) > MAX_BYTES["banks"]:
+            raise Failed(f"{name} would have {len(text.encode()):,} bytes, and the most is {MAX_BYTES['banks']:,}")
+    if words.summary:
+        outputs = [*outputs, (words.summary, summary.table())]
+    files.write_all(outputs, inputs)
+    if not words.summary:
+        sys.stderr.reconfigure(encoding="utf-8", errors="backslashreplace")
+        print(summary.text(), end="", file=sys.stderr, flush=True)

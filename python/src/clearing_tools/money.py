@@ -1,0 +1,128 @@
+"""Amounts: whole units of account, and what a unit is worth. One reader of the word --unit, and two ways to print: a decimal number to
+the last digit for files, and an amount with its currency for people."""
+import argparse
+import contextlib
+from decimal import Context, Decimal, Inexact, InvalidOperation, localcontext
+from typing import Callable, Iterable, Optional
+
+from .runner import Failed
+
+MOST_DIGITS = 100
+LARGEST_POWER = 15
+
+
+def unit_in(word: str) -> Decimal:
+    """What a unit of account is worth, by a word of the command line: a decimal number above 0."""
+    try:
+        unit = Decimal(word)
+    except InvalidOperation:
+        unit = Decimal(0)
+    if not (unit.is_finite() and unit > 0 and word.isascii()):
+        raise argparse.ArgumentTypeError(f"{word!r} is not a number above 0")
+    return unit
+
+
+def worth(word: str) -> Decimal:
+    """What a unit of account is worth in a currency, of a size that people read."""
+    unit: Optional[Decimal] = None
+    with contextlib.suppress(argparse.ArgumentTypeError):
+        unit = unit_in(word)
+    if unit is None or abs(unit.adjusted()) > LARGEST_POWER:
+        raise argparse.ArgumentTypeError(f"{word!r} is not an amount above 0, such as 0.01 or 1000")
+    return unit
+
+
+def add_unit(parser: argparse.ArgumentParser) -> None:
+    """The word --unit of a tool that prints amounts to the last digit."""
+    parser.add_argument("--unit", type=unit_in, help="what a unit of account is worth")
+
+
+def add_money(parser: argparse.ArgumentParser) -> None:
+    """The words --unit and --currency of a tool that prints for people."""
+    parser.add_argument(
+        "--unit", metavar="AMOUNT", type=worth, help="what a unit of account is worth, such as 1000 or 0.01"
+    )
+    parser.add_argument("--currency", metavar="WORD", help="the currency that it is worth so much of, such as EUR")
+
+
+def amount_by(unit: Optional[Decimal]) -> Callable[[int], str]:
+    """What makes a text of a number of units: the number where no unit is given, else the amount as a decimal number. Fails where it
+    has more digits than are kept."""
+    if unit is None:
+        return str
+    exact, worth_each = Context(prec=MOST_DIGITS, traps=[Inexact, InvalidOperation]), unit
+
+    def amount(units: int) -> str:
+        try:
+            with localcontext(exact):
+                return f"{units * worth_each:f}"
+        except Inexact:
+            raise Failed(f"amounts of the unit {unit} have more digits than are kept") from None
+
+    return amount
+
+
+class Money:
+    """Amounts as text: units of account, or a currency where a unit is worth something in it."""
+
+    def __init__(self, unit: Optional[Decimal] = None, currency: Optional[str] = None) -> None:
+        self.unit = unit.normalize() + 0 if unit is not None else None
+        self.currency = currency
+        self.places = max(0, -int(self.unit.as_tuple().exponent)) if self.unit is not None else 0
+
+    def number(self, units: int) -> str:
+        """An amount alone."""
+        return f"{units:,}" if self.unit is None else f"{units * self.unit:,.{self.places}f}"
+
+    def __call__(self, units: int) -> str:
+        """An amount with its currency, or the word units."""
+        if self.currency:
+            return f"{self.currency} {self.number(units)}"
+        return f"{self.number(units)} {'unit' if units == 1 else 'units'}" if self.unit is None else self.number(units)
+
+    def about(self) -> str:
+        """What the numbers of a table are."""
+        if self.unit is None:
+            return f"Amounts in whole units{f' of one {self.currency}' if self.currency else ''}."
+        of = f" {self.currency}" if self.currency else ""
+        return f"Amounts in{of or ' the currency'}; a unit of account is{of} {self.unit:,f}."
+
+    def in_short(self, units: int) -> str:
+        """An amount with its currency, in millions or billions where it is large."""
+        value = Decimal(units * (self.unit or 1))
+        for least, size, word in ((10**12, 10**9, "billion"), (10**6, 10**6, "million")):
+            if value >= least:
+                number = f"{value / size:,.1f}".removesuffix(".0")
+                return f"{self.currency} {number} {word}" if self.currency else f"{number} {word}{' units' if self.unit is None else ''}"
+        return self(units)
+
+    def scale_of(self, amounts: Iterable[int]) -> "Scale":
+        """The scale in which a table with these amounts is read: whole, or in thousands, millions or billions."""
+        return Scale(self, list(amounts))
+
+
+SIZES = ((10**12, 10**9, "billion"), (10**9, 10**6, "million"), (10**6, 10**3, "thousand"))
+
+
+class Scale:
+    """Amounts of a table in one size: below a million as they are, above it in thousands, millions or billions, rounded to a tenth where
+    they are not all whole. `words` says it, for the head of a column."""
+
+    def __init__(self, money: Money, amounts: Iterable[int]) -> None:
+        self.money = money
+        values = [units * (money.unit or 1) for units in amounts]
+        most = max(values, default=0)
+        self.size, size_word = next(((size, word) for least, size, word in SIZES if most >= least), (1, ""))
+        self.is_rounded = self.size > 1 and any(value * 10 % self.size for value in values)
+        self.places = 0 if all(value % self.size == 0 for value in values) else 1
+        kind = money.currency or ("" if money.unit is not None else "units")
+        self.words = " ".join(filter(None, (kind, size_word) if money.currency else (size_word, kind)))
+
+    def number(self, units: int) -> str:
+        """An amount in this size. One that is not 0 is never shown as 0."""
+        if self.size == 1:
+            return self.money.number(units)
+        value = Decimal(units * (self.money.unit or 1)) / self.size
+        if not units:
+            return "0"
+        return "<0.1" if 0 < value < Decimal("0.05") else f"{value:,.{self.places}f}"

@@ -1,0 +1,89 @@
+"""A report in five sentences: how many banks fall, why, what would save them, what the worst scenario does, and who falls next."""
+from ..labels import apart, count, listed, percent
+from ..texts import due_of, shortfall_of
+
+
+def summary(matter):
+    """The five sentences, each made from the results."""
+    return [falls(matter), why(matter), saved(matter), worst(matter), following(matter)]
+
+
+def names(banks):
+    """The names of banks in a sentence."""
+    return listed([apart(bank.name) for bank in banks])
+
+
+def falls(matter):
+    """How many banks are in default, and what stays unpaid."""
+    banks, short = matter.banks, [bank for bank in matter.banks if bank.state != "sound"]
+    due, unpaid = sum(map(due_of, banks)), sum(map(shortfall_of, banks))
+    if not short:
+        pays = "it pays all it owes" if len(banks) == 1 else "each pays all it owes"
+        return f"None of {count(len(banks), 'bank')} is in default: {pays}, {matter.money.in_short(due)} in all."
+    verb = "cannot pay all that it owes" if len(short) == 1 else "cannot pay all that they owe"
+    return (
+        f"{len(short):,} of {count(len(banks), 'bank')} {verb}: {matter.money.in_short(unpaid)} stays unpaid, {percent(unpaid, due)} of what"
+        " the banks owe."
+    )
+
+
+def why(matter):
+    """By what the banks in default are so."""
+    of = {state: [bank for bank in matter.banks if bank.state == state] for state in ("fundamental", "contagion", "gridlock")}
+    parts = []
+    if of["fundamental"]:
+        parts.append(f"{names(of['fundamental'])} could not pay even if all who owe to them paid in full")
+    if of["contagion"]:
+        one = len(of["contagion"]) == 1
+        parts.append(f"{names(of['contagion'])} {'falls' if one else 'fall'} because those who owe to {'it' if one else 'them'} do not")
+    if of["gridlock"]:
+        begins = f"{names(of['gridlock'])} could pay, but nobody begins"
+        parts.append(begins + (f", and greater payments, by {matter.money.in_short(matter.more)} in all, would clear too" if matter.more else ""))
+    if parts:
+        return "; ".join(parts) + "."
+    keeps = min((bank for bank in matter.banks), key=lambda bank: bank.equity, default=None)
+    return f"The least is left at {apart(keeps.name)}, {matter.money.in_short(keeps.equity)}." if keeps else "There is no bank."
+
+
+def saved(matter):
+    """What the cheapest rescue costs, and which saves most others."""
+    cheap = matter.rankings.cheap
+    if all(bank.state == "sound" for bank in matter.banks):
+        return "No bank needs to be saved."
+    if not cheap:
+        return "What would save the banks in default was not asked."
+    first, best = cheap[0], max(cheap, key=lambda each: each.also)
+    said = f"The cheapest to save is {apart(first.bank)}: with {matter.money.in_short(first.added)} more it pays all that it owes"
+    if first.also:
+        said += f", and so {count(first.also, 'other does', 'others do')}"
+    if best.also > first.also:
+        said += f"; {matter.money.in_short(best.added)} for {apart(best.bank)} would save {count(best.also, 'other', 'others')} too"
+    return said + "."
+
+
+def worst(matter):
+    """What the scenario that leaves most unpaid does."""
+    if not matter.scenarios:
+        return "No scenario was given."
+    base = sum(map(shortfall_of, matter.banks))
+    unpaid = {at: sum(map(shortfall_of, banks)) for at, (_, banks, _) in enumerate(matter.scenarios)}
+    at = max(unpaid, key=unpaid.get)
+    name, banks, _ = matter.scenarios[at]
+    short = sum(bank.state != "sound" for bank in banks)
+    more = f"{matter.money.in_short(unpaid[at] - base)} more than as things are" if unpaid[at] >= base else "less than as things are"
+    first = f"The worst of {count(len(unpaid), 'scenario')}" if len(unpaid) > 1 else "The scenario"
+    return (
+        f"{first}, “{apart(name)}”, leaves {count(short, 'bank')} in default and {matter.money.in_short(unpaid[at])} unpaid, {more}."
+    )
+
+
+def following(matter):
+    """Which banks fall next where all cash is cut."""
+    near = matter.rankings.near
+    if not near:
+        left = any(bank.state == "sound" for bank in matter.banks)
+        return "No other bank would fall, even if all cash were lost." if left else "No bank is left that could fall."
+    said = f"The next to fall is {apart(near[0].bank)}, where {percent(near[0].cut, 1000)} of all cash is lost"
+    if len(near) > 1:
+        said += f"; then {apart(near[1].bank)}, at {percent(near[1].cut, 1000)}"
+    return said + "."

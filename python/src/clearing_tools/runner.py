@@ -1,0 +1,343 @@
+"""How a tool runs: its exception with a status, the program and its runs side by side, what it says, and its end.
+
+The program is that of the environment variable CLEARING, else the one of the repository or the installation that the package stands
+in, else `clearing` on the path, whose absolute entries alone are looked at. It runs once for each processor at a time, each run by one worker. On a terminal a line on standard
+error says how many runs are done. At an interrupt all runs are ended at once, and the tool ends with 130.
+
+It imports the standard library alone, so that evidence is checked by `evidence/` and this file.
+"""
+import contextlib
+import functools
+import math
+import os
+import pathlib
+import queue
+import re
+import shutil
+import signal
+import subprocess
+import sys
+import tempfile
+import threading
+import time
+from typing import Any, Callable, Iterable, Iterator, List, Optional, Sequence, Set, Tuple, TypeVar
+
+PACKAGES, ROOT = (pathlib.Path(__file__).resolve().parents[above] for above in (1, 3))
+"""The repository, or what stands for it where the package is installed."""
+
+
+T = TypeVar("T")
+R = TypeVar("R")
+
+
+class Failed(Exception):
+    """Why a tool cannot do what it is asked for, in one line or more, and the `status` with which it ends."""
+
+    def __init__(self, message: str, status: int = 1, more: Iterable[str] = ()) -> None:
+        super().__init__(message)
+        self.status, self.lines = status, [message, *more]
+
+
+def on_path(name: str) -> Optional[str]:
+    """The file of a command, which is looked for in the absolute entries of the path alone."""
+    return shutil.which(name, path=os.pathsep.join(filter(os.path.isabs, os.get_exec_path())))
+
+
+def program() -> str:
+    """The program: an absolute name, and never that of one without a proof."""
+    named = os.environ.get("CLEARING") or "clearing"
+    beside = ROOT / "clearing"
+    if os.sep in named:
+        found: Optional[str] = os.path.abspath(named)
+    # The packages stand in a repository, or in an installation, in one place alone.
+    elif not os.environ.get("CLEARING") and PACKAGES == ROOT / "python" / "src" and beside.is_file():
+        found = str(beside)
+    else:
+        found = on_path(named)
+    if found is None:
+        raise Failed(f"cannot run {named}: it is on no absolute entry of the path")
+    if os.path.basename(os.path.realpath(found)) == "first-look":
+        raise Failed(f"{named} is a first look, which is not proved; name the proved program by CLEARING", 2)
+    return found
+
+
+def processors() -> int:
+    """How many processors this process may use."""
+    try:
+        return len(os.sched_getaffinity(0))
+    except AttributeError:
+        return os.cpu_count() or 1
+
+
+def ends_at_once() -> None:
+    """A request to end is an interrupt too. One that follows at once, as `timeout` sends it, breaks off nothing."""
+    last = -math.inf
+
+    def stop(*_: Any) -> None:
+        nonlocal last
+        if time.monotonic() - last > 5:
+            last = time.monotonic()
+            raise KeyboardInterrupt
+
+    signal.signal(signal.SIGTERM, stop)
+    # The end of a terminal, unless `nohup` has it ignored.
+    if signal.getsignal(signal.SIGHUP) is signal.SIG_DFL:
+        signal.signal(signal.SIGHUP, stop)
+    if signal.getsignal(signal.SIGINT) is signal.default_int_handler:
+        signal.signal(signal.SIGINT, stop)
+
+
+class Asking:
+    """Runs of the program, side by side."""
+
+    def __init__(self) -> None:
+        self.running: Set["subprocess.Popen[bytes]"] = set()
+        self.lock, self.stopped = threading.Lock(), False
+
+    def run(self, command: Sequence[str], folder: Any = None) -> Tuple[int, bytes, bytes]:
+        """The status, output and messages of a command, as bytes."""
+        with self.lock:
+            if self.stopped:
+                raise KeyboardInterrupt
+            try:
+                child = subprocess.Popen(
+                    command, cwd=folder, stdin=subprocess.DEVNULL, stdout=subprocess.PIPE, stderr=subprocess.PIPE
+                )
+            except (OSError, ValueError) as fault:
+                raise Failed(f"cannot run {command[0]}: {fault}") from fault
+            self.running.add(child)
+        try:
+            output, messages = self.wait_for(child)
+        except BaseException:
+            child.kill()
+            for stream in (child.stdout, child.stderr):
+                if stream is not None:
+                    stream.close()
+            child.wait()
+            raise
+        finally:
+            with self.lock:
+                self.running.discard(child)
+        return child.returncode, output, messages
+
+    def wait_for(self, child: "subprocess.Popen[bytes]") -> Tuple[bytes, bytes]:
+        """The output and messages of a run, none once all runs were stopped."""
+        while not self.stopped:
+            with contextlib.suppress(subprocess.TimeoutExpired):
+                # Not for long: what a run that was ended has begun itself may hold its output.
+                return child.communicate(timeout=1)
+        raise KeyboardInterrupt
+
+    def answer(self, words: Sequence[str], folder: Any = None) -> bytes:
+        """What the program prints, where it ends well."""
+        status, output, messages = self.run([program(), *words], folder)
+        if status != 0:
+            said = messages.decode("utf-8", "replace").strip() or f"{program()} ended with {status}"
+            raise Failed(said.splitlines()[-1].removeprefix("clearing: "), status if status in (2, 3, 4) else 1)
+        return output
+
+    def stop(self) -> None:
+        """Ends all runs; none begins any more."""
+        with self.lock:
+            self.stopped = True
+            for child in self.running:
+                child.kill()
+
+    def all(self, work: Callable[[T], R], given: Iterable[T], what: str) -> List[R]:
+        """What the work gives for each item, in their order, as many at a time as there are processors. At a fault all runs are
+        ended, and no work goes on behind it, so that the folder in which it writes can be removed."""
+        items = list(given)
+        found: List[Any] = [None] * len(items)
+        left: "queue.SimpleQueue[int]" = queue.SimpleQueue()
+        ended: "queue.SimpleQueue[Optional[BaseException]]" = queue.SimpleQueue()
+        for number in range(len(items)):
+            left.put(number)
+
+        def go_on() -> None:
+            with contextlib.suppress(queue.Empty):
+                while not self.stopped:
+                    number, fault = left.get_nowait(), None
+                    try:
+                        found[number] = work(items[number])
+                    except BaseException as raised:
+                        fault = raised
+                    ended.put(fault)
+
+        # Threads and queues of our own: an interrupt within a wait for futures may keep their locks for ever.
+        threads = [threading.Thread(target=go_on, daemon=True) for _ in range(min(processors(), len(items)))]
+        told = Progress(what, len(items))
+        try:
+            for thread in threads:
+                thread.start()
+            while told.done < len(items):
+                # Not for long at a time: a signal that comes just before a wait is looked at after it.
+                with contextlib.suppress(queue.Empty):
+                    fault = ended.get(timeout=0.1)
+                    if fault is not None:
+                        raise fault
+                    told.one_more()
+            return found
+        except BaseException:
+            self.stop()
+            for thread in threads:
+                if thread.is_alive():
+                    thread.join()
+            raise
+        finally:
+            told.end()
+
+
+class Progress:
+    """A line that moves, on a terminal alone."""
+
+    def __init__(self, what: str, count: int) -> None:
+        self.what, self.count, self.done = what, count, 0
+        self.shown = sys.stderr.isatty()
+        self.tell()
+
+    def tell(self) -> None:
+        """Shows how far the runs are."""
+        if self.shown:
+            print(f"\r\033[K{tool_name()}: {self.what} {self.done} of {self.count}", end="", file=sys.stderr, flush=True)
+
+    def one_more(self) -> None:
+        """Counts a run that is done."""
+        self.done += 1
+        self.tell()
+
+    def end(self) -> None:
+        """Takes the line away."""
+        if self.shown:
+            print("\r\033[K", end="", file=sys.stderr, flush=True)
+
+
+def groups_of(items: Iterable[T], most: int = 100) -> List[List[T]]:
+    """The items in groups of at most so many, and in as many groups as there are processors where there are enough."""
+    items = list(items)
+    size = max(1, min(most, -(-len(items) // processors())))
+    return [items[at : at + size] for at in range(0, len(items), size)]
+
+
+# What is said to people.
+
+# Signs that are not seen, or that turn the letters beside them: controls, marks of direction, joiners, blanks of another width, fillers
+# and selectors of a form, and codes that are no characters. Each is the first and last code of a range.
+HIDDEN = (
+    "0-9 B-1F 7F-A0 AD 34F 61C 115F-1160 1680 17B4-17B5 180B-180F 2000-200F 2028-202F 205F-206F 2800 3000 3164 FDD0-FDEF FE00-FE0F FEFF"
+    " FFA0 FFF0-FFFB FFFE-FFFF 13430-1343F 1BCA0-1BCA3 1D173-1D17A E0000-E0FFF "
+    + " ".join(f"{plane:X}FFFE-{plane:X}FFFF" for plane in range(1, 17))
+)
+
+
+def signs_of(ranges: str) -> str:
+    """Ranges of codes as the inner part of a set of a regular expression."""
+    ends = (part.partition("-") for part in ranges.split())
+    return "".join(f"\\U{int(first, 16):08x}-\\U{int(last or first, 16):08x}" for first, _, last in ends)
+
+
+UNSEEN = re.compile(f"[{signs_of(HIDDEN)}]|(?<= ) |<(?=U\\+[0-9A-F]{{4,6}}>)")
+
+
+def shown(text: str) -> str:
+    """A text as it can be read: a sign that is not seen, or that turns the order of letters, stands as its code, such as <U+202E>, and
+    so does a blank behind a blank. Two texts that differ are shown differently."""
+    return UNSEEN.sub(lambda found: f"<U+{ord(found[0]):04X}>", text)
+
+
+MOST_SHOWN = 2000
+
+
+def say(message: str) -> None:
+    """Tells people something in one line on standard error, whatever stands in it."""
+    line = shown(message[: MOST_SHOWN + 1]).replace("\n", "<U+000A>")
+    print(f"{tool_name()}: {line if len(message) <= MOST_SHOWN else line + '...'}", file=sys.stderr)
+
+
+# The folder and the end of a tool.
+
+
+@contextlib.contextmanager
+def work_folder() -> Iterator[str]:
+    """A folder for what is written on the way; it goes at the end."""
+    folder = tempfile.mkdtemp()
+    try:
+        yield folder
+    finally:
+        # What cannot be removed is no fault of the answer, and hides none.
+        shutil.rmtree(folder, ignore_errors=True)
+
+
+def same_file(one: Any, other: Any) -> bool:
+    """Whether two names are those of one file that is there."""
+    try:
+        return os.path.samefile(one, other)
+    except OSError:
+        return False
+
+
+NAME = pathlib.Path(sys.argv[0]).name if sys.argv else ""
+
+
+def tool_name() -> str:
+    """The name by which a tool speaks of itself."""
+    return NAME
+
+
+def command(named: Optional[str] = None) -> Callable[[Callable[[], Optional[int]]], Callable[[], None]]:
+    """Makes the command of a tool: it does its work, tells what it cannot do, and ends with the status. The tool speaks of itself by
+    the name of its file, or by another that is given here, unless it was installed under a name of its own."""
+
+    def make(work: Callable[[], Optional[int]]) -> Callable[[], None]:
+        @functools.wraps(work)
+        def main() -> None:
+            global NAME
+            NAME = pathlib.Path(sys.argv[0]).name
+            if named and (NAME.endswith(".py") or NAME == "-c"):
+                NAME = named
+            try:
+                with_streams()
+                ends_at_once()
+                status = status_of(work)
+                with contextlib.suppress(OSError, AttributeError):
+                    sys.stderr.flush()
+            except KeyboardInterrupt:
+                status = 130
+            os._exit(status)
+
+        return main
+
+    return make
+
+
+def status_of(work: Callable[[], Optional[int]]) -> int:
+    """The status of a tool; what it cannot do is told."""
+    try:
+        status = work() or 0
+        if sys.stdout is not None:
+            sys.stdout.flush()
+        return status
+    except Failed as fault:
+        for line in fault.lines:
+            say(line)
+        return fault.status
+    except OSError as fault:
+        say(f"cannot write the output: {fault.strerror}")
+        return 5
+    except MemoryError:
+        say("there is not enough memory")
+        return 1
+
+
+def with_streams() -> None:
+    """Has the three standard streams where one is closed, so that no file takes its number. What is written to standard output is a
+    fault then."""
+    for number, way in ((0, os.O_RDONLY), (1, os.O_RDONLY), (2, os.O_WRONLY)):
+        try:
+            os.fstat(number)
+        except OSError:
+            # The lowest number that is free is this one.
+            os.open(os.devnull, way)
+    if sys.stdout is None:
+        sys.stdout = open(1, "w", closefd=False)
+    if sys.stderr is None:
+        sys.stderr = open(2, "w", closefd=False, errors="backslashreplace")

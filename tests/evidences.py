@@ -1,0 +1,64 @@
+"""What the tests of folders of evidence share: how one is made and checked, with a program and without one, and how checksums are made anew."""
+import hashlib
+import os
+import pathlib
+import shutil
+import subprocess
+
+from common import HUB, PROGRAM, ROOT, Case
+
+SCRIPT = str(ROOT / "tools/evidence.sh")
+
+SCENARIOS = """[[scenario]]
+name = "half"
+cut = 500
+[[scenario]]
+name = " South loses; a third is cut "
+cut = 333
+[[scenario.loss]]
+bank = "South"
+amount = 41
+[[scenario.loss]]
+bank = "Hub"
+amount = 1000000000000
+[[scenario]]
+name = "nothing"
+"""
+
+
+def evidence(*words, program=PROGRAM, **more):
+    """A run of the tool with a program."""
+    environment = {**os.environ, "CLEARING": program, "PYTHONDONTWRITEBYTECODE": "1"}
+    return subprocess.run([SCRIPT, *map(str, words)], env=environment, stdin=subprocess.DEVNULL, capture_output=True, **more)
+
+
+class EvidenceCase(Case):
+    """A case that makes folders of evidence and checks them."""
+
+    def hub(self, scenarios=SCENARIOS):
+        """Evidence of the hub with scenarios and a rescue."""
+        words = ["--banks", HUB / "banks.csv", "--debts", HUB / "debts.csv", "--scenarios", self.file("s.toml", scenarios)]
+        folder = self.folder / "evidence"
+        done = evidence("make", folder, *words, "--bank", "South")
+        self.assertEqual((done.returncode, done.stderr), (0, b""))
+        return folder
+
+    def sums_anew(self, folder):
+        """Has the checksums of all that is in a folder."""
+        names = sorted(str(path.relative_to(folder)) for path in folder.rglob("*") if path.is_file() and path.name != "SHA256SUMS")
+        # What is far too long is not read, here neither.
+        content = lambda path: path.read_bytes() if path.stat().st_size < 1 << 30 else b""
+        sums = [f"{hashlib.sha256(content(folder / name)).hexdigest()}  {name}\n" for name in names]
+        (folder / "SHA256SUMS").write_bytes(os.fsencode("".join(sums)))
+
+    def without_program(self, *words, **more):
+        """A run of a copy of the tool alone, where no program is built."""
+        package = pathlib.Path("python/src/clearing_tools")
+        for name in ("tools/evidence.sh", "tools/evidence.py", package / "__init__.py", package / "runner.py", package / "evidence"):
+            if not (self.folder / name).exists():
+                (self.folder / name).parent.mkdir(parents=True, exist_ok=True)
+                (shutil.copytree if (ROOT / name).is_dir() else shutil.copy)(ROOT / name, self.folder / name)
+        environment = {key: value for key, value in os.environ.items() if key != "CLEARING"}
+        environment["PYTHONDONTWRITEBYTECODE"] = "1"
+        run = [str(self.folder / "tools/evidence.sh"), *map(str, words)]
+        return subprocess.run(run, env=environment, stdin=subprocess.DEVNULL, capture_output=True, **more)

@@ -1,0 +1,165 @@
+"""Runs the tests, each module of tests in a process of its own and as many at once as there are processors.
+
+`run.py` runs all modules test_*.py beside it, `run.py MODULE...` these alone. Those of the package, test_client_*, are run by a Python
+that has pandas, numpy and networkx where there is one; with `--without NAMES` as if the packages of these names, with commas between,
+were missing. Each test that was skipped has a line with its reason; the last line is `N passed, M failed`, with `, K skipped` where some
+were. The status is 0 where none failed.
+
+With `--skips-fail FILE` a skip counts as a failure, but for those that the file names: a line has the name of a test, a class or a
+module, and then the reason. Each `--note TEXT` is a line before the last.
+"""
+import argparse
+import concurrent.futures
+import contextlib
+import functools
+import os
+import pathlib
+import re
+import signal
+import subprocess
+import sys
+import unittest
+
+HERE = pathlib.Path(__file__).resolve().parent
+COUNTS = re.compile(r"([0-9]+) passed, ([0-9]+) failed(?:, ([0-9]+) skipped)?")
+
+
+class Told(unittest.TextTestResult):
+    """A result that counts each test once: as failed, else as skipped, else as passed."""
+
+    def __init__(self, *words, **options):
+        super().__init__(*words, **options)
+        self.counts = {"passed": 0, "failed": 0, "skipped": 0}
+        self.current = None
+
+    def startTest(self, test):
+        super().startTest(test)
+        self.current = "passed"
+
+    def mark(self, state):
+        # A fault or a skip of a whole class or module stands alone.
+        if self.current is None:
+            self.counts[state] += 1
+        elif self.current != "failed":
+            self.current = state
+
+    def addError(self, test, error):
+        super().addError(test, error)
+        self.mark("failed")
+
+    def addFailure(self, test, error):
+        super().addFailure(test, error)
+        self.mark("failed")
+
+    def addUnexpectedSuccess(self, test):
+        super().addUnexpectedSuccess(test)
+        self.mark("failed")
+
+    def addSubTest(self, test, subtest, error):
+        super().addSubTest(test, subtest, error)
+        if error is not None:
+            self.mark("failed")
+
+    def addSkip(self, test, reason):
+        super().addSkip(test, reason)
+        self.mark("skipped")
+
+    def stopTest(self, test):
+        super().stopTest(test)
+        self.counts[self.current] += 1
+        self.current = None
+
+
+def line_of(passed, failed, skipped):
+    return f"{passed} passed, {failed} failed" + (f", {skipped} skipped" if skipped else "")
+
+
+@functools.cache
+def python_with(names):
+    """A Python that has these packages: the one that runs this, or the system's; else the one that runs this."""
+    for python in (sys.executable, "/usr/bin/python3"):
+        with contextlib.suppress(OSError):
+            if subprocess.run([python, "-c", f"import {names}"], capture_output=True).returncode == 0:
+                return python
+    return sys.executable
+
+
+def run_here(module, without):
+    """Runs one module in this process. Its last line has the counts."""
+    sys.modules.update({name: None for name in without.split(",") if name})
+    suite = unittest.defaultTestLoader.discover(str(HERE), pattern=f"{module}.py")
+    result = unittest.TextTestRunner(stream=sys.stdout, resultclass=Told, verbosity=2).run(suite)
+    for test, reason in result.skipped:
+        print(f"skipped: {test.id() if hasattr(test, 'id') else test}: {reason}")
+    if not sum(result.counts.values()):
+        result.counts["failed"] = 1
+        print(f"{module} has no test")
+    print(line_of(**result.counts))
+    sys.stdout.flush()
+    return 1 if result.counts["failed"] else 0
+
+
+def run_beside(module, without):
+    """What a run of one module in another process prints, and its three counts. A run that broke off is a test that failed."""
+    python = sys.executable if without or not module.startswith("test_client_") else python_with("pandas, numpy, networkx")
+    run = [python, str(HERE / "run.py"), "--here", module, without]
+    done = subprocess.run(run, stdin=subprocess.DEVNULL, stdout=subprocess.PIPE, stderr=subprocess.STDOUT,
+                          encoding="utf-8", errors="backslashreplace")
+    lines = done.stdout.splitlines()
+    counts = COUNTS.fullmatch(lines[-1]) if lines else None
+    if not counts:
+        return lines + [f"{module} broke off with status {done.returncode}"], (0, 1, 0)
+    return lines[:-1], tuple(int(count or 0) for count in counts.groups())
+
+
+def options_of(words):
+    parser = argparse.ArgumentParser(description=__doc__, formatter_class=argparse.RawDescriptionHelpFormatter)
+    parser.add_argument("modules", metavar="MODULE", nargs="*")
+    parser.add_argument("--without", metavar="NAMES", default="")
+    parser.add_argument("--skips-fail", metavar="FILE", type=argparse.FileType(encoding="utf-8"))
+    parser.add_argument("--note", metavar="TEXT", action="append", default=[])
+    return parser.parse_args(words)
+
+
+def name_of(skip):
+    """The test that a line on a skip is about, without the words of a part of it; or the class or module."""
+    return re.match(r"skipped: (?:setUp(?:Class|Module) \()?([\w.]*)", skip)[1]
+
+
+def not_allowed(skips, listed):
+    """The names of those skipped tests that no line of a list names, neither them nor their class or module."""
+    rows = [line.split(None, 1) for line in listed if not line.startswith("#")]
+    allowed = {row[0] for row in rows if len(row) == 2}
+    return {name for name in map(name_of, skips) if not any(f"{name}.".startswith(f"{each}.") for each in allowed)}
+
+
+def main(words):
+    # Started in the background a shell leaves interrupts ignored, and each program below would ignore them too.
+    signal.signal(signal.SIGINT, signal.default_int_handler)
+    if words[:1] == ["--here"]:
+        return run_here(words[1], words[2])
+    options = options_of(words)
+    modules = [word.removesuffix(".py") for word in options.modules] or sorted(path.stem for path in HERE.glob("test_*.py"))
+    # The largest first, since they take longest.
+    modules.sort(key=lambda module: -(HERE / f"{module}.py").stat().st_size if (HERE / f"{module}.py").exists() else 0)
+    total, skips = [0, 0, 0], []
+    with concurrent.futures.ThreadPoolExecutor(len(os.sched_getaffinity(0))) as pool:
+        for module, (lines, counts) in zip(modules, pool.map(run_beside, modules, [options.without] * len(modules))):
+            skips += [line for line in lines if line.startswith("skipped: ")]
+            print(f"{module}: {line_of(*counts)}", flush=True)
+            if counts[1]:
+                print("\n".join(line for line in lines if not line.startswith("skipped: ")), flush=True)
+            total = [a + b for a, b in zip(total, counts)]
+    if not modules:
+        print("there is no module of tests")
+        total[1] = 1
+    failed = not_allowed(skips, options.skips_fail) if options.skips_fail else set()
+    total = [total[0], total[1] + len(failed), total[2] - len(failed)]
+    for line in skips:
+        print(line.replace("skipped", "skipped, which no list allows", 1) if name_of(line) in failed else line)
+    print("".join(f"{note}\n" for note in options.note) + line_of(*total))
+    return 1 if total[1] else 0
+
+
+if __name__ == "__main__":
+    sys.exit(main(sys.argv[1:]))

@@ -1,0 +1,332 @@
+"""A second, plain model of clearing, for tests/system/compare.sh: unit by unit.
+
+It shares no code with the program. Payments are a list over the debts, in file order. Two things are there for speed: what was
+divided is kept until forget(), and after a raise only what its creditor pays is worked out anew.
+"""
+import functools
+from collections import namedtuple
+
+RULES = ["order", "equal", "losses", "jefferson", "webster", "adams"]
+Bank = namedtuple("Bank", "name cash rule outside")
+Debt = namedtuple("Debt", "debtor creditor cls claim")
+Scenario = namedtuple("Scenario", "name cut losses")
+
+
+class Net(namedtuple("Net", "banks debts")):
+    @functools.cached_property
+    def rows(self):
+        """The places of the debts that each bank owes, in file order."""
+        rows = [[] for _ in self.banks]
+        for x, debt in enumerate(self.debts):
+            rows[debt.debtor].append(x)
+        return rows
+
+    @functools.cached_property
+    def columns(self):
+        """The places of the debts that are owed to each bank."""
+        columns = [[] for _ in self.banks]
+        for x, debt in enumerate(self.debts):
+            columns[debt.creditor].append(x)
+        return columns
+
+    @functools.cached_property
+    def owed(self):
+        return [sum(self.debts[x].claim for x in places) for places in self.rows]
+
+    @functools.cached_property
+    def claims(self):
+        return [tuple(self.debts[x].claim for x in places) for places in self.rows]
+
+    @functools.cached_property
+    def classes(self):
+        return [tuple(self.debts[x].cls for x in places) for places in self.rows]
+
+
+# How a bank divides.
+
+# Whether a debt of claim c with k units so far comes before one of claim d with m units, by each rule.
+GOES_BEFORE = {
+    "order": lambda c, k, d, m: False,
+    "equal": lambda c, k, d, m: k < m,
+    "losses": lambda c, k, d, m: c - k > d - m,
+    "jefferson": lambda c, k, d, m: c * (m + 1) > d * (k + 1),
+    "webster": lambda c, k, d, m: c * (2 * m + 1) > d * (2 * k + 1),
+    "adams": lambda c, k, d, m: c * m > d * k,
+}
+
+
+@functools.lru_cache(maxsize=None)
+def units_in_turn(rule, claims):
+    """Which debt gets each unit, one after another, until all are met."""
+    given, turns, goes_before = [0] * len(claims), [], GOES_BEFORE[rule]
+    while given != list(claims):
+        unmet = [x for x in range(len(claims)) if given[x] < claims[x]]
+        best = next(x for x in unmet if not any(goes_before(claims[y], given[y], claims[x], given[x]) for y in unmet))
+        given[best] += 1
+        turns.append(best)
+    return turns
+
+
+def award(rule, claims, units):
+    if units in (0, sum(claims)):
+        return claims if units else [0] * len(claims)
+    turns = units_in_turn(rule, tuple(claims))[:units]
+    return [turns.count(x) for x in range(len(claims))]
+
+
+@functools.lru_cache(maxsize=None)
+def share(rule, claims, classes, units):
+    shares = [0] * len(claims)
+    for cls in range(1, 10):
+        places = [x for x in range(len(claims)) if classes[x] == cls]
+        part = min(units, sum(claims[x] for x in places))
+        units -= part
+        for x, given in zip(places, award(rule, [claims[x] for x in places], part)):
+            shares[x] = given
+    return shares
+
+
+def forget():
+    """Lets go of what was divided, so that many networks take no more memory than one."""
+    units_in_turn.cache_clear()
+    share.cache_clear()
+
+
+# Payments.
+
+def estate(net, paid, i):
+    return net.banks[i].cash + sum(paid[x] for x in net.columns[i])
+
+
+def due(net, i):
+    return net.owed[i] + net.banks[i].outside
+
+
+def worth(net, i):
+    return net.banks[i].cash + sum(net.debts[x].claim for x in net.columns[i])
+
+
+def kept(net, keep, i, has):
+    return has if has >= due(net, i) else has * keep // 1000
+
+
+def pays(net, paid, i, keep=1000):
+    """What a bank pays on each of its debts, where so many thousandths are kept of an estate in default."""
+    units = max(0, kept(net, keep, i, estate(net, paid, i)) - net.banks[i].outside)
+    return share(net.banks[i].rule, net.claims[i], net.classes[i], units)
+
+
+def pay(net, paid, keep=1000):
+    """What all banks pay at once."""
+    after = [0] * len(net.debts)
+    for i in range(len(net.banks)):
+        for x, given in zip(net.rows[i], pays(net, paid, i, keep)):
+            after[x] = given
+    return after
+
+
+def put(net, paid, may, x, to, keep=1000):
+    """Pays so much on a debt. What the others may pay stays as it was, but for what its creditor may."""
+    paid[x] = to
+    creditor = net.debts[x].creditor
+    for y, given in zip(net.rows[creditor], pays(net, paid, creditor, keep)):
+        may[y] = given
+
+
+def least(net, keep=1000, start=None):
+    """Raises one debt as long as its debtor's rule gives more: by one unit, and by all of it where much is owed. Begins with
+    nothing paid, or with payments that are known to be no more than the least."""
+    paid = list(start) if start else [0] * len(net.debts)
+    by_units = sum(debt.claim for debt in net.debts) <= 400
+    may = pay(net, paid, keep)
+    rising = [x for x in range(len(paid)) if paid[x] < may[x]]
+    while rising:
+        x = rising[-1]
+        if paid[x] == may[x]:
+            rising.pop()
+            continue
+        put(net, paid, may, x, paid[x] + 1 if by_units else may[x], keep)
+        for y in net.rows[net.debts[x].creditor]:
+            assert paid[y] <= may[y]
+            if paid[y] < may[y]:
+                rising.append(y)
+    assert paid == pay(net, paid, keep)
+    return paid
+
+
+def falling(net):
+    """The payments before each round on the way down from all debts paid in full; the last clear."""
+    lists = [[debt.claim for debt in net.debts]]
+    while (below := pay(net, lists[-1])) != lists[-1]:
+        lists.append(below)
+    return lists
+
+
+def wave(net, lists, i):
+    short = [n for n, paid in enumerate(lists) if estate(net, paid, i) < due(net, i)]
+    return short[0] + 1 if short else 0
+
+
+def state(net, paid, i):
+    outside = net.banks[i].outside
+    if sum(paid[x] for x in net.rows[i]) == net.owed[i] and min(outside, estate(net, paid, i)) == outside:
+        return "sound"
+    return "fundamental" if worth(net, i) < due(net, i) else "contagion"
+
+
+def with_cash(net, cash_of):
+    return net._replace(banks=[bank._replace(cash=cash_of(i, bank)) for i, bank in enumerate(net.banks)])
+
+
+def added(net, i, sum_added):
+    return with_cash(net, lambda j, bank: bank.cash + (sum_added if i == j else 0))
+
+
+def rescue(net, i):
+    """The least sum that saves the bank i, and what it lacks with a unit less: all sums are tried, from 0 on. With more cash no
+    less is paid, so each begins with what was paid before."""
+    sum_added = lacks = 0
+    paid = None
+    while True:
+        richer = added(net, i, sum_added)
+        paid = least(richer, start=paid)
+        if state(richer, paid, i) == "sound":
+            return sum_added, lacks, paid
+        lacks = due(net, i) - estate(richer, paid, i)
+        sum_added += 1
+
+
+def shocked(net, scenario):
+    losses = dict(scenario.losses)
+    return with_cash(net, lambda i, bank: max(0, bank.cash - bank.cash * scenario.cut // 1000 - losses.get(i, 0)))
+
+
+def verdict(net, raises):
+    """The verdict on raises (stamp, debt, to), as it is printed, its status, and the payments at its end."""
+    paid, last = [0] * len(net.debts), 0
+    for entry, (stamp, x, to) in enumerate(raises, 1):
+        if stamp < last:
+            return f"falls,{entry},{last},{stamp}\n", 7, paid
+        debtor = net.debts[x].debtor
+        allowed = pays(net, paid, debtor)[net.rows[debtor].index(x)]
+        if to <= paid[x] or to > allowed:
+            return f"unlawful,{entry},{paid[x]},{allowed}\n", 7, paid
+        paid[x], last = to, stamp
+    may = pay(net, paid)
+    for i, bank in enumerate(net.banks):
+        if any(paid[x] != may[x] for x in net.rows[i]):
+            return f"unfinished,{bank.name}\n", 7, paid
+    return f"lawful,{len(raises)}\n", 0, paid
+
+
+# Texts.
+
+def line(*fields):
+    return ",".join(str(field) for field in fields) + "\n"
+
+
+def debt_fields(net, debt):
+    return net.banks[debt.debtor].name, net.banks[debt.creditor].name, debt.cls
+
+
+def payments_text(net, paid):
+    return line("debtor", "creditor", "class", "claim", "paid") + "".join(
+        line(*debt_fields(net, debt), debt.claim, paid[x]) for x, debt in enumerate(net.debts))
+
+
+def defaults_text(net, paid):
+    shown = any(bank.outside for bank in net.banks)
+    text = line("bank", "estate", *(["outside_paid"] if shown else []), "paid", "owed", "equity", "state")
+    totals, defaults = [0] * 5, 0
+    for i, bank in enumerate(net.banks):
+        has = estate(net, paid, i)
+        outside = min(bank.outside, has)
+        pays = sum(paid[x] for x in net.rows[i])
+        numbers = [has, outside, pays, net.owed[i], has - outside - pays]
+        totals = [a + b for a, b in zip(totals, numbers)]
+        defaults += state(net, paid, i) != "sound"
+        text += line(bank.name, *(numbers if shown else numbers[:1] + numbers[2:]), state(net, paid, i))
+    return text + line("total", *(totals if shown else totals[:1] + totals[2:]), defaults) + cash_line(net)
+
+
+def cash_line(net):
+    return line("cash", sum(bank.cash for bank in net.banks))
+
+
+def bounds_text(net):
+    low, lists = least(net), falling(net)
+    text = line("debtor", "creditor", "class", "claim", "least", "greatest")
+    for x, debt in enumerate(net.debts):
+        text += line(*debt_fields(net, debt), debt.claim, low[x], lists[-1][x])
+    text += "\n" + line("bank", "wave", "gridlock", "equity")
+    for i, bank in enumerate(net.banks):
+        has, round_of = estate(net, low, i), wave(net, lists, i)
+        gridlock = "yes" if state(net, low, i) != "sound" and round_of == 0 else "no"
+        equity = has - min(bank.outside, has) - sum(low[x] for x in net.rows[i])
+        text += line(bank.name, round_of, gridlock, equity)
+    return text
+
+
+def costs_text(net, keep):
+    paid = least(net, keep)
+    text = payments_text(net, paid) + "\n" + line(
+        "bank", "estate", "lost", "outside_paid", "paid", "equity", "state")
+    totals, defaults = [0] * 5, 0
+    for i, bank in enumerate(net.banks):
+        has = estate(net, paid, i)
+        keeps = kept(net, keep, i, has)
+        outside, pays = min(bank.outside, keeps), sum(paid[x] for x in net.rows[i])
+        health = "sound" if has >= due(net, i) else "fundamental" if worth(net, i) < due(net, i) else "contagion"
+        numbers = [has, has - keeps, outside, pays, keeps - outside - pays]
+        totals = [a + b for a, b in zip(totals, numbers)]
+        defaults += health != "sound"
+        text += line(bank.name, *numbers, health)
+    return text + line("total", *totals, defaults) + cash_line(net)
+
+
+def rescue_text(net, i):
+    sum_added, lacks, paid = rescue(net, i)
+    return line("rescue", net.banks[i].name, sum_added) + line("short", lacks) + "\n" + payments_text(net, paid)
+
+
+def stress_text(net, scenarios):
+    blocks = []
+    for scenario in scenarios:
+        left = shocked(net, scenario)
+        paid = least(left)
+        blocks.append(line("scenario", scenario.name) + payments_text(left, paid) + defaults_text(left, paid))
+    return "\n".join(blocks)
+
+
+def banks_text(net, second):
+    extra = lambda bank: [bank.outside] if second else []
+    return line("name", "cash", "rule", *(["outside"] if second else [])) + "".join(
+        line(bank.name, bank.cash, bank.rule, *extra(bank)) for bank in net.banks)
+
+
+def debts_text(net):
+    return line("debtor", "creditor", "class", "claim") + "".join(
+        line(*debt_fields(net, debt), debt.claim) for debt in net.debts)
+
+
+def counts_text(net):
+    owed_by_all = sum(debt.claim for debt in net.debts)
+    return line("banks", len(net.banks)) + line("debts", len(net.debts)) + line("owed", owed_by_all) + cash_line(net)
+
+
+def gen_text(net):
+    paid = least(net)
+    equity = sum(estate(net, paid, i) - sum(paid[x] for x in net.rows[i]) for i in range(len(net.banks)))
+    defaults = sum(state(net, paid, i) != "sound" for i in range(len(net.banks)))
+    return counts_text(net) + line("paid", sum(paid)) + line("defaults", defaults) + line("equity", equity)
+
+
+def check_text(net):
+    return counts_text(net) + "\n" + banks_text(net, any(bank.outside for bank in net.banks)) + "\n" + debts_text(net)
+
+
+def journal_text(net, raises, rounds):
+    text = line("stamp", "debtor", "creditor", "class", "to")
+    for stamp, x, to in raises:
+        text += line(stamp, *debt_fields(net, net.debts[x]), to)
+    return text + (line("rounds", rounds) if rounds is not None else "")

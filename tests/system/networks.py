@@ -1,0 +1,296 @@
+"""Random networks for tests/system/compare.py, the jobs that are tried on each, and what the program must print by tests/system/model.py."""
+import collections
+
+from model import (
+    RULES, Bank, Debt, Net, Scenario, banks_text, bounds_text, check_text, costs_text, debt_fields, debts_text, defaults_text,
+    due, gen_text, journal_text, least, line, pay, payments_text, put, rescue_text, stress_text, verdict)
+
+NAMES = [
+    "A", "B", "Crédit Loire", "銀行", "x y", "o'Hara", "a\\b", "rounds", "total", "-dash", "#1", "[scenario]", "=", "7",
+    "name", "order", "n" * 64, "é" * 32, "\u00a0nbsp", "a;b", "A ", " A", "b" * 63,
+]
+
+
+# Random networks, and files that say the same in another dress.
+
+def random_net(rng, size):
+    odd = [name for name in NAMES if name == name.strip(" ")]
+    names = rng.sample(odd + [f"N{i}" for i in range(size - 8)], size)
+    most = rng.choice([1, 3, 8, 25])
+    rule = rng.choice(RULES + [None, None])
+    outside = rng.random() < 0.5
+    banks = [
+        Bank(name, rng.choice([0, 0, rng.randint(0, most), rng.randint(0, 2 * most)]), rule or rng.choice(RULES),
+             rng.choice([0, rng.randint(0, most)]) if outside else 0)
+        for name in names
+    ]
+    debts, seen = [], set()
+    last = rng.choice([1, 3, 3, 9])
+    for _ in range(rng.choice([0, 3, 10, 20, 30] if size <= 8 else [size, 3 * size, 6 * size])):
+        key = (rng.randrange(len(banks)), rng.randrange(len(banks)), rng.randint(1, last))
+        if key[0] != key[1] and key not in seen:
+            seen.add(key)
+            debts.append(Debt(*key, rng.randint(0, most)))
+    return Net(banks, debts)
+
+
+def ring_net(rng, size):
+    """Few units that go round one or two rings, with a chord here and there."""
+    claim = rng.choice([1, 2, 5])
+    order = rng.choice([list(range(size)), list(range(size))[::-1], rng.sample(range(size), size)])
+    cut = rng.choice([size, rng.randint(2, size - 2)])
+    keys = [(order[i], order[start + (i + 1 - start) % count], 1) for start, count in [(0, cut), (cut, size - cut)] for i in range(start, start + count)]
+    keys += [(rng.randrange(size), rng.randrange(size), 2) for _ in range(rng.choice([0, 1, size // 4]))]
+    debts = [Debt(*key, claim) for key in dict.fromkeys(keys) if key[0] != key[1]]
+    rng.shuffle(debts)
+    rich = rng.sample(range(size), rng.randint(0, 2))
+    return Net([Bank(f"N{i}", int(i in rich), rng.choice(RULES), rng.choice([0, 0, 0, 0, 1])) for i in range(size)], debts)
+
+
+def wide_net(rng):
+    """One bank with many debts of up to some hundred units, so that its rule has much to round."""
+    count = rng.randint(4, 8)
+    most = rng.choice([30, 100, 400])
+    debts = [Debt(0, creditor, cls, rng.choice([rng.randint(0, most), most, most // 2]))
+             for cls in range(1, 4) for creditor in range(1, count) if rng.random() < 0.8]
+    debts.append(Debt(1, 0, 1, rng.randint(0, most)))
+    rng.shuffle(debts)
+    rules = [rng.choice(RULES) for _ in range(count)]
+    debt_of_first = sum(debt.claim for debt in debts if debt.debtor == 0)
+    banks = [Bank(name, rng.randint(0, debt_of_first) if i == 0 else rng.choice([0, most]), rules[i], 0)
+             for i, name in enumerate(rng.sample(NAMES[:8], count))]
+    return Net(banks, debts)
+
+
+def generated_words(seed):
+    """The successive words of PCG32 on the stream 0 (O'Neill 2014)."""
+    mask, state = 2**64 - 1, 0
+    step = lambda state: (state * 6364136223846793005 + 1) & mask
+    state = step((step(state) + seed) & mask)
+    while True:
+        mixed, turn = (((state >> 18) ^ state) >> 27) & 0xFFFFFFFF, state >> 59
+        yield ((mixed >> turn) | (mixed << (32 - turn))) & 0xFFFFFFFF
+        state = step(state)
+
+
+def generated(seed, size, tries):
+    words = generated_words(seed)
+    banks = [Bank(f"N{i}", next(words) % 2000, RULES[next(words) % 6], 0) for i in range(size)]
+    debts, seen = [], set()
+    for _ in range(tries):
+        key = (next(words) % size, next(words) % size, 1 + next(words) % 3)
+        claim = 1 + next(words) % 500
+        if key[0] != key[1] and key not in seen:
+            seen.add(key)
+            debts.append(Debt(*key, claim))
+    return Net(banks, debts)
+
+
+def dressed(rng, text, numbers):
+    """A file of records as it is printed, or with other line ends, quotes, blanks, zeros and blank records."""
+    lines = text.splitlines()
+    if rng.random() < 0.5:
+        return text.encode()
+    end, out = rng.choice(["\n", "\r\n", "\r"]), []
+    for n, record in enumerate(lines):
+        fields = record.split(",")
+        for place, field in enumerate(fields):
+            if n and place in numbers and field.isdigit() and rng.random() < 0.2:
+                field = field.rjust(rng.randint(len(field), 20), "0")
+            blanks = rng.choice(["", "", "", " ", "\t", " \t "])
+            field = rng.choice([blanks, ""]) + field + blanks
+            fields[place] = '"' + field + '"' if rng.random() < 0.2 else field
+        out.append(",".join(fields))
+        if rng.random() < 0.1:
+            out.append(rng.choice(["", ",", ",,,", '""', " , ,\t"]))
+    mark = "\ufeff" if rng.random() < 0.3 else ""
+    return (mark + end.join(out) + (end if rng.random() < 0.5 else "")).encode()
+
+
+def random_scenarios(rng, net):
+    scenarios = []
+    for _ in range(rng.randint(0, 4)):
+        hit = rng.sample(range(len(net.banks)), rng.randint(0, min(3, len(net.banks))))
+        scenarios.append(Scenario(
+            rng.choice(NAMES), rng.choice([0, 1, 333, 500, 999, 1000]),
+            [(i, rng.choice([0, 1, rng.randint(0, 20), 10**12])) for i in hit]))
+    return scenarios
+
+
+def toml_string(text):
+    return '"' + text.replace("\\", "\\\\").replace('"', '\\"') + '"'
+
+
+def scenarios_toml(net, scenarios):
+    text = ""
+    for scenario in scenarios:
+        text += f"[[scenario]]\nname = {toml_string(scenario.name)}\n"
+        if scenario.cut:
+            text += f"cut = {scenario.cut}\n"
+        for i, amount in scenario.losses:
+            text += f"[[scenario.loss]]\nbank = {toml_string(net.banks[i].name)}\namount = {amount}\n"
+    return text
+
+
+def random_journal(rng, net):
+    """A lawful history that ends at the least payments, made by raises in some order."""
+    paid, raises, stamp = [0] * len(net.debts), [], rng.choice([0, 0, 5])
+    may = pay(net, paid)
+    while rising := [x for x in range(len(paid)) if paid[x] < may[x]]:
+        x = rng.choice(rising)
+        put(net, paid, may, x, rng.choice([may[x], rng.randint(paid[x] + 1, may[x])]))
+        raises.append((stamp, x, paid[x]))
+        stamp += rng.choice([0, 0, 1, 3])
+    return raises
+
+
+def changed_journal(rng, net, raises):
+    raises = list(raises)
+    for _ in range(rng.randint(1, 2)):
+        if not raises:
+            break
+        at = rng.randrange(len(raises))
+        stamp, x, to = raises[at]
+        kind = rng.randrange(6)
+        if kind == 0:
+            del raises[at]
+        elif kind == 1:
+            raises[at] = (stamp, x, to + 1)
+        elif kind == 2:
+            raises[at] = (stamp, x, max(0, to - 1))
+        elif kind == 3:
+            raises[at] = (max(0, stamp - 1), x, to)
+        elif kind == 4:
+            other = rng.randrange(len(raises))
+            raises[at], raises[other] = raises[other], raises[at]
+        else:
+            raises[at] = (stamp, rng.randrange(len(net.debts)), to)
+    return raises
+
+
+# What is tried of a network.
+
+def drawn_net(rng):
+    """A network of 2 to 8 banks, now and then of 9 to 30, and seldom of 200."""
+    drawn = rng.random()
+    if drawn < 0.003:
+        return random_net(rng, 200)
+    if drawn < 0.11:
+        size = rng.randint(9, 30)
+        return rng.choice([random_net, random_net, ring_net])(rng, size)
+    return wide_net(rng) if drawn < 0.3 else random_net(rng, rng.randint(2, 8))
+
+
+def files_and_cases(rng, net):
+    """The files of a network by their names, and its cases: the words of a run, its text, and its status."""
+    second = any(bank.outside for bank in net.banks) or rng.random() < 0.3
+    scenarios = random_scenarios(rng, net)
+    texts = {
+        "banks.csv": dressed(rng, banks_text(net, second), {1, 3}),
+        "debts.csv": dressed(rng, debts_text(net), {3}),
+        "scenarios.toml": scenarios_toml(net, scenarios).encode(),
+    }
+    files = ["--banks", "banks.csv", "--debts", "debts.csv"]
+    workers = lambda: str(rng.choice([rng.randint(1, 9), rng.randint(1, 64)]))
+    how = lambda: rng.choice([[], ["--workers", workers()], ["--sweeps", str(rng.choice([1, 2, 7, 1000]))]])
+    low = least(net)
+    cases = [
+        (["clear", *files, *how()], payments_text(net, low), 0),
+        (["central", *files], payments_text(net, low), 0),
+        (["defaults", *files, *how()], defaults_text(net, low), 0),
+        (["bounds", *files, *how()], bounds_text(net), 0),
+        (["stress", *files, "--scenarios", "scenarios.toml", *how()], stress_text(net, scenarios), 0),
+        (["check", *files], check_text(net), 0),
+        (["convert", *files], banks_text(net, True), 0),
+    ]
+    for keep in [1000, rng.choice([0, 1, 999]), rng.randint(0, 1000)]:
+        cases.append((["costs", *files, "--keep", str(keep)], costs_text(net, keep), 0))
+    for i in rng.sample(range(len(net.banks)), min(3, len(net.banks))):
+        name = net.banks[i].name
+        if due(net, i) - net.banks[i].cash > 100:
+            continue
+        words = ["rescue", *files, "--bank", name, *how()]
+        cases.append((words, "", 2) if name.startswith("-") else (words, rescue_text(net, i), 0))
+    seed, size = rng.choice([rng.randrange(100), rng.randrange(2**64)]), rng.randint(1, 8) if rng.random() < 0.9 else rng.randint(9, 40)
+    tries = rng.randint(0, 5 * size)
+    made = ["gen", "--seed", str(seed), "--size", str(size), "--tries", str(tries), *how()]
+    cases.append((made, gen_text(generated(seed, size, tries)), 0))
+    raises = random_journal(rng, net)
+    for n in range(4):
+        tried = raises if n == 0 else changed_journal(rng, net, raises)
+        text, status, paid = verdict(net, tried)
+        assert n or (status == 0 and paid == low)
+        rounds = rng.choice([None, 0, 12])
+        texts[f"journal{n}.csv"] = dressed(rng, journal_text(net, tried, rounds), {0, 4})
+        text += "" if status else "\n" + payments_text(net, paid)
+        cases.append((["replay", *files, "--journal", f"journal{n}.csv"], text, status))
+    # What is judged, since more than one answer is right.
+    shown = ["clear", *files, "--show", "journal", "--workers", workers(), "--sweeps", str(rng.choice([1, 1, 2, 7, 1000]))]
+    return texts, cases, shown, ["compress", *files]
+
+
+# Answers of which more than one is right.
+
+def balances(net):
+    """What each bank is owed in each class, less what it owes."""
+    sums = collections.Counter()
+    for debt in net.debts:
+        sums[debt.cls, debt.creditor] += debt.claim
+        sums[debt.cls, debt.debtor] -= debt.claim
+    return sums
+
+
+def judge_compression(net, text):
+    """What is wrong with a compression, as it is printed; None where it is right."""
+    parts = text.split("\n\n")
+    if len(parts) != 2:
+        return "the text has not two parts"
+    claims = [int(record.split(",")[3]) for record in parts[0].splitlines()[1:]]
+    left = net._replace(debts=[debt._replace(claim=claim) for debt, claim in zip(net.debts, claims)])
+    if len(claims) != len(net.debts) or parts[0] + "\n" != debts_text(left):
+        return "the debts are others"
+    if any(new.claim > old.claim for new, old in zip(left.debts, net.debts)):
+        return "a claim has risen"
+    ranks = {}
+    expected = line("class", "bank", "rank")
+    cancelled = sum(debt.claim for debt in net.debts) - sum(claims)
+    by_name = {bank.name: i for i, bank in enumerate(net.banks)}
+    for record in parts[1].splitlines()[1:-1]:
+        cls, name, rank = record.split(",")
+        ranks[int(cls), by_name[name]] = int(rank)
+    if balances(net) != balances(left):
+        return "the balance of a bank is another"
+    highest = collections.Counter()
+    for debt in left.debts:
+        if debt.claim:
+            at = debt.cls, debt.creditor
+            highest[at] = max(highest[at], ranks.get((debt.cls, debt.debtor), 0) + 1)
+    for cls in sorted({debt.cls for debt in net.debts}):
+        for i, bank in enumerate(net.banks):
+            expected += line(cls, bank.name, highest[cls, i])
+    if parts[1] != expected + line("cancelled", cancelled):
+        return "the ranks or the sum are wrong"
+    return None
+
+
+def judge_journal(net, low, text):
+    """What is wrong with a journal of a run, as it is printed, where these are the least payments; None where it is right."""
+    lines = text.splitlines()
+    if lines[:1] != ["stamp,debtor,creditor,class,to"] or not lines[-1].startswith("rounds,"):
+        return "no journal"
+    places = {debt_fields(net, debt): x for x, debt in enumerate(net.debts)}
+    raises = []
+    for record in lines[1:-1]:
+        stamp, debtor, creditor, cls, to = record.split(",")
+        raises.append((int(stamp), places[debtor, creditor, int(cls)], int(to)))
+    rounds = int(lines[-1].split(",")[1])
+    if journal_text(net, raises, rounds) != text:
+        return "the text is not as it is printed"
+    told, status, paid = verdict(net, raises)
+    if status or paid != low:
+        return "not lawful and complete: " + told.strip()
+    if raises != sorted(raises) or len({raised[:2] for raised in raises}) != len(raises):
+        return "the raises do not stand in order"
+    if not 1 <= rounds <= sum(debt.claim for debt in net.debts) + 1:
+        return f"{rounds} rounds"
+    return None

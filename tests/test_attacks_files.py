@@ -1,0 +1,242 @@
+"""What other users may plant where a tool writes, files below /dev, and who may read what a tool made of files that are not for all."""
+import os
+import pathlib
+import shutil
+import signal
+import stat
+import subprocess
+import sys
+import tempfile
+import time
+import unittest
+import unittest.mock
+
+from common import CHAIN, HUB, PROGRAM, ROOT, Case, tool
+
+from clearing_tools import files  # noqa: E402
+from clearing_tools.evidence import shock  # noqa: E402
+from clearing_tools.runner import Failed  # noqa: E402
+
+ANOTHER = 54321
+FILES = ["--banks", HUB / "banks.csv", "--debts", HUB / "debts.csv"]
+
+
+def writers():
+    """The ways in which a tool writes a file of a name."""
+    yield lambda name: files.write_all({name: "new\n"})
+    yield lambda name: files.put("new\n", name)
+
+    def by_shock(name):
+        try:
+            shock.write(os.fspath(name), b"new\n")
+        except shock.Failed as fault:
+            raise Failed(str(fault)) from fault
+
+    yield by_shock
+
+
+def permitted(path):
+    return stat.S_IMODE(path.stat().st_mode)
+
+
+class Planted(Case):
+    def others(self, path):
+        """Has a link or a pipe be another user's."""
+        if os.geteuid() == 0:
+            os.chown(path, ANOTHER, ANOTHER, follow_symlinks=False)
+        else:
+            patch = unittest.mock.patch("os.geteuid", return_value=ANOTHER)
+            patch.start()
+            self.addCleanup(patch.stop)
+
+    def test_a_link_of_another_user_is_not_followed(self):
+        victim = self.file("victim", "kept\n")
+        (self.folder / "home").mkdir()
+        inner = self.file("home/.bashrc", "kept\n")
+        for number, write in enumerate(writers()):
+            plain, folder, chain = (self.folder / f"{kind}-{number}" for kind in ("link", "folder", "chain"))
+            plain.symlink_to(victim)
+            folder.symlink_to(self.folder / "home")
+            chain.symlink_to(plain)
+            self.others(plain)
+            self.others(folder)
+            for name in (plain, folder / ".bashrc", chain, folder / "new"):
+                with self.assertRaisesRegex(Failed, "a link of another user"):
+                    write(name)
+            self.assertEqual((victim.read_text(), inner.read_text(), sorted(os.listdir(self.folder / "home"))), ("kept\n", "kept\n", [".bashrc"]))
+            for path in (plain, folder, chain):
+                path.unlink()
+        unittest.mock.patch.stopall()
+        # One's own is followed, as before.
+        own = self.folder / "own"
+        own.symlink_to(victim)
+        for write in writers():
+            write(own)
+            self.assertEqual((victim.read_text(), own.is_symlink()), ("new\n", True))
+
+    def test_a_pipe_of_another_user_is_not_written(self):
+        for number, write in enumerate(writers()):
+            pipe = self.folder / f"pipe-{number}"
+            os.mkfifo(pipe)
+            self.others(pipe)
+            # Somebody listens, so that a write would go through.
+            listening = os.open(pipe, os.O_RDONLY | os.O_NONBLOCK)
+            try:
+                with self.assertRaisesRegex(Failed, "a pipe of another user"):
+                    write(pipe)
+                self.assertEqual(os.read(listening, 10), b"")
+            finally:
+                os.close(listening)
+        unittest.mock.patch.stopall()
+
+    def test_what_stands_in_the_place_of_the_older_file_is_not_followed(self):
+        """The older file is kept under a name that can be foreseen once the new one is there."""
+        victim = self.file("victim", "kept\n")
+        target, real = self.file("target", "old\n"), os.link
+
+        def planted(source, name, **more):
+            if not os.path.lexists(name):
+                os.symlink(victim, name)
+            return real(source, name, **more)
+
+        with unittest.mock.patch("clearing_tools.files.os.link", planted):
+            with self.assertRaisesRegex(Failed, "File exists"):
+                files.write_all({target: "new\n"})
+        self.assertEqual((victim.read_text(), target.read_text()), ("kept\n", "old\n"))
+
+    def test_a_folder_of_results_that_others_can_write_is_refused(self):
+        jobs = self.file("jobs.tsv", "\t".join(["a", "check", *map(str, FILES)]) + "\n")
+        place = self.folder / "results"
+        for mode in (0o777, 0o1777, 0o702, 0o720):
+            place.mkdir(exist_ok=True)
+            place.chmod(mode)
+            for task in (["run", jobs, place, 1], ["one", jobs, place, 1]):
+                done = subprocess.run([str(ROOT / "tools/many.sh"), *map(str, task)], capture_output=True, encoding="utf-8")
+                self.assertEqual((done.returncode, sorted(os.listdir(place))), (2, []), (oct(mode), done.stderr))
+                self.assertIn("others can write", done.stderr)
+        if os.geteuid() == 0:
+            place.chmod(0o755)
+            os.chown(place, ANOTHER, ANOTHER)
+            done = subprocess.run([str(ROOT / "tools/many.sh"), "run", str(jobs), str(place), "1"], capture_output=True, encoding="utf-8")
+            self.assertEqual((done.returncode, sorted(os.listdir(place))), (2, []), done.stderr)
+            os.chown(place, 0, 0)
+        place.chmod(0o755)
+        done = subprocess.run([str(ROOT / "tools/many.sh"), "run", str(jobs), str(place), "1"], capture_output=True, encoding="utf-8")
+        self.assertEqual(done.returncode, 0, done.stderr)
+
+    def test_many_follows_no_link_in_its_folder(self):
+        victim = self.file("victim", "kept\n")
+        jobs = self.file("jobs.tsv", "\t".join(["a", "check", *map(str, FILES)]) + "\n")
+        # The program plants what comes next, where its own output goes.
+        plant = self.program(f'cd "{self.folder}/results"; for part in a.part+*; do for e in .job .failed; do ln -s "{victim}" "$part$e"; done; done; '
+                             f'ln -s "{victim}" a.out; exit ${{STATUS:-0}}\n')
+        self.assertIsNone(plant)
+        for status in ("0", "6"):
+            shutil.rmtree(self.folder / "results", ignore_errors=True)
+            subprocess.run([str(ROOT / "tools/many.sh"), "run", str(jobs), str(self.folder / "results"), "1"], capture_output=True,
+                           env={**os.environ, "STATUS": status})
+            self.assertEqual(victim.read_text(), "kept\n", status)
+
+
+@unittest.skipUnless(os.access("/dev/shm", os.W_OK), "nothing can be written below /dev/shm")
+class BelowDev(unittest.TestCase):
+    def setUp(self):
+        folder = tempfile.TemporaryDirectory(dir="/dev/shm")
+        self.addCleanup(folder.cleanup)
+        self.folder = pathlib.Path(folder.name)
+
+    def test_a_file_there_is_written_as_any_other(self):
+        for write in writers():
+            place = self.folder / "place"
+            place.write_text("much that was there\n")
+            write(place)
+            self.assertEqual(place.read_text(), "new\n")
+
+    def test_an_input_there_is_kept(self):
+        banks, debts = self.folder / "banks.csv", self.folder / "debts.csv"
+        for name in (banks, debts):
+            name.write_bytes((CHAIN / name.name).read_bytes())
+        scenarios = self.folder / "s.toml"
+        scenarios.write_text('[[scenario]]\nname = "a"\n')
+        with self.assertRaisesRegex(Failed, "also read"):
+            files.write_all({banks: "x"}, [banks])
+        net = ["--banks", banks, "--debts", debts]
+        for name, words in [
+            ("to_matrix.py", [*net, "--out", banks]), ("breaking.py", [*net, "--output", banks]), ("impact.py", [*net, "--matrix", debts]),
+            ("shock.py", ["--banks", banks, "--scenarios", scenarios, "--scenario", 1, "--output", scenarios]), ("report.py", [*net, "--out", banks]),
+        ]:
+            done = tool(name, *words)
+            self.assertNotEqual(done.returncode, 0, name)
+            self.assertEqual([path.read_bytes() for path in (banks, debts)], [(CHAIN / path.name).read_bytes() for path in (banks, debts)], name)
+
+    def test_a_block_device_is_no_output(self):
+        mode = stat.S_IFBLK | 0o600
+        about = os.stat_result((mode, *os.stat(self.folder)[1:]))
+        with unittest.mock.patch("os.stat", return_value=about):
+            self.assertFalse(files.is_stream("/dev/any"))
+        for descriptor in ("/dev/stdout", "/dev/fd/1", "/proc/self/fd/1"):
+            self.assertTrue(files.is_stream(descriptor))
+
+
+class WhoMayRead(Case):
+    def private(self):
+        banks, debts = self.file("banks.csv", (HUB / "banks.csv").read_bytes()), self.file("debts.csv", (HUB / "debts.csv").read_bytes())
+        banks.chmod(0o600)
+        debts.chmod(0o644)
+        return ["--banks", banks, "--debts", debts]
+
+    def setUp(self):
+        super().setUp()
+        self.addCleanup(os.umask, os.umask(0o022))
+
+    def test_what_is_made_of_files_that_are_not_for_all_is_not_for_all(self):
+        net = self.private()
+        for name, words, made in [
+            ("breaking.py", ["--output"], "breaking.csv"), ("impact.py", ["--matrix"], "impact.csv"), ("rescues.py", ["--output"], "rescues.csv"),
+            ("to_matrix.py", ["--out"], "matrix.csv"), ("report.py", ["--out"], "report.html"),
+        ]:
+            done = tool(name, *net, *words, self.folder / made)
+            self.assertEqual(done.returncode, 0, (name, done.stderr))
+            self.assertEqual(oct(permitted(self.folder / made)), "0o600", name)
+        scenarios = self.file("s.toml", '[[scenario]]\nname = "a"\n')
+        done = tool("shock.py", *net[:2], "--scenarios", scenarios, "--scenario", 1, "--output", self.folder / "left.csv")
+        self.assertEqual((done.returncode, oct(permitted(self.folder / "left.csv"))), (0, "0o600"), done.stderr)
+        made = subprocess.run([str(ROOT / "tools/evidence.sh"), "make", self.folder / "evidence", *map(str, net)], capture_output=True)
+        self.assertEqual(made.returncode, 0, made.stderr)
+        self.assertEqual(oct(permitted(self.folder / "evidence")), "0o700")
+        for path in (self.folder / "evidence").rglob("*"):
+            self.assertEqual(permitted(path) & 0o077, 0, path)
+        jobs = self.file("jobs.tsv", "\t".join(["a", "check", *map(str, net)]) + "\n" + "\t".join(["b", "check", f"--banks={net[1]}", *map(str, net[2:])]) + "\n"
+                         + "\t".join(["c", "check", *map(str, FILES)]) + "\n" + "\t".join(["d", "check", *map(str, net), "--bad"]) + "\n")
+        subprocess.run([str(ROOT / "tools/many.sh"), "run", str(jobs), str(self.folder / "many"), "1"], capture_output=True)
+        modes = {path.name: oct(permitted(path)) for path in (self.folder / "many").iterdir()}
+        self.assertEqual(modes, {"a.out": "0o600", "a.job": "0o600", "b.out": "0o600", "b.job": "0o600", "c.out": "0o644", "c.job": "0o644", "d.failed": "0o600"})
+
+    def test_a_kept_mode_has_no_setuid(self):
+        for write in writers():
+            place = self.file("place", "old")
+            place.chmod(0o6755)
+            write(place)
+            self.assertEqual(oct(permitted(place)), "0o755")
+
+    def test_the_end_of_a_terminal_is_a_request_to_end(self):
+        place = self.folder / "place"
+        place.mkdir()
+        program = self.file("slow", '#!/bin/sh\ncase $1 in clear) exec sleep 60;; esac\nexec "$REAL" "$@"\n')
+        program.chmod(0o755)
+        environment = {**os.environ, "CLEARING": str(program), "REAL": PROGRAM, "PYTHONDONTWRITEBYTECODE": "1"}
+        running = subprocess.Popen([sys.executable, str(ROOT / "tools/evidence.py"), "make", str(place / "evidence"), *map(str, FILES)], env=environment,
+                                   stdout=subprocess.PIPE, stderr=subprocess.PIPE, start_new_session=True)
+        self.addCleanup(running.stdout.close)
+        self.addCleanup(running.stderr.close)
+        deadline = time.monotonic() + 30
+        while not list(place.glob(".part-*/inputs/debts.csv")) and time.monotonic() < deadline:
+            time.sleep(0.02)
+        time.sleep(0.3)
+        running.send_signal(signal.SIGHUP)
+        self.assertEqual(running.wait(30), 130)
+        self.assertEqual(os.listdir(place), [])
+
+
+if __name__ == "__main__":
+    unittest.main()

@@ -1,0 +1,90 @@
+"""No tool runs a program that was planted: one in the working folder, in a folder above it, or on an entry of the path that is not absolute."""
+import os
+import pathlib
+import shutil
+import subprocess
+import sys
+import unittest
+
+from common import CHAIN, HUB, PROGRAM, ROOT, Case
+
+PLANTED = "#!/bin/sh\ntouch {}\necho planted\n"
+
+
+class Planted(Case):
+    def setUp(self):
+        super().setUp()
+        self.mark = self.folder / "mark"
+        self.honest, self.work = self.folder / "honest", self.folder / "work"
+        for path in (self.honest, self.work / "crates/clear_main", self.work / "bin", self.work / "deep/er"):
+            path.mkdir(parents=True)
+        (self.honest / "clearing").symlink_to(os.path.realpath(PROGRAM))
+        for path in (self.work / "clearing", self.work / "bin/clearing"):
+            path.write_text(PLANTED.format(self.mark))
+            path.chmod(0o755)
+
+    def run_in(self, folder, words, **variables):
+        own = {key: value for key, value in os.environ.items() if key not in ("CLEARING", "PYTHONPATH")}
+        return subprocess.run([str(word) for word in words], cwd=folder, env={**own, "PYTHONDONTWRITEBYTECODE": "1", **variables},
+                              stdin=subprocess.DEVNULL, capture_output=True, encoding="utf-8")
+
+    def package(self, place):
+        """The packages for Python alone, in another place."""
+        for name in ("clearing_client", "clearing_tools"):
+            shutil.copytree(ROOT / "python/src" / name, place / name, ignore=shutil.ignore_patterns("__pycache__"))
+        return place
+
+    def test_the_package_looks_in_no_folder_above_the_working_folder(self):
+        place = self.package(self.folder / "site")
+        find = [sys.executable, "-c", "import sys, clearing_client as cc; print(cc.find_program())"]
+        for folder in (self.work, self.work / "deep", self.work / "deep/er"):
+            done = self.run_in(folder, find, PYTHONPATH=str(place), PATH="/usr/bin:/bin")
+            self.assertIn("NoProgramError", done.stderr, done.stdout)
+            done = self.run_in(folder, find, PYTHONPATH=str(place), PATH=f"/usr/bin:{self.honest}:/bin")
+            self.assertEqual(done.stdout, f"{self.honest}/clearing\n", done.stderr)
+
+    def test_nor_in_the_folders_above_the_package(self):
+        find = "import clearing_client as cc, clearing_tools.runner as runner; print(cc.find_program()); print(runner.program())"
+        # What stands three folders above, with the program of an installation or a repository beside it.
+        for name in ("a/b", "lib/python3/site-packages", "python/other"):
+            place = self.package(self.work / name)
+            done = self.run_in(self.folder, [sys.executable, "-c", find], PYTHONPATH=str(place), PATH=f"/usr/bin:{self.honest}:/bin")
+            self.assertEqual(done.stdout, f"{self.honest}/clearing\n" * 2, (name, done.stderr))
+        # An installation has it beside the packages.
+        place = self.package(self.folder / "share/clearing/python/src")
+        (self.folder / "share/clearing/clearing").symlink_to(self.honest / "clearing")
+        done = self.run_in(self.work, [sys.executable, "-c", find], PYTHONPATH=str(place), PATH="/usr/bin:/bin")
+        self.assertEqual(done.stdout, f"{self.folder}/share/clearing/clearing\n" * 2, done.stderr)
+
+    def test_of_the_path_the_absolute_entries_alone_are_looked_at(self):
+        net = ["--banks", HUB / "banks.csv", "--debts", HUB / "debts.csv"]
+        moments = self.file("moments.csv", "of,mean,deviation\nSouth,1,1\n")
+        jobs = self.file("jobs.tsv", "\t".join(["a", "check", *map(str, net)]) + "\n")
+        made = self.run_in(self.folder, [ROOT / "tools/evidence.sh", "make", self.folder / "evidence", *net], CLEARING=PROGRAM)
+        self.assertEqual(made.returncode, 0, made.stderr)
+        client = "import sys, clearing_client as cc; print(cc.Network(*sys.argv[1:]).clear().total)"
+        tools = [
+            ("breaking.py", net), ("impact.py", net), ("rescues.py", net), ("draws.py", [*net, "--moments", moments, "--draws", 2]),
+            ("report.py", [*net, "--out", self.folder / "OUT.html"]), ("evidence.sh", ["make", self.folder / "OUT-evidence", *net]),
+            ("evidence.sh", ["check", self.folder / "evidence"]), ("many.sh", ["run", jobs, self.folder / "OUT-many", 1]),
+            ("many.sh", ["one", jobs, self.folder / "OUT-many", 1]), ("-c", [client, CHAIN / "banks.csv", CHAIN / "debts.csv"]),
+        ]
+        for number, (name, words) in enumerate(tools):
+            run = [sys.executable, "-c"] if name == "-c" else [*([sys.executable] if name.endswith(".py") else []), ROOT / "tools" / name]
+            for entry in (".", "", "bin", "./bin"):
+                place = [str(word).replace("OUT", f"{number}-{entry.replace('/', '-')}") for word in words]
+                path = os.pathsep.join([entry, str(self.honest), os.path.dirname(sys.executable), "/usr/bin", "/bin"])
+                done = self.run_in(self.work, [*run, *place], CLEARING="clearing", PATH=path, PYTHONPATH=str(ROOT / "python/src"))
+                self.assertFalse(self.mark.exists(), (name, entry, "the planted program ran"))
+                self.assertEqual(done.returncode, 0, (name, entry, done.stderr))
+            # And where the path has no other, there is none.
+            path = os.pathsep.join([".", os.path.dirname(sys.executable), "/usr/bin", "/bin"])
+            place = [str(word).replace("OUT", f"{number}-none") for word in words]
+            done = self.run_in(self.work, [*run, *place], CLEARING="clearing", PATH=path, PYTHONPATH=str(ROOT / "python/src"))
+            self.assertFalse(self.mark.exists(), (name, "the planted program ran"))
+            self.assertNotEqual(done.returncode, 0, (name, done.stdout))
+            self.assertTrue(pathlib.Path(self.work / "clearing").exists())
+
+
+if __name__ == "__main__":
+    unittest.main()

@@ -1,0 +1,130 @@
+"""The scripts of the shell under other masks, interrupted, with planted links and names that have ends of lines."""
+import os
+import shlex
+import shutil
+import signal
+import stat
+import subprocess
+import time
+import unittest
+
+import test_launcher
+from common import HUB, PROGRAM, ROOT, Case
+
+FILES = ["--banks", HUB / "banks.csv", "--debts", HUB / "debts.csv"]
+
+
+class Installing(Case):
+    def setUp(self):
+        super().setUp()
+        self.script = self.file("program", '#!/bin/sh\necho "$*"\n')
+        self.script.chmod(0o755)
+        self.prefix = self.folder / "prefix"
+
+    def start(self, mask=0o022, **more):
+        environment = {**os.environ, "CLEARING": str(self.script)}
+        return subprocess.Popen([str(ROOT / "tools/install.sh"), str(self.prefix)], env=environment, preexec_fn=lambda: os.umask(mask), stdin=subprocess.DEVNULL,
+                                stdout=subprocess.PIPE, stderr=subprocess.PIPE, encoding="utf-8", start_new_session=True, **more)
+
+    def test_what_is_installed_is_for_all_and_nobody_else_writes_it(self):
+        modes = []
+        for mask in (0o000, 0o077):
+            running = self.start(mask)
+            _, said = running.communicate(timeout=300)
+            self.assertEqual((running.returncode, said), (0, ""))
+            found = {str(path.relative_to(self.prefix)): stat.S_IMODE(path.lstat().st_mode) for path in self.prefix.rglob("*") if not path.is_symlink()}
+            for name, mode in found.items():
+                self.assertEqual((mode & 0o022, mode & 0o044), (0, 0o044), (name, oct(mode), oct(mask)))
+            modes.append(found)
+            shutil.rmtree(self.prefix)
+        self.assertEqual(modes[0], modes[1])
+
+    def test_an_interrupt_leaves_nothing_and_follows_no_link(self):
+        victim = self.file("victim", "kept\n")
+        (self.prefix / "bin").mkdir(parents=True)
+        (self.prefix / "bin/clearing").write_text("old\n")
+        # The program to install is a pipe that is written late: by then links stand where the next files could go.
+        running = self.start()
+        deadline = time.monotonic() + 60
+        while not list(self.prefix.rglob("*.new.*")) and time.monotonic() < deadline:
+            time.sleep(0.005)
+        for path in list(self.prefix.rglob("*.new.*")):
+            self.assertNotIn(str(running.pid), path.name)
+        os.killpg(running.pid, signal.SIGTERM)
+        running.communicate(timeout=60)
+        left = [str(path.relative_to(self.prefix)) for path in self.prefix.rglob("*") if not path.is_dir()]
+        if running.returncode:
+            self.assertEqual(left, ["bin/clearing"])
+            self.assertEqual((self.prefix / "bin/clearing").read_text(), "old\n")
+        self.assertEqual([name for name in left if ".new." in name or ".old." in name], [])
+        self.assertEqual(victim.read_text(), "kept\n")
+
+
+class Many(Case):
+    def test_an_end_of_a_line_in_a_name_ends_no_word(self):
+        mark = self.folder / "mark"
+        jobs = self.file("jobs\n.tsv", "\t".join(["a", "check", *map(str, FILES)]) + "\n")
+        program = self.file(f"x\ntouch {str(mark).replace('/', '_')}\n: it's", "#!/bin/sh\necho ran\n")
+        program.chmod(0o755)
+        environment = {**os.environ, "CLEARING": str(program)}
+        printed = subprocess.run([str(ROOT / "tools/many.sh"), "slurm", str(jobs), str(self.folder / "out\n")], env=environment, capture_output=True, encoding="utf-8")
+        self.assertEqual((printed.returncode, printed.stderr), (0, ""))
+        before = sorted(os.listdir(self.folder))
+        done = subprocess.run(["sh", "-c", printed.stdout], env={**os.environ, "SLURM_ARRAY_TASK_ID": "1"}, cwd=self.folder, capture_output=True, encoding="utf-8")
+        self.assertEqual((done.returncode, done.stderr), (0, ""))
+        self.assertEqual(sorted(os.listdir(self.folder)), sorted([*before, "out\n"]))
+        self.assertEqual((self.folder / "out\n/a.out").read_text(), "ran\n")
+
+    def test_a_job_whose_files_change_is_told(self):
+        banks = self.file("banks.csv", (HUB / "banks.csv").read_bytes())
+        jobs = self.file("jobs.tsv", "\t".join(["a", "check", "--banks", str(banks), *map(str, FILES[2:])]) + "\n")
+        self.program(f'echo >>"{banks}"\necho done\n')
+        done = subprocess.run([str(ROOT / "tools/many.sh"), "run", str(jobs), str(self.folder / "out"), "1"], capture_output=True, encoding="utf-8")
+        self.assertEqual((done.returncode, done.stdout), (1, "0 done, 1 failed\n"))
+        self.assertEqual((self.folder / "out/a.failed").read_text(), "status 0, but a file or the program changed while the job ran\n")
+        self.assertEqual(sorted(os.listdir(self.folder / "out")), ["a.failed"])
+
+
+class Reporting(Case):
+    def test_an_input_that_changes_is_told(self):
+        banks = self.file("banks.csv", (HUB / "banks.csv").read_bytes())
+        self.program(f'[ "$1" != bounds ] || echo >>"{banks}"\nexec {shlex.quote(os.path.realpath(PROGRAM))} "$@"\n')
+        self.refused("report.py", 1, "banks.csv changed while the report was made", "--banks", banks, *FILES[2:], "--out", self.folder / "page.html")
+        self.assertFalse((self.folder / "page.html").exists())
+
+
+class Launching(unittest.TestCase):
+    def test_words_of_the_environment_begin_no_build(self):
+        launcher = test_launcher.Launcher("test_it_is_built_once")
+        launcher.setUp()
+        self.addCleanup(launcher.doCleanups)
+        root = launcher.built()
+        calls = launcher.calls.read_text()
+        for steps in ("1", "4", "1.1.0", "x; touch y"):
+            done = launcher.run_at(root, "a", CLEARING_STEPS=steps, PYTHONPATH=":")
+            self.assertEqual((done.returncode, done.stdout, done.stderr), (0, "a here\n", ""), steps)
+        self.assertEqual(launcher.calls.read_text(), calls)
+        self.assertFalse((root / "crates/clear_main/out/build.mark").exists())
+
+    def test_the_toolchain_imports_nothing_of_the_working_folder(self):
+        launcher = test_launcher.Launcher("test_it_is_built_once")
+        launcher.setUp()
+        self.addCleanup(launcher.doCleanups)
+        launcher.rt.write_text('#!/bin/sh\necho "path=${PYTHONPATH-none}" >>"$CALLS"\n' + test_launcher.TOOLCHAIN.split("\n", 1)[1])
+        done = launcher.run_at(launcher.root, "a", PYTHONPATH=":")
+        self.assertEqual((done.returncode, done.stdout), (0, "a here\n"))
+        self.assertEqual({line for line in launcher.calls.read_text().split("\n") if line.startswith("path=")}, {"path=none"})
+
+
+class Importing(Case):
+    def test_evidence_imports_nothing_of_the_working_folder(self):
+        mark = self.folder / "mark"
+        for name in ("argparse", "hashlib", "tempfile", "pathlib", "json", "tomllib"):
+            self.file(f"{name}.py", f"open({str(mark)!r}, 'w')\n")
+        done = subprocess.run([str(ROOT / "tools/evidence.sh"), "check", "."], cwd=self.folder, env={**os.environ, "PYTHONPATH": ":"}, capture_output=True)
+        self.assertEqual(done.returncode, 3)
+        self.assertFalse(mark.exists())
+
+
+if __name__ == "__main__":
+    unittest.main()

@@ -1,0 +1,94 @@
+"""The commands in the guide and beside the examples print what stands there.
+
+In a block of the language `console` a line that begins with `$ ` is a command of the shell, and what follows is what it
+prints, both streams together. The blocks of a page are run in order in a copy of its examples, tools and package,
+where `./clearing` is the program.
+
+`python3 test_docs.py PAGE` runs a page and writes anew what its commands print.
+"""
+import os
+import pathlib
+import re
+import shlex
+import shutil
+import subprocess
+import sys
+import tempfile
+
+from common import PROGRAM, ROOT, Case
+
+PAGES = ["docs/GUIDE.md", "docs/DATA.md", "docs/INTERPRETING.md", "examples/README.md"]
+# The last author of what is cited, and the year: `Eisenberg and Noe (2001)`, or the same all in brackets; a line may end between.
+CITED = re.compile(r"([A-Z][^\W\d_]+),?\s(?:\s*//[/!]? )?\(?((?:18|19|20)[0-9]{2})\)")
+BLOCK = re.compile(r"(?<=^```console\n).*?(?=^```$)", re.MULTILINE | re.DOTALL)
+
+
+# Reads all of its input, where head itself ends at once: else the program writes to a pipe that is closed, or does not,
+# as the two happen to run.
+HEAD = 'head() { command head "$@"; local status=$?; cat >/dev/null; return $status; }'
+
+
+def output_of(command, folder):
+    run = ["bash", "-c", f"{HEAD}\n{command}"]
+    environment = {**os.environ, "LC_ALL": "C.UTF-8", "PYTHONDONTWRITEBYTECODE": "1"}
+    return subprocess.run(run, cwd=folder, env=environment, stdin=subprocess.DEVNULL,
+                          stdout=subprocess.PIPE, stderr=subprocess.STDOUT, encoding="utf-8").stdout
+
+
+def block_run(block, folder):
+    commands = [line for line in block.splitlines() if line.startswith("$ ")]
+    parts = []
+    for command in commands:
+        output = output_of(command.removeprefix("$ "), folder)
+        parts.append(command + "\n" + output + ("\n" if output and not output.endswith("\n") else ""))
+    return "".join(parts)
+
+
+def page_run(text):
+    """The text of a page, with what its commands print now."""
+    with tempfile.TemporaryDirectory() as name:
+        folder = pathlib.Path(name)
+        for part in ("examples", "python", "tools"):
+            shutil.copytree(ROOT / part, folder / part)
+        script = folder / "clearing"
+        script.write_text(f"#!/bin/sh\nexec {shlex.quote(PROGRAM)} \"$@\"\n")
+        script.chmod(0o755)
+        return BLOCK.sub(lambda block: block_run(block[0], folder), text)
+
+
+class Pages(Case):
+    maxDiff = None
+
+    def test_head_does_not_break_the_pipe_that_it_reads(self):
+        command = "(trap '' PIPE; echo one; sleep 0.2; echo two || echo broken >&2) | head -1; echo status $?"
+        self.assertEqual(output_of(command, self.folder), "one\nstatus 0\n")
+
+    def test_commands_print_what_the_pages_say(self):
+        for page in PAGES:
+            with self.subTest(page=page):
+                text = (ROOT / page).read_text(encoding="utf-8")
+                self.assertIn("$ ", text)
+                self.assertEqual(page_run(text).splitlines(), text.splitlines())
+
+    def test_the_page_of_examples_names_each(self):
+        text = (ROOT / "examples/README.md").read_text(encoding="utf-8")
+        for folder in sorted((ROOT / "examples").iterdir()):
+            if folder.is_dir():
+                self.assertIn(f"`{folder.name}`", text)
+
+    def test_what_is_cited_stands_among_the_references(self):
+        listed = [" ".join(entry.split()) for entry in (ROOT / "docs/REFERENCES.md").read_text(encoding="utf-8").split("\n- ")[1:]]
+        cited = set()
+        for pattern in ("*.md", "docs/*.md", "python/src/clearing_tools/**/*.py", "crates/*/src/**/*.rt", "python/src/**/*.py"):
+            for path in ROOT.glob(pattern):
+                if path.name != "REFERENCES.md":
+                    cited |= set(CITED.findall(path.read_text(encoding="utf-8")))
+        self.assertIn(("Herings", "2018"), cited)
+        for name, year in sorted(cited):
+            self.assertTrue(any(name in entry.partition(")")[0] and f"({year})" in entry for entry in listed), (name, year))
+
+
+if __name__ == "__main__":
+    for page in sys.argv[1:]:
+        path = pathlib.Path(page)
+        path.write_text(page_run(path.read_text(encoding="utf-8")), encoding="utf-8")

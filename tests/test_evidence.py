@@ -1,0 +1,376 @@
+"""Folders of evidence: made, checked, and altered."""
+import os
+import re
+import shlex
+import pathlib
+import shutil
+import signal
+import subprocess
+import sys
+import time
+
+from common import HUB, PROGRAM, ROOT, clearing, needs
+from evidences import SCENARIOS, SCRIPT, EvidenceCase, evidence
+
+TWELVE = ROOT / "examples/twelve-banks"
+
+# Names that a file may have, and that other texts might take for something else.
+HOSTILE = ["total", "cash", "scenario", "bank", "a b", "it's", "back\\slash", "$HOME", "-x", "é é", "rounds", "#"]
+
+
+class Evidence(EvidenceCase):
+    def files(self, banks, debts):
+        return ["--banks", self.file("banks.csv", banks), "--debts", self.file("debts.csv", debts)]
+
+    def hostile_files(self):
+        """A ring of banks of such names, short of cash."""
+        banks = "name,cash,rule\n" + "".join(f"{name},{7 * place},webster\n" for place, name in enumerate(HOSTILE))
+        debts = "debtor,creditor,class,claim\n" + "".join(
+            f"{name},{HOSTILE[(place + 1) % len(HOSTILE)]},1,{50 - place}\n" for place, name in enumerate(HOSTILE))
+        scenarios = '[[scenario]]\nname = "total"\ncut = 100\n' + "".join(
+            f"[[scenario.loss]]\nbank = '''{name}'''\namount = {place}\n" for place, name in enumerate(HOSTILE))
+        return self.files(banks, debts), self.file("s.toml", scenarios)
+
+    # The banks that a scenario leaves.
+
+    def test_a_shock_leaves_what_stress_clears(self):
+        generated = [self.file("b.csv"), self.file("d.csv")]
+        self.made("gen_files.py", "--seed", 3, "--size", 200, "--tries", 900, "--banks", generated[0], "--debts", generated[1])
+        wild = "".join(f'[[scenario]]\nname = "{n}"\ncut = {37 * n}\n' + "".join(
+            f'[[scenario.loss]]\nbank = "N{(n * k) % 200}"\namount = {k * k}\n' for k in range(1, 9)) for n in range(1, 5))
+        hostile, hostile_scenarios = self.hostile_files()
+        for banks, debts, scenarios in [
+            (TWELVE / "banks.csv", TWELVE / "debts.csv", TWELVE / "scenarios.toml"),
+            (HUB / "banks.csv", HUB / "debts.csv", self.file("hub.toml", SCENARIOS)),
+            (*generated, self.file("wild.toml", wild)),
+            (hostile[1], hostile[3], hostile_scenarios),
+        ]:
+            words = ["--banks", banks, "--debts", debts, "--scenarios", scenarios]
+            blocks = self.printed("stress", *words).split("\n\n")
+            for number, block in enumerate(blocks, 1):
+                left = self.file("left.csv")
+                shocked = ["--banks", banks, "--scenarios", scenarios, "--scenario", number]
+                self.assertEqual(self.made("shock.py", *shocked, "--output", left), "")
+                self.assertEqual(self.made("shock.py", *shocked), left.read_text())
+                files = ["--banks", left, "--debts", debts]
+                made = self.printed("clear", *files) + self.printed("defaults", *files)
+                self.assertEqual(block.split("\n", 1)[1].rstrip("\n"), made.rstrip("\n"))
+                # And it is in the form in which it is printed.
+                self.assertEqual(self.printed("check", *files).split("\n\n")[1] + "\n", left.read_text())
+
+    def test_a_byte_order_mark_above_scenarios_is_dropped(self):
+        banks, debts = HUB / "banks.csv", HUB / "debts.csv"
+        plain, marked = self.file("s.toml", SCENARIOS), self.file("marked.toml", b"\xef\xbb\xbf" + SCENARIOS.encode())
+        words = ["--banks", banks, "--debts", debts, "--scenarios"]
+        self.assertEqual(self.printed("stress", *words, plain), self.printed("stress", *words, marked))
+        left = [self.made("shock.py", "--banks", banks, "--scenarios", name, "--scenario", 2) for name in (plain, marked)]
+        self.assertEqual(left[0], left[1])
+        folder = self.folder / "evidence"
+        done = evidence("make", folder, *words, marked, "--bank", "South")
+        self.assertEqual((done.returncode, done.stderr), (0, b""))
+        self.assertEqual((folder / "inputs/scenarios.toml").read_bytes(), marked.read_bytes())
+        done = evidence("check", folder)
+        self.assertEqual((done.returncode, done.stderr), (0, b""), done.stdout)
+        # One alone, and at the start alone, as the program has it.
+        for text in (b"\xef\xbb\xbf" + marked.read_bytes(), SCENARIOS.encode() + b"\xef\xbb\xbf"):
+            name = self.file("more.toml", text)
+            done = clearing("stress", *words, name)
+            self.assertEqual((done.returncode, done.stderr), (4, b"clearing: scenarios row 0: toml (16)\n"))
+            self.refused("shock.py", 4, "scenarios row 0: toml (16)", "--banks", banks, "--scenarios", name, "--scenario", 1)
+
+    def test_a_scenario_that_is_refused_is_refused_alike(self):
+        head = '[[scenario]]\nname = "a"\n'
+        for text in ["x", "scenario = 1", "y = 1\n[[scenario]]\nname = 'a'", "[[scenario]]\ncut = 1", head + "cut = 1001", head + "cut = -1",
+                     head + "cut = 1.0", head + "cut = true", head + "cut = 9223372036854775808", head + "[[scenario]]\nname = 'b,'",
+                     head + "[[scenario.loss]]\nbank = 'Nord'\namount = 1", head + "[[scenario.loss]]\nbank = 'South'",
+                     head + "[[scenario.loss]]\nbank = 'South'\namount = 1000000000001", head + "loss = 3", head + "other = 3",
+                     head + "[[scenario.loss]]\nbank = 'South'\namount = 1\n" * 2, head * 101, b"\xff", head + "cut = 1\n cut = 2"]:
+            scenarios = self.file("s.toml", text)
+            done = clearing("stress", "--banks", HUB / "banks.csv", "--debts", HUB / "debts.csv", "--scenarios", scenarios)
+            self.assertEqual(done.returncode, 4, text)
+            message = done.stderr.decode().removeprefix("clearing: ")
+            self.refused("shock.py", 4, "shock.py: " + message, "--banks", HUB / "banks.csv", "--scenarios", scenarios, "--scenario", 1)
+
+    def test_a_shock_keeps_its_inputs(self):
+        banks, scenarios = self.file("b.csv", (HUB / "banks.csv").read_bytes()), self.file("s.toml", SCENARIOS)
+        link = self.folder / "link.csv"
+        link.symlink_to(banks)
+        words = ["--banks", banks, "--scenarios", scenarios]
+        for output in (banks, scenarios, link):
+            self.refused("shock.py", 2, "would be written over", *words, "--scenario", 1, "--output", output)
+        self.refused("shock.py", 2, "none of the number 4", *words, "--scenario", 4)
+        self.refused("shock.py", 3, "cannot read", *words[:3], self.folder / "none", "--scenario", 1)
+        self.refused("shock.py", 5, "cannot write", *words, "--scenario", 1, "--output", self.folder / "none" / "x")
+        self.assertEqual((banks.read_bytes(), scenarios.read_text()), ((HUB / "banks.csv").read_bytes(), SCENARIOS))
+
+    # Making and checking.
+
+    def test_what_is_made_is_checked(self):
+        folder = self.hub()
+        for name in ("banks.csv", "debts.csv"):
+            self.assertEqual((folder / "inputs" / name).read_bytes(), (HUB / name).read_bytes())
+        listed = subprocess.run(["sha256sum", "--check", "--quiet", "SHA256SUMS"], cwd=folder, capture_output=True)
+        self.assertEqual((listed.returncode, listed.stdout), (0, b""))
+        with (folder / "commands.tsv").open() as commands:
+            self.assertEqual(next(commands), "file\tstatus\twords\n")
+            for line in commands:
+                file, status, *words = line.rstrip("\n").split("\t")
+                done = subprocess.run([PROGRAM, *words], cwd=folder, capture_output=True)
+                self.assertEqual((str(done.returncode), done.stdout), (status, (folder / file).read_bytes()))
+        done = evidence("check", folder)
+        self.assertEqual((done.returncode, done.stderr), (0, b""))
+        told = done.stdout.decode()
+        for line in ["checksums: 31 of 31", "scenario 2: banks same", "stress.csv: same", "commands run again: 20 of 20 the same",
+                     "rescue of South with 20: sound with it, and not with a unit less"]:
+            self.assertIn(line + "\n", told)
+        for label in ("as it is", "scenario 1", "scenario 2", "scenario 3", "rescue", "a unit less"):
+            self.assertRegex(told, f"(?m)^{label}: lawful,[0-9]+; payments same; defaults same$")
+            self.assertRegex(told, f"(?m)^{label}, replayed by the program: lawful,[0-9]+; payments same$")
+        self.assertNotIn("not so", told)
+        # Made again it has the same bytes.
+        again = self.folder / "again"
+        words = ["--banks", HUB / "banks.csv", "--debts", HUB / "debts.csv", "--scenarios", self.folder / "s.toml", "--bank", "South"]
+        self.assertEqual(evidence("make", again, *words).returncode, 0)
+        self.assertEqual((again / "SHA256SUMS").read_bytes(), (folder / "SHA256SUMS").read_bytes())
+
+    def test_a_folder_without_scenarios_is_checked_without_the_program(self):
+        (files, _), folder = self.hostile_files(), self.folder / "a b\n'$"
+        self.assertEqual(evidence("make", folder, *files, "--bank", "total").returncode, 0)
+        done = self.without_program("check", folder)
+        self.assertEqual((done.returncode, done.stderr), (0, b""))
+        told = done.stdout.decode()
+        self.assertRegex(told, "(?m)^rescue of total with [0-9]+: sound with it, and not with a unit less$")
+        self.assertIn("not checked: the same by the program: none is built here\n", told)
+        self.assertNotIn("replayed", told)
+
+    def test_a_generated_network_of_200_is_checked(self):
+        banks, debts = self.file("b.csv"), self.file("d.csv")
+        self.made("gen_files.py", "--seed", 9, "--size", 200, "--tries", 600, "--banks", banks, "--debts", debts)
+        scenarios = self.file("s.toml", "".join(f'[[scenario]]\nname = "{cut}"\ncut = {cut}\n' for cut in (150, 600)))
+        folder = self.folder / "evidence"
+        self.assertEqual(evidence("make", folder, "--banks", banks, "--debts", debts, "--scenarios", scenarios).returncode, 0)
+        done = evidence("check", folder)
+        self.assertEqual(done.returncode, 0, done.stdout)
+        self.assertEqual(done.stdout.count(b"; payments same; defaults same\n"), 3)
+
+    # What is altered.
+
+    def test_each_kind_of_alteration_has_its_status(self):
+        folder = self.hub(SCENARIOS.split("[[scenario]]\nname = \" South")[0])
+        kept = {path: path.read_bytes() for path in folder.rglob("*") if path.is_file()}
+
+        def altered(name, old, new, count=1):
+            path = folder / name
+            text = path.read_bytes().decode()
+            self.assertIn(old, text)
+            path.write_bytes(text.replace(old, new, count).encode())
+
+        def checked(status, *lines):
+            done = evidence("check", folder)
+            self.assertEqual(done.returncode, status, done.stdout.decode() + done.stderr.decode())
+            for line in lines:
+                self.assertIn(line, done.stdout.decode() + done.stderr.decode())
+            for path in folder.rglob("*"):
+                if path.is_file() and path not in kept:
+                    path.unlink()
+            for path, content in kept.items():
+                path.write_bytes(content)
+
+        # Every file, where the checksums stay: a byte more at its end.
+        names = [str(path.relative_to(folder)) for path in kept if path.name != "SHA256SUMS"]
+        for name in names:
+            (folder / name).write_bytes(kept[folder / name] + b"\n")
+        checked(3, f"checksums: 0 of {len(names)}", *(f"checksums: {name} differs\n" for name in names))
+        altered("as-is/journal.csv", "rounds,", "rounds,99")
+        checked(4, f"checksums: {len(names) - 1} of {len(names)}", "not so: the files are those that SHA256SUMS lists")
+        (folder / "more.txt").write_text("x")
+        checked(3, "checksums: more.txt is not listed", "more.txt: none of these commands makes it here")
+        # Where the checksums are made anew, the rest is found by what the files say.
+        altered("scenario-1/banks.csv", ",webster", ",order")
+        self.sums_anew(folder)
+        checked(5, "scenario 1: banks differ")
+        altered("scenario-1/journal.csv", "\nrounds", "\n9,South,Hub,1,1\nrounds")
+        self.sums_anew(folder)
+        checked(6, "scenario 1: raise ", "not so: each journal is lawful")
+        altered("as-is/journal.csv", "\n1,", "\n1,Nobody,")
+        self.sums_anew(folder)
+        checked(6, "as it is: audit.py: journal row 1: fields (2)")
+        altered("scenario-1/payments.csv", ",paid\n", ",paid \n")
+        self.sums_anew(folder)
+        checked(7, "scenario 1: lawful,", "payments differ: line 1")
+        altered("unit-less/defaults.csv", "sound", "contagion")
+        self.sums_anew(folder)
+        checked(7, "defaults differ")
+        altered("rescue/rescue.csv", "short,1", "short,2")
+        self.sums_anew(folder)
+        checked(7, "rescue of South with 20: not what the tables say")
+        altered("stress.csv", "scenario,half", "scenario,hall")
+        self.sums_anew(folder)
+        checked(7, "stress.csv: differs")
+        altered("as-is/journal.csv", "rounds,", "rounds,1")
+        self.sums_anew(folder)
+        checked(8, "commands run again: as-is/journal.csv differs", "checked: each journal is lawful")
+        altered("commands.tsv", "\t0\t", "\t1\t")
+        self.sums_anew(folder)
+        checked(3, "commands.tsv: not the commands")
+        altered("inputs/debts.csv", "debtor", "Debtor")
+        self.sums_anew(folder)
+        checked(3, "inputs: debts row 0: header (1)")
+        (folder / "scenario-1/payments.csv").unlink()
+        checked(3, "checksums: scenario-1/payments.csv is not there", "scenario-1/payments.csv is not there")
+        # What is no plain file is none: a link to the same bytes, and a pipe, which is not waited for.
+        for put in (lambda path: path.symlink_to(HUB / "banks.csv"), os.mkfifo):
+            path = folder / "as-is/journal.csv"
+            path.unlink()
+            put(path)
+            done = evidence("check", folder, timeout=60)
+            path.unlink()
+            path.write_bytes(kept[path])
+            self.assertEqual(done.returncode, 3)
+            self.assertIn(b"as-is/journal.csv is not there\n", done.stderr)
+        self.assertEqual(evidence("check", folder).returncode, 0)
+
+    # Builds.
+
+    def test_two_builds_are_compared(self):
+        """With a build that takes no time in place of the real one."""
+        root = self.folder / "repository"
+        (root / "tests/system").mkdir(parents=True)
+        script = root / "tests/system/same_build.sh"
+        script.write_bytes((ROOT / "tests/system/same_build.sh").read_bytes())
+        (root / ".gitignore").write_text("crates/*/out/\n")
+        commands = self.folder / "commands"
+        commands.mkdir()
+        (commands / "rt").write_text("#!/bin/sh\necho kit\n")
+        environment = {**os.environ, "PATH": f"{commands}:{os.environ['PATH']}", "GIT_CONFIG_GLOBAL": os.devnull}
+        git = lambda *words: subprocess.run(
+            ["git", "-c", "user.name=a", "-c", "user.email=a@b", *words], cwd=root, check=True, capture_output=True, env=environment)
+        git("init", "--quiet")
+        sums = []
+        for content, status, said in [("true program", 0, "the same bytes\n"), ("$PWD", 1, "the programs differ\n"), (None, 1, "no rt\n")]:
+            make = f'mkdir -p crates/clear_main/out; echo "{content}" >crates/clear_main/out/clear_main'
+            (root / "clearing").write_text("#!/bin/sh\n" + (make if content else "echo no rt >&2; exit 8") + "\n")
+            for path in (root / "clearing", script, commands / "rt"):
+                path.chmod(0o755)
+            git("add", "--all")
+            git("commit", "--quiet", "--message", "x")
+            done = subprocess.run([str(script)], env=environment, capture_output=True, encoding="utf-8")
+            self.assertEqual((done.returncode, done.stdout[-len(said) :]), (status, said), done.stderr)
+            sums.append(done.stdout.splitlines()[2].split()[0])
+        program = self.file("program", "true program\n")
+        for given, status in ((sums[0], 0), (sums[1], 1)):
+            self.assertEqual(subprocess.run([str(script), given, str(program)], capture_output=True).returncode, status)
+        for words in (["no-such-commit"], ["-x"], ["a", "b", "c"], [sums[0], str(self.folder / "none")]):
+            self.assertEqual(subprocess.run([str(script), *words], env=environment, capture_output=True).returncode, 2)
+
+    # What goes wrong while a folder is made.
+
+    def nothing_is_left(self, folder, *others):
+        self.assertEqual(sorted(path.name for path in folder.parent.iterdir()), sorted(others))
+
+    def test_a_folder_is_made_whole_or_not_at_all(self):
+        place = self.folder / "place"
+        place.mkdir()
+        words = ["make", place / "evidence", "--banks", HUB / "banks.csv", "--debts", HUB / "debts.csv"]
+        # A program that fails, and one that lies, each on one task alone.
+        for task, lie, status in [("defaults", "exit 6", 1), ("stress", "echo x; exit 0", 1), ("rescue", "printf 'rescue,South,1\\nshort,1\\n\\n'", 1)]:
+            program = self.file("program", f'#!/bin/sh\nif [ "$1" = {task} ]; then {lie}; else exec {shlex.quote(PROGRAM)} "$@"; fi\n')
+            program.chmod(0o755)
+            more = ["--scenarios", self.file("s.toml", SCENARIOS), "--bank", "South"]
+            done = evidence(*words, *more, program=str(program))
+            self.assertEqual((done.returncode, done.stdout), (status, b""), done.stderr)
+            self.assertTrue(done.stderr.startswith(b"evidence.sh: "), done.stderr)
+            self.nothing_is_left(words[1])
+        for more, status, message in [
+            (["--bank", "Nobody"], 4, b"words row 0: unknown bank (8)"),
+            (["--scenarios", self.file("x.toml", "x")], 4, b"scenarios row 0: toml (16)"),
+            (["--scenarios", self.folder / "none.toml"], 3, b"cannot read"),
+            (["--banks", self.file("b.csv", "name\n")], 4, b"banks row 0: header (1)"),
+            (["--seed", "1"], 2, b"unrecognized"),
+        ]:
+            done = evidence(*words, *more)
+            self.assertEqual((done.returncode, done.stdout), (status, b""), done.stderr)
+            self.assertIn(message, done.stderr)
+            self.nothing_is_left(words[1])
+        (place / "evidence").mkdir()
+        self.assertEqual(evidence(*words).returncode, 2)
+        self.nothing_is_left(words[1], "evidence")
+        self.assertEqual(evidence("make", self.folder / "none/evidence", *words[2:]).returncode, 5)
+        self.assertEqual(evidence("check", self.folder / "none").returncode, 3)
+        self.assertEqual(evidence("check", place).returncode, 3)
+        self.assertEqual(evidence().returncode, 2)
+
+    @needs("git")
+    def test_changes_are_told_where_they_are_of_the_repository(self):
+        copy, sources = self.folder / "copy", "crates/one/src"
+        own = {**os.environ, "GIT_CONFIG_GLOBAL": "/dev/null", "CLEARING": PROGRAM}
+        for part in ("tools", "python"):
+            shutil.copytree(ROOT / part, copy / part, ignore=shutil.ignore_patterns("tests", "__pycache__"))
+        (copy / sources).mkdir(parents=True)
+        (copy / sources / "lib.rt").write_text("old\n")
+        (copy / ".gitignore").write_text("out/\n")
+        git = ["git", "-C", copy, "-c", "user.name=A", "-c", "user.email=a@b"]
+        for words in (["init", "-q"], ["add", "."], ["commit", "-qm", "all"]):
+            subprocess.run([*git, *words], env=own, check=True)
+        commit = subprocess.check_output([*git, "rev-parse", "HEAD"], env=own, encoding="utf-8").strip()
+        ask = [sys.executable, "-B", "-c", "from clearing_tools.evidence import evidence; print(evidence.commit_of())"]
+        # What is written, and whether it is a change: an output of one's own is none, and nor is what a build makes.
+        for name, is_change in [
+            ("mine.csv", False), ("tools/mine.csv", False), (f"{sources}/out/x", False), (f"{sources}/lib.rt", True),
+            (f"{sources}/new.rt", True), ("tools/evidence.sh", True),
+        ]:
+            path = copy / name
+            before = path.read_bytes() if path.exists() else None
+            path.parent.mkdir(exist_ok=True)
+            path.write_bytes((before or b"") + b"# new\n")
+            want = commit + (", with changes that are not committed" if is_change else "")
+            self.assertEqual(subprocess.check_output(ask, cwd=copy / "python/src", env=own, encoding="utf-8"), want + "\n", name)
+            if before is None:
+                path.unlink()
+            else:
+                path.write_bytes(before)
+        # Both tools say so.
+        self.file("copy/mine.csv", "mine")
+        folder, page = self.folder / "evidence", self.folder / "page.html"
+        for words in (["evidence.py", "make", folder], ["report.py", "--out", page]):
+            run = [sys.executable, "-B", copy / "tools" / words[0], *words[1:], "--banks", HUB / "banks.csv", "--debts", HUB / "debts.csv"]
+            subprocess.run(run, env=own, check=True, capture_output=True)
+        self.assertEqual((folder / "versions.txt").read_text().split("\n")[0], f"repository {commit}")
+        self.assertIn(f">{commit}<", page.read_text(encoding="utf-8"))
+
+    def test_the_guide_makes_each_folder_once(self):
+        text = (ROOT / "docs/GUIDE.md").read_text(encoding="utf-8")
+        commands = "".join(re.findall(r"^```\w*\n(.*?)^```$", text, re.MULTILINE | re.DOTALL)).replace("\\\n", " ").split("\n")
+        made = [name for line in commands for name in re.findall(r"(?:report\.py .*--keep|evidence\.sh make) (\S+)", line)]
+        self.assertGreater(len(made), 1)
+        self.assertEqual(sorted(made), sorted(set(made)))
+
+    def test_an_interrupt_ends_at_once_and_leaves_nothing(self):
+        place = self.folder / "place"
+        place.mkdir()
+        program = self.file("program", f'#!/bin/sh\ncase $1 in clear) exec sleep 60;; esac\nexec {shlex.quote(PROGRAM)} "$@"\n')
+        program.chmod(0o755)
+        for number in (signal.SIGINT, signal.SIGTERM):
+            running = subprocess.Popen(
+                [sys.executable, str(ROOT / "tools/evidence.py"), "make", str(place / "evidence"),
+                 "--banks", str(HUB / "banks.csv"), "--debts", str(HUB / "debts.csv")],
+                env={**os.environ, "CLEARING": str(program), "PYTHONDONTWRITEBYTECODE": "1"},
+                stdout=subprocess.PIPE, stderr=subprocess.PIPE, start_new_session=True,
+            )
+            self.addCleanup(running.stdout.close)
+            self.addCleanup(running.stderr.close)
+            deadline = time.monotonic() + 30
+            while not list(place.glob(".part-*/inputs/debts.csv")) and time.monotonic() < deadline:
+                time.sleep(0.02)
+            time.sleep(0.3)
+            begun = time.monotonic()
+            running.send_signal(number)
+            self.assertEqual(running.wait(30), 130)
+            self.assertLess(time.monotonic() - begun, 20)
+            self.nothing_is_left(place / "evidence")
+
+
+if __name__ == "__main__":
+    import unittest
+
+    unittest.main()

@@ -1,0 +1,78 @@
+"""Evidence that begins at the sheets of which the two files were made."""
+import test_evidence
+from test_evidence import evidence
+
+LIST = "lender,borrower,amount,currency\nB,A,10,EUR\nA,B,4,USD\nB,A,10,EUR\n"
+
+
+class Source(test_evidence.Evidence):
+    # The tests of evidence itself run once.
+    locals().update({name: None for name in vars(test_evidence.Evidence) if name.startswith("test_")})
+
+    def make(self, command):
+        return evidence("make", self.folder / "evidence", "--source", command, cwd=self.folder)
+
+    def given(self):
+        self.file("list.csv", LIST)
+        self.file("table.csv", "bank,cash\nA,3\nB,5\n")
+        self.file("rates.csv", "currency,rate\nEUR,1\nUSD,0.5\n")
+        return "from_list.py list.csv --table table.csv --debtor borrower --creditor lender --duplicates once --rate currency=rates.csv"
+
+    def test_the_sheets_and_the_command_are_kept_and_the_files_made_anew(self):
+        done = self.make(self.given())
+        self.assertEqual((done.returncode, done.stderr), (0, b""))
+        folder = self.folder / "evidence"
+        kept = {path.name for path in (folder / "source").iterdir()}
+        self.assertEqual(kept, {"1-list.csv", "3-table.csv", "11-rates.csv", "command.tsv", "summary.csv"})
+        self.assertEqual((folder / "source/1-list.csv").read_text(), LIST)
+        self.assertEqual((folder / "inputs/debts.csv").read_text(), "debtor,creditor,class,claim\nA,B,1,10\nB,A,1,2\n")
+        done = evidence("check", folder)
+        self.assertEqual((done.returncode, done.stderr), (0, b""))
+        for line in ("source: inputs/banks.csv same", "source: inputs/debts.csv same", "source: source/summary.csv same",
+                     "checked: the two files are what the command in source/ makes of the sheets"):
+            self.assertIn(line, done.stdout.decode().splitlines())
+
+    def test_files_of_other_sheets_are_found(self):
+        self.make(self.given())
+        folder = self.folder / "evidence"
+        sheet = folder / "source/1-list.csv"
+        sheet.write_text(LIST.replace("4,USD", "6,USD"))
+        self.sums_anew(folder)
+        done = evidence("check", folder)
+        self.assertEqual(done.returncode, 5)
+        self.assertIn("source: inputs/debts.csv differs\n", done.stdout.decode())
+        self.assertIn("not so: the two files are", done.stdout.decode())
+        # A sheet that the tool refuses makes no files.
+        sheet.write_text(LIST.replace("10", "ten"))
+        self.sums_anew(folder)
+        done = evidence("check", folder)
+        self.assertEqual(done.returncode, 5)
+        self.assertIn("source: from_list: source/1-list.csv row 2 column amount: 'ten' is not an amount\n", done.stdout.decode().replace("-c:", "from_list:"))
+
+    def test_a_command_that_reads_or_writes_elsewhere_is_not_run(self):
+        self.make(self.given())
+        folder = self.folder / "evidence"
+        command = folder / "source/command.tsv"
+        whole = command.read_text()
+        written = self.folder / "written.csv"
+        for line in (f"word\t--label={written}\n", "word\t--summary\n", "word\t--banks=x.csv\n", "word\t/etc/passwd\n", "word\t--table=/etc/passwd\n", "word\tx=../../y\n",
+                     "file\t\t../inputs/banks.csv\n", "file\t--label=\t1-list.csv\n", "other\n"):
+            command.write_text(whole + line)
+            self.sums_anew(folder)
+            done = evidence("check", folder)
+            self.assertEqual(done.returncode, 3, line)
+            self.assertIn("source/command.tsv is not a command that is run", (done.stdout + done.stderr).decode())
+        self.assertFalse(written.exists())
+        command.write_text(whole.replace("from_list.py", "sh"))
+        self.sums_anew(folder)
+        self.assertEqual(evidence("check", folder).returncode, 3)
+
+    def test_what_is_no_command_makes_nothing(self):
+        for command, status, told in [("sh -c x", 2, b"--source begins with one of from_matrix.py, from_list.py"), ("from_list.py 'x", 2, b"--source is no command"),
+                                      (self.given().replace("--duplicates once", ""), 4, b"the same in every column as a line before")]:
+            done = self.make(command)
+            self.assertEqual((done.returncode, done.stdout), (status, b""))
+            self.assertIn(told, done.stderr)
+            self.assertFalse((self.folder / "evidence").exists())
+        done = evidence("make", self.folder / "evidence", "--source", "from_list.py", "--banks", "b.csv", "--debts", "d.csv")
+        self.assertEqual(done.returncode, 2)

@@ -1,0 +1,168 @@
+"""The gate and the packages that its tests want: with an apt-get that works, fails, hangs or lacks one, and a toolchain that only
+tells its calls."""
+import os
+import pathlib
+import re
+import shutil
+import subprocess
+import time
+
+from common import ROOT, Case
+
+HERE = pathlib.Path(__file__).resolve().parent
+
+APT = """#!/bin/sh
+echo "apt-get $*" >>"$CALLS"
+case $APT in
+fails) echo "E: no network" >&2; exit 100 ;;
+hangs) exec /bin/sleep 60 ;;
+lacks) case " $* " in *" moon "*) echo "E: Unable to locate package moon" >&2; exit 100 ;; esac ;;
+esac
+for word in "$@"; do
+    case $word in install) on=yes ;; -*) ;; *) [ -z "$on" ] || echo "$word" >>"$INSTALLED" ;; esac
+done
+"""
+QUERY = """#!/bin/sh
+for name in "$@"; do if grep -qx "$name" "$INSTALLED"; then echo "$name installed"; fi; done
+exit 1
+"""
+RT = """#!/bin/sh
+echo "rt $*" >>"$CALLS"
+mkdir -p crates/clear_main/out && : >crates/clear_main/out/clear_main
+echo "5 passed, 0 failed"
+exit $RT
+"""
+TESTS = """import os, pathlib, unittest
+class Some(unittest.TestCase):
+    def test_good(self):
+        pass
+
+    @unittest.skipUnless("moon" in pathlib.Path(os.environ["INSTALLED"]).read_text().split(), "no moon")
+    def test_moon(self):
+        pass
+
+    @unittest.skip("it rains")
+    def test_sun(self):
+        pass
+"""
+
+
+class Machine(Case):
+    """A machine that has the package `sea`, and a repository that wants the moon and a star too."""
+
+    def setUp(self):
+        super().setUp()
+        self.calls, self.installed = self.file("calls", ""), self.file("installed", "sea\n")
+        (self.folder / "commands").mkdir()
+        for name, text in (("apt-get", APT), ("dpkg-query", QUERY), ("rt", RT), ("sleep", "#!/bin/sh\n"),
+                           ("id", "#!/bin/sh\necho ${WHO:-0}\n")):
+            self.file(f"commands/{name}", text).chmod(0o755)
+        self.root = self.folder / "repository"
+        (self.root / "tests").mkdir(parents=True)
+        if (ROOT / "tests/packages.sh").exists():
+            shutil.copy(ROOT / "tests/packages.sh", self.root / "tests")
+        (self.root / "tests/packages.txt").write_text("# wanted\nmoon   # the moon\nsea    # and the sea\n\nstar\n")
+
+    def ran(self, *words, **more):
+        """The status and the lines of a command of the repository, what was called, and the seconds it took."""
+        self.calls.write_text("")
+        environment = {"PATH": f"{self.folder}/commands:{os.environ['PATH']}", "CALLS": str(self.calls), "INSTALLED": str(self.installed),
+                       "APT": "works", "RT": "0", "PYTHONDONTWRITEBYTECODE": "1", **more}
+        begun = time.monotonic()
+        done = subprocess.run([str(self.root / words[0]), *words[1:]], env=environment, stdin=subprocess.DEVNULL, stdout=subprocess.PIPE,
+                              stderr=subprocess.STDOUT, encoding="utf-8", cwd=self.folder)
+        self.took = time.monotonic() - begun
+        self.called = self.calls.read_text().splitlines()
+        return done.returncode, done.stdout.splitlines()
+
+
+class Packages(Machine):
+    def names(self):
+        return sorted(self.installed.read_text().split())
+
+    def test_what_is_missing_is_told(self):
+        self.assertEqual(self.ran("tests/packages.sh", "missing"), (1, ["moon star"]))
+        self.installed.write_text("sea\nstar\nmoon\n")
+        self.assertEqual(self.ran("tests/packages.sh", "missing"), (0, []))
+        self.assertEqual(self.called, [])
+
+    def test_what_is_missing_is_installed_once(self):
+        status, _ = self.ran("tests/packages.sh", "install")
+        self.assertEqual((status, self.names()), (0, ["moon", "sea", "star"]))
+        installs = [re.sub(r".* install( -\S+)*", "install", call) for call in self.called if " install " in call]
+        self.assertEqual(installs, ["install moon star"])
+        self.assertEqual([call for call in self.called if call.endswith(" update")], self.called[:1])
+        self.assertEqual((self.ran("tests/packages.sh", "install")[0], self.called), (0, []))
+
+    def test_three_tries_are_made(self):
+        status, lines = self.ran("tests/packages.sh", "install", APT="fails")
+        self.assertEqual((status, self.names()), (1, ["sea"]))
+        self.assertEqual(sum(call.endswith(" update") for call in self.called), 3)
+        self.assertIn("E: no network", lines)
+        self.assertIn("moon star", lines[-1])
+
+    def test_one_that_is_nowhere_keeps_no_other_out(self):
+        status, lines = self.ran("tests/packages.sh", "install", APT="lacks")
+        self.assertEqual((status, self.names()), (1, ["sea", "star"]))
+        self.assertIn("moon", lines[-1])
+        self.assertNotIn("star", lines[-1])
+
+    def test_what_hangs_is_ended(self):
+        status, lines = self.ran("tests/packages.sh", "install", APT="hangs", PACKAGES_SECONDS="2")
+        self.assertEqual((status, self.names()), (1, ["sea"]))
+        self.assertLess(self.took, 20)
+        self.assertIn("moon star", lines[-1])
+
+    def test_faulty_words_do_nothing(self):
+        for words in ([], ["all"], ["install", "moon"]):
+            self.assertEqual((self.ran("tests/packages.sh", *words)[0], self.called), (2, []), words)
+
+    def test_each_package_of_the_repository_has_a_name_and_says_what_wants_it(self):
+        text = (ROOT / "tests/packages.txt").read_text(encoding="utf-8")
+        lines = [line for line in text.splitlines() if line and not line.startswith("#")]
+        for line in lines:
+            self.assertRegex(line, r"^[a-z0-9][a-z0-9+.-]+ +# \S")
+        self.assertGreater(len(lines), 10)
+
+
+class Gate(Machine):
+    def setUp(self):
+        super().setUp()
+        (self.root / ".ci").mkdir()
+        (self.root / "tools").mkdir()
+        beside = self.root / HERE.relative_to(ROOT)
+        beside.mkdir(parents=True, exist_ok=True)
+        for source, target in ((ROOT / ".ci/run", ".ci"), (ROOT / "tools/test.sh", "tools"), (HERE / "run.py", beside)):
+            shutil.copy(source, self.root / target)
+        (beside / "test_some.py").write_text(TESTS)
+        (self.root / "tests/skips.txt").write_text("test_some.Some.test_sun  it rains\n")
+
+    def test_with_the_packages_a_skip_is_a_failure_unless_it_is_listed(self):
+        status, lines = self.ran(".ci/run", CI="1")
+        self.assertEqual((status, lines[0], lines[-1]), (0, "5 passed, 0 failed", "2 passed, 0 failed, 1 skipped"))
+        self.assertEqual(self.called[0], "rt ci")
+        (self.root / "tests/skips.txt").write_text("")
+        status, lines = self.ran(".ci/run", CI="1")
+        self.assertEqual(status, 1)
+        self.assertEqual(lines[-2:], ["skipped, which no list allows: test_some.Some.test_sun: it rains", "2 passed, 1 failed"])
+
+    def test_without_the_packages_it_goes_on_and_says_so(self):
+        for apt in ("fails", "hangs"):
+            status, lines = self.ran(".ci/run", CI="1", APT=apt, PACKAGES_SECONDS="2")
+            self.assertEqual((status, lines[-1]), (0, "1 passed, 0 failed, 2 skipped"), lines)
+            self.assertIn("could not be installed", " ".join(lines[-4:]))
+            self.assertIn("apt-get install moon star", " ".join(lines[-4:]))
+
+    def test_elsewhere_nothing_is_installed_and_it_says_what_to_install(self):
+        for more in ({}, {"CI": ""}, {"CI": "1", "WHO": "1000"}):
+            status, lines = self.ran(".ci/run", **more)
+            self.assertEqual((status, lines[-1], self.called), (0, "1 passed, 0 failed, 2 skipped", ["rt ci"]), lines)
+            self.assertIn("apt-get install moon star", lines[-2])
+
+    def test_it_ends_with_the_first_status_that_is_not_0(self):
+        status, lines = self.ran(".ci/run", CI="1", RT="7")
+        self.assertEqual((status, lines, self.called), (7, ["5 passed, 0 failed"], ["rt ci"]))
+
+    def test_the_first_of_its_work_is_a_plain_line(self):
+        lines = [line for line in (ROOT / ".ci/run").read_text(encoding="utf-8").splitlines() if not line.startswith("#")]
+        self.assertEqual(lines[:2], ['cd "$(dirname "$0")/.." || exit 1', "rt ci"])

@@ -1,0 +1,148 @@
+"""Every task on networks of the greatest size, 1,000 banks, 20,000 debts and 10,000,000 units: beside the plain model tests/system/model.py
+where that is quick enough, else by another route to the same answer."""
+import random
+import sys
+import unittest
+
+from common import ROOT, Case, clearing
+
+sys.path.insert(0, str(ROOT / "tests/system"))
+import model  # noqa: E402
+from networks import judge_compression, judge_journal  # noqa: E402
+
+BANKS, DEBTS, UNITS = 1000, 20000, 10_000_000
+
+
+def small_claims(rng):
+    """Small claims of all classes by all rules, where money is short. One rich bank owes what is left of the units, and pays it."""
+    keys = {}
+    while len(keys) < DEBTS - 10:
+        debtor, creditor = rng.randrange(1, BANKS), rng.randrange(BANKS)
+        if debtor != creditor:
+            keys[debtor, creditor, rng.randint(1, 9)] = rng.randint(0, 12)
+    debts = [model.Debt(*key, claim) for key, claim in keys.items()]
+    rest = UNITS - sum(keys.values())
+    for creditor in range(1, 11):
+        debts.insert(rng.randrange(len(debts)), model.Debt(0, creditor, 3, rest // 10 + (rest % 10 if creditor == 1 else 0)))
+    banks = [model.Bank(f"Bank {i}", UNITS if i == 0 else rng.choice([0, 0, 20, 90]), model.RULES[i % 6], rng.choice([0, 0, 5])) for i in range(BANKS)]
+    return model.Net(banks, debts)
+
+
+def large_claims():
+    """Claims of hundreds of units by all rules, where half of the cash that would do is there."""
+    debts = [model.Debt(x % 1000, (x % 1000 + 1 + x // 1000 * 37) % 1000, 1 + x % 3, 1 + x * 104729 % 990) for x in range(DEBTS)]
+    banks = [model.Bank(f"bank {i}", i * 7919 % 2500, model.RULES[i * 5 % 6], i % 4) for i in range(BANKS)]
+    return model.Net(banks, debts)
+
+
+class Largest(Case):
+    def write(self, net):
+        self.files = ["--banks", self.file("banks.csv", model.banks_text(net, True)), "--debts", self.file("debts.csv", model.debts_text(net))]
+
+    def text(self, task, *more):
+        return self.printed(task, *self.files, *more)
+
+    def same(self, wanted, task, *more, cut=lambda text: text):
+        """Compares long texts, or what is cut from them, without a long message, and goes on."""
+        with self.subTest(task=task, more=[str(word) for word in more]):
+            told = cut(self.text(task, *more))
+            if told != wanted:
+                lines = [pair for pair in zip(told.split("\n"), wanted.split("\n")) if pair[0] != pair[1]]
+                self.fail(f"{task}: {len(told)} bytes in place of {len(wanted)}; first {lines[:1]}")
+
+    def test_small_claims_beside_the_model(self):
+        net = small_claims(random.Random("largest"))
+        self.write(net)
+        low = model.least(net)
+        payments = model.payments_text(net, low)
+        self.assertTrue(200 < sum(model.state(net, low, i) != "sound" for i in range(BANKS)) < 900)
+        for words in (["--workers", "1"], [], ["--workers", "3", "--sweeps", "7"], ["--workers", "64"]):
+            self.same(payments, "clear", *words)
+        self.same(payments, "central")
+        self.same(model.check_text(net), "check")
+        self.same(model.banks_text(net, True), "convert")
+        self.same(model.defaults_text(net, low), "defaults")
+        self.same(model.bounds_text(net), "bounds")
+        self.same(model.costs_text(net, 500), "costs", "--keep", "500")
+        # A bank that lacks little, since the model tries all sums.
+        lacks = {i: model.due(net, i) - model.estate(net, low, i) for i in range(BANKS)}
+        bank = min((i for i in lacks if lacks[i] > 3), key=lacks.get)
+        self.same(model.rescue_text(net, bank), "rescue", "--bank", net.banks[bank].name)
+        with self.subTest(task="compress"):
+            self.assertIsNone(judge_compression(net, self.text("compress")))
+        self.stressed(net)
+        journal = self.text("clear", "--show", "journal", "--workers", "4")
+        self.assertIsNone(judge_journal(net, low, journal))
+        raises = journal.count("\n") - 2
+        self.same(f"lawful,{raises}\n\n{payments}", "replay", "--journal", self.file("journal.csv", journal))
+        # A journal without its last raise is not complete.
+        lines = journal.split("\n")
+        done = clearing("replay", *self.files, "--journal", self.file("short.csv", "\n".join(lines[:-3] + lines[-2:])))
+        debtor = lines[-3].split(",")[1]
+        self.assertEqual((done.returncode, done.stdout), (7, f"unfinished,{debtor}\n".encode()))
+
+    def stressed(self, net):
+        """Scenarios one by one, each as the network that it leaves is cleared."""
+        scenarios = [model.Scenario("as it is", 0, []), model.Scenario("half", 500, []),
+                     model.Scenario("losses", 1, [(i, 1 + i % 50) for i in range(1, BANKS)]), model.Scenario("all", 1000, [])]
+        loss = lambda pair: f'[[scenario.loss]]\nbank = "{net.banks[pair[0]].name}"\namount = {pair[1]}\n'
+        toml = "".join(f'[[scenario]]\nname = "{one.name}"\ncut = {one.cut}\n' + "".join(map(loss, one.losses)) for one in scenarios)
+        blocks = []
+        for scenario in scenarios:
+            left = self.file("left.csv", model.banks_text(model.shocked(net, scenario), True))
+            files = ["--banks", left, *self.files[2:]]
+            blocks.append(f"scenario,{scenario.name}\n" + self.printed("central", *files) + self.printed("defaults", *files))
+        self.same("\n".join(blocks), "stress", "--scenarios", self.file("s.toml", toml))
+
+    def test_large_claims_by_another_route(self):
+        net = large_claims()
+        self.write(net)
+        payments = self.text("central")
+        paid = [int(line.split(",")[4]) for line in payments.splitlines()[1:]]
+        # No list of payments that clears pays more than is owed or there, and money goes nowhere.
+        self.assertTrue(all(0 <= units <= debt.claim for units, debt in zip(paid, net.debts)))
+        self.assertTrue(payments == model.payments_text(net, paid))
+        defaults = model.defaults_text(net, paid)
+        total = [int(field) for field in defaults.splitlines()[-2].split(",")[1:]]
+        self.assertEqual(total[0], sum(bank.cash for bank in net.banks) + sum(paid))
+        self.assertGreater(total[5], 100)
+        self.same(defaults, "defaults")
+        for words in (["--workers", "1"], ["--workers", "4", "--sweeps", "3"]):
+            with self.subTest(task="journal", words=words):
+                shown, _, journal = self.text("clear", "--show", "both", *words).partition("\n\n")
+                self.assertTrue(shown + "\n" == payments)
+                raises = journal.count("\n") - 2
+                self.same(f"lawful,{raises}\n\n{payments}", "replay", "--journal", self.file("journal.csv", journal))
+                told = self.made("audit.py", *self.files, "--journal", self.file("journal.csv", journal), "--payments", self.file("payments.csv", payments))
+                self.assertIn(f"{raises} raises lawful\nnobody can pay more\npayments same\n", told)
+        with self.subTest(task="bounds"):
+            bounds = self.text("bounds").partition("\n\n")[0].splitlines()[1:]
+            self.assertEqual([int(line.split(",")[4]) for line in bounds], paid)
+            self.assertTrue(all(int(line.split(",")[4]) <= int(line.split(",")[5]) <= int(line.split(",")[3]) for line in bounds))
+        self.same(payments, "costs", "--keep", "1000", cut=lambda text: text.partition("\n\n")[0] + "\n")
+        with self.subTest(task="compress"):
+            self.assertIsNone(judge_compression(net, self.text("compress")))
+        # With the sum that saves a bank it is sound, and with a unit less it lacks what is said.
+        bank = next(i for i in range(BANKS) if model.due(net, i) > model.estate(net, paid, i))
+        first, second, _, shown = self.text("rescue", "--bank", net.banks[bank].name).split("\n", 3)
+        added, lacks = int(first.split(",")[2]), int(second.split(",")[1])
+        for units, short in ((added, 0), (added - 1, lacks)):
+            files = ["--banks", self.file("richer.csv", model.banks_text(model.added(net, bank, units), True)), *self.files[2:]]
+            told = self.printed("central", *files)
+            given = [int(line.split(",")[4]) for line in told.splitlines()[1:]]
+            self.assertEqual(max(0, model.due(net, bank) - model.estate(model.added(net, bank, units), given, bank)), short)
+            if not short:
+                self.assertTrue(shown == told)
+
+    def test_a_generated_network_by_its_files(self):
+        words = ["--seed", "7", "--size", BANKS, "--tries", DEBTS]
+        files = [self.file("b.csv"), self.file("d.csv")]
+        self.made("gen_files.py", *words, "--banks", files[0], "--debts", files[1])
+        files = ["--banks", files[0], "--debts", files[1]]
+        counts = self.printed("check", *files).partition("\n\n")[0]
+        total = self.printed("defaults", *files).splitlines()[-2].split(",")
+        self.assertEqual(self.printed("gen", *words), f"{counts}\npaid,{total[2]}\ndefaults,{total[5]}\nequity,{total[4]}\n")
+
+
+if __name__ == "__main__":
+    unittest.main()

@@ -1,0 +1,202 @@
+import os
+import subprocess
+
+from common import ODD_NAMES, ROOT, Case
+
+# Prints its words, one a line; fails with the number after `fail`, and counts its runs in a file.
+PROGRAM = """#!/bin/sh
+echo run >>"$COUNTED"
+if [ "$1" = fail ]; then echo "refused" >&2; echo part; exit "$2"; fi
+printf '%s\\n' "$@"
+"""
+
+
+class Many(Case):
+    def many(self, *words, program=PROGRAM):
+        script = self.file("program", program)
+        script.chmod(0o755)
+        environment = {**os.environ, "CLEARING": str(script), "COUNTED": str(self.folder / "counted")}
+        run = [str(ROOT / "tools/many.sh"), *map(str, words)]
+        return subprocess.run(run, cwd=self.folder, env=environment, stdin=subprocess.DEVNULL, capture_output=True,
+                              encoding="utf-8")
+
+    def runs(self):
+        return len((self.folder / "counted").read_text().splitlines())
+
+    def test_one_job_is_run_once_and_kept(self):
+        jobs = self.file("jobs.tsv", "a\tclear\t--banks\ta bank's file *.csv\nb\tfail\t7\nc\tfail\t4\n")
+        self.assertEqual(self.many("one", jobs, "out", 1).returncode, 0)
+        out = self.folder / "out"
+        self.assertEqual((out / "a.out").read_text(), "clear\n--banks\na bank's file *.csv\n")
+        self.assertEqual(self.many("one", jobs, "out", 1).returncode, 0)
+        self.assertEqual(self.runs(), 1)
+        # A journal that is not lawful is a result; a refusal is none.
+        self.assertEqual(self.many("one", jobs, "out", 2).returncode, 0)
+        self.assertEqual((out / "b.out").read_text(), "part\n")
+        self.assertEqual(self.many("one", jobs, "out", 3).returncode, 1)
+        self.assertEqual((out / "c.failed").read_text(), "status 4\nrefused\n")
+        self.assertEqual(sorted(path.name for path in out.iterdir()), ["a.job", "a.out", "b.job", "b.out", "c.failed"])
+
+    def test_all_jobs_are_run_side_by_side(self):
+        jobs = self.file("jobs.tsv", "".join(f"job-{at}\tgen\t{at}\n" for at in range(30)) + "bad\tfail\t6\n")
+        done = self.many("run", jobs, "out", 3)
+        self.assertEqual((done.returncode, done.stdout), (1, "30 done, 1 failed\n"), done.stderr)
+        self.assertEqual((self.folder / "out/job-17.out").read_text(), "gen\n17\n")
+        # Only what failed is run again.
+        self.many("run", jobs, "out")
+        self.assertEqual(self.runs(), 32)
+
+    def test_a_batch_script_has_a_task_for_each_job(self):
+        jobs = self.file("jobs.tsv", "a\tgen\t1\nb\tgen\t2\n")
+        script = self.many("slurm", jobs, "out").stdout
+        self.assertIn("#SBATCH --array=1-2\n", script)
+        environment = {**os.environ, "SLURM_ARRAY_TASK_ID": "2", "COUNTED": str(self.folder / "counted")}
+        subprocess.run(["sh", "-c", script], cwd=self.folder, env=environment, check=True)
+        self.assertEqual((self.folder / "out/b.out").read_text(), "gen\n2\n")
+
+    def test_a_task_of_an_array_has_as_many_jobs_as_asked_or_needed(self):
+        jobs = self.file("jobs.tsv", "".join(f"{at}\tgen\t{at}\n" for at in range(1, 12)))
+        for words, tasks in [(["--each", 4], 3), (["--tasks", 4], 4), (["--tasks", 3, "--each", 2], 3), (["--each", 11], 1), ([], 11)]:
+            script = self.many("slurm", jobs, "out", *words).stdout
+            self.assertIn(f"#SBATCH --array=1-{tasks}\n", script, words)
+            done = []
+            for task in range(1, tasks + 1):
+                environment = {**os.environ, "SLURM_ARRAY_TASK_ID": str(task), "COUNTED": str(self.folder / "counted")}
+                subprocess.run(["sh", "-c", script], cwd=self.folder, env=environment, check=True)
+                done.append(sorted(int(path.stem) for path in (self.folder / "out").glob("*.out")))
+                for path in (self.folder / "out").iterdir():
+                    path.unlink()
+            self.assertEqual([number for part in done for number in part], list(range(1, 12)), words)
+            self.assertEqual(max(map(len, done)), len(done[0]), words)
+        many = self.file("many.tsv", "".join(f"{at}\tgen\n" for at in range(2001)))
+        self.assertIn("#SBATCH --array=1-667\n", self.many("slurm", many, "out").stdout)
+
+    def test_some_jobs_are_run_one_after_another(self):
+        jobs = self.file("jobs.tsv", "a\tgen\t1\nb\tfail\t4\nc\tgen\t3\nd\tgen\t4\n")
+        done = self.many("one", jobs, "out", 2, 3)
+        self.assertEqual((done.returncode, done.stdout), (1, ""), done.stderr)
+        self.assertEqual(sorted(path.name for path in (self.folder / "out").iterdir()), ["b.failed", "c.job", "c.out"])
+        # Those that are there are not run again; a last one behind all others is the last.
+        self.assertEqual(self.many("one", jobs, "out", 3, 99).returncode, 0)
+        self.assertEqual((self.folder / "out/d.out").read_text(), "gen\n4\n")
+        self.assertEqual(self.runs(), 3)
+        # Alone or among others, a job has the same words beside it.
+        kept = (self.folder / "out/c.job").read_text()
+        self.many("one", jobs, "alone", 3)
+        self.assertEqual((self.folder / "alone/c.job").read_text(), kept)
+
+    def test_words_and_jobs_out_of_form_are_refused(self):
+        jobs = self.file("jobs.tsv", "a\tgen\n")
+        for words in [[], ["all", jobs, "out"], ["run", jobs], ["one", jobs, "out", 0], ["one", jobs, "out", 2],
+                      ["one", jobs, "out", "x"], ["run", self.folder / "none", "out"], ["run", jobs, ""],
+                      ["run", jobs, "out", "1", "2"], ["slurm", jobs, "out", "1"], ["run", jobs, jobs], ["slurm", jobs, "out", "--each"], ["slurm", jobs, "out", "--each", 0],
+                      ["slurm", jobs, "out", "--tasks", "x"], ["slurm", jobs, "out", "--most", 1], ["one", jobs, "out", 1, 0],
+                      ["one", jobs, "out", 1, "x"], ["one", jobs, "out", 1, 1, 1]]:
+            done = self.many(*words)
+            self.assertEqual((done.returncode, done.stdout), (2, ""), words)
+            self.assertIn("--help says more", done.stderr)
+        for text in ["", "\n\n", "a\n", "a b\tgen\n", "a\tgen\na\tgen\n", "../a\tgen\n"]:
+            self.assertEqual(self.many("one", self.file("bad.tsv", text), "out", 1).returncode, 2, text)
+        self.assertIn("JOBS", self.many("--help").stdout)
+
+    def test_a_folder_in_place_of_a_file_is_refused(self):
+        done = self.many("run", self.folder, "out")
+        self.assertEqual((done.returncode, done.stdout), (2, ""))
+        self.assertIn("is no regular file of jobs", done.stderr)
+        (self.folder / "out" / "a.out").mkdir(parents=True)
+        done = self.many("run", self.file("jobs.tsv", "a\tgen\n"), "out", 1)
+        self.assertEqual((done.returncode, done.stdout), (1, "0 done, 1 failed\n"))
+        self.assertIn("a.out is a folder", done.stderr)
+
+    def test_a_bad_number_of_slots_is_refused_with_its_reason(self):
+        jobs = self.file("jobs.tsv", "a\tgen\n")
+        for slots in ("", "0", "x", "-1", "1001", "1.5", "9" * 30):
+            done = self.many("run", jobs, "out", slots)
+            self.assertEqual((done.returncode, done.stdout), (2, ""), slots)
+            self.assertIn(f"{slots} is not how many jobs may run at a time", done.stderr)
+
+    def test_lines_are_read_as_they_come(self):
+        want = {"a.out": "gen\n1\n", "b.out": "gen\n2\n"}
+        for text in ("a\tgen\t1\nb\tgen\t2", "a\tgen\t1\r\nb\tgen\t2\r\n", "\ufeffa\tgen\t1\r\n\r\nb\tgen\t2\n\n", "a\tgen\t1\rb\tgen\t2\r"):
+            out = self.folder / f"out{len(list(self.folder.iterdir()))}"
+            done = self.many("run", self.file("jobs.tsv", text), out, 2)
+            self.assertEqual((done.returncode, done.stdout), (0, "2 done, 0 failed\n"), text)
+            self.assertEqual({path.name: path.read_text() for path in out.glob("*.out")}, want)
+
+    def test_a_changed_job_is_run_again(self):
+        self.file("in.csv", "1")
+        first = "a\tgen\t--banks\tin.csv\nb\tgen\t--debts=in.csv\nc\tgen\n"
+        for text, runs in [(first, 3), (first, 3), (first.replace("c\tgen", "c\tgen\t1"), 4), (first, 5)]:
+            self.assertEqual(self.many("run", self.file("jobs.tsv", text), "out").stdout, "3 done, 0 failed\n")
+            self.assertEqual(self.runs(), runs, text)
+        self.assertEqual((self.folder / "out/c.out").read_text(), "gen\n")
+        # A file that is read changes, then the program.
+        self.file("in.csv", "2")
+        self.many("run", self.file("jobs.tsv", first), "out")
+        self.assertEqual(self.runs(), 7)
+        self.many("run", self.file("jobs.tsv", first), "out", program=PROGRAM + "# newer\n")
+        self.assertEqual(self.runs(), 10)
+        # What fails now leaves no older result.
+        done = self.many("run", self.file("jobs.tsv", first.replace("c\tgen", "c\tfail\t4")), "out")
+        self.assertEqual((done.returncode, done.stdout), (1, "2 done, 1 failed\n"))
+        self.assertEqual(sorted(path.name for path in (self.folder / "out").glob("c.*")), ["c.failed"])
+
+    def test_words_of_every_kind_are_handed_on(self):
+        jobs = self.file("jobs.tsv", "".join(f"n{at}\trescue\t--bank\t{name}\n" for at, name in enumerate(ODD_NAMES)))
+        self.assertEqual(self.many("run", jobs, "the results", 4).stdout, f"{len(ODD_NAMES)} done, 0 failed\n")
+        for at, name in enumerate(ODD_NAMES):
+            self.assertEqual((self.folder / f"the results/n{at}.out").read_text(encoding="utf-8"), f"rescue\n--bank\n{name}\n")
+        self.assertFalse((self.folder / "X").exists())
+
+    def test_no_older_result_is_counted_where_a_job_is_killed(self):
+        jobs = "a\tgen\t{0}\nb\tkill\t{0}\nc\tgen\t{0}\nd\tgen\t{0}\n"
+        self.assertEqual(self.many("run", self.file("jobs.tsv", jobs.format(1)), "out", 1).stdout, "4 done, 0 failed\n")
+        # The program kills the shell that runs it, and then the one above that, too.
+        parents = "parent=$(cut -d ' ' -f 4 /proc/$PPID/stat)\n"
+        for number, kill, counts, later in [(2, "kill -9 $PPID", "3 done, 1 failed", "gen\n2\n"),
+                                            (3, "kill -9 $parent $PPID", "1 done, 0 failed, 3 not finished", "gen\n2\n")]:
+            program = PROGRAM + f'if [ "$1" = kill ]; then {parents}{kill}; fi\n'
+            done = self.many("run", self.file("jobs.tsv", jobs.format(number)), "out", 1, program=program)
+            self.assertEqual((done.returncode, done.stdout), (1, counts + "\n"), done.stderr)
+            self.assertEqual((self.folder / "out/a.out").read_text(), f"gen\n{number}\n")
+            self.assertFalse((self.folder / "out/b.out").exists())
+            self.assertEqual((self.folder / "out/d.out").read_text(), later)
+            if number == 2:
+                self.assertIn("the run of job 2 was killed", done.stderr)
+        done = self.many("run", self.file("jobs.tsv", jobs.format(4)), "out", 1)
+        self.assertEqual((done.returncode, done.stdout), (0, "4 done, 0 failed\n"), done.stderr)
+
+    def test_what_a_killed_run_left_is_removed_when_the_job_begins_again(self):
+        jobs = self.file("jobs.tsv", "a\tkill\na.part\tgen\na.part.7\tgen\n")
+        killing = PROGRAM + "echo half >&2\n[ $1 = gen ] || kill -9 $PPID\n"
+        self.many("run", jobs, "out", 1, program=killing)
+        whole = ["a.part.7.job", "a.part.7.out", "a.part.job", "a.part.out"]
+        names = sorted(path.name for path in (self.folder / "out").iterdir())
+        self.assertEqual((len(names), set(whole) - set(names)), (6, set()), names)
+        self.many("run", jobs, "out", 1)
+        names = sorted(path.name for path in (self.folder / "out").iterdir())
+        self.assertEqual(names, sorted([*whole, "a.job", "a.out"]))
+
+    def test_a_number_of_a_process_that_is_no_run_keeps_nothing(self):
+        (self.folder / "out").mkdir()
+        ended, other = subprocess.Popen(["true"]), subprocess.Popen(["sleep", "60"])
+        self.addCleanup(other.wait)
+        self.addCleanup(other.kill)
+        # It has ended, and nobody has asked how.
+        os.waitid(os.P_PID, ended.pid, os.WEXITED | os.WNOWAIT)
+        for process in (ended.pid, other.pid):
+            self.file(f"out/a.part+{os.uname().nodename}.{process}", "left")
+        self.many("run", self.file("jobs.tsv", "a\tgen\n"), "out", 1)
+        ended.wait()
+        self.assertEqual(sorted(path.name for path in (self.folder / "out").iterdir()), ["a.job", "a.out"])
+
+    def test_a_job_that_runs_twice_at_once_keeps_the_files_of_both(self):
+        jobs = self.file("jobs.tsv", "a\tgen\n")
+        inner = f"{ROOT}/tools/many.sh one {jobs} out 1"
+        # While the job runs, it is run once more.
+        program = PROGRAM + f'if mkdir "$COUNTED.once" 2>/dev/null; then {inner} || echo failed; fi\n'
+        done = self.many("run", jobs, "out", 1, program=program)
+        self.assertEqual((done.returncode, done.stdout), (0, "1 done, 0 failed\n"), done.stderr)
+        self.assertEqual(sorted(path.name for path in (self.folder / "out").iterdir()), ["a.job", "a.out"])
+        self.assertEqual((self.folder / "out/a.out").read_text(), "gen\n")
+        self.assertEqual(self.runs(), 2)

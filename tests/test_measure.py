@@ -1,0 +1,129 @@
+"""bench/measure.py prints each table as ratios, and measures no run that ends otherwise than it has to. Times themselves are not tested."""
+import os
+import re
+import subprocess
+
+from common import PROGRAM, ROOT, Case
+
+# A peer that is the program itself, as a compiler makes it that only writes scripts.
+RUSTC = """#!/bin/sh
+while [ "$1" != -o ]; do shift; done
+cat >"$2" <<'END'
+#!/bin/sh
+case $1 in
+clear) exec "{program}" clear --banks "$2" --debts "$3" ;;
+replay) exec "{program}" replay --banks "$2" --debts "$3" --journal "$4" ;;
+stress) exec "{program}" stress --banks "$2" --debts "$3" --scenarios cuts.toml ;;
+esac
+END
+chmod +x "$2"
+"""
+# A program that does something else in one task.
+ODD = """#!/bin/sh
+case "$*" in
+*{words}*) {other} ;;
+esac
+exec "{program}" "$@"
+"""
+
+
+def cells(line):
+    return re.split(r"\s{2,}", line.strip())
+
+
+class Measure(Case):
+    def run_of(self, *words, program=None, **more):
+        environment = {**os.environ, "CLEARING": program or os.path.realpath(PROGRAM), "TMPDIR": str(self.folder), **more}
+        done = subprocess.run([str(ROOT / "bench/measure.py"), "--runs", "1", *words], env=environment, stdin=subprocess.DEVNULL,
+                              capture_output=True, encoding="utf-8")
+        return done.returncode, done.stdout.splitlines(), done.stderr
+
+    def odd(self, words, other):
+        path = self.file("odd", ODD.format(program=os.path.realpath(PROGRAM), words=words, other=other))
+        path.chmod(0o755)
+        return str(path)
+
+    def table(self, lines, title, heads, labels):
+        """Some lines are a table: its heads, and rows with milliseconds and then ratios."""
+        self.assertEqual(cells(lines[0]), [title, *heads])
+        self.assertEqual([cells(line)[0] for line in lines[1:]], labels)
+        for line in lines[1:]:
+            self.assertEqual(len(cells(line)), len(heads) + 1, line)
+            self.assertRegex(cells(line)[1], r"^[0-9]+\.[0-9]$")
+            for cell, head in zip(cells(line)[2:], heads[1:]):
+                if not head.startswith(("MB", "same", "far")) and cell != "-":
+                    self.assertRegex(cell, r"^[0-9]+\.[0-9][0-9]$")
+
+    def test_each_table_has_milliseconds_of_one_and_ratios_to_it(self):
+        ratios = ["check", "central", "replay", "defaults", "stress", "bounds", "rescue", "compress", "costs"]
+        for words, title, heads, labels in (
+            (["tasks", "chain", "leak"], "every task", ["clear, ms", *ratios], ["chain", "leak"]),
+            (["tasks", "--beside", "check", "linked-1"], "every task", ["check, ms", "clear", *ratios[1:]], ["linked-1"]),
+            (["rules", "star"], "by each rule", ["order, ms", "equal", "losses", "jefferson", "webster", "adams"],
+             ["star, clear", "star, central"]),
+            (["workers", "chain"], "clear, by workers", ["central, ms", "1", "2", "4"], ["chain"]),
+            (["rounds", "ordinary"], "clear by one worker", ["reading, ms", "one round", "all rounds"], ["ordinary"]),
+            (["rounds", "unit", "fall"], "a unit a round", ["alone, ms", "at rest"],
+             ["100,000 rounds of clear", "9,000,000 rounds of bounds"]),
+            (["reading", "--other", PROGRAM, "chain", "full-commas"], "bytes read or printed",
+             ["wc, ms", "cat", "program", "other", "MB, program", "MB, other"], ["chain", "full-commas"]),
+            (["reading", "journal"], "bytes read or printed", ["wc, ms", "cat", "program", "MB, program"],
+             ["a journal, its payments printed", "a journal printed", "a journal replayed"]),
+            (["others", "ordinary"], "the payments", ["clearing, ms", "fictitious", "iteration", "graph", "far, units"], ["ordinary"]),
+        ):
+            with self.subTest(words=words):
+                status, lines, told = self.run_of(*words)
+                self.assertEqual(status, 0, told)
+                self.table(lines, title, heads, labels)
+
+    def test_what_the_peer_prints_is_compared(self):
+        self.file("rustc", RUSTC.format(program=os.path.realpath(PROGRAM))).chmod(0o755)
+        path = f"{self.folder}:{os.environ['PATH']}"
+        status, lines, told = self.run_of("peer", "chain", PATH=path)
+        self.assertEqual((status, cells(lines[1])[-1]), (0, "yes"), told)
+        heads = ["peer, ms", "clear", "1 worker", "1 w., 1000 sweeps", "central", "MB, 1 worker", "MB, peer", "same"]
+        self.table(lines, "the payments", heads, ["chain"])
+        status, lines, _ = self.run_of("peer", "chain", PATH=path, program=self.odd("central", 'echo other; exit'))
+        self.assertEqual((status, cells(lines[1])[-1]), (0, "NO"))
+        status, lines, told = self.run_of("peer", "full", "stress", PATH=path)
+        heads = ["peer, ms", "program", "MB, program", "MB, peer", "same"]
+        self.table(lines[:5], "debts files of 8,388,608 bytes, check", heads,
+                   ["full-empty-lines", "full-blank-records", "full-commas", "full-comma-records"])
+        self.table(lines[5:], "a journal, a hundred scenarios", heads,
+                   ["replay, long-journal", "stress, largest-order, 1 workers", "stress, largest-order, 4 workers"])
+        self.assertEqual([cells(line)[-1] for line in lines[6:]], ["yes"] * 3)
+
+    def test_a_run_that_ends_otherwise_is_not_measured(self):
+        status, _, told = self.run_of("tasks", "chain", program=self.odd("bounds", "exit 6"))
+        self.assertEqual(status, 1)
+        self.assertRegex(told, "^measure.py: .* bounds .*: status 6 in place of 0\n$")
+        status, _, told = self.run_of("rounds", "ordinary", program=self.odd("refused", "exit 0"))
+        self.assertIn("status 0 in place of 4", told)
+        status, _, told = self.run_of("reading", "journal", program=self.odd("replay", "echo lawful,1; echo; exit 0"))
+        self.assertEqual((status, told), (1, "measure.py: the journal does not replay to the payments\n"))
+        self.assertEqual(self.run_of("tasks", "chain", program=str(self.folder / "none"))[0], 1)
+
+    def test_a_run_above_the_limit_has_no_ratio(self):
+        program = self.odd("central", "exec sleep 9")
+        status, lines, told = self.run_of("--limit", "1", "workers", "chain", program=program)
+        self.assertEqual((status, cells(lines[1])), (0, ["chain", "over", "-", "-", "-"]), told)
+        status, lines, _ = self.run_of("--limit", "1", "tasks", "chain", program=program)
+        self.assertEqual(cells(lines[1])[3], "-")
+        self.assertRegex(cells(lines[1])[2], r"^[0-9.]+$")
+
+    def test_faulty_words_measure_nothing(self):
+        for words in ([], ["speed"], ["tasks", "no-such"], ["tasks", "unit"], ["rules", "chain"], ["--runs", "0", "tasks"],
+                      ["--runs", "x", "tasks"]):
+            status, lines, _ = self.run_of(*words)
+            self.assertEqual((status, lines), (2, []), words)
+        status, lines, told = self.run_of("--beside", "none", "workers", "chain")
+        self.assertEqual((status, lines, told), (1, [], "measure.py: no column none; there are central, 1, 2, 4\n"))
+
+    def test_a_network_is_the_same_whichever_are_made_beside_it(self):
+        for folder, names in (("a", ["core-mixed"]), ("b", ["ordinary", "core-mixed", "chain"])):
+            subprocess.run([str(ROOT / "bench/inputs.py"), str(self.folder / folder), *names], check=True)
+        for kind in ("banks", "debts"):
+            texts = {(self.folder / folder / f"core-mixed-{kind}.csv").read_bytes() for folder in "ab"}
+            self.assertEqual(len(texts), 1)
+        done = subprocess.run([str(ROOT / "bench/inputs.py"), str(self.folder / "c"), "none"], capture_output=True)
+        self.assertEqual((done.returncode, (self.folder / "c").exists()), (1, False))

@@ -1,0 +1,217 @@
+"""Every link, path, command and name of code that a document cites is there.
+
+A name in back quotes is looked for where its text says that it stands: `crate::name` in that crate, `crate::laws::name` among its
+laws, `crate`: `name` in that crate, names after a file in that file, and any other name somewhere in the repository.
+
+`python3 test_names.py --list` prints the names of code that each page cites.
+"""
+import functools
+import re
+import sys
+import unittest
+
+from common import ROOT, tool
+
+CRATES = sorted(folder.name for folder in (ROOT / "crates").iterdir() if (folder / "src").is_dir())
+# Crates of the toolchain that documents name.
+PORTED = {"atomic_table", "clap", "csv", "indexmap", "itoa", "rand_core", "rand_pcg", "std", "toml"}
+# Programs that commands begin with beside those of the repository.
+PROGRAMS = {"awk", "cat", "cmp", "cp", "diff", "docker", "dpkg", "echo", "for", "git", "grep", "head", "ls", "man", "mkdir", "nice", "printf",
+            "python3", "rt", "sed", "sh", "sha256sum", "tail", "tar", "wc"}
+# Functions of the C library and of the toolchain's own, which documents name as what is trusted.
+TRUSTED = re.compile(r"(rattle|pthread|sched)_[a-z_]+|__[a-z0-9_]+")
+WORD = re.compile(r"[A-Za-z_][A-Za-z0-9_]*")
+QUOTED = re.compile(r"`([^`\n]+)`")
+FENCED = re.compile(r"^```(\w*)\n(.*?)^```$", re.MULTILINE | re.DOTALL)
+IN_CRATE = re.compile(r"`(\w+)`: (`\w+`(?:(?:,| and)\s`\w+`)*)")
+FOLDERS = ("bench", "crates", "docs", "examples", "python", "tests", "tools", ".ci")
+
+
+def documents():
+    return [path for path in [*sorted(ROOT.glob("*.md")), *sorted((ROOT / "docs").glob("*.md")), ROOT / "examples/README.md"]
+            if path.is_file()]
+
+
+def prose_of(text):
+    """A document without its blocks of code."""
+    return FENCED.sub("", text)
+
+
+def words_in(paths):
+    return {word for path in paths for word in WORD.findall(path.read_text(encoding="utf-8", errors="replace"))}
+
+
+@functools.cache
+def words_of(crate):
+    """All words of a crate: its sources, definitions and proofs, and the names of its files and edits."""
+    folder = ROOT / "crates" / crate
+    files = [path for part in ("src", "specs", "proofs", "must-fail") for path in (folder / part).rglob("*") if path.is_file()]
+    code = [path for path in files if path.suffix in (".rt", ".antt")]
+    return words_in(code) | {path.stem for path in files} | {part for path in files for part in path.relative_to(folder).parts}
+
+
+@functools.cache
+def all_words():
+    scripts = [path for folder in ("tools", "bench", "tests", "python", "examples") for path in (ROOT / folder).rglob("*")
+               if path.suffix in (".py", ".sh", ".rs", ".c", ".csv", ".toml", ".bash", ".fish") and path.name != "test_names.py"]
+    return set().union(*map(words_of, CRATES)) | words_in(scripts) | set(CRATES) | {path.stem for path in scripts}
+
+
+@functools.cache
+def laws_of(crate):
+    path = ROOT / "crates" / crate / "src/laws.rt"
+    return set(re.findall(r"^pub fn (\w+)", path.read_text(encoding="utf-8"), re.MULTILINE)) if path.is_file() else set()
+
+
+def anchors_of(path):
+    """The anchors that GitHub makes of the headings of a page."""
+    heads = re.findall(r"^#+ (.*)$", prose_of(path.read_text(encoding="utf-8")), re.MULTILINE)
+    return {re.sub(r"[^\w\- ]", "", head.lower()).replace(" ", "-") for head in heads}
+
+
+def is_name(token):
+    """Whether a word in back quotes can only be a name of code: it has an underscore, or a capital within."""
+    return re.fullmatch(WORD, token) and ("_" in token.strip("_") or re.search(r"[a-z][A-Z]", token))
+
+
+def cited_names(text):
+    """The names of code that a text cites, each once."""
+    tokens = QUOTED.findall(prose_of(text))
+    return sorted({token for token in tokens if is_name(token) or re.fullmatch(r"\w+(::\w+)+", token)})
+
+
+def missing_names(text):
+    """The names of code in a text that are nowhere to be found."""
+    lost = []
+    for token in QUOTED.findall(prose_of(text)):
+        parts = token.split("::")
+        if len(parts) > 1 and all(re.fullmatch(WORD, part) for part in parts):
+            crate, names = parts[0], parts[1:]
+            if crate in CRATES:
+                # Where a name follows `laws` it is a law.
+                here = laws_of(crate) if names[0] == "laws" and len(names) > 1 else words_of(crate) | {"laws", "proofs", "specs"}
+                lost += [token] if names[-1] not in here else []
+            elif crate not in PORTED and not (crate in all_words() and names[-1] in all_words()):
+                lost.append(token)
+        elif is_name(token) and not TRUSTED.fullmatch(token) and token not in all_words():
+            lost.append(token)
+    for crate, names in IN_CRATE.findall(prose_of(text)):
+        if crate in CRATES:
+            lost += [f"{crate}: {name}" for name in re.findall(r"\w+", names.replace(" and", "")) if name not in words_of(crate)]
+    return lost
+
+
+def missing_in_files(text):
+    """The names that stand after a file of a crate, and are not in it."""
+    lost, file = [], None
+    for passage in re.findall(r"\*In the code: (.*?)\*\n", text, re.DOTALL):
+        for token in QUOTED.findall(passage):
+            if re.fullmatch(r"\w+/(specs|proofs|src)/[\w/]+\.(antt|rt)", token):
+                file = ROOT / "crates" / token
+                lost += [] if file.is_file() else [token]
+            elif "::" in token:
+                file = None
+            elif file and file.is_file() and token not in words_in([file]):
+                lost.append(f"{file.relative_to(ROOT / 'crates')}: {token}")
+        file = None
+    return lost
+
+
+def missing_paths(path, text):
+    """The links and paths of a page that lead nowhere."""
+    lost = []
+    for target in re.findall(r"\]\(([^)\s]+)\)", prose_of(text)):
+        if re.match(r"[a-z]+:", target):
+            continue
+        name, _, anchor = target.partition("#")
+        file = (path.parent / name).resolve() if name else path
+        if not file.exists():
+            lost.append(target)
+        elif anchor and file.suffix == ".md" and anchor not in anchors_of(file):
+            lost.append(target)
+    for token in QUOTED.findall(prose_of(text)):
+        name = token.split(" ")[0].removeprefix("./")
+        if name.startswith(tuple(folder + "/" for folder in FOLDERS)) and not re.search(r"[A-Z*]{3}|/out/|\*|\.\.", name):
+            lost += [token] if not (ROOT / name).exists() else []
+    return lost
+
+
+def commands_of(text):
+    """The commands of the blocks of a page."""
+    for language, block in FENCED.findall(text):
+        lines = block.replace("\\\n", " ").split("\n")
+        if language == "console":
+            yield from (line[2:] for line in lines if line.startswith("$ "))
+        elif language == "":
+            yield from (line for line in lines if re.match(r"(\./clearing|\./first-look|tools/|bench/|tests/|\.ci/|rt |git |sha256sum |python3 )", line))
+
+
+@functools.cache
+def options_in(file):
+    """A text with the options of a tool: its help where it calls the package, else what it is. A shell script that starts a Python one of
+    its name has the options of both."""
+    parts = [part for part in (file, file.with_suffix(".py")) if part.is_file()]
+    texts = [part.read_text(encoding="utf-8") for part in parts]
+    helps = [tool(part.name, "--help").stdout for part, text in zip(parts, texts) if "from clearing_tools." in text]
+    return "".join(helps + texts)
+
+
+def wrong_commands(text):
+    """The commands that begin with no program, and the options of the repository's tools that the tools do not have."""
+    lost = []
+    for command in commands_of(text):
+        first = re.split(r"[\s;|]", command.lstrip("("))[0]
+        if "/" in first and not (ROOT / first).exists() or "/" not in first and first not in PROGRAMS:
+            lost.append(command)
+        for name, rest in re.findall(r"((?:tools|bench|tests)/[\w./]+)([^|;>]*)", command):
+            known = options_in(ROOT / name)
+            lost += [f"{name} {option}" for option in re.findall(r"(?<!\S)--[a-z-]+", rest) if option not in known]
+            lost += [] if known else [name]
+    return lost
+
+
+class Names(unittest.TestCase):
+    def each(self, what):
+        for path in documents():
+            with self.subTest(page=str(path.relative_to(ROOT))):
+                self.assertEqual(what(path, path.read_text(encoding="utf-8")), [])
+
+    def test_links_and_paths_lead_somewhere(self):
+        self.each(missing_paths)
+
+    def test_names_of_code_are_there(self):
+        self.each(lambda path, text: missing_names(text))
+
+    def test_names_after_a_file_stand_in_it(self):
+        self.each(lambda path, text: missing_in_files(text))
+
+    def test_commands_and_their_options_are_there(self):
+        self.each(lambda path, text: wrong_commands(text))
+
+    def test_what_is_missing_is_told(self):
+        self.assertEqual(missing_names("`clear_core::laws::least_is_most` `no_such_name` `clr_net`: `row`, `pole`"),
+                         ["clear_core::laws::least_is_most", "no_such_name", "clr_net: pole"])
+        self.assertEqual(missing_in_files("*In the code: `clr_net/specs/Net.antt`: `row`, `award`; `clr_net/specs/No.antt`: `x`.*\n"),
+                         ["clr_net/specs/Net.antt: award", "clr_net/specs/No.antt"])
+        self.assertEqual(missing_paths(ROOT / "README.md", "[a](docs/NO.md) [b](docs/GUIDE.md#no) [c](docs/GUIDE.md) `tools/no.sh a`"),
+                         ["docs/NO.md", "docs/GUIDE.md#no", "tools/no.sh a"])
+        self.assertEqual(wrong_commands("```console\n$ tools/no.sh x\n$ python3 tools/lint.py --nonsense\n$ nothing\n```\n"),
+                         ["tools/no.sh x", "tools/no.sh", "tools/lint.py --nonsense", "nothing"])
+
+    def test_no_page_speaks_of_the_commit_that_it_stands_in(self):
+        """What was measured or run names its commit, since a page outlives the one that it was written in."""
+        self.each(lambda path, text: re.findall(r"(?i)\bthis\s+(?:commit|text's|program's\s+sources)", text))
+
+    def test_the_paper_cites_names_of_code(self):
+        """The check of names has something to check: each section of the paper but the last two cites some."""
+        text = (ROOT / "docs/THEORY.md").read_text(encoding="utf-8")
+        self.assertGreater(len(re.findall(r"\*In the code: ", text)), 20)
+        self.assertGreater(len(re.findall(r"`\w+::laws::\w+`", text)), 40)
+
+
+if __name__ == "__main__":
+    if sys.argv[1:] == ["--list"]:
+        for page in documents():
+            print(page.relative_to(ROOT), *cited_names(page.read_text(encoding="utf-8")), sep="\n    ")
+    else:
+        unittest.main()

@@ -1,0 +1,332 @@
+"""The pictures: what they show is what the program says, to be read in grey print and by the colour-blind as well."""
+import itertools
+import math
+import re
+import shutil
+import subprocess
+import sys
+import unittest
+import xml.etree.ElementTree as tree
+
+from common import ODD_NAMES, PROGRAM, ROOT, Case, clearing, needs_modules, python_with, tool
+
+from clearing_tools.drawing.shortfalls import parts_owed  # noqa: E402
+from clearing_tools.drawing.style import DARK, LIGHT  # noqa: E402
+from clearing_tools.texts import read_banks, read_outside, read_payments  # noqa: E402
+
+HUB = ["--banks", ROOT / "examples/hub/banks.csv", "--debts", ROOT / "examples/hub/debts.csv"]
+CHAIN = ["--banks", ROOT / "examples/chain/banks.csv", "--debts", ROOT / "examples/chain/debts.csv"]
+CORE = ["--banks", ROOT / "examples/core/banks.csv", "--debts", ROOT / "examples/core/debts.csv"]
+TWELVE = ["--banks", ROOT / "examples/twelve-banks/banks.csv", "--debts", ROOT / "examples/twelve-banks/debts.csv"]
+SVG = "{http://www.w3.org/2000/svg}"
+
+
+def kind(element, word):
+    return word in (element.get("class") or "").split()
+
+
+def titles(svg):
+    return [title.text for title in tree.fromstring(svg).iter(f"{SVG}title")]
+
+
+def texts(svg):
+    return [text.text for text in tree.fromstring(svg).iter(f"{SVG}text")]
+
+
+class Pictures(Case):
+    def text(self, name, task, files, *more):
+        return self.file(name, clearing(task, *files, *more).stdout)
+
+    def both(self, files):
+        return self.text("p.csv", "clear", files), self.text("d.csv", "defaults", files)
+
+    def drawn(self, files, *more):
+        return self.made("who_pays.py", *self.both(files), *more)
+
+    def alone_outside(self):
+        """Three banks: A defaults on what it owes outside alone, B owes nobody, C pays all."""
+        banks = self.file("banks.csv", "name,cash,rule,outside\nA,3,order,9\nB,10,webster,0\nC,50,equal,5\n")
+        debts = self.file("debts.csv", "debtor,creditor,class,claim\nC,B,1,4\n")
+        return ["--banks", banks, "--debts", debts]
+
+
+class Network(Pictures):
+    def test_a_graph_has_each_bank_and_debt(self):
+        svg = self.drawn(CHAIN)
+        # A pays 7 of 10, B 8 of 9, and C owes nothing.
+        self.assertIn("A to B: 7 of 10 paid", titles(svg))
+        self.assertIn("B to C: 8 of 9 paid", titles(svg))
+        self.assertEqual([text for text in texts(svg) if text in ("A", "B", "C") or "% unpaid" in text],
+                         ["A", "30.0% unpaid", "B", "11.1% unpaid", "C"])
+        root = tree.fromstring(svg)
+        pipes = [group for group in root.iter(f"{SVG}g") if group.get("data-flow")]
+        shares = []
+        for group in pipes:
+            length = float(group.get("data-length"))
+            paid = next(path for path in group.iter(f"{SVG}path") if kind(path, "paid"))
+            shares.append(float(paid.get("stroke-dasharray").split()[0]) / length)
+        self.assertEqual(len(pipes), 2)
+        for share, expected in zip(shares, (0.7, 8 / 9)):
+            self.assertAlmostEqual(share, expected, delta=0.06)
+
+    def test_a_matrix_has_a_square_for_each_pair(self):
+        svg = self.drawn(HUB, "--form", "matrix")
+        self.assertEqual(sum(" paid" in title and " to " in title for title in titles(svg)), 8 + 2)  # and two that owe outside
+        self.assertIn("South to Hub: 100 of 120 paid", titles(svg))
+
+    def test_the_title_has_figures_unit_and_currency(self):
+        svg = self.drawn(TWELVE, "--unit", "1000", "--currency", "EUR")
+        self.assertEqual(texts(svg)[0], "12 banks owe each other EUR 9,750,000,000; 84.7% of it, 8,256,671,000, is paid")
+        self.assertIn("Amounts in EUR; a unit of account is EUR 1,000.", " ".join(texts(svg)))
+        self.assertIn("4 banks are in default: 2 by own fundamentals, 2 by contagion.", " ".join(texts(svg)))
+        cents = self.drawn(CHAIN, "--unit", "0.01", "--currency", "EUR")
+        self.assertIn("3 banks owe each other EUR 0.19; 78.9% of it, 0.15, is paid", " ".join(texts(cents)))
+
+    def test_many_banks_are_a_matrix_that_can_be_read(self):
+        svg = self.drawn(CORE)
+        self.assertIn("60 other banks", texts(svg))
+        flows = [title for title in titles(svg) if " paid" in title and " to " in title]
+        for part, sum_ in ((r": ([0-9,]+) of", 877984), (r" of ([0-9,]+) paid", 977920)):
+            self.assertEqual(sum(int(re.search(part, title)[1].replace(",", "")) for title in flows), sum_)
+        sizes = {float(text.get("font-size")) for text in tree.fromstring(svg).iter(f"{SVG}text")}
+        self.assertGreaterEqual(min(sizes), 12)
+
+    def test_only_unpaid_and_around_a_bank(self):
+        unpaid = self.drawn(TWELVE, "--only-unpaid")
+        flows = [title for title in titles(unpaid) if " to " in title and title.endswith(" paid")]
+        debts = [line.split(",") for line in clearing("clear", *TWELVE).stdout.decode().splitlines()[1:]]
+        self.assertEqual(sorted(title.split(":")[0] for title in flows),
+                         sorted({f"{row[0]} to {row[1]}" for row in debts if row[3] != row[4]}))
+        around = self.drawn(TWELVE, "--around", "Kemi")
+        flows = [title for title in titles(around) if " to " in title and title.endswith(" paid")]
+        self.assertEqual(sorted(title.split(":")[0] for title in flows),
+                         sorted({f"{row[0]} to {row[1]}" for row in debts if "Kemi" in row[:2]}))
+        self.refused("who_pays.py", 1, "no bank 'Nobody'", *self.both(TWELVE), "--around", "Nobody")
+        # Where there is none, the picture says so.
+        sound = self.file("b.csv", "name,cash,rule\nA,9,order\nB,0,order\n"), self.file("e.csv", "debtor,creditor,class,claim\nA,B,1,5\n")
+        self.assertIn("There is no such debt", self.drawn(["--banks", sound[0], "--debts", sound[1]], "--only-unpaid"))
+
+    def test_a_little_unpaid_is_not_paid_in_full(self):
+        banks = self.file("b.csv", "name,cash,rule\nA,999999,order\nB,9,order\n")
+        debts = self.file("e.csv", "debtor,creditor,class,claim\nA,B,1,1000000\nB,A,1,1\n")
+        files = ["--banks", banks, "--debts", debts]
+        banks.write_text("name,cash,rule\nA,999998,order\nB,1,order\n")
+        for form in ("graph", "matrix"):
+            root = tree.fromstring(self.drawn(files, "--form", form))
+            self.assertIn(">99.9%", "".join(root.itertext()))
+            if form == "graph":
+                heads = [kind(head, "full") for head in root.iter(f"{SVG}polygon") if head.get("data-flow")]
+                self.assertEqual(sorted(heads), [False, True])
+                pipe = next(group for group in root.iter(f"{SVG}g") if group.get("data-flow") == "0")
+                paid = next(path for path in pipe.iter(f"{SVG}path") if kind(path, "paid"))
+                self.assertGreaterEqual(float(pipe.get("data-length")) - float(paid.get("stroke-dasharray").split()[0]), 8.9)
+            else:
+                cell = next(group for group in root.iter(f"{SVG}g") if group.get("data-flow") == "0")
+                box, fill = cell.findall(f"{SVG}rect")
+                self.assertGreaterEqual(float(box.get("height")) - float(fill.get("height")), 2.9)
+
+    def test_gridlock_has_a_shape_of_its_own(self):
+        folder = ROOT / "examples/gridlock"
+        files = ["--banks", folder / "banks.csv", "--debts", folder / "debts.csv"]
+        svg = self.drawn(files, "--bounds", self.text("b.csv", "bounds", files))
+        self.assertEqual(sum(kind(path, "gridlock") for path in tree.fromstring(svg).iter(f"{SVG}path")), 3 + 1)
+        self.assertIn("3 banks are in default: 3 by gridlock.", " ".join(texts(svg)))
+
+    def test_outside_claims_are_drawn_and_state_decides(self):
+        files = self.alone_outside()
+        svg = self.drawn(files, "--banks", files[1])
+        self.assertIn("A to the world outside: 3 of 9 paid", titles(svg))
+        self.assertIn("C to the world outside: 5 of 5 paid", titles(svg))
+        self.assertIn("66.7% unpaid", texts(svg))
+        self.assertIn("1 bank is in default: 1 by own fundamentals.", " ".join(texts(svg)))
+        # Without the banks file what is owed there is not known, and the bank is drawn in default all the same.
+        svg = self.drawn(files)
+        self.assertIn("in default", texts(svg))
+        self.assertTrue(any(kind(path, "fundamental") for path in tree.fromstring(svg).iter(f"{SVG}path")))
+
+    def test_names_stand_as_they_are(self):
+        names = [name for name in ODD_NAMES if name.strip(" \t") == name]
+        banks = self.file("b.csv", "name,cash,rule\n" + "".join(f"{name},1,order\n" for name in names))
+        debts = self.file("e.csv", "debtor,creditor,class,claim\n" + "".join(f"{a},{b},1,2\n" for a, b in zip(names, names[1:])))
+        files = ["--banks", banks, "--debts", debts]
+        for form in ("graph", "matrix"):
+            said = "".join(tree.fromstring(self.drawn(files, "--form", form)).itertext())
+            for name in names[:30] if form == "matrix" else names:
+                for part in name.split(" "):
+                    self.assertIn(part, said)
+
+    def test_texts_of_other_networks_and_faulty_words_are_refused(self):
+        payments, defaults = self.text("p.csv", "clear", CHAIN), self.text("d.csv", "defaults", HUB)
+        self.refused("who_pays.py", 1, "it has no bank 'A'", payments, defaults)
+        self.refused("who_pays.py", 1, "not the header", defaults, defaults)
+        for unit in ("0", "-1", "x", "inf", "nan", ""):
+            self.refused("who_pays.py", 2, "is not an amount above 0", payments, defaults, f"--unit={unit}")
+
+    def test_no_input_is_written_over(self):
+        payments, defaults = self.both(CHAIN)
+        before = payments.read_bytes()
+        self.refused("who_pays.py", 1, "p.csv", payments, defaults, "--output", payments)
+        self.refused("who_pays.py", 1, "cannot write", payments, defaults, "--output", self.folder)
+        self.assertEqual(payments.read_bytes(), before)
+        self.made("who_pays.py", payments, defaults, "--output", self.folder / "out.svg")
+        self.assertEqual((self.folder / "out.svg").read_text(encoding="utf-8"), self.made("who_pays.py", payments, defaults))
+
+
+@needs_modules("matplotlib")
+class Charts(Pictures):
+    def chart(self, name, *words):
+        """The words of a chart, which stand in its file as comments beside the outlines of their letters."""
+        out = self.folder / "picture.svg"
+        done = tool(name, *words[:1], out, *words[1:], python=python_with("matplotlib"))
+        self.assertEqual((done.returncode, done.stdout, done.stderr), (0, "", ""))
+        self.svg = out.read_text(encoding="utf-8")
+        out.unlink()
+        return re.findall(r"<!-- (.*?) -->", self.svg)
+
+    def test_shortfalls_have_the_banks_in_default(self):
+        payments, defaults = self.both(TWELVE)
+        for more in ([], ["--payments", payments]):
+            said = self.chart("shortfalls.py", defaults, *more)
+            self.assertIn("4 of 12 banks in default leave 1,493,329 units unpaid", said)
+            for words in ("Dunmore", "699,999 (33.3%)", "Isar", "400,000 (26.7%)", "Elbe", "279,999 (14.7%)", "Birk", "113,331 (3.9%)"):
+                self.assertIn(words, said)
+            self.assertNotIn("Alster", said)
+        self.assertIn("EUR 1,493,329,000", " ".join(self.chart("shortfalls.py", defaults, "--unit", "1000", "--currency", "EUR")))
+
+    def test_a_bank_that_defaults_on_outside_claims_alone_is_shown(self):
+        files = self.alone_outside()
+        payments, defaults = self.both(files)
+        said = self.chart("shortfalls.py", defaults, "--payments", payments, "--banks", files[1])
+        self.assertIn("1 of 3 banks in default leave 6 units unpaid", said)
+        self.assertIn("6 (66.7%)", said)
+        self.assertIn("outside", said)
+        self.assertIn("1 of 3 banks in default leave 0 units unpaid", self.chart("shortfalls.py", defaults))
+        # What a bank in default pays, outside and class by class, is what it has.
+        for bank in read_banks(str(defaults), read_outside(str(files[1]))):
+            paid = sum(paid for _, _, paid in parts_owed(bank, read_payments(str(payments))))
+            self.assertEqual(paid if bank.state != "sound" else paid + bank.equity, bank.estate, bank.name)
+        stress = self.text("s.txt", "stress", files, "--scenarios", self.file("s.toml", '[[scenario]]\nname = "as it is"\n'))
+        said = self.chart("stress_map.py", stress, "--banks", files[1])
+        self.assertIn("1 of 3 banks defaults in at least one of 1 scenario", said)
+        self.assertIn("66.7%", said)
+        self.assertIn("A", self.chart("stress_map.py", stress))
+
+    def test_a_map_has_scenarios_as_rows_and_whole_names(self):
+        long = "a scenario with a name that is as long as a name may be at most"
+        scenarios = self.file("s.toml", f'[[scenario]]\nname = "{long}"\ncut = 500\n[[scenario]]\nname = "$x_1$"\n')
+        stress = self.text("s.txt", "stress", TWELVE, "--scenarios", scenarios)
+        said = self.chart("stress_map.py", stress)
+        self.assertIn(long, said)
+        self.assertIn("$x_1$", said)
+        self.assertNotIn("Oblique", self.svg)  # it is no formula
+        self.assertIn("47.5%", said)  # of Birk in the first
+        self.assertIn("3.9%", said)  # and in the second
+        self.assertEqual([said.count(name) for name in ("Birk", "Dunmore", "Elbe", "Isar", "Alster")], [1, 1, 1, 1, 0])
+
+    def test_what_cannot_be_drawn_is_refused(self):
+        defaults = self.text("d.csv", "defaults", TWELVE)
+        stress = self.text("s.txt", "stress", TWELVE, "--scenarios", self.file("s.toml", '[[scenario]]\nname = "x"\n'))
+        python = python_with("matplotlib")
+        for name, text in (("shortfalls.py", defaults), ("stress_map.py", stress)):
+            for out, message in ((self.folder, "does not end with"), (self.folder / "x.doc", "does not end with"), (text, "d")):
+                before = text.read_bytes()
+                done = tool(name, text, out, python=python)
+                self.assertEqual((done.returncode, done.stdout, text.read_bytes()), (1, "", before))
+                self.assertIn(message, done.stderr)
+            (self.folder / "folder.svg").mkdir(exist_ok=True)
+            self.assertEqual(tool(name, text, self.folder / "folder.svg", python=python).returncode, 1)
+        done = tool("stress_map.py", defaults, self.folder / "x.svg", python=python)
+        self.assertEqual(done.returncode, 1)
+        self.assertIn("no scenario", done.stderr)
+
+
+class WithoutMatplotlib(Pictures):
+    def test_the_python_that_lacks_it_is_named(self):
+        blocked = self.folder / "matplotlib"
+        blocked.mkdir()
+        (blocked / "__init__.py").write_text("raise ImportError('not here')\n")
+        defaults = self.text("d.csv", "defaults", TWELVE)
+        for name in ("shortfalls.py", "stress_map.py"):
+            done = subprocess.run([sys.executable, str(ROOT / "tools" / name), str(defaults), str(self.folder / "x.svg")],
+                                  env={"PYTHONPATH": str(self.folder), "PATH": "/usr/bin:/bin", "PYTHONDONTWRITEBYTECODE": "1"},
+                                  capture_output=True, encoding="utf-8")
+            self.assertEqual((done.returncode, done.stdout), (2, ""))
+            self.assertIn("python3-matplotlib", done.stderr)
+            self.assertIn(sys.executable, done.stderr)
+
+
+# Colours, by the model of Machado, Oliveira and Fernandes (2009) for those who lack one kind of cone, and by the contrast of WCAG 2.
+
+BLIND = {
+    "none": ((1, 0, 0), (0, 1, 0), (0, 0, 1)),
+    "protanopia": ((0.152286, 1.052583, -0.204868), (0.114503, 0.786281, 0.099216), (-0.003882, -0.048116, 1.051998)),
+    "deuteranopia": ((0.367322, 0.860646, -0.227968), (0.280085, 0.672501, 0.047413), (-0.011820, 0.042940, 0.968881)),
+    "tritanopia": ((1.255528, -0.076749, -0.178779), (-0.078411, 0.930809, 0.147602), (0.004733, 0.691367, 0.303900)),
+}
+
+
+def linear(colour):
+    parts = [int(colour[at : at + 2], 16) / 255 for at in (1, 3, 5)]
+    return [part / 12.92 if part <= 0.04045 else ((part + 0.055) / 1.055) ** 2.4 for part in parts]
+
+
+def luminance(colour):
+    return sum(weight * part for weight, part in zip((0.2126, 0.7152, 0.0722), linear(colour)))
+
+
+def contrast(one, two):
+    low, high = sorted((luminance(one), luminance(two)))
+    return (high + 0.05) / (low + 0.05)
+
+
+def lab(colour, model):
+    """The colour in CIE L*a*b*, as one sees it who lacks a kind of cone."""
+    seen = [min(1, max(0, sum(a * b for a, b in zip(row, linear(colour))))) for row in model]
+    to_xyz = ((0.4124, 0.3576, 0.1805), (0.2126, 0.7152, 0.0722), (0.0193, 0.1192, 0.9505))
+    x, y, z = (sum(a * b for a, b in zip(row, seen)) / white for row, white in zip(to_xyz, (0.9505, 1, 1.089)))
+    f = [part ** (1 / 3) if part > 0.008856 else 7.787 * part + 16 / 116 for part in (x, y, z)]
+    return 116 * f[1] - 16, 500 * (f[0] - f[1]), 200 * (f[1] - f[2])
+
+
+class Colours(unittest.TestCase):
+    def test_colours_are_told_apart_by_all_and_by_lightness(self):
+        for theme in (LIGHT, DARK):
+            for name, model in BLIND.items():
+                for one, two in itertools.combinations(("paid", "fundamental", "contagion", "gridlock", "sound", "ground"), 2):
+                    far = math.dist(lab(theme[one], model), lab(theme[two], model))
+                    self.assertGreater(far, 20, (name, one, two))
+            # What is paid and what is not are far apart in grey print.
+            self.assertGreater(abs(lab(theme["paid"], BLIND["none"])[0] - lab(theme["ground"], BLIND["none"])[0]), 40)
+            self.assertGreater(abs(lab(theme["fundamental"], BLIND["none"])[0] - lab(theme["contagion"], BLIND["none"])[0]), 14)
+
+    def test_contrasts(self):
+        for theme in (LIGHT, DARK):
+            for ground in ("ground", "panel"):
+                for text in ("ink", "muted", "link"):
+                    self.assertGreater(contrast(theme[text], theme[ground]), 4.5, (text, ground))
+                for mark in ("edge", "paid", "fundamental", "contagion", "gridlock", "sound"):
+                    self.assertGreater(contrast(theme[mark], theme[ground]), 3, (mark, ground))
+
+
+class Script(Case):
+    def test_the_pictures_of_the_documents_are_made_anew(self):
+        python = python_with("matplotlib")
+        if not python:
+            self.skipTest("no Python here has matplotlib")
+        run = lambda *words: subprocess.run(  # noqa: E731
+            [ROOT / "tools/dev/pictures.sh", *words], capture_output=True, encoding="utf-8", stdin=subprocess.DEVNULL,
+            env={"CLEARING": PROGRAM, "PYTHON": python, "PATH": "/usr/bin:/bin", "PYTHONDONTWRITEBYTECODE": "1"})
+        for words in (["--bogus"], ["a", "b"], [""]):
+            done = run(*words)
+            self.assertEqual((done.returncode, done.stdout), (2, ""), words)
+            self.assertIn("pictures.sh:", done.stderr)
+        done = run("--help")
+        self.assertEqual((done.returncode, done.stderr), (0, ""))
+        self.assertIn("tools/dev/pictures.sh", done.stdout)
+        done = run(str(self.folder / "a folder"))
+        self.assertEqual((done.returncode, done.stdout), (0, ""), done.stderr)
+        for name in ("twelve-banks", "hub", "gridlock", "core"):
+            self.assertEqual((self.folder / "a folder" / f"{name}.svg").read_bytes(), (ROOT / f"docs/pictures/{name}.svg").read_bytes())
+        self.assertTrue((self.folder / "a folder/core-shortfalls.svg").exists())
+        self.assertTrue((self.folder / "a folder/twelve-banks-stress.svg").exists())
+        self.assertFalse(shutil.which("dot", path="/nowhere"))

@@ -1,0 +1,208 @@
+"""The report as a file: whole, harmless, and only what the program says."""
+import base64
+import getpass
+import hashlib
+import json
+import os
+import pathlib
+import re
+import shlex
+import shutil
+import signal
+import socket
+import subprocess
+import time
+
+from common import PACKAGES, PROGRAM, ROOT, clearing, tool
+from clearing_tools.labels import shown
+from reports import D3, PYTHON, TWELVE, Reader, Report, files_of, is_running, odd_net
+
+
+class TheFile(Report):
+    def test_nothing_in_it_is_loaded_and_only_its_own_style_and_script_may_run(self):
+        read = Reader(self.page(files_of(TWELVE), "--scenarios", TWELVE / "scenarios.toml", "--d3", self.file("d3.js", "0;")))
+        policy = next(a["content"] for tag, a in read.elements if tag == "meta" and a.get("http-equiv") == "Content-Security-Policy")
+        allowed = dict(part.split(" ", 1) for part in policy.split("; "))
+        self.assertEqual(allowed["default-src"], "'none'")
+        self.assertEqual(allowed["base-uri"], "'none'")
+        self.assertNotIn("unsafe", policy)
+        for tag, rule in (("style", "style-src"), ("script", "script-src")):
+            texts = [text for kind, pairs, text in read.raw if kind == tag and pairs.get("type") != "application/json"]
+            sums = ["'sha256-" + base64.b64encode(hashlib.sha256(text.encode()).digest()).decode() + "'" for text in texts]
+            self.assertEqual(sums, allowed.get(rule, "").split(), rule)
+        for tag, pairs in read.elements:
+            self.assertNotIn(tag, ("link", "img", "iframe", "object", "embed", "base", "form"))
+            for name, value in pairs.items():
+                self.assertFalse(name in ("style", "src", "srcset") or name.startswith("on"), (tag, name))
+                if name in ("href", "xlink:href"):
+                    self.assertTrue(value.startswith("#"), value)
+
+    def test_links_lead_to_parts_of_the_page(self):
+        read = Reader(self.page(files_of(TWELVE), "--scenarios", TWELVE / "scenarios.toml"))
+        names = [pairs["id"] for _, pairs in read.elements if "id" in pairs]
+        self.assertEqual(len(names), len(set(names)))
+        links = {pairs["href"][1:] for tag, pairs in read.elements if tag == "a"}
+        self.assertEqual(links - set(names), set())
+        self.assertTrue({f"bank-{at}" for at in range(12)} <= links)
+
+    def test_names_stand_as_they_are(self):
+        files, names = odd_net(self.folder)
+        read = Reader(self.page(files, "--title", "<b>Title</b> & 'more'", "--d3", self.file("d3.js", "0;")))
+        rows = [cells[0] for pairs, cells in read.rows if "data-bank" in pairs]
+        self.assertEqual(rows, list(map(shown, names)))
+        self.assertFalse([tag for tag, _ in read.elements if tag in ("img", "b")])
+        data = json.loads(next(text for _, pairs, text in read.raw if pairs.get("type") == "application/json"))
+        self.assertEqual(data["names"], list(map(shown, names)))
+
+    def test_the_evidence_can_be_made_again(self):
+        for name in ("banks.csv", "debts.csv", "scenarios.toml"):
+            shutil.copy(TWELVE / name, self.folder / name)
+        kept = self.folder / "kept"
+        done = tool("report.py", "--banks", "banks.csv", "--debts", "debts.csv", "--scenarios", "scenarios.toml", "--out", "r.html",
+                    "--keep", "kept", cwd=self.folder, python=PYTHON)
+        self.assertEqual((done.returncode, done.stderr), (0, "") if os.path.exists(D3) else (0, done.stderr))
+        rows = [cells for _, cells in Reader((self.folder / "r.html").read_text(encoding="utf-8")).rows]
+        inputs = {cells[1]: cells for cells in rows if len(cells) == 4 and re.fullmatch("[0-9a-f]{64}", cells[3])}
+        for name in ("banks.csv", "debts.csv", "scenarios.toml"):
+            content = (self.folder / name).read_bytes()
+            self.assertEqual(inputs[name][2:], [f"{len(content):,}", hashlib.sha256(content).hexdigest()])
+        commands = [cells for cells in rows if len(cells) == 3 and cells[0].startswith("clearing ")]
+        self.assertEqual(len(commands), 10 + 4)
+        for path in kept.glob("*.toml"):
+            self.assertEqual(inputs[path.name][3], hashlib.sha256(path.read_bytes()).hexdigest())
+            shutil.copy(path, self.folder / path.name)
+        shell = f"clearing() {{ {shlex.quote(PROGRAM)} \"$@\"; }}\n"
+        for words, status, digest in commands:
+            name = words.split(" > ")[1]
+            again = subprocess.run(["bash", "-c", shell + words], cwd=self.folder, stdin=subprocess.DEVNULL)
+            self.assertEqual(again.returncode, int(status), words)
+            content = (self.folder / name).read_bytes()
+            self.assertEqual(hashlib.sha256(content).hexdigest(), digest, words)
+            self.assertEqual((kept / name).read_bytes(), content)
+
+    def test_nothing_is_said_of_who_made_it_where(self):
+        text = self.page(files_of(TWELVE), "--scenarios", TWELVE / "scenarios.toml", "--d3", self.file("d3.js", "0;"))
+        words = {"user": getpass.getuser() + "@", "host": socket.gethostname(), "folder": str(self.folder), "repository": str(ROOT), "home": str(pathlib.Path.home()) + "/",
+                 "program": os.path.dirname(os.path.realpath(PROGRAM)), "python": PYTHON}
+        self.assertEqual([what for what, word in words.items() if word in text], [])
+        read = Reader(text)
+        self.assertIn(["banks", "banks.csv"], [cells[:2] for _, cells in read.rows])
+
+    def test_a_file_that_changes_meanwhile_is_told(self):
+        for name in ("banks.csv", "debts.csv", "scenarios.toml"):
+            shutil.copy(TWELVE / name, self.folder / name)
+        changed = shlex.quote(str(self.folder / "debts.csv"))
+        program = self.file("program", f'#!/bin/sh\n[ "$1" != bounds ] || echo >>{changed}\nexec {shlex.quote(PROGRAM)} "$@"\n')
+        program.chmod(0o755)
+        words = [*files_of(self.folder), "--scenarios", self.folder / "scenarios.toml", "--out", self.folder / "r.html"]
+        done = subprocess.run([PYTHON, ROOT / "tools/report.py", *words], capture_output=True, encoding="utf-8", env={**os.environ, "CLEARING": str(program)})
+        self.assertEqual((done.returncode, done.stdout), (1, ""), done.stderr)
+        self.assertEqual(done.stderr, f"report.py: {self.folder / 'debts.csv'} changed while the report was made; nothing is written\n")
+        self.assertFalse((self.folder / "r.html").exists())
+
+    def test_without_jinja2_a_sentence_names_its_package(self):
+        words = [*map(str, files_of(TWELVE)), "--out", str(self.folder / "r.html")]
+        program = f"import sys; sys.modules['jinja2'] = None; sys.argv = ['report.py', *{words!r}]; from clearing_tools.report import gather; gather.main()"
+        done = subprocess.run([PYTHON, "-B", "-c", program], cwd=PACKAGES, capture_output=True, encoding="utf-8")
+        self.assertEqual((done.returncode, done.stdout), (2, ""))
+        self.assertIn("python3-jinja2", done.stderr)
+        self.assertEqual(len(done.stderr.splitlines()), 1)
+
+    def test_a_journal_that_is_not_lawful_is_told_and_not_played(self):
+        journal = clearing("clear", *files_of(TWELVE), "--show", "journal", "--workers", "1").stdout.decode()
+        lawful = self.file("journal.csv", journal.replace("\n", "\r\n"))
+        text = self.page(files_of(TWELVE), "--journal", lawful)
+        self.assertIn("lawful,49", text)
+        self.assertIn('id="player"', text)
+        altered = self.file("altered.csv", journal.replace("48,Birk,Kemi,2,643335", "48,Birk,Kemi,2,643336"))
+        text = self.page(files_of(TWELVE), "--journal", altered)
+        self.assertIn("unlawful,48,632223,643335", text)
+        self.assertNotIn('id="player"', text)
+
+    def test_what_cannot_be_done_is_refused(self):
+        banks = self.file("banks.csv", (TWELVE / "banks.csv").read_bytes())
+        before = banks.read_bytes()
+        done = tool("report.py", "--banks", banks, "--debts", TWELVE / "debts.csv", "--out", banks, python=PYTHON)
+        self.assertEqual((done.returncode, banks.read_bytes()), (1, before))
+        self.assertIn("banks.csv", done.stderr)
+        faulty = self.file("faulty.csv", "name,cash,rule\nA,x,order\n")
+        self.page(["--banks", faulty, "--debts", TWELVE / "debts.csv"], status=1, message="banks row 1: number (4)")
+        self.assertFalse((self.folder / "report.html").exists())
+        self.page(files_of(TWELVE), "--unit", "-1", status=2, message="-1")
+        self.page(files_of(TWELVE), "--d3", self.folder / "none.js", status=1, message="none.js")
+
+    def test_without_d3_the_page_is_made_without_its_script(self):
+        out = self.folder / "bare.html"
+        words = [*map(str, files_of(TWELVE)), "--out", str(out)]
+        program = f"import sys; sys.argv = ['report.py', *{words!r}]; from clearing_tools.report import gather; gather.D3 = []; gather.main()"
+        done = subprocess.run([PYTHON, "-B", "-c", program], cwd=PACKAGES, capture_output=True, encoding="utf-8")
+        self.assertEqual((done.returncode, done.stdout), (0, ""))
+        self.assertIn("node-d3", done.stderr)
+        read = Reader(out.read_text(encoding="utf-8"))
+        self.assertFalse([tag for tag, _ in read.elements if tag == "script"])
+        self.assertEqual(len([1 for pairs, _ in read.rows if "data-bank" in pairs]), 12)
+
+    def test_only_a_new_or_empty_folder_keeps_what_was_printed(self):
+        words = [*files_of(TWELVE), "--out", self.folder / "r.html", "--keep"]
+        kept, own = self.folder / "kept", self.folder / "own"
+        kept.mkdir()
+        own.mkdir()
+        self.assertEqual(tool("report.py", *words, kept, "--scenarios", TWELVE / "scenarios.toml", python=PYTHON).returncode, 0)
+        before = {path.name: path.read_bytes() for path in kept.iterdir()}
+        self.assertIn("stress.csv", before)
+        (own / "payments.csv").write_text("mine\n")
+        (self.folder / "r.html").unlink()
+        for place, cwd in ((kept, None), (".", own), (own / "payments.csv", None)):
+            done = tool("report.py", *words, place, cwd=cwd, python=PYTHON)
+            self.assertEqual((done.returncode, done.stdout), (2, ""), done.stderr)
+            self.assertEqual(done.stderr, f"report.py: {place} is there and no empty folder; name another with --keep\n")
+        self.assertEqual({path.name: path.read_bytes() for path in kept.iterdir()}, before)
+        self.assertEqual([(path.name, path.read_text()) for path in own.iterdir()], [("payments.csv", "mine\n")])
+        self.assertFalse((self.folder / "r.html").exists())
+
+    def test_an_interrupt_ends_at_once_and_leaves_nothing(self):
+        place, told = self.folder / "tmp", self.folder / "told"
+        place.mkdir()
+        for task, number in (("defaults", signal.SIGINT), ("defaults", signal.SIGTERM), ("rescue", signal.SIGTERM)):
+            script = f"#!/bin/sh\ncase $1 in {task}) echo $$ >>{shlex.quote(str(told))}; exec sleep 60;; esac\n"
+            program = self.file("program", f'{script}exec {shlex.quote(PROGRAM)} "$@"\n')
+            program.chmod(0o755)
+            told.write_text("")
+            running = subprocess.Popen(
+                [PYTHON, "-B", str(ROOT / "tools/report.py"), *map(str, files_of(TWELVE)), "--out", str(self.folder / "r.html")],
+                env={**os.environ, "CLEARING": str(program), "TMPDIR": str(place)}, stdout=subprocess.PIPE, stderr=subprocess.PIPE)
+            self.addCleanup(running.kill)
+            deadline = time.monotonic() + 30
+            while not told.read_text().endswith("\n") and time.monotonic() < deadline:
+                time.sleep(0.02)
+            begun = time.monotonic()
+            running.send_signal(number)
+            output, messages = running.communicate(timeout=30)
+            self.assertEqual((running.returncode, output, messages), (130, b"", b""))
+            self.assertLess(time.monotonic() - begun, 20)
+            self.assertEqual(list(place.iterdir()), [])
+            self.assertFalse((self.folder / "r.html").exists())
+            for process in told.read_text().split():
+                self.assertFalse(is_running(process), (task, number))
+
+    def test_an_output_that_is_not_of_the_form_is_said(self):
+        script = f'[ "$1" = "$TASK" ] || exec {shlex.quote(PROGRAM)} "$@"\nprintf "$SAID"\n'
+        program = self.file("program", f"#!/bin/sh\n{script}")
+        program.chmod(0o755)
+        words = [*map(str, files_of(TWELVE)), "--scenarios", str(TWELVE / "scenarios.toml"), "--out", str(self.folder / "r.html")]
+        for task in ("check", "clear", "defaults", "bounds", "replay", "stress", "rescue"):
+            for said in ("", "lawful\n", "\n\n\n", "a,b\n\nc\n\nd\n"):
+                # Of a file without scenarios nothing is printed.
+                if (task, said) == ("stress", ""):
+                    continue
+                done = subprocess.run([PYTHON, "-B", str(ROOT / "tools/report.py"), *words], capture_output=True, encoding="utf-8",
+                                      env={**os.environ, "CLEARING": str(program), "TASK": task, "SAID": said})
+                self.assertEqual((done.returncode, done.stdout), (1, ""), (task, said))
+                self.assertEqual(done.stderr, f"report.py: {program} did not print what `clearing {task}` does\n", said)
+
+    def test_a_network_without_debts_or_scenarios_has_a_page(self):
+        banks = self.file("banks.csv", "name,cash,rule\nA,0,order\n")
+        debts = self.file("debts.csv", "debtor,creditor,class,claim\n")
+        text = self.page(["--banks", banks, "--debts", debts, "--scenarios", self.file("none.toml", "")])
+        self.assertIn("The file has no scenario", text)
+        self.assertIn("No bank is in default", text)

@@ -1,0 +1,90 @@
+import os
+import shutil
+import subprocess
+import sys
+
+from common import ROOT, Case
+
+GOOD = "import unittest\n\nclass Good(unittest.TestCase):\n    def test_good(self):\n        pass\n"
+SKIPPED = GOOD + '\n    @unittest.skip("no moon")\n    def test_moon(self):\n        pass\n'
+BAD = GOOD + "\n    def test_bad(self):\n        for at in range(3):\n            with self.subTest(at=at):\n                self.assertEqual(at, 0)\n"
+SKIPPED_IN_PARTS = GOOD + """
+    def test_tides(self):
+        for sea in ("a.b", "c: d"):
+            with self.subTest(sea=sea):
+                self.skipTest("no moon")
+"""
+SKIPPED_CLASS = """import unittest
+class Good(unittest.TestCase):
+    @classmethod
+    def setUpClass(cls):
+        raise unittest.SkipTest("no moon")
+
+    def test_a(self):
+        pass
+"""
+OF_CLASS = "import unittest\n\nclass Bad(unittest.TestCase):\n    @classmethod\n    def setUpClass(cls):\n        raise OSError\n\n    def test_a(self):\n        pass\n"
+BROKEN = "import no_such_module\n"
+GONE = "import os\nos._exit(3)\n"
+
+
+class Run(Case):
+    def run_of(self, *words, **modules):
+        """The status and the lines of a run of some modules of tests with some words."""
+        shutil.copy(ROOT / "tests/run.py", self.folder / "run.py")
+        for name, text in modules.items():
+            self.file(f"test_{name}.py", text)
+        environment = {**os.environ, "PYTHONDONTWRITEBYTECODE": "1"}
+        done = subprocess.run([sys.executable, str(self.folder / "run.py"), *map(str, words)], env=environment, capture_output=True,
+                              encoding="utf-8")
+        return done.returncode, done.stdout.splitlines()
+
+    def test_a_skip_is_no_failure_and_has_its_reason(self):
+        status, lines = self.run_of(a=GOOD, b=SKIPPED)
+        self.assertEqual((status, lines[-1]), (0, "2 passed, 0 failed, 1 skipped"))
+        self.assertEqual(lines[-2], "skipped: test_b.Good.test_moon: no moon")
+
+    def test_without_a_skip_there_is_no_count_of_them(self):
+        self.assertEqual(self.run_of(a=GOOD)[1][-1], "1 passed, 0 failed")
+
+    def test_a_test_that_fails_counts_once(self):
+        status, lines = self.run_of(a=GOOD, b=BAD)
+        self.assertEqual((status, lines[-1]), (1, "2 passed, 1 failed"))
+
+    def test_what_breaks_off_is_a_failure(self):
+        for text in (OF_CLASS, BROKEN, GONE, ""):
+            status, lines = self.run_of(a=GOOD, b=text)
+            self.assertEqual((status, lines[-1]), (1, "1 passed, 1 failed"), text)
+
+    def test_a_skip_that_no_list_names_fails_on_request(self):
+        status, lines = self.run_of("--skips-fail", self.file("skips.txt", "# none\n"), a=GOOD, b=SKIPPED)
+        self.assertEqual((status, lines[-1]), (1, "2 passed, 1 failed"))
+        self.assertEqual(lines[-2], "skipped, which no list allows: test_b.Good.test_moon: no moon")
+
+    def test_a_skip_that_the_list_names_stays_a_skip(self):
+        for line in ("test_b.Good.test_moon  there is none\n", "test_b.Good  there is none\n"):
+            status, lines = self.run_of("--skips-fail", self.file("skips.txt", line), a=GOOD, b=SKIPPED)
+            self.assertEqual((status, lines[-1]), (0, "2 passed, 0 failed, 1 skipped"), line)
+            self.assertEqual(lines[-2], "skipped: test_b.Good.test_moon: no moon")
+        # The list has names of tests, not beginnings of names, and a reason for each.
+        for line in ("test_b.Good.test_mo  there is none\n", "test_b.Good.test_moon\n", "test_b.Go  none\n"):
+            status, lines = self.run_of("--skips-fail", self.file("skips.txt", line), a=GOOD, b=SKIPPED)
+            self.assertEqual((status, lines[-1]), (1, "2 passed, 1 failed"), line)
+
+    def test_parts_and_classes_that_are_skipped_count_once(self):
+        for text, name, passed in ((SKIPPED_IN_PARTS, "test_b.Good.test_tides", 2), (SKIPPED_CLASS, "test_b.Good", 1)):
+            self.assertEqual(self.run_of(a=GOOD, b=text)[1][-1], f"{passed} passed, 0 failed, 1 skipped")
+            status, lines = self.run_of("--skips-fail", self.file("skips.txt", ""), a=GOOD, b=text)
+            self.assertEqual((status, lines[-1]), (1, f"{passed} passed, 1 failed"))
+            self.assertTrue(lines[-2].startswith("skipped, which no list allows: "))
+            status, lines = self.run_of("--skips-fail", self.file("skips.txt", f"{name}  none\n"), a=GOOD, b=text)
+            self.assertEqual((status, lines[-1]), (0, f"{passed} passed, 0 failed, 1 skipped"))
+
+    def test_a_note_stands_before_the_counts(self):
+        status, lines = self.run_of("--note", "one", "--note", "two words", a=GOOD, b=SKIPPED)
+        self.assertEqual((status, lines[-3:]), (0, ["one", "two words", "2 passed, 0 failed, 1 skipped"]))
+
+    def test_faulty_words_run_nothing(self):
+        for words in (["--skips-fail"], ["--note"], ["--skips-fail", self.folder / "none.txt"], ["--other", "x"]):
+            status, lines = self.run_of(*words, a=GOOD)
+            self.assertEqual((status, lines), (2, []), words)

@@ -1,0 +1,52 @@
+"""The table of what was run is made from docs/runs.tsv, and stands so in docs/PROVED.md."""
+import importlib.util
+import shutil
+import subprocess
+import sys
+import unittest
+
+from common import ROOT, Case, tool
+
+SPEC = importlib.util.spec_from_file_location("runs", ROOT / "tools/dev/runs.py")
+runs = importlib.util.module_from_spec(SPEC)
+SPEC.loader.exec_module(runs)
+HEAD = "\t".join(runs.HEADER) + "\n"
+
+
+class Runs(Case):
+    def test_the_table_is_that_of_the_file(self):
+        made = tool("dev/runs.py")
+        self.assertEqual((made.returncode, made.stderr), (0, ""))
+        tables = runs.PLACE.findall((ROOT / "docs/PROVED.md").read_text(encoding="utf-8"))
+        self.assertEqual(tables, [made.stdout], "tools/dev/runs.py --write puts the table into docs/PROVED.md")
+
+    def test_runs_of_a_program_are_put_together_and_the_last_stands_first(self):
+        lines = ["2026-11-01\tabcdef0123\t0123456789\tedge.sh\t\t7\t1", "2026-11-02\tnone\tnone\traces.sh\t3 1\t1000\t0",
+                 "2026-11-03\tabcdef0123+\t0123456789\tedge.sh\twords\t5\t2"]
+        table = runs.table_of(runs.rows_of(HEAD + "\n".join(lines) + "\n"))
+        self.assertEqual(table, "| date | commit | program | `edge.sh` | `races.sh` | wrong |\n|---|---|---|---|---|---|\n"
+                                "| 2026-11-03 | `abcdef0+` | `01234567` | 12 | - | 3 |\n| 2026-11-02 | - | - | - | 1,000 | 0 |\n")
+
+    def test_a_file_in_another_form_is_told(self):
+        for text, told in (("date\n", "another head"), (HEAD + "2026-11-01\tx\n", "line 2"), (HEAD + "d\tc\tp\ts\ta\tmany\t0\n", "line 2")):
+            with self.assertRaisesRegex(SystemExit, told):
+                runs.rows_of(text)
+
+    def test_it_writes_the_table_into_the_document(self):
+        """In a copy: a line more in the file, and nothing but the table changes."""
+        for part in ("tools/dev/runs.py", "docs/PROVED.md", "docs/runs.tsv"):
+            (self.folder / part).parent.mkdir(parents=True, exist_ok=True)
+            shutil.copy(ROOT / part, self.folder / part)
+        page = self.folder / "docs/PROVED.md"
+        before = page.read_text(encoding="utf-8")
+        with open(self.folder / "docs/runs.tsv", "a", encoding="utf-8") as file:
+            file.write("2030-01-01\tabcdef0123\t0123456789\tedge.sh\t\t7\t1\n")
+        done = subprocess.run([sys.executable, str(self.folder / "tools/dev/runs.py"), "--write"], capture_output=True, encoding="utf-8")
+        self.assertEqual((done.returncode, done.stdout, done.stderr), (0, "", ""))
+        after = page.read_text(encoding="utf-8")
+        self.assertEqual(runs.PLACE.sub("", after), runs.PLACE.sub("", before))
+        self.assertIn("| 2030-01-01 | `abcdef0` | `01234567` |", after)
+
+
+if __name__ == "__main__":
+    unittest.main()

@@ -1,0 +1,101 @@
+"""Each task on runs of a million rounds and of five million units in five classes, on a stack of 256 KB, that of its threads too. What
+calls itself once for each round, sweep or unit ends there by a signal. And scenarios that are nested as deep as they may be, and deeper."""
+import json
+import resource
+import subprocess
+import sys
+import unittest
+from unittest import mock
+
+from common import PROGRAM, ROOT, Case
+
+sys.path.insert(0, str(ROOT / "tests/system"))
+import model  # noqa: E402
+from networks import judge_compression  # noqa: E402
+
+STACK = 256 * 1024
+# For what is nested deepest.
+DEEP_STACK = 2048 * 1024
+UNITS = 1_000_000
+SECONDS = 300
+
+
+def to_and_fro(classes):
+    """Two banks that owe each other a million units in each of some classes, of which one has a unit. It goes to and fro until all is
+    paid: a round, and two raises, for each unit. A third bank owes nine units outside, and has nothing."""
+    banks = [model.Bank("A", 1, "order", 0), model.Bank("B", 0, "losses", 0), model.Bank("C", 0, "equal", 9)]
+    return model.Net(banks, [model.Debt(debtor, 1 - debtor, cls, UNITS) for cls in range(1, classes + 1) for debtor in (0, 1)])
+
+
+class Stack(Case):
+    def ended(self, *words, stack=STACK):
+        """A run on a small stack. Its environment counts as stack too, so it has none."""
+        limit = lambda: resource.setrlimit(resource.RLIMIT_STACK, (stack, stack))
+        run = [PROGRAM, *map(str, words)]
+        done = subprocess.run(run, stdin=subprocess.DEVNULL, capture_output=True, encoding="utf-8", env={}, timeout=SECONDS, preexec_fn=limit)
+        return done.returncode, done.stdout, done.stderr
+
+    def text(self, *words):
+        """What a run prints that ends well."""
+        status, text, message = self.ended(*words)
+        self.assertEqual((status, message), (0, ""), words)
+        return text
+
+    def same(self, wanted, *words):
+        with self.subTest(words=[str(word) for word in words]):
+            told = self.text(*words)
+            # A long text is not shown.
+            self.assertTrue(told == wanted, (len(told), told[:200]))
+
+    def every_task(self, classes, journal):
+        net = to_and_fro(classes)
+        files = ["--banks", self.file("banks.csv", model.banks_text(net, True)), "--debts", self.file("debts.csv", model.debts_text(net))]
+        low = [UNITS] * len(net.debts)
+        payments, defaults = model.payments_text(net, low), model.defaults_text(net, low)
+        self.same(model.check_text(net), "check", *files)
+        self.same(model.banks_text(net, True), "convert", *files)
+        for plan in ([], ["--workers", 64, "--sweeps", 1000]):
+            self.same(payments, "clear", *files, *plan)
+        self.same(payments, "central", *files)
+        self.same(defaults, "defaults", *files)
+        scenarios = [f"{number}" for number in range(2)]
+        toml = "".join(f"[[scenario]]\nname = {json.dumps(name)}\n" for name in scenarios)
+        self.same("\n".join(f"scenario,{name}\n{payments}{defaults}" for name in scenarios), "stress", *files, "--scenarios", self.file("s.toml", toml))
+        with mock.patch.object(model, "least", lambda *_: low):
+            self.same(model.costs_text(net, 1000), "costs", *files, "--keep", 1000)
+        lines = "".join(f"{','.join(map(str, model.debt_fields(net, debt)))},{UNITS},{UNITS},{UNITS}\n" for debt in net.debts)
+        self.same(f"debtor,creditor,class,claim,least,greatest\n{lines}\nbank,wave,gridlock,equity\nA,0,no,1\nB,0,no,0\nC,1,no,0\n", "bounds", *files)
+        self.same(f"rescue,C,9\nshort,1\n\n{payments}", "rescue", *files, "--bank", "C")
+        with self.subTest(task="compress"):
+            self.assertIsNone(judge_compression(net, self.text("compress", *files)))
+        if journal:
+            shown = self.text("clear", *files, "--show", "journal", "--workers", 1)
+            self.assertTrue(shown.endswith(f"\nrounds,{UNITS + 1}\n"), shown[-100:])
+            self.same(f"lawful,{2 * UNITS}\n\n{payments}", "replay", *files, "--journal", self.file("journal.csv", shown))
+
+    def test_a_million_rounds(self):
+        self.every_task(1, True)
+
+    def test_five_million_units_in_five_classes(self):
+        self.every_task(5, False)
+
+    def test_the_largest_network_by_most_workers(self):
+        words = ["gen", "--seed", 1, "--size", 1000, "--tries", 20_000]
+        self.assertEqual(self.text(*words, "--workers", 64), self.text(*words, "--workers", 1))
+
+    def test_scenarios_that_are_nested_deep(self):
+        files = ["--banks", self.file("banks.csv", "name,cash,rule\n"), "--debts", self.file("debts.csv", "debtor,creditor,class,claim\n")]
+        # A key has at most 80 parts, each a table in the one before it, and 80 values stand in one another at most.
+        key, array = ".".join(["a"] * 80), "[" * 80 + "]" * 80
+        tables = "{" + " = {".join([key] * 80) + " = 1" + "}" * 80
+        cases = [(f"{key} = {array}", STACK, "shape (17)"), (f"[{key}]\na = {array}", STACK, "shape (17)"), (f"[{key}]\n{key} = {tables}", DEEP_STACK, "shape (17)")]
+        deeper = [f"a = [{array}]", "a = " + "[" * 4_000_000, "a = " + "{a = " * 1_600_000]
+        deeper += [f"{key}.a = 1", "a." * 4_000_000 + "a = 1", "[" + "a." * 4_000_000 + "a]"]
+        for text, stack, kind in [*cases, *((text, STACK, "toml (16)") for text in deeper)]:
+            with self.subTest(text=text[:40], size=len(text)):
+                told = self.ended("stress", *files, "--scenarios", self.file("s.toml", text), stack=stack)
+                self.assertEqual(told, (4, "", f"clearing: scenarios row 0: {kind}\n"))
+
+
+if __name__ == "__main__":
+    unittest.main()

@@ -1,0 +1,315 @@
+import itertools
+import random
+import re
+import shutil
+import sys
+
+from common import ODD_NAMES, Case, all_names, needs_modules, python_with, tool
+
+from clearing_tools.imports import methods  # noqa: E402
+
+TABLE = "bank,assets,liabilities,cash\nA,100,60,20\nB,50,90,10\nC,70,40,30\nD,30,60,5\n"
+
+
+class Words(Case):
+    def test_without_numpy_it_is_said_which_python_was_asked(self):
+        # A folder that a package has left behind is no module.
+        (self.folder / "left/numpy").mkdir(parents=True)
+        script = self.file("python", f'#!/bin/sh\nPYTHONPATH="{self.folder}/left" exec "{sys.executable}" -S "$@"\n')
+        script.chmod(0o755)
+        done = tool("from_totals.py", self.file("t.csv", TABLE), "--out", self.folder / "out", python=str(script))
+        self.assertEqual((done.returncode, done.stdout), (2, ""))
+        self.assertRegex(done.stderr, r"from_totals: /.* has no numpy \(Debian's package python3-numpy is for /usr/bin/python3\)")
+
+    def test_a_stray_quote_is_refused_with_its_row(self):
+        for row, text in [(6, TABLE + 'E,7,7,"1\nF,8,8,2\n'), (3, TABLE.replace("B,", '"B" (Ost),'))]:
+            told = f"t.csv row {row}: a quote opens a field and none closes it"
+            self.refused("from_totals.py", 1, told, self.file("t.csv", text), "--out", self.folder / "out")
+
+    def test_a_column_that_is_named_is_there(self):
+        table = self.file("t.csv", "bank,assets,liabilities,cash,Deposits,Regel\nA,5,7,1,1,order\nB,7,5,2,0,equal\n")
+        for option, column in [("outside", "Deposit"), ("rule-column", "Rgel"), ("outside", "outside"), ("rule-column", "rule")]:
+            told = f"t.csv row 1: no column {column}; it has assets, liabilities, cash, Deposits, Regel; say --{option} NAME"
+            self.refused("from_totals.py", 1, told, table, f"--{option}", column, "--out", self.folder / "out")
+
+    def test_a_column_named_but_for_capitals_or_spaces_is_asked_for(self):
+        table = self.file("t.csv", "bank,assets,liabilities,cash,Outside,Rule\nA,5,7,1,1,order\nB,7,5,2,0,equal\n")
+        for option, column in [("outside", "Outside"), ("rule-column", "Rule")]:
+            told = f"column {column}: its name is {column.lower()} but for capitals or spaces; say --{option} {column}, or"
+            self.refused("from_totals.py", 1, told, table, "--out", self.folder / "out")
+
+
+@needs_modules("numpy")
+class Totals(Case):
+    def run_of(self, table, *words):
+        return tool("from_totals.py", self.file("t.csv", table), "--out", self.folder / "out", *words, python=python_with("numpy"))
+
+    def made_of(self, table, *words):
+        done = self.run_of(table, *words)
+        self.assertEqual((done.returncode, done.stdout), (0, ""), done.stderr)
+        return done.stderr
+
+    def refuse(self, message, table, *words, status=1):
+        done = self.run_of(table, *words)
+        self.assertEqual((done.returncode, done.stdout), (status, ""), done.stderr)
+        self.assertIn(message, done.stderr)
+        self.assertFalse((self.folder / "out").exists())
+
+    def debts(self, folder="out"):
+        """The claims of a network that the program takes, by debtor and creditor."""
+        place = self.folder / folder
+        self.printed("check", "--banks", place / "banks.csv", "--debts", place / "debts.csv")
+        rows = [line.split(",") for line in (place / "debts.csv").read_text().split("\n")[1:-1]]
+        return {(row[0], row[1]): int(row[3]) for row in rows}
+
+    def check_totals(self, debts, table, unit=1):
+        for line in table.splitlines()[1:]:
+            name, assets, liabilities = line.split(",")[:3]
+            self.assertEqual(sum(claim for (_, creditor), claim in debts.items() if creditor == name), int(assets) // unit, name)
+            self.assertEqual(sum(claim for (debtor, _), claim in debts.items() if debtor == name), int(liabilities) // unit, name)
+
+    def test_each_method_keeps_every_total(self):
+        for method in ("entropy", "sparse", "sample"):
+            told = self.made_of(TABLE, "--method", method)
+            self.check_totals(self.debts(), TABLE)
+            made = f"debts made: {len(self.debts())}; 250 in all; 250 units, the largest {max(self.debts().values())}, in {self.folder}/out\n"
+            self.assertTrue(told.endswith(made), told)
+        self.assertEqual((self.folder / "out/banks.csv").read_text(), "name,cash,rule\nA,20,webster\nB,10,webster\nC,30,webster\nD,5,webster\n")
+
+    def test_made_up_totals_are_kept_by_each_method(self):
+        draw = random.Random(7)
+        for at, size in enumerate([3, 2, 4, 7, 30, 4, 3]):
+            claims = {(a, b): draw.choice([0, 0, 1, 5, draw.randrange(1, 20000)]) for a in range(size) for b in range(size) if a != b}
+            if at % 4 == 0:
+                # Everybody deals with the first alone.
+                claims = {pair: claim for pair, claim in claims.items() if 0 in pair}
+            table = "bank,assets,liabilities,cash\n" + "".join(
+                f"N{n},{sum(c for p, c in claims.items() if p[1] == n)},{sum(c for p, c in claims.items() if p[0] == n)},{n}\n" for n in range(size))
+            words = ["--keep", "N0"] + (["--keep", "N1", "--keep", "N2"] if size < 4 else [])
+            for method in ("entropy", "sparse", "sample"):
+                self.made_of(table, "--method", method, "--seed", at, "--steps", 500, *words)
+                self.check_totals(self.debts(), table)
+
+    def test_entropy_is_as_even_as_totals_allow(self):
+        # Four alike owe each other alike; with the diagonal free for nobody that is a third each.
+        self.made_of("bank,assets,liabilities,cash\n" + "".join(f"{n},300,300,1\n" for n in "ABCD"))
+        self.assertEqual(set(self.debts().values()), {100})
+        # Where that is no whole unit it is rounded down or up: 1,000 units to 70 others.
+        self.made_of("bank,assets,liabilities,cash\n" + "".join(f"N{n},1000,1000,{n % 7}\n" for n in range(71)))
+        self.assertEqual(set(self.debts().values()), {14, 15})
+        # A matrix of maximum entropy is a product off the diagonal: each cross of four has the same ratio.
+        self.made_of("bank,assets,liabilities,cash\n" + "".join(f"{n},{a},{b},1\n" for n, a, b in [
+            ("A", 400000, 300000), ("B", 200000, 500000), ("C", 350000, 100000), ("D", 150000, 250000), ("E", 120000, 70000)]))
+        debts = self.debts()
+        for a, b, c, d in itertools.permutations("ABCDE", 4):
+            self.assertAlmostEqual(debts[a, c] * debts[b, d] / (debts[a, d] * debts[b, c]), 1, 3)
+
+    def test_sparse_has_few_claims(self):
+        draw = random.Random(3)
+        claims = {(a, b): draw.randrange(1, 900) for a in range(40) for b in range(40) if a != b and draw.random() < 0.2}
+        table = "bank,assets,liabilities,cash\n" + "".join(
+            f"N{n},{sum(c for p, c in claims.items() if p[1] == n)},{sum(c for p, c in claims.items() if p[0] == n)},1\n" for n in range(40))
+        self.made_of(table, "--method", "sparse")
+        # No fewer than banks that owe, and no more than a tree of all sides.
+        self.assertTrue(40 <= len(self.debts()) <= 79, len(self.debts()))
+        self.made_of(table)
+        self.assertGreater(len(self.debts()), 1000)
+
+    def test_samples_are_drawn_from_a_number_each_to_a_folder(self):
+        for method in ("sample", "sparse"):
+            self.made_of(TABLE, "--method", method, "--samples", 6, "--seed", 5, "--steps", 2000)
+            first = [self.debts(f"out/{n}") for n in range(1, 7)]
+            for debts in first:
+                self.check_totals(debts, TABLE)
+            self.assertGreater(len({tuple(debts.items()) for debts in first}), 2)
+            self.made_of(TABLE, "--method", method, "--samples", 6, "--seed", 5, "--steps", 2000)
+            self.assertEqual([self.debts(f"out/{n}") for n in range(1, 7)], first)
+            self.made_of(TABLE, "--method", method, "--samples", 6, "--seed", 6, "--steps", 2000)
+            self.assertNotEqual([self.debts(f"out/{n}") for n in range(1, 7)], first)
+
+    def check_frequencies(self, owes, owed, rounds, steps):
+        """Compares how often networks come with their weights: each claim is there with the probability 0.3, and of a geometric
+        size with the mean that the totals ask for."""
+        size = len(owes)
+        cells = [(a, b) for a in range(size) for b in range(size) if a != b]
+        mean = max(sum(owes) / (0.3 * len(cells)), 1.0)
+        more = 1 - 1 / mean
+        weights = {}
+
+        def visit(at, claims, out, in_):
+            if at == len(cells):
+                if not any(out) and not any(in_):
+                    weight = 1.0
+                    for claim in claims:
+                        weight *= 0.7 if claim == 0 else 0.3 * (1 - more) * more ** (claim - 1)
+                    weights[tuple(claims)] = weight
+                return
+            a, b = cells[at]
+            for claim in range(min(out[a], in_[b]) + 1):
+                out[a] -= claim
+                in_[b] -= claim
+                if b < size - 1 - (a == size - 1) or out[a] == 0:
+                    visit(at + 1, claims + [claim], out, in_)
+                out[a] += claim
+                in_[b] += claim
+
+        visit(0, [], owes[:], owed[:])
+        start = max(weights, key=weights.get)
+        totals = methods.Totals([str(n) for n in range(size)], owes, owed)
+        chain = methods.Chain(totals, 0.3, random.Random(11), {pair: claim for pair, claim in zip(cells, start) if claim})
+        counts, whole = dict.fromkeys(weights, 0), sum(weights.values())
+        for _ in range(rounds):
+            for _ in range(steps):
+                chain.step()
+            counts[tuple(chain.claim(a, b) for a, b in cells)] += 1
+        for network, weight in weights.items():
+            want = weight / whole
+            self.assertAlmostEqual(counts[network] / rounds, want, delta=6 * (want / rounds) ** 0.5, msg=network)
+        return len(weights)
+
+    def test_samples_come_as_often_as_their_distribution_says(self):
+        # Of three banks there is one cycle, and each move is a new draw; of four there are many.
+        self.assertEqual(self.check_frequencies([12, 9, 10], [11, 10, 10], 6000, 60), 9)
+        self.assertEqual(self.check_frequencies([2, 1, 1], [1, 2, 1], 6000, 60), 2)
+        self.assertGreater(self.check_frequencies([3, 2, 2, 1], [2, 2, 2, 2], 10_000, 25), 20)
+
+    def test_a_move_is_drawn_by_the_weights_of_its_places(self):
+        class Grid:
+            """Draws the middles of so many equal parts, one after another."""
+
+            def __init__(self, parts):
+                self.numbers = ((part + 0.5) / parts for part in range(parts))
+
+            def random(self):
+                return next(self.numbers)
+
+        for up, down in [([3, 5], [4, 4]), ([0, 2], [1, 7]), ([2, 2, 9], [3, 3, 3]), ([1, 0], [1, 1])]:
+            least, most = -min(up), min(down)
+            chain = methods.Chain(methods.Totals(list("ABC"), [4, 4, 4], [4, 4, 4]), 0.3, Grid(20_000), {})
+            odds = chain.none / chain.there
+            weights = {at: odds ** sum(cell == 0 for cell in [*(cell + at for cell in up), *(cell - at for cell in down)]) for at in range(least, most + 1)}
+            counts = dict.fromkeys(weights, 0)
+            for _ in range(20_000):
+                counts[chain.drawn(least, most, up, down)] += 1
+            for at, weight in weights.items():
+                self.assertAlmostEqual(counts[at] / 20_000, weight / sum(weights.values()), 3, (up, down, at))
+
+    def test_entropy_is_rounded_down_or_up(self):
+        draw = random.Random(9)
+        claims = {(a, b): draw.choice([0, 0, 0, 1, 1, 2, 3]) for a in range(25) for b in range(25) if a != b}
+        owes, owed = ([sum(claim for pair, claim in claims.items() if pair[place] == n) for n in range(25)] for place in (0, 1))
+        real = {pair: float(owes[pair[0]] * owed[pair[1]]) for pair in claims}
+        for _ in range(200):
+            for place, want in ((0, owes), (1, owed)):
+                have = [0.0] * 25
+                for pair, claim in real.items():
+                    have[pair[place]] += claim
+                real = {pair: claim * want[pair[place]] / have[pair[place]] for pair, claim in real.items()}
+        self.made_of("bank,assets,liabilities,cash\n" + "".join(f"{n},{owed[n]},{owes[n]},{n % 3}\n" for n in range(25)))
+        debts = self.debts()
+        for (a, b), claim in real.items():
+            self.assertLess(abs(debts.get((str(a), str(b)), 0) - claim), 1, (a, b))
+
+    def test_samples_forget_where_the_chain_began(self):
+        draw = random.Random(2)
+        claims = {(a, b): draw.randrange(1, 900) for a in range(20) for b in range(20) if a != b and draw.random() < 0.5}
+        owes, owed = ([sum(claim for pair, claim in claims.items() if pair[place] == n) for n in range(20)] for place in (0, 1))
+        table = "bank,assets,liabilities,cash\n" + "".join(f"N{n},{owed[n]},{owes[n]},1\n" for n in range(20))
+        for density, steps in ((0.6, 3000), (0.2, 40_000)):
+            self.made_of(table, "--method", "sample", "--samples", 5, "--density", density, "--steps", steps)
+            count = sum(len(self.debts(f"out/{n}")) for n in range(1, 6)) / 5
+            # Of 380 pairs: the totals were not drawn with this density, so that it is met roughly.
+            self.assertAlmostEqual(count / 380, density, delta=0.1)
+
+    def test_totals_that_no_network_has_are_refused(self):
+        head = "bank,assets,liabilities,cash\n"
+        told = "liabilities come to 30 and assets to 40: assets are 10 more; add a bank that stands for"
+        self.refuse(told, head + "A,25,10,1\nB,15,20,1\n", "--no-rest")
+        self.refuse("row 2: A owes 20 and is owed 25, together 5 more than all claims, 40: no bank can owe itself", head + "A,25,20,1\nB,10,10,1\nC,5,10,1\n")
+        self.refuse("no column assets; it has claims, debts, cash; say --assets NAME", "bank,claims,debts,cash\nA,1,1,1\n")
+        self.refuse("row 2 column assets: 30.445: thousands or decimals?", head + "A,30.445,1,1\nB,1,30.445,1\n", "--round")
+        self.refuse("1.5 is not a whole number of units", head + "A,1.5,1,1\nB,1,1.5,1\n")
+        self.refuse("row 5: All is a row of totals", head + "A,10,20,1\nB,20,5,1\nC,5,10,7\nAll,35,35,9\n")
+        self.refuse("all claims come to 40,000,000 units: 30,000,000 more than the most, 10,000,000", head + "A,20000000,20000000,1\nB,20000000,20000000,1\n")
+        self.refuse("a claim of 2,000,000 units, 1,000,000 more than the most", head + "A,2000000,2000000,1\nB,2000000,2000000,1\n")
+        self.refuse("--samples is for sparse and sample", TABLE, "--samples", 2, status=2)
+
+    def test_a_unit_is_chosen_and_the_sums_are_kept(self):
+        table = "bank,assets,liabilities,cash\nA,70000025,60000000,20\nB,40000000,50000050,10\nC,20000050,20000025,30\n"
+        told = self.made_of(table, "--unit", "auto")
+        debts = self.debts()
+        self.assertLessEqual(max(debts.values()), 10**6)
+        unit = int(re.search("in units of ([0-9]+);", told)[1])
+        # A step smaller breaks the limit of a claim or of all.
+        self.assertEqual(unit, 50)
+        self.assertIn("130,000,075 in all; in units of 50; the largest rounding is 25, and 0 became 0\n", told)
+        self.refuse_after("more than the most", table, "--unit", 20, "--round")
+        # Rounding takes the two sums apart, and they are brought together.
+        told = self.made_of("bank,assets,liabilities,cash\nA,14,4,0\nB,14,14,0\nC,4,14,0\nD,0,0,10\n", "--unit", 10, "--round")
+        self.assertIn("32 in all; in units of 10;", told)
+        self.assertIn("so that both sums are 3\n", told)
+        self.assertEqual(sum(self.debts().values()), 3)
+
+    def refuse_after(self, message, table, *words):
+        before = (self.folder / "out/debts.csv").read_bytes()
+        done = self.run_of(table, *words)
+        self.assertEqual((done.returncode, done.stdout), (1, ""))
+        self.assertIn(message, done.stderr)
+        self.assertEqual((self.folder / "out/debts.csv").read_bytes(), before)
+
+    def test_a_table_is_not_written_over(self):
+        table = self.file("banks.csv", TABLE)
+        done = tool("from_totals.py", table, "--out", self.folder, python=python_with("numpy"))
+        self.assertEqual((done.returncode, done.stdout), (1, ""))
+        self.assertIn("also read", done.stderr)
+        self.assertEqual([path.name for path in self.folder.iterdir()], ["banks.csv"])
+        self.assertEqual(table.read_text(), TABLE)
+
+    def test_names_of_every_character_come_through(self):
+        for names in (ODD_NAMES, list(all_names(last=0xFFFF))[:200]):
+            names = [name for name in dict.fromkeys(name.strip(" ") for name in names) if name.casefold() not in ("total",)]
+            rows = "".join(f"{name},{1 + (at == 0)},{1 + (at == 1)},{at}\n" for at, name in enumerate(names))
+            self.made_of("bank,assets,liabilities,cash\n" + rows, "--method", "sparse", "--tries", 1)
+            self.assertEqual({name for pair in self.debts() for name in pair}, set(names))
+
+    def test_sums_that_differ_make_a_bank(self):
+        head = "bank,assets,liabilities,cash\n"
+        told = self.made_of(head + "A,25,10,1\nB,15,20,1\n")
+        self.assertIn("banks for those who are not in the file: 1; 10 in all; rest of the world owes the others 10, and has as much cash, "
+                      "since liabilities come to 30 and assets to 40\n", told)
+        self.assertEqual((self.folder / "out/banks.csv").read_text(), "name,cash,rule\nA,1,webster\nB,1,webster\nrest of the world,10,webster\n")
+        self.assertEqual(sum(claim for (debtor, _), claim in self.debts().items() if debtor == "rest of the world"), 10)
+        self.made_of(head + "A,10,25,1\nB,20,15,1\n", "--rest", "Abroad")
+        self.assertEqual((self.folder / "out/banks.csv").read_text(), "name,cash,rule\nA,1,webster\nB,1,webster\nAbroad,0,webster\n")
+        self.assertEqual(sum(claim for (_, creditor), claim in self.debts().items() if creditor == "Abroad"), 10)
+
+    def test_known_claims_stay(self):
+        known = self.file("known.csv", "debtor,creditor,amount\nA,B,31\nC,A,0\nD,C,2\n")
+        for method in ("entropy", "sparse", "sample"):
+            told = self.made_of(TABLE, "--method", method, "--known", known)
+            self.assertIn("claims that are known, and stay: 3; 33 in all\n", told)
+            debts = self.debts()
+            self.check_totals(debts, TABLE)
+            self.assertEqual((debts.get(("A", "B")), debts.get(("C", "A")), debts.get(("D", "C"))), (31, None, 2), method)
+        shutil.rmtree(self.folder / "out")
+        self.refuse("no network has these totals with the known claims", TABLE, "--known", self.file("known.csv", "debtor,creditor,amount\nA,B,61\n"))
+        self.refuse("known.csv row 2: there is no bank X in the totals", TABLE, "--known", self.file("known.csv", "debtor,creditor,amount\nA,X,6\n"))
+
+    def test_too_many_claims_of_entropy_are_cut_with_their_totals_kept(self):
+        many = "bank,assets,liabilities,cash\n" + "".join(f"N{n},{1000 + n},{1000 + n},{n % 7}\n" for n in range(143))
+        told = self.made_of(many)
+        debts = self.debts()
+        self.check_totals(debts, many)
+        self.assertLessEqual(len(debts), 20_000)
+        self.assertRegex(told, "claims left out by --most: 306; [0-9,]+ in all; the largest [0-9]+; the others are fitted to the same totals\n")
+        told = self.made_of(TABLE, "--most", 8)
+        self.assertLessEqual(len(self.debts()), 8)
+        self.check_totals(self.debts(), TABLE)
+
+    def test_a_seed_makes_the_same_networks_for_good(self):
+        # These claims stay as they are in each version and on each machine.
+        sparse = {("A", "C"): 60, ("B", "A"): 60, ("B", "D"): 30, ("C", "A"): 40, ("D", "B"): 50, ("D", "C"): 10}
+        sample = {("A", "B"): 16, ("A", "C"): 33, ("A", "D"): 11, ("B", "A"): 56, ("B", "C"): 20, ("B", "D"): 14, ("C", "A"): 3, ("C", "B"): 32, ("C", "D"): 5, ("D", "A"): 41, ("D", "B"): 2, ("D", "C"): 17}
+        for method, want in [("sparse", sparse), ("sample", sample)]:
+            self.made_of(TABLE, "--method", method, "--seed", 5, "--steps", 500, "--density", 0.9)
+            self.assertEqual(self.debts(), want)

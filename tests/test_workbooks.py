@@ -1,0 +1,216 @@
+"""Workbooks: what is read of them, and what is refused with its sheet, row and column."""
+import datetime
+import json
+import pathlib
+import re
+import subprocess
+import sys
+import zipfile
+
+from common import ROOT, Case, needs, needs_modules, python_with, tool
+
+PYTHON = python_with("openpyxl") or sys.executable
+BANKS = "name,cash,rule\nA,3,webster\nB,4,webster\nC,5,webster\n"
+DEBTS = "debtor,creditor,class,claim\nA,B,1,6\nA,C,1,4\nB,A,1,2\nB,C,1,8\nC,A,1,3\nC,B,1,1\n"
+MATRIX = [["", "A", "B", "C", "cash"], ["A", 0, 6, 4, 3], ["B", 2, None, 8, 4], ["C", 3, 1, 0, 5]]
+
+
+def written(path, sheets, change=""):
+    """Writes a workbook by openpyxl: its sheets by their titles, each a list of rows; then a change in Python of `book`."""
+    script = f"import datetime, openpyxl\nbook = openpyxl.Workbook()\nbook.remove(book.active)\nsheets = {sheets!r}\n"
+    script += "for title, rows in sheets.items():\n    sheet = book.create_sheet(title)\n    for row in rows:\n        sheet.append(row)\n"
+    subprocess.run([PYTHON, "-c", f"{script}{change}\nbook.save({str(path)!r})"], check=True)
+    return path
+
+
+@needs_modules("openpyxl")
+class Workbooks(Case):
+    def setUp(self):
+        super().setUp()
+        self.banks, self.debts = self.folder / "banks.csv", self.folder / "debts.csv"
+        self.files = ["--banks", self.banks, "--debts", self.debts]
+
+    def take(self, *words, name="from_matrix.py"):
+        return self.told(name, *words, *self.files, python=PYTHON)
+
+    def refuse(self, message, *words, name="from_matrix.py", status=1):
+        done = tool(name, *words, *self.files, python=PYTHON)
+        self.assertEqual((done.returncode, done.stdout), (status, ""), done.stderr)
+        self.assertIn(message, done.stderr)
+        self.assertFalse(self.banks.exists() or self.debts.exists())
+
+    def check(self, banks=BANKS, debts=DEBTS):
+        self.assertEqual((self.banks.read_text(), self.debts.read_text()), (banks, debts))
+        self.printed("check", *self.files)
+        self.banks.unlink(), self.debts.unlink()
+
+    def test_a_matrix_of_a_workbook_is_that_of_its_text(self):
+        book = written(self.folder / "m.xlsx", {"Claims": MATRIX})
+        self.assertIn(f"rows read: 3; {book} sheet Claims\n", self.take(book))
+        self.check()
+
+    def test_the_sheet_is_asked_for_where_several_could_be_meant(self):
+        rows = [["bank", "cash"], ["A", 3], ["B", 4], ["C", 5]]
+        change = "book['Notes'].sheet_state = 'hidden'"
+        book = written(self.folder / "m.xlsx", {"Claims": [row[:4] for row in MATRIX], "Banks": rows, "Empty": [], "Notes": [["x", "y"]]}, change)
+        self.refuse(f"{book} has the sheets Claims, Banks: which one is meant? say --sheet NAME", book, "--table", book)
+        self.refuse("which one is meant? say --table-sheet NAME", book, "--table", book, "--sheet", "Claims")
+        self.refuse(f"{book} has no sheet Claim; it has Claims, Banks, Empty, Notes", book, "--sheet", "Claim")
+        self.take(book, "--sheet", "Claims", "--table", book, "--table-sheet", "Banks")
+        self.check()
+
+    def test_a_number_is_itself_whatever_the_locale(self):
+        rows = [["", "A", "B", "C", "cash"], ["A", 0, 12.345, "1,5", 3], ["B", 30.445, 0, 0.1 + 0.2, 4], ["C", 1e3, 1e-3, 0, 5]]
+        change = "book['S']['B3'].number_format = '#.##0,00'"
+        self.take(written(self.folder / "m.xlsx", {"S": rows}, change), "--unit", "0.001", "--decimal", ",")
+        self.check("name,cash,rule\nA,3000,webster\nB,4000,webster\nC,5000,webster\n",
+                   "debtor,creditor,class,claim\nA,B,1,12345\nA,C,1,1500\nB,A,1,30445\nB,C,1,300\nC,A,1,1000000\nC,B,1,1\n")
+
+    def test_what_is_no_number_is_refused_with_its_cell(self):
+        for value, change, told in [
+            (datetime.date(2025, 12, 31), "", "C2 (column B): '2025-12-31' is a date, and no amount"),
+            ("#DIV/0!", "", "C2 (column B): '#DIV/0!' is the error of a formula"),
+            (True, "", "C2 (column B): 'TRUE' is true or false, and no amount"),
+            (0.5, "book['S']['C2'].number_format = '0%'", "C2 (column B): '0.5' is shown in per cent, and is no amount"),
+            (-5, "", "C2 (column B): '-5' is below 0"),
+            ("six", "", "C2 (column B): 'six' is not an amount"),
+        ]:
+            rows = [list(row) for row in MATRIX]
+            rows[1][2] = value
+            book = written(self.folder / "m.xlsx", {"S": rows}, change)
+            self.refuse(f"from_matrix: {book} sheet S {told}", book)
+        rows = [["", "A", datetime.date(2025, 1, 2), "cash"], ["A", 0, 1, 2], [datetime.date(2025, 1, 2), 0, 1, 2]]
+        book = written(self.folder / "m.xlsx", {"S": rows})
+        self.refuse(f"{book} sheet S row 3: the name '2025-01-02' is a date, and no name", book)
+
+    def test_two_currencies_of_number_formats_are_refused(self):
+        change = "book['S']['C2'].number_format = '[$€-407] #,##0.00'; book['S']['D2'].number_format = '[$$-409]#,##0'"
+        book = written(self.folder / "m.xlsx", {"S": MATRIX}, change)
+        self.refuse(f"{book} sheet S D2 (column C): '4' is of another currency than '6': $, not EUR; convert all amounts to one", book)
+
+    def test_a_formula_without_a_value_is_refused_and_one_with_a_value_is_read(self):
+        book = written(self.folder / "m.xlsx", {"S": MATRIX}, "book['S']['C2'] = '=2*3'")
+        self.refuse(f"{book} sheet S C2: a formula whose value is not kept (1 in all); open it in a spreadsheet and save it", book)
+
+    @needs("soffice")
+    def test_what_libreoffice_saves_is_read(self):
+        book = written(self.folder / "m.xlsx", {"S": MATRIX, "Other": [["x", "y"], [1, 2]]}, "book['S']['C2'] = '=2*3'; book['S']['D2'] = '=B3+2'")
+        for kind in ("xlsx", "ods"):
+            made = self.folder / "made"
+            subprocess.run(["nice", "-n", "10", "soffice", f"-env:UserInstallation=file://{self.folder}/profile", "--headless", "--convert-to", kind, "--outdir", made, book],
+                           check=True, capture_output=True)
+            if kind == "ods" and not python_with("odf", "openpyxl"):
+                continue
+            self.take(made / f"m.{kind}", "--sheet", "S")
+            self.check()
+
+    def test_a_date_that_is_not_looked_at_is_no_fault(self):
+        rows = [["day", "debtor", "creditor", "amount"], [datetime.date(2025, 12, 31), "A", "B", 5], [datetime.date(2025, 9, 30), "A", "B", 7]]
+        listed = written(self.folder / "l.xlsx", {"S": rows})
+        table = self.file("t.csv", "bank,cash\nA,1\nB,2\n")
+        self.take(listed, "--table", table, "--where", "day=2025-12-31", name="from_list.py")
+        self.check("name,cash,rule\nA,1,webster\nB,2,webster\n", "debtor,creditor,class,claim\nA,B,1,5\n")
+
+    def test_bombs_are_refused(self):
+        from clearing_tools.imports import books
+        book = self.folder / "m.xlsx"
+        written(book, {"S": MATRIX})
+        parts = {info.filename: zipfile.ZipFile(book).read(info) for info in zipfile.ZipFile(book).infolist()}
+        name = "xl/worksheets/sheet1.xml"
+        deep = b"<x>" * (books.MAX_DEPTH + 1) + b"</x>" * (books.MAX_DEPTH + 1)
+        laughs = b'<!DOCTYPE x [<!ENTITY a "ha"><!ENTITY b "&a;&a;">]><x>&b;</x>'
+        for content, told in [
+            (deep, f"nests deeper than {books.MAX_DEPTH}"), (laughs, "declares a type of document"), (b"<worksheet>", f"its part {name} is no XML"),
+        ]:
+            self.made_of(book, {**parts, name: content})
+            self.refuse(f"{book}{':' if 'XML' in told else ''} {told}", book)
+        with zipfile.ZipFile(book, "w", zipfile.ZIP_DEFLATED) as archive:
+            for part, content in parts.items():
+                archive.writestr(part, content)
+            with archive.open("xl/media/x.bin", "w", force_zip64=True) as file:
+                for _ in range(books.MAX_UNPACKED // (1 << 24) + 1):
+                    file.write(bytes(1 << 24))
+        self.refuse("would unpack to", book)
+        self.made_of(book, parts, whole=False)
+        self.refuse("is a workbook that cannot be read", book)
+        self.refuse("save it as .xlsx without one", self.file("m.xls", bytes.fromhex("d0cf11e0a1b11ae1") + bytes(600)))
+        self.made_of(book, {"mimetype": b"application/zip"})
+        self.refuse("is no workbook of the form .xlsx or .ods", book)
+
+    def made_of(self, book, parts, whole=True):
+        with zipfile.ZipFile(book, "w", zipfile.ZIP_DEFLATED) as archive:
+            for part, content in parts.items():
+                archive.writestr(part, content)
+        if not whole:
+            book.write_bytes(book.read_bytes()[:2000])
+
+    def test_without_openpyxl_the_package_is_named(self):
+        book = written(self.folder / "m.xlsx", {"S": MATRIX})
+        script = self.file("python", f'#!/bin/sh\nexec "{sys.executable}" -S "$@"\n')
+        script.chmod(0o755)
+        done = tool("from_matrix.py", book, *self.files, python=str(script))
+        self.assertEqual((done.returncode, done.stdout), (2, ""))
+        self.assertRegex(done.stderr, rf"has no openpyxl, which reads {re.escape(str(book))} \(Debian's package python3-openpyxl is for")
+
+
+@needs_modules("openpyxl")
+class Made(Case):
+    """Workbooks that the tools write."""
+
+    HUB = ["--banks", ROOT / "examples/hub/banks.csv", "--debts", ROOT / "examples/hub/debts.csv"]
+
+    def sheets(self, path):
+        """The sheets of a workbook by their titles: what stands in the pane that is frozen, and the rows, each cell its kind and value."""
+        script = "import json, openpyxl, sys\nbook = openpyxl.load_workbook(sys.argv[1])\nprint(json.dumps({sheet.title: "
+        script += "[sheet.freeze_panes, [[[cell.data_type, str(cell.value)] for cell in row] for row in sheet.rows]] for sheet in book}))\n"
+        return json.loads(subprocess.run([PYTHON, "-c", script, path], check=True, capture_output=True).stdout)
+
+    def test_tidy_tables_are_sheets_of_one_workbook(self):
+        text, book = self.file("d.csv", self.printed("defaults", *self.HUB)), self.folder / "d.xlsx"
+        done = tool("tidy.py", text, "--out", book, python=PYTHON)
+        self.assertEqual((done.returncode, done.stdout, done.stderr), (0, f"{book}\n", ""))
+        made = [path for path in self.made("tidy.py", text).splitlines()]
+        sheets = self.sheets(book)
+        self.assertEqual([f"{self.folder}/d-{title}.csv" for title in sheets], made)
+        for path, (frozen, rows) in zip(made, sheets.values()):
+            lines = pathlib.Path(path).read_text(encoding="utf-8").splitlines()
+            self.assertEqual(([[cell[1].replace("None", "") for cell in row] for row in rows], frozen), ([line.split(",") for line in lines], "A2"))
+        # Amounts are numbers, names and states texts; the same tables make the same bytes.
+        self.assertEqual([cell[0] for cell in sheets["standings"][1][1]], ["s", "n", "n", "n", "n", "n", "s"])
+        first = book.read_bytes()
+        tool("tidy.py", text, "--out", book, python=PYTHON)
+        self.assertEqual(book.read_bytes(), first)
+        tool("tidy.py", text, "--out", book, "--unit", "0.01", python=PYTHON)
+        self.assertEqual(self.sheets(book)["standings"][1][1][1][0], "n")
+        self.refused("tidy.py", 2, "--out is a file that ends with .xlsx", text, "--out", self.folder / "d.csv")
+
+    def test_names_that_look_like_formulas_are_text(self):
+        names = ["=1+1", "@SUM(A1)", "+1", "-2", "1e3", "007", "A\u202eB"]
+        banks = self.file("b.csv", "name,cash,rule\n" + "".join(f"{name},{at},order\n" for at, name in enumerate(names)))
+        debts = self.file("e.csv", "debtor,creditor,class,claim\n" + "".join(f"{a},{b},1,3\n" for a, b in zip(names, names[1:])))
+        text, book = self.file("p.csv", self.printed("clear", "--banks", banks, "--debts", debts)), self.folder / "p.xlsx"
+        self.assertEqual(tool("tidy.py", text, "--out", book, python=PYTHON).returncode, 0)
+        self.assertEqual([row[0] for row in self.sheets(book)["payments"][1][1:]], [["s", name] for name in names[:-1]])
+
+    def test_analyses_write_a_workbook_by_its_ending(self):
+        for words, sheets in [
+            (["breaking.py", *self.HUB, "--output"], ["table"]), (["rescues.py", *self.HUB, "--output"], ["table"]),
+            (["impact.py", *self.HUB, "--ranking"], ["table"]),
+        ]:
+            book = self.folder / "a.xlsx"
+            done = tool(*words, book, python=PYTHON)
+            self.assertEqual((done.returncode, done.stdout), (0, ""), done.stderr)
+            plain = tool(*words[:-1]).stdout.splitlines()
+            made = self.sheets(book)
+            self.assertEqual(list(made), sheets)
+            self.assertEqual([[cell[1].replace("None", "") for cell in row] for row in made["table"][1]], [line.split(",") for line in plain], words[0])
+            self.assertIn("n", {cell[0] for cell in made["table"][1][1][1:]})
+
+    def test_without_openpyxl_nothing_is_written(self):
+        script = self.file("python", f'#!/bin/sh\nexec "{sys.executable}" -S "$@"\n')
+        script.chmod(0o755)
+        text = self.file("d.csv", self.printed("defaults", *self.HUB))
+        done = tool("tidy.py", text, "--out", self.folder / "d.xlsx", python=str(script))
+        self.assertEqual((done.returncode, done.stdout), (2, ""))
+        self.assertIn("has no openpyxl, which writes .xlsx (Debian's package python3-openpyxl is for", done.stderr)
+        self.assertFalse((self.folder / "d.xlsx").exists())

@@ -1,0 +1,78 @@
+#!/usr/bin/env python3
+"""Makes the table of what was run from docs/runs.tsv.
+
+    tools/dev/runs.py            prints the table
+    tools/dev/runs.py --write    puts it into docs/PROVED.md, in the place of the one that stands there
+
+In:  docs/runs.tsv, to which the scripts of tests/system add a line where they are started with --record.
+Out: a row for each program, the newest first: when it was run, the commit of its sources, its checksum, and for each script the cases
+     that all its runs tried, and how many of them were wrong. A file that says none of a commit or a program knows none.
+
+Ends with 0, or with 1 and a message where the file is not in its form, or the document has no place for the table.
+"""
+import argparse
+import pathlib
+import re
+import sys
+
+DOCS = pathlib.Path(__file__).resolve().parents[2] / "docs"
+HEADER = ["date", "commit", "program", "script", "arguments", "cases", "wrong"]
+# The table in the document: what begins with its head.
+PLACE = re.compile(r"^\| date \|.*\n(?:\|.*\n)+", re.MULTILINE)
+
+
+def rows_of(text):
+    """The lines of the file below its head, each as what its columns hold."""
+    head, *lines = [line.split("\t") for line in text.splitlines()]
+    if head != HEADER:
+        sys.exit("runs.py: docs/runs.tsv has another head")
+    for number, line in enumerate(lines, 2):
+        if len(line) != len(HEADER) or not (line[5].isdecimal() and line[6].isdecimal()):
+            sys.exit(f"runs.py: line {number} of docs/runs.tsv is not in its form")
+    return [dict(zip(HEADER, line)) for line in lines]
+
+
+def sums_of(rows):
+    """For each program, newest first, its last row, and by script the cases and the wrong ones of all its runs."""
+    programs = {}
+    for row in rows:
+        last, sums = programs.pop(row["program"], (row, {}))
+        tried, wrong = sums.get(row["script"], (0, 0))
+        sums[row["script"]] = (tried + int(row["cases"]), wrong + int(row["wrong"]))
+        programs[row["program"]] = (row, sums)
+    return list(programs.values())[::-1]
+
+
+def cell(sums, script):
+    tried, wrong = sums.get(script, (0, 0))
+    return f"{tried:,}" if tried else "-"
+
+
+def table_of(rows):
+    """The table, as Markdown."""
+    scripts = sorted({row["script"] for row in rows})
+    lines = ["| date | commit | program | " + " | ".join(f"`{script}`" for script in scripts) + " | wrong |", "|---" * (len(scripts) + 4) + "|"]
+    for row, sums in sums_of(rows):
+        commit, program = row["commit"][:7] + "+" * row["commit"].endswith("+"), row["program"][:8]
+        named = " | ".join("-" if name == "none" else f"`{name}`" for name in (commit, program))
+        wrong = sum(count for _, count in sums.values())
+        lines.append(f"| {row['date']} | {named} | " + " | ".join(cell(sums, script) for script in scripts) + f" | {wrong:,} |")
+    return "\n".join(lines) + "\n"
+
+
+def main():
+    words = argparse.ArgumentParser(description=__doc__, formatter_class=argparse.RawDescriptionHelpFormatter)
+    words.add_argument("--write", action="store_true", help="put the table into docs/PROVED.md")
+    table = table_of(rows_of((DOCS / "runs.tsv").read_text(encoding="utf-8")))
+    if not words.parse_args().write:
+        print(table, end="")
+        return
+    page = DOCS / "PROVED.md"
+    text = page.read_text(encoding="utf-8")
+    if len(PLACE.findall(text)) != 1:
+        sys.exit("runs.py: docs/PROVED.md has no table of runs, or several")
+    page.write_text(PLACE.sub(lambda _: table, text), encoding="utf-8")
+
+
+if __name__ == "__main__":
+    main()

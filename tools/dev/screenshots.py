@@ -1,0 +1,104 @@
+#!/usr/bin/env python3
+"""Takes pictures of a report: its first screen on a desk, in the dark and on a phone, the table of banks, and its first printed pages.
+
+In:   PAGE     the report, as tools/report.py writes it
+Out:  PREFIX-desktop.png, PREFIX-dark.png, PREFIX-phone.png, PREFIX-banks.png and PREFIX-print.png, four sheets of A4 side by side
+
+Wants Chromium with its driver, Selenium, PIL and pdftoppm: Debian's packages chromium-driver, python3-selenium, python3-pil and
+poppler-utils. Ends with 0, and with 1 where one of them is missing or a picture cannot be made.
+
+Example:
+    tools/dev/screenshots.py report.html docs/pictures/report
+"""
+import argparse
+import base64
+import io
+import pathlib
+import shutil
+import subprocess
+import sys
+import tempfile
+
+DESK, PHONE = (1366, 768), (390, 844)
+SHEETS = 4
+
+
+def driver_of():
+    """A browser without a window."""
+    from selenium import webdriver
+    from selenium.webdriver.chrome.service import Service
+
+    options = webdriver.ChromeOptions()
+    options.binary_location = shutil.which("chromium")
+    for word in ("--headless=new", "--no-sandbox", "--disable-gpu", "--disable-dev-shm-usage", "--hide-scrollbars"):
+        options.add_argument(word)
+    return webdriver.Chrome(service=Service(shutil.which("chromedriver")), options=options)
+
+
+def shot(driver, size, theme="light", below=""):
+    """A picture of what a window of a size shows: the top of the page, or an element of it."""
+    driver.execute_cdp_cmd("Emulation.setEmulatedMedia", {"media": "", "features": [{"name": "prefers-color-scheme", "value": theme}]})
+    driver.execute_cdp_cmd(
+        "Emulation.setDeviceMetricsOverride", {"width": size[0], "height": size[1], "deviceScaleFactor": 1, "mobile": False}
+    )
+    driver.execute_script("const e = document.querySelector(arguments[0] || 'body'); e.scrollIntoView();", below)
+    return driver.get_screenshot_as_png()
+
+
+def small(content, most):
+    """A picture of few colours, and at most so wide."""
+    from PIL import Image
+
+    picture = Image.open(io.BytesIO(content)).convert("RGB")
+    if picture.width > most:
+        picture = picture.resize((most, picture.height * most // picture.width), Image.LANCZOS)
+    out = io.BytesIO()
+    picture.quantize(64).save(out, "png", optimize=True)
+    return out.getvalue()
+
+
+def sheets(driver):
+    """The first printed pages, side by side."""
+    from PIL import Image
+
+    paper = base64.b64decode(driver.execute_cdp_cmd("Page.printToPDF", {"preferCSSPageSize": True, "printBackground": False})["data"])
+    with tempfile.TemporaryDirectory() as folder:
+        file = pathlib.Path(folder, "paper.pdf")
+        file.write_bytes(paper)
+        subprocess.run(["pdftoppm", "-png", "-r", "60", "-l", str(SHEETS), file, f"{folder}/sheet"], check=True)
+        pages = [Image.open(path).convert("RGB") for path in sorted(pathlib.Path(folder).glob("sheet*.png"))]
+        whole = Image.new("RGB", (sum(page.width + 8 for page in pages), max(page.height for page in pages)), "#808080")
+        at = 0
+        for page in pages:
+            whole.paste(page, (at, 0))
+            at += page.width + 8
+        out = io.BytesIO()
+        whole.save(out, "png")
+    return out.getvalue()
+
+
+def main():
+    parser = argparse.ArgumentParser(description=__doc__, formatter_class=argparse.RawDescriptionHelpFormatter)
+    parser.add_argument("page", metavar="PAGE", help="the report")
+    parser.add_argument("prefix", metavar="PREFIX", help="how the names of the pictures begin")
+    asked = parser.parse_args()
+    driver = driver_of()
+    try:
+        driver.get(pathlib.Path(asked.page).resolve().as_uri())
+        for name, content, most in (
+            ("desktop", shot(driver, DESK), 1000),
+            ("dark", shot(driver, DESK, "dark"), 1000),
+            ("phone", shot(driver, PHONE), 390),
+            ("banks", shot(driver, DESK, below="#banks"), 1000),
+            ("print", sheets(driver), 2000),
+        ):
+            pathlib.Path(f"{asked.prefix}-{name}.png").write_bytes(small(content, most))
+    finally:
+        driver.quit()
+
+
+if __name__ == "__main__":
+    try:
+        main()
+    except (ImportError, OSError, subprocess.CalledProcessError) as fault:
+        sys.exit(f"screenshots.py: {fault}")
