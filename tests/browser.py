@@ -1,8 +1,11 @@
 """Headless Chromium for tests of a page, driven by Selenium: Debian's packages chromium, chromium-driver and python3-selenium."""
+import json
 import os
 import shutil
 import subprocess
 import sys
+import time
+import unittest
 
 from common import python_with
 
@@ -29,19 +32,70 @@ def reason():
     return ""
 
 
-def driver():
-    """A browser without a window, which logs what is asked and what its console says."""
-    from selenium import webdriver
-    from selenium.webdriver.chrome.options import Options
-    from selenium.webdriver.chrome.service import Service
+REASON = reason()
 
-    options = Options()
-    options.binary_location = shutil.which("chromium")
-    for word in ("--headless=new", "--no-sandbox", "--disable-gpu", "--disable-dev-shm-usage", "--disable-extensions",
-                 "--disable-background-networking", "--window-size=1280,900"):
-        options.add_argument(word)
-    options.set_capability("goog:loggingPrefs", {"browser": "ALL", "performance": "ALL"})
-    return webdriver.Chrome(service=Service(shutil.which("chromedriver")), options=options)
+
+@unittest.skipIf(REASON, REASON)
+class Browsing(unittest.TestCase):
+    """A browser without a window, which logs what is asked and what its console says."""
+
+    WAIT = 120
+
+    @classmethod
+    def setUpClass(cls):
+        super().setUpClass()
+        from selenium import webdriver
+        from selenium.webdriver.chrome.options import Options
+        from selenium.webdriver.chrome.service import Service
+
+        options = Options()
+        options.binary_location = shutil.which("chromium")
+        for word in ("--headless=new", "--no-sandbox", "--disable-gpu", "--disable-dev-shm-usage", "--disable-extensions",
+                     "--disable-background-networking", "--window-size=1280,900"):
+            options.add_argument(word)
+        options.set_capability("goog:loggingPrefs", {"browser": "ALL", "performance": "ALL"})
+        cls.driver = webdriver.Chrome(service=Service(shutil.which("chromedriver")), options=options)
+        cls.addClassCleanup(cls.driver.quit)
+
+    def setUp(self):
+        super().setUp()
+        self.run_of("Emulation.setScriptExecutionDisabled", value=False)
+        self.run_of("Emulation.setEmulatedMedia", media="", features=[])
+        self.size(1280, 900)
+
+    def logged(self):
+        """What the console said, and the addresses that were asked for, since the last call; the page is left."""
+        told = [entry["message"] for entry in self.driver.get_log("browser")]
+        events = [json.loads(entry["message"])["message"] for entry in self.driver.get_log("performance")]
+        asked = [event["params"]["request"]["url"] for event in events if event["method"] == "Network.requestWillBeSent"]
+        self.driver.get("about:blank")
+        self.driver.get_log("performance")
+        self.driver.get_log("browser")
+        return told, asked
+
+    def run_of(self, command, **words):
+        return self.driver.execute_cdp_cmd(command, words)
+
+    def size(self, wide, tall):
+        self.run_of("Emulation.setDeviceMetricsOverride", width=wide, height=tall, deviceScaleFactor=1, mobile=False)
+
+    def js(self, script, *words):
+        return self.driver.execute_script(script, *words)
+
+    def until(self, holds):
+        """Waits for something to hold; the machine may be busy with something else."""
+        ends = time.monotonic() + self.WAIT
+        while not holds():
+            self.assertLess(time.monotonic(), ends, "it never came to be")
+            time.sleep(0.03)
+
+    def click(self, key):
+        self.js("document.getElementById(arguments[0]).click()", key)
+
+    def press(self, *keys):
+        from selenium.webdriver.common.action_chains import ActionChains
+
+        ActionChains(self.driver).send_keys(*keys).perform()
 
 
 # Each text that can be seen against the nearest ground behind it, by the contrast of WCAG 2; text in a drawing has a halo of the ground.

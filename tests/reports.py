@@ -3,20 +3,16 @@
 The tests in the browser drive Chromium by Selenium, Debian's packages chromium, chromium-driver and python3-selenium, and want the
 library d3, its package node-d3; the page wants Jinja2, its package python3-jinja2. They are skipped where one of them is not there."""
 import html.parser
-import json
 import os
 import pathlib
-import shutil
-import subprocess
-import sys
 import time
 import unittest
 from decimal import Decimal
 
+from browser import Browsing
 from common import ODD_NAMES, ROOT, Case, all_names, clearing, python_with, tool
 
 PYTHON = python_with("jinja2")
-D3 = "/usr/share/nodejs/d3/dist/d3.min.js"
 TWELVE = ROOT / "examples/twelve-banks"
 
 
@@ -142,99 +138,20 @@ class Report(Case):
         return out.read_text(encoding="utf-8") if not status else ""
 
 
-# In the browser.
-
-def selenium_or_reason():
-    """Makes Selenium importable, or says why the browser cannot be driven."""
-    missing = [command for command in ("chromium", "chromedriver") if not shutil.which(command)]
-    if missing:
-        return f"{', '.join(missing)} is not on the path (Debian's packages chromium and chromium-driver)"
-    if not os.path.exists(D3):
-        return f"{D3} is not there (Debian's package node-d3)"
-    try:
-        import selenium  # noqa: F401
-        return ""
-    except ImportError:
-        pass
-    python = python_with("selenium")
-    if not python:
-        return "no Python here has selenium (Debian's package python3-selenium)"
-    asked = subprocess.run([python, "-c", "import sys; print(*sys.version_info[:2]); print(*sys.path, sep='\\n')"],
-                           capture_output=True, encoding="utf-8").stdout.splitlines()
-    if asked[0] != "{} {}".format(*sys.version_info[:2]):
-        return f"selenium is there for {python} alone, another version of Python; PYTHON={python} runs the tests by it"
-    sys.path += [path for path in asked[1:] if path.endswith("-packages")]
-    return ""
-
-
-REASON = selenium_or_reason()
-
-
-@unittest.skipIf(REASON, REASON)
-class InTheBrowser(Report):
-    @classmethod
-    def setUpClass(cls):
-        from selenium import webdriver
-        from selenium.webdriver.chrome.options import Options
-        from selenium.webdriver.chrome.service import Service
-
-        options = Options()
-        options.binary_location = shutil.which("chromium")
-        for word in ("--headless=new", "--no-sandbox", "--disable-gpu", "--disable-dev-shm-usage", "--disable-extensions",
-                     "--disable-background-networking", "--window-size=1280,900"):
-            options.add_argument(word)
-        options.set_capability("goog:loggingPrefs", {"browser": "ALL", "performance": "ALL"})
-        cls.driver = webdriver.Chrome(service=Service(shutil.which("chromedriver")), options=options)
-        cls.addClassCleanup(cls.driver.quit)
-
-    def setUp(self):
-        super().setUp()
-        self.run_of("Emulation.setScriptExecutionDisabled", value=False)
-        self.run_of("Emulation.setEmulatedMedia", media="", features=[])
-        self.size(1280, 900)
-
+class InTheBrowser(Browsing, Report):
     def tearDown(self):
         self.assert_quiet()
 
     def assert_quiet(self):
         """No request leaves the page, and no error is on the console."""
-        told = [entry["message"] for entry in self.driver.get_log("browser")]
-        events = [json.loads(entry["message"])["message"] for entry in self.driver.get_log("performance")]
-        asked = [event["params"]["request"]["url"] for event in events if event["method"] == "Network.requestWillBeSent"]
-        self.driver.get("about:blank")
-        self.driver.get_log("performance")
-        self.driver.get_log("browser")
+        told, asked = self.logged()
         self.assertEqual([url for url in asked if url.split("#")[0] != self.address], [])
         self.assertEqual(told, [])
-
-    def run_of(self, command, **words):
-        return self.driver.execute_cdp_cmd(command, words)
-
-    def size(self, wide, tall):
-        self.run_of("Emulation.setDeviceMetricsOverride", width=wide, height=tall, deviceScaleFactor=1, mobile=False)
 
     def open(self, files, *more, part=""):
         self.page(files, *more)
         self.address = (self.folder / "report.html").as_uri()
         self.driver.get(self.address + part)
-
-    def js(self, script, *words):
-        return self.driver.execute_script(script, *words)
-
-    def until(self, holds):
-        """Waits for something to hold; the machine may be busy with something else."""
-        ends = time.monotonic() + 120
-        while not holds():
-            self.assertLess(time.monotonic(), ends, "it never came to be")
-            time.sleep(0.05)
-
-    def click(self, key):
-        self.js("document.getElementById(arguments[0]).click()", key)
-
-    def press(self, *keys):
-        from selenium.webdriver.common.action_chains import ActionChains
-
-        ActionChains(self.driver).send_keys(*keys).perform()
 
     def shown_rows(self):
         """The names in the rows of the table of banks that can be seen, in their order."""

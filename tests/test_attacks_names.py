@@ -7,7 +7,7 @@ import time
 import unittest
 import xml.etree.ElementTree as tree
 
-from common import HUB, ROOT, Case, needs, needs_modules, python_with, tool
+from common import ROOT, Case, needs, needs_modules, python_with, tool
 
 from clearing_tools.checks import lint  # noqa: E402
 from clearing_tools.exports import graphml  # noqa: E402

@@ -1,4 +1,5 @@
 """The package installs by the line of its pages into a fresh virtual environment, without a network."""
+import json
 import os
 import pathlib
 import subprocess
@@ -6,7 +7,7 @@ import sys
 import unittest
 import zipfile
 
-from common import CHAIN, PACKAGES, ROOT, Case
+from common import CHAIN, PACKAGES, ROOT, Case, python_with
 
 sys.path.insert(0, str(ROOT / "python"))
 
@@ -20,6 +21,17 @@ def has_venv():
         return False
     return True
 
+
+# The kinds of files of a wheel, by the folders that have others than Python's alone.
+KINDS = {
+    "clearing_client": {".py", ".typed"},
+    "clearing_tools/report/templates": {".html"},
+    "clearing_tools/report/script": {".js"},
+    "clearing_tools/drawing/web": {".py", ".html", ".js", ".css"},
+    "clearing_tools/desk/page": {".html"},
+    "clearing_tools/desk/script": {".mjs"},
+    "clearing_tools/desk/style": {".css"},
+}
 
 # Pip may reach no index.
 OFFLINE = {**os.environ, "PIP_NO_INDEX": "1", "PIP_DISABLE_PIP_VERSION_CHECK": "1"}
@@ -71,12 +83,33 @@ class Install(Case):
         self.assertEqual((self.folder / "a" / name).read_bytes(), (self.folder / "b" / name).read_bytes())
         entries = zipfile.ZipFile(self.folder / "a" / name).infolist()
         self.assertEqual({entry.date_time for entry in entries}, {(1980, 1, 1, 0, 0, 0)})
-        names = [entry.filename for entry in entries]
-        self.assertIn("clearing_client/py.typed", names)
-        sources = {path.relative_to(PACKAGES).as_posix() for path in PACKAGES.rglob("*") if path.suffix in (".py", ".js", ".css")}
-        self.assertIn("clearing_tools/report/style/style.css", sources)
-        self.assertLessEqual(sources, set(names))
-        self.assertFalse([name for name in names if "__pycache__" in name])
+        names = {entry.filename for entry in entries if ".dist-info/" not in entry.filename}
+        # Each file of the sources, of whatever kind, and these kinds are there.
+        sources = {path.relative_to(PACKAGES).as_posix() for path in PACKAGES.rglob("*") if path.is_file() and "__pycache__" not in path.parts}
+        self.assertEqual(names, sources)
+        for folder, kinds in KINDS.items():
+            self.assertEqual({pathlib.PurePath(name).suffix for name in names if str(pathlib.PurePath(name).parent) == folder}, kinds, folder)
+
+    @unittest.skipUnless(python_with("jinja2", "bottle"), "no Python here has jinja2 and bottle (Debian's packages python3-jinja2 and python3-bottle)")
+    def test_what_a_wheel_has_is_enough_for_a_report_and_for_the_desk(self):
+        import build
+
+        zipfile.ZipFile(self.folder / build.build_wheel(self.folder)).extractall(self.folder / "there")
+        python, there = python_with("jinja2", "bottle"), {**os.environ, "PYTHONPATH": str(self.folder / "there")}
+        code = "import sys\nfrom clearing_tools.report import gather\nassert gather.__file__.startswith(sys.argv.pop(1))\nsys.exit(gather.main())"
+        report = self.folder / "report.html"
+        files = ["--banks", CHAIN / "banks.csv", "--debts", CHAIN / "debts.csv", "--out", report]
+        done = subprocess.run([python, "-c", code, self.folder, *files], cwd=self.folder, env=there, capture_output=True, encoding="utf-8")
+        self.assertEqual((done.returncode, done.stdout, done.stderr), (0, "", ""))
+        self.assertIn("</html>", report.read_text(encoding="utf-8"))
+        code = "import json\nfrom clearing_tools.desk import app\nprint(json.dumps([app.__file__, app.page_text(True), app.style_text(), app.SCRIPTS]))"
+        done = subprocess.run([python, "-c", code], cwd=self.folder, env=there, capture_output=True, encoding="utf-8")
+        self.assertEqual((done.returncode, done.stderr), (0, ""))
+        place, page, style, scripts = json.loads(done.stdout)
+        self.assertTrue(place.startswith(str(self.folder)), place)
+        self.assertIn("</html>", page)
+        self.assertIn("svg", style)
+        self.assertIn("desk.mjs", scripts)
 
     def test_what_is_said_of_the_project_is_what_toml_says(self):
         import build

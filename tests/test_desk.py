@@ -285,8 +285,10 @@ class TakenAway(Desk):
         desk = self.desk()
         view = desk.change(0, set="cut", value="437")
         page = desk.see(f"/take/{view['id']}/report").decode()
-        for bank in view["equity"]:
-            self.assertIn(f">{bank:,}<", page)
+        # The part of each bank has it to the last digit.
+        for at, kept in enumerate(view["equity"]):
+            part = page.partition(f'<section id="bank-{at}"')[2].partition("</p>")[0]
+            self.assertIn(f" and {kept:,} unit{'' if kept == 1 else 's'} is left.", part)
         self.assertIn("tools/report.py --banks banks.csv --debts debts.csv", page)
         with zipfile.ZipFile(io.BytesIO(desk.see(f"/take/{view['id']}/evidence"))) as archive:
             archive.extractall(self.folder)

@@ -8,7 +8,6 @@ import pathlib
 import re
 import shlex
 import statistics
-import time
 import unittest
 
 import browser
@@ -17,7 +16,6 @@ from desk import REASON as NO_BOTTLE
 from desk import Running
 from test_desk import SCENARIOS, standings
 
-REASON = NO_BOTTLE or browser.reason()
 TICKS = os.sysconf("SC_CLK_TCK")
 
 
@@ -32,36 +30,18 @@ def strip(text):
     return text.replace("\u2068", "").replace("\u2069", "")
 
 
-@unittest.skipIf(REASON, REASON)
-class InTheBrowser(Case):
-    @classmethod
-    def setUpClass(cls):
-        cls.driver = browser.driver()
-        cls.addClassCleanup(cls.driver.quit)
-
+@unittest.skipIf(NO_BOTTLE, NO_BOTTLE)
+class InTheBrowser(browser.Browsing, Case):
     def setUp(self):
         super().setUp()
         self.expected, self.hosts = [], []  # parts of what the console may say, and the desks of this test
-        self.run_of("Emulation.setEmulatedMedia", media="", features=[])
-        self.size(1280, 900)
 
     def tearDown(self):
         """No request leaves this machine's desk, and no error is on the console but those of faults that are expected."""
-        told = [entry["message"] for entry in self.driver.get_log("browser")]
-        events = [json.loads(entry["message"])["message"] for entry in self.driver.get_log("performance")]
-        asked = [event["params"]["request"]["url"] for event in events if event["method"] == "Network.requestWillBeSent"]
-        self.driver.get("about:blank")
-        self.driver.get_log("performance")
-        self.driver.get_log("browser")
+        told, asked = self.logged()
         self.assertTrue(asked)
         self.assertEqual([url for url in asked if not url.startswith(tuple(f"http://{host}/" for host in self.hosts))], [])
         self.assertEqual([line for line in told if not any(part in line for part in self.expected)], [])
-
-    def run_of(self, command, **words):
-        return self.driver.execute_cdp_cmd(command, words)
-
-    def size(self, wide, tall):
-        self.run_of("Emulation.setDeviceMetricsOverride", width=wide, height=tall, deviceScaleFactor=1, mobile=False)
 
     def open(self, files=None, *more, **others):
         self.desk = Running(self, files or files_of(TWELVE), *more, **others)
@@ -71,21 +51,6 @@ class InTheBrowser(Case):
 
     def ready(self):
         self.until(lambda: self.js("return document.documentElement.dataset.ready"))
-
-    def js(self, script, *words):
-        return self.driver.execute_script(script, *words)
-
-    def until(self, holds):
-        """Waits for something to hold; the machine may be busy with something else."""
-        ends = time.monotonic() + 60
-        while not holds():
-            self.assertLess(time.monotonic(), ends, "it never came to be")
-            time.sleep(0.03)
-
-    def press(self, *keys):
-        from selenium.webdriver.common.action_chains import ActionChains
-
-        ActionChains(self.driver).send_keys(*keys).perform()
 
     def chord(self, *keys):
         """Keys that are held down before the last."""
@@ -101,9 +66,6 @@ class InTheBrowser(Case):
 
     def text(self, key):
         return strip(self.js("return document.getElementById(arguments[0]).innerText", key))
-
-    def click(self, key):
-        self.js("document.getElementById(arguments[0]).click()", key)
 
     def state(self):
         return int(re.search("#state-([0-9]+)$", self.driver.current_url)[1])

@@ -2,7 +2,6 @@
 import os
 import re
 import shlex
-import pathlib
 import shutil
 import signal
 import subprocess
@@ -10,7 +9,7 @@ import sys
 import time
 
 from common import HUB, PROGRAM, ROOT, clearing, needs
-from evidences import SCENARIOS, SCRIPT, EvidenceCase, evidence
+from evidences import SCENARIOS, EvidenceCase, evidence
 
 TWELVE = ROOT / "examples/twelve-banks"
 

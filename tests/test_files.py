@@ -94,7 +94,7 @@ class Files(Case):
         table = self.file("table.csv", "name,cash,rule\nA,1,order\nB,2,equal\n")
         generated = ["--seed", 1, "--size", 4, "--tries", 9, "--debts", self.folder / "d.csv"]
         for name, words, option in [
-            ("from_list.py", [listed, "--table", table, "--unit", "1", "--debts", self.folder / "d.csv"], "--banks"),
+            ("from_list.py", [listed, "--table", table, "--unit", "1", "--summary", self.folder / "told.csv", "--debts", self.folder / "d.csv"], "--banks"),
             ("to_matrix.py", network, "--out"), ("gen_files.py", generated, "--banks"),
             ("breaking.py", network, "--output"), ("impact.py", network, "--matrix"),
         ]:

@@ -362,7 +362,10 @@ class Lint(Case):
         for text, hint in [
             ("name;cash;rule\nA;1;order\n", "save the file with commas"),
             ("name\tcash\trule\n", "stand between tabs"),
-            ("name,cash,rule\n".encode("utf-16"), "is UTF-16"),
+            *(("name,cash,rule\n".encode(code), "the file is UTF-16") for code in ("utf-16", "utf-16-le", "utf-16-be")),
+            (b"PK\x03\x04\x14\0\6\0\x08\0\0\0!\0", "the file is a workbook; from_matrix.py or from_list.py reads it"),
+            (bytes.fromhex("d0cf11e0a1b11ae1") + bytes(90), "the file is a workbook"),
+            (b"\x7fELF\2\1\1\0\0\0", "the file is no text"),
             ("Name,Cash,Rule\nA,1,order\nB,1,order\n", "small letters"),
             ("name,cash,rule,\nA,1,order,\nB,1,order,\n", "delete the empty columns"),
             ("name,cash\u00a0,rule\nA,1,order\nB,1,order\n", "no blank here"),

@@ -15,7 +15,8 @@ import time
 
 from common import PACKAGES, PROGRAM, ROOT, clearing, tool
 from clearing_tools.labels import shown
-from reports import D3, PYTHON, TWELVE, Reader, Report, files_of, is_running, odd_net
+from browser import D3
+from reports import PYTHON, TWELVE, Reader, Report, files_of, is_running, odd_net
 
 
 class TheFile(Report):

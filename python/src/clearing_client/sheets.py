@@ -83,7 +83,8 @@ def named_files(options: Mapping[str, Any], folder: pathlib.Path) -> Dict[str, A
 def file_of(sheet: Any, folder: pathlib.Path, name: str, kind: str) -> str:
     """The name of a file with a sheet. A DataFrame is written with its index, but for a list."""
     if not is_frame(sheet):
-        return os.fspath(sheet)
+        given: str = os.fspath(sheet)
+        return given
     path = folder / f"{name}.csv"
     has_index = kind == "matrix" or sheet.index.dtype == object
     sheet.to_csv(path, index=has_index and kind not in ("list", "known"))

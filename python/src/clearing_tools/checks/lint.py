@@ -50,6 +50,7 @@ from clearing_client.format import (
 
 from .. import cli, runner
 from ..evidence import bounds
+from ..imports.books import is_workbook
 from ..runner import Failed, command
 from . import names
 
@@ -219,8 +220,13 @@ def class_hint(field):
 
 def header_hint(data, records, words):
     """What to do about a first record that is not one of the headers."""
-    if data[:2] in (b"\xff\xfe", b"\xfe\xff") or b"\0" in data[:64]:
+    if is_workbook(data):
+        return "the file is a workbook; from_matrix.py or from_list.py reads it, or save its sheet as CSV in UTF-8"
+    start = data[:64]
+    if start[:2] in (b"\xff\xfe", b"\xfe\xff") or len(start) > 1 and any(start[::2]) != any(start[1::2]):
         return "the file is UTF-16; save it as UTF-8"
+    if b"\0" in start:
+        return "the file is no text; save it as CSV in UTF-8"
     if not records:
         return "the file has no record"
     fields = [text_of(field) for field in records[0].fields]

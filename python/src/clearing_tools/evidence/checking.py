@@ -11,7 +11,7 @@ from ..runner import ROOT, Failed
 from . import audit, shock, source
 from .parts import (
     BANKS, BUILT, FILE, JOURNAL, PROGRAM, README, SUMS, TABLES, UNREAD, VERSIONS, checksum_of, commands_of, commands_text, names_of,
-    parts_of, program_file, program_sum, read_inputs, read_rescue, rescue_holds, stress_of, sums_text, words_of,
+    parts_of, program_sum, read_inputs, read_rescue, rescue_holds, stress_of, sums_text, words_of,
 )
 
 # No folder of these commands has as many names.

@@ -183,7 +183,6 @@ def read_inputs(banks_data, debts_data, scenarios_data):
     return network, scenarios
 
 
-
 # The program.
 
 

@@ -2,7 +2,6 @@
 
 Each part is gone through before a library sees it: one that unpacks to more than it may, nests deeper, or declares entities is
 refused. Nothing is fetched, and no link to another file is followed."""
-import datetime
 import re
 import sys
 import zipfile

@@ -42,7 +42,7 @@ from .faults import Faults
 from .groups import add_groups, read_groups
 from .summary import Summary
 from .tables import Cells, Table
-from .units import Debt, Network, Units, grouped
+from .units import Debt, Network, grouped
 
 ZERO = ("", "0")
 
