@@ -80,8 +80,9 @@ class List(Case):
         self.check("name,cash,rule\nA,3,webster\nB,4,webster\n", "debtor,creditor,class,claim\nA,B,2,10\n")
         self.banks.unlink(), self.debts.unlink()
         text = "debtor,creditor,amount\nA,B,10\n"
-        for column, seen in (("OUTSIDE", "OUTSIDE"), ("outside\u00a0", "outside<U+00A0>"), ("\u2003oUtside", "<U+2003>oUtside")):
-            told = f"table.csv row 1 column {seen}: its name is outside but for capitals or spaces; say --outside "
+        for column, seen, word in (("OUTSIDE", "OUTSIDE", "OUTSIDE"), ("outside\u00a0", "outside<U+00A0>", "$'outside\\xc2\\xa0'"),
+                                   ("\u2003oUtside", "<U+2003>oUtside", "$'\\xe2\\x80\\x83oUtside'")):
+            told = f"table.csv row 1 column {seen}: its name is outside but for capitals or spaces; say --outside {word}, or rename it"
             self.refuse(told, text, table=TABLE.replace("outside", column))
         # One of both is meant, and which one is to be said.
         both = "bank,cash,Rule,rule\nA,3,adams,order\nB,4,adams,equal\n"

@@ -2,6 +2,8 @@
 import re
 from fractions import Fraction
 
+from ..labels import word_shown
+from ..runner import shown
 from . import books
 from .amounts import Unread
 from .reading import rows_of
@@ -118,7 +120,9 @@ class Cells:
 
 
 def quoted(name):
-    """A name as a word of the shell."""
+    """A name as a word of the shell; one with signs that are not seen has them as escapes."""
+    if shown(name) != name:
+        return word_shown(name)
     return name if re.fullmatch(r"[\w./-]+", name) and not name.startswith("-") else "'" + name.replace("'", "'\\''") + "'"
 
 
