@@ -150,25 +150,64 @@ def support_of(numpy, totals):
 
 def whole(numpy, matrix, totals, support):
     """Claims in whole units with exactly the totals: each cell rounded down, and up where most was cut off, one in each row and
-    column of those that are cut off alike; what is still left goes along paths of claims that give way."""
+    column of those that are cut off alike; where units are left a cell that is rounded up gives way to others. Each claim so is its cell
+    rounded down or up, as is always possible (the rounding of Cox 1987), but where the fit is not close."""
     cells = numpy.floor(matrix + 1e-6).astype(numpy.int64)
     owes, owed = (numpy.array(side) for side in totals.left())
     rows, columns = owes - cells.sum(axis=1), owed - cells.sum(axis=0)
     take_back(numpy, cells, rows, columns)
     cut = numpy.where(support, matrix - cells, -1.0)
+    raised = numpy.zeros(cells.shape, dtype=bool)
     places = numpy.arange(totals.size)
     beside = (places[None, :] - places[:, None]) % max(totals.size, 1)
     for flat in numpy.lexsort((beside.ravel(), -numpy.round(cut, 6).ravel())):
         row, column = divmod(int(flat), totals.size)
         if rows[row] > 0 and columns[column] > 0 and cut[row, column] > 1e-6:
-            cells[row, column] += 1
+            raised[row, column] = True
             rows[row] -= 1
             columns[column] -= 1
+    give_way(numpy, cut > 1e-6, raised, rows, columns)
+    cells += raised
     claims = {(int(r), int(c)): int(cells[r, c]) for r, c in zip(*numpy.nonzero(cells))}
     near = [numpy.flatnonzero(line).tolist() for line in support]
     open_ = support.tolist()
     complete(rows.tolist(), columns.tolist(), lambda row, column: open_[row][column], claims, near)
     return claims
+
+
+def give_way(numpy, can_rise, raised, rows, columns):
+    """Raises cells by one, each once, for the rows and columns that still lack units: along paths on which cells rise and raised cells
+    fall back in turn."""
+    for start in map(int, numpy.flatnonzero(rows > 0)):
+        while rows[start] > 0 and (path := path_of(numpy, start, can_rise, raised, columns)):
+            for at, (row, column) in enumerate(path):
+                raised[row, column] = at % 2 == 0
+            rows[start] -= 1
+            columns[path[0][1]] -= 1
+
+
+def path_of(numpy, start, can_rise, raised, columns):
+    """The cells of a shortest path from a column that lacks a unit back to a row, or nothing: each second of them is raised."""
+    from_row, from_column = numpy.full(len(columns), -1), numpy.full(len(columns), -1)
+    edge, seen = deque([start]), numpy.zeros(len(columns), dtype=bool)
+    seen[start] = True
+    while edge:
+        row = edge.popleft()
+        fresh = numpy.flatnonzero(can_rise[row] & ~raised[row] & (from_row < 0))
+        from_row[fresh] = row
+        for column in map(int, fresh):
+            if columns[column] > 0:
+                path = [(row, column)]
+                while row != start:
+                    path.append((row, int(from_column[row])))
+                    row = int(from_row[from_column[row]])
+                    path.append((row, path[-1][1]))
+                return path
+            for other in map(int, numpy.flatnonzero(raised[:, column] & ~seen)):
+                seen[other] = True
+                from_column[other] = column
+                edge.append(other)
+    return []
 
 
 def take_back(numpy, cells, rows, columns):
