@@ -10,6 +10,7 @@ import xml.etree.ElementTree as tree
 
 from common import ODD_NAMES, PROGRAM, ROOT, Case, clearing, needs_modules, python_with, tool
 
+from clearing_tools.labels import shown  # noqa: E402
 from clearing_tools.drawing.shortfalls import parts_owed  # noqa: E402
 from clearing_tools.drawing.style import DARK, LIGHT  # noqa: E402
 from clearing_tools.texts import read_banks, read_outside, read_payments  # noqa: E402
@@ -144,16 +145,18 @@ class Network(Pictures):
         self.assertIn("in default", texts(svg))
         self.assertTrue(any(kind(path, "fundamental") for path in tree.fromstring(svg).iter(f"{SVG}path")))
 
-    def test_names_stand_as_they_are(self):
+    def test_names_stand_as_they_are_but_for_signs_that_are_not_seen(self):
         names = [name for name in ODD_NAMES if name.strip(" \t") == name]
         banks = self.file("b.csv", "name,cash,rule\n" + "".join(f"{name},1,order\n" for name in names))
         debts = self.file("e.csv", "debtor,creditor,class,claim\n" + "".join(f"{a},{b},1,2\n" for a, b in zip(names, names[1:])))
         files = ["--banks", banks, "--debts", debts]
         for form in ("graph", "matrix"):
             said = "".join(tree.fromstring(self.drawn(files, "--form", form)).itertext())
-            for name in names[:30] if form == "matrix" else names:
+            for name in map(shown, names[:30] if form == "matrix" else names):
                 for part in name.split(" "):
                     self.assertIn(part, said)
+            self.assertEqual("<U+202E>A" in said, form == "graph")
+            self.assertEqual([name for name in names if shown(name) != name and name in said], [])
 
     def test_texts_of_other_networks_and_faulty_words_are_refused(self):
         payments, defaults = self.text("p.csv", "clear", CHAIN), self.text("d.csv", "defaults", HUB)
