@@ -1,8 +1,9 @@
 """Names in the report: they are shown, do nothing, and do not lie."""
 import json
 
-from clearing_tools.labels import shown
 from reports import InTheBrowser, networks_of_every_character, odd_net
+
+from clearing_tools.labels import shown  # noqa: E402
 
 
 class Names(InTheBrowser):

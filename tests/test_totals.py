@@ -210,6 +210,28 @@ class Totals(Case):
         for (a, b), claim in real.items():
             self.assertLess(abs(debts.get((str(a), str(b)), 0) - claim), 1, (a, b))
 
+    def test_it_is_told_whether_the_chain_came_to_rest(self):
+        draw = random.Random(3)
+        for banks, steps, rests in ((40, 100_000, True), (40, 1000, False), (300, 20_000, False), (40, 10, False)):
+            lines = [f"N{n},{draw.randrange(1, 4000)},{draw.randrange(1, 4000)},1\n" for n in range(banks)]
+            told = self.made_of("bank,assets,liabilities,cash\n" + "".join(lines), "--method", "sample", "--steps", steps)
+            line, = [line for line in told.splitlines() if line.startswith("steps of the chain: ")]
+            self.assertRegex(line, rf"^steps of the chain: {steps:,}; [0-9,]+ claims in the third quarter of them, [0-9,]+ in the last")
+            self.assertEqual(line.endswith(": it has not come to rest, so say more --steps"), not rests, line)
+
+    def test_a_chain_begins_with_about_as_many_claims_as_are_likely(self):
+        draw = random.Random(4)
+        size = 300
+        owes, owed = ([draw.randrange(1, 9000) for _ in range(size)] for _ in range(2))
+        owed[0], owes[0] = owed[0] + max(sum(owes) - sum(owed), 0), owes[0] + max(sum(owed) - sum(owes), 0)
+        totals = methods.Totals(list(range(size)), owes, owed)
+        for density in (0.02, 0.2):
+            claims = methods.begun(totals, density, methods.Draw(1))
+            self.assertAlmostEqual(len(claims) / (size * (size - 1)), density, delta=density / 3)
+            self.assertFalse([pair for pair, claim in claims.items() if pair[0] == pair[1] or claim < 1])
+            for place, want in ((0, owes), (1, owed)):
+                self.assertEqual([sum(claim for pair, claim in claims.items() if pair[place] == n) for n in range(size)], want)
+
     def test_samples_forget_where_the_chain_began(self):
         draw = random.Random(2)
         claims = {(a, b): draw.randrange(1, 900) for a in range(20) for b in range(20) if a != b and draw.random() < 0.5}
@@ -309,7 +331,7 @@ class Totals(Case):
     def test_a_seed_makes_the_same_networks_for_good(self):
         # These claims stay as they are in each version and on each machine.
         sparse = {("A", "C"): 60, ("B", "A"): 60, ("B", "D"): 30, ("C", "A"): 40, ("D", "B"): 50, ("D", "C"): 10}
-        sample = {("A", "B"): 16, ("A", "C"): 33, ("A", "D"): 11, ("B", "A"): 56, ("B", "C"): 20, ("B", "D"): 14, ("C", "A"): 3, ("C", "B"): 32, ("C", "D"): 5, ("D", "A"): 41, ("D", "B"): 2, ("D", "C"): 17}
+        sample = {("A", "B"): 20, ("A", "C"): 10, ("A", "D"): 30, ("B", "A"): 42, ("B", "C"): 48, ("C", "A"): 40, ("D", "A"): 18, ("D", "B"): 30, ("D", "C"): 12}
         for method, want in [("sparse", sparse), ("sample", sample)]:
             self.made_of(TABLE, "--method", method, "--seed", 5, "--steps", 500, "--density", 0.9)
             self.assertEqual(self.debts(), want)

@@ -10,6 +10,8 @@ from ..runner import Progress
 from .generated import Pcg32
 
 MAX_STEPS = 2_000_000
+# How often a chain is looked at on its way to the first network.
+LOOKS = 40
 # How often claims are fitted to the totals at most: all of them, and those that are left of too many.
 FITTING, FITTING_ANEW = 10_000, 200
 
@@ -307,6 +309,58 @@ def sparsest(totals, tries, draw):
 
 # Samples
 
+class Left:
+    """What banks have left of their totals, from which a bank is drawn by it: sums over blocks of banks, each twice as long."""
+
+    def __init__(self, left):
+        self.left, self.sum, self.sums = list(left), sum(left), [0] * (len(left) + 1)
+        for at, units in enumerate(left):
+            self.add(at, units)
+
+    def add(self, at, units):
+        at += 1
+        while at < len(self.sums):
+            self.sums[at] += units
+            at += at & -at
+
+    def take(self, at, units):
+        self.left[at] -= units
+        self.sum -= units
+        self.add(at, -units)
+
+    def drawn(self, draw):
+        """A bank, as likely as what it has left."""
+        unit, at = int(draw.random() * self.sum), 0
+        for step in [1 << power for power in range(len(self.left).bit_length() - 1, -1, -1)]:
+            if at + step < len(self.sums) and self.sums[at + step] <= unit:
+                at += step
+                unit -= self.sums[at]
+        return at
+
+
+def begun(totals, density, draw):
+    """A network to begin a chain with that has about as many claims as are likely: pairs are drawn by what is left, and load a part of
+    it, up to twice the mean claim."""
+    mean, (owes, owed) = mean_of(totals, density), map(Left, totals.left())
+    claims, misses = {}, 0
+    while owes.sum and misses < 200:
+        pair = owes.drawn(draw), owed.drawn(draw)
+        if not totals.is_open(*pair):
+            misses += 1
+            continue
+        load = min(1 + int(draw.random() * (2 * mean - 1)), owes.left[pair[0]], owed.left[pair[1]])
+        claims[pair], misses = claims.get(pair, 0) + load, 0
+        owes.take(pair[0], load)
+        owed.take(pair[1], load)
+    return claims if complete(owes.left, owed.left, totals.is_open, claims) else some_network(totals)
+
+
+def mean_of(totals, density):
+    """The mean of a claim that is there, where a claim is there with a probability."""
+    pairs = totals.size * (totals.size - 1) - len(totals.fixed)
+    return max((totals.sum - sum(totals.fixed.values())) / (density * pairs), 1.0) if pairs > 0 else 1.0
+
+
 class Chain:
     """A sampler over matrices of whole units with fixed totals and a diagonal of 0.
 
@@ -319,9 +373,7 @@ class Chain:
         self.draw, self.totals, self.size = draw, totals, totals.size
         self.cells, self.keys = dict(claims), list(claims)
         self.places = {pair: at for at, pair in enumerate(self.keys)}
-        pairs = totals.size * (totals.size - 1) - len(totals.fixed)
-        mean = max((totals.sum - sum(totals.fixed.values())) / (density * pairs), 1.0) if pairs > 0 else 1.0
-        more = 1 - 1 / mean
+        more = 1 - 1 / mean_of(totals, density)
         # The weight of a claim of 1 against none, where each further unit weighs `more`; a cycle keeps the sum of units.
         self.there = density * (1 - more) / (more or 1e-12)
         self.none = 1 - density
@@ -388,38 +440,69 @@ class Chain:
 
 
 def sampled(totals, density, steps, samples, draw):
-    """Networks at random, one after another of one chain."""
-    chain = Chain(totals, density, draw, some_network(totals))
-    every = [steps if at == 0 else max(steps // 10, 1) for at in range(samples)]
-    all_steps = sum(every) if totals.size > 2 else 0
+    """Networks at random, one after another of one chain; and what was seen of it on the way to the first."""
+    start = begun(totals, density, draw)
+    chain, seen, made = Chain(totals, density, draw, start), [], []
+    every = [steps if at == 0 else max(steps // 10, 1) for at in range(samples)] if totals.size > 2 else []
     told, done = Progress("per cent of the steps", 100), 0
-    for count in every if all_steps else []:
-        for _ in range(count):
+    for count in every:
+        for at in range(count):
             chain.step()
             done += 1
-            if done * 100 // all_steps > told.done:
+            if done * 100 // sum(every) > told.done:
                 told.one_more()
-        yield dict(sorted(chain.cells.items()))
-    if not all_steps:
-        yield from (dict(sorted(chain.cells.items())) for _ in every)
+            if not made and (at + 1) * LOOKS // steps > len(seen):
+                seen.append(look_at(chain, start))
+        made.append(dict(sorted(chain.cells.items())))
     told.end()
+    return made or [dict(sorted(chain.cells.items()))] * samples, Settling(steps, seen) if seen else None
+
+
+def look_at(chain, start):
+    """How many claims there are, how large they are, and how much of the first network is there still, as shares of all units."""
+    units = max(sum(start.values()), 1)
+    kept = sum(min(claim, chain.claim(*pair)) for pair, claim in start.items())
+    return len(chain.keys), sum(claim * claim for claim in chain.cells.values()) / units, kept / units
+
+
+class Settling:
+    """How a chain came to rest on its way to the first network: what was seen in the third quarter of the steps and in the last. Where they
+    differ by more than chance would have it, the chain has not forgotten where it began."""
+
+    def __init__(self, steps, seen):
+        self.steps = steps
+        quarters = seen[len(seen) // 2 : len(seen) * 3 // 4], seen[len(seen) * 3 // 4 :]
+        (self.before, large, kept), (self.after, last, left) = (
+            [sum(numbers) / len(quarter) for numbers in zip(*quarter)] or [0, 0, 0] for quarter in quarters)
+        chance = 1 / max(self.after, 1) ** 0.5
+        self.is_done = len(seen) == LOOKS and all((
+            abs(self.before - self.after) <= max(0.02, 2 * chance) * self.after,
+            abs(large - last) <= max(0.1, 3 * chance) * last,
+            kept - left <= max(0.02, chance / 2),
+        ))
+
+    def line(self):
+        """What is told of it: the count of steps, and the number of claims."""
+        detail = f"{self.before:,.0f} claims in the third quarter of them, {self.after:,.0f} in the last"
+        return "steps of the chain", self.steps, None, detail + ("" if self.is_done else ": it has not come to rest, so say more --steps")
 
 
 # What is asked for
 
 def networks_of(numpy, totals, words):
-    """The networks that are asked for, each the claims by the places of debtor and creditor, and what was cut of the only one."""
+    """The networks that are asked for, each the claims by the places of debtor and creditor; what was cut of the only one; and how the
+    chain of samples came to rest."""
     draw, samples = Draw(words.seed), words.samples or 1
     if words.method == "entropy":
         claims, cut = even(numpy, totals, words.most)
-        return [{**totals.fixed_above_zero(), **claims}], cut
+        return [{**totals.fixed_above_zero(), **claims}], cut, None
     if words.method == "sparse":
         tries = words.tries or min(20, max(1, 40_000_000 // max(totals.size, 1) ** 3))
-        made = [sparsest(totals, tries, draw) for _ in range(samples)]
+        made, settling = [sparsest(totals, tries, draw) for _ in range(samples)], None
     else:
         steps = words.steps or min(200 * totals.size * totals.size, MAX_STEPS)
-        made = list(sampled(totals, density_of(totals, words), steps, samples, draw))
-    return [{**totals.fixed_above_zero(), **claims} for claims in made], None
+        made, settling = sampled(totals, density_of(totals, words), steps, samples, draw)
+    return [{**totals.fixed_above_zero(), **claims} for claims in made], None, settling
 
 
 def density_of(totals, words):

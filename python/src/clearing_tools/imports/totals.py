@@ -24,7 +24,7 @@ Out: in --out FOLDER the files banks.csv and debts.csv; with --samples N the fol
   sample    networks at random, by a sampler over cycles of claims as that of Gandy and Veraart (2017), in whole units:
             each claim is there with the probability --density (0.3, or less, so that about 16,000 claims come), and its
             size is geometric. --steps (200 for each pair of banks, 2,000,000 at most) are made before the first sample
-            and a tenth of them before each other
+            and a tenth of them before each other; it is told where the chain has not come to rest before the first
 --seed S (1) is the number from which `sparse` and `sample` draw; the same seed makes the same networks for good.
 
 In every network the claims of each bank come exactly to its totals in whole units. Amounts are read and rounded, lines of
@@ -305,9 +305,9 @@ def networks_in_units(table, banks, owes, owed, known, words, faults):
         if any(left < 0 for side in totals.left() for left in side) or some_network(totals) is None:
             faults.add(table, None, None, f"in units of {shown(unit)} no network has these totals{' with the known claims' if known else ''}")
             faults.end_if_any()
-        networks, cut = networks_of(numpy, totals, words)
+        networks, cut, settling = networks_of(numpy, totals, words)
         if words.unit != "auto" or max(max(claims.values(), default=0) for claims in networks) <= MAX_CLAIM:
-            return unit, totals, networks, cut, told
+            return unit, totals, networks, cut, told + ([settling.line()] if settling else [])
     raise AssertionError("a unit is large enough in the end")
 
 
