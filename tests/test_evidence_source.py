@@ -1,7 +1,10 @@
 """Evidence that begins at the sheets of which the two files were made."""
+import shutil
+
 import test_evidence
 from test_evidence import evidence
 
+TOTALS = "bank,assets,liabilities,cash\nA,100,60,20\nB,50,90,10\nC,70,40,30\nD,30,60,5\n"
 LIST = "lender,borrower,amount,currency\nB,A,10,EUR\nA,B,4,USD\nB,A,10,EUR\n"
 
 
@@ -31,6 +34,27 @@ class Source(test_evidence.Evidence):
         for line in ("source: inputs/banks.csv same", "source: inputs/debts.csv same", "source: source/summary.csv same",
                      "checked: the two files are what the command in source/ makes of the sheets"):
             self.assertIn(line, done.stdout.decode().splitlines())
+
+    def test_totals_are_kept_and_the_network_made_anew(self):
+        self.file("totals.csv", TOTALS)
+        for method, claims in (("sparse", 4), ("sample", 5)):
+            done = self.make(f"from_totals.py totals.csv --method {method} --seed 7 --steps 200")
+            self.assertEqual((done.returncode, done.stderr), (0, b""))
+            folder = self.folder / "evidence"
+            self.assertEqual({path.name for path in (folder / "source").iterdir()}, {"1-totals.csv", "command.tsv", "summary.csv"})
+            made = (folder / "inputs/debts.csv").read_text().splitlines()
+            self.assertGreaterEqual(len(made), claims)
+            done = evidence("check", folder)
+            self.assertEqual((done.returncode, done.stderr), (0, b""))
+            self.assertIn("checked: the two files are what the command in source/ makes of the sheets", done.stdout.decode().splitlines())
+            # Another seed makes other claims.
+            command = folder / "source/command.tsv"
+            command.write_text(command.read_text().replace("word\t7\n", "word\t8\n"))
+            self.sums_anew(folder)
+            done = evidence("check", folder)
+            self.assertEqual(done.returncode, 5, method)
+            self.assertIn("source: inputs/debts.csv differs\n", done.stdout.decode())
+            shutil.rmtree(folder)
 
     def test_files_of_other_sheets_are_found(self):
         self.make(self.given())
@@ -68,7 +92,9 @@ class Source(test_evidence.Evidence):
         self.assertEqual(evidence("check", folder).returncode, 3)
 
     def test_what_is_no_command_makes_nothing(self):
-        for command, status, told in [("sh -c x", 2, b"--source begins with one of from_matrix.py, from_list.py"), ("from_list.py 'x", 2, b"--source is no command"),
+        totals = self.file("totals.csv", TOTALS)
+        for command, status, told in [("sh -c x", 2, b"--source begins with one of from_matrix.py, from_list.py, from_totals.py"),
+                                      (f"from_totals.py {totals} --method sample --samples 2", 2, b"--source is of one network, and --samples makes several"), ("from_list.py 'x", 2, b"--source is no command"),
                                       (self.given().replace("--duplicates once", ""), 4, b"the same in every column as a line before")]:
             done = self.make(command)
             self.assertEqual((done.returncode, done.stdout), (status, b""))

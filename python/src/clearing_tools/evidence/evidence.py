@@ -12,7 +12,8 @@ scenario (scenario-1/ ...) with the banks file that it leaves, a journal, the pa
 of that bank, the network with the sum that saves it (rescue/) and with a unit less (unit-less/), and the same of each; stress.csv
 with what `clearing stress` prints, which is compared with all that; commands.tsv with the words and the status of each run;
 versions.txt; and SHA256SUMS over all files. With --source in place of the two files, source/ has the sheets of that command of
-from_matrix.py or from_list.py (without --banks and --debts), the command and the summary, and the two files are what it makes. One worker makes each journal, so that the same program makes the same bytes again.
+from_matrix.py, from_list.py or from_totals.py (without where it writes), the command and the summary, and the two files are what it
+makes. One worker makes each journal, so that the same program makes the same bytes again.
 
 `check` asks for the folder, Python and nothing else. It reads each file once, into a copy of its own. The folder must have exactly the
 files that `make` writes for its inputs, and nothing else. It compares the checksums, commands.tsv and README.txt, makes the banks file of

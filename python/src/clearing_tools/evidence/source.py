@@ -14,8 +14,10 @@ import tempfile
 from ..runner import Failed
 
 SOURCES = pathlib.Path(__file__).resolve().parents[2]
-TOOLS = {"from_matrix.py": "matrix", "from_list.py": "list"}
+TOOLS = {"from_matrix.py": "matrix", "from_list.py": "list", "from_totals.py": "totals"}
 """The tools that make two files of sheets, and their modules."""
+# What makes more than one network.
+MANY = "--samples"
 # What says where to write, and so is not for the command.
 WRITES = ("--banks", "--debts", "--label", "--summary", "--out")
 # What may name a file beside those that are kept.
@@ -34,6 +36,8 @@ def parsed(command):
     tool = os.path.basename(tool)
     if tool not in TOOLS:
         raise Failed(f"--source begins with one of {', '.join(TOOLS)}", 2)
+    if any(word.split("=")[0] == MANY for word in words):
+        raise Failed(f"--source is of one network, and {MANY} makes several", 2)
     found = []
     for word in words:
         before, sign, name = word.rpartition("=")
@@ -82,7 +86,7 @@ def words_in(text):
     for line in lines:
         kind, *fields = line.split("\t")
         if kind == "word" and len(fields) == 1:
-            if fields[0].split("=")[0] in WRITES or OUTSIDE.search(fields[0]):
+            if fields[0].split("=")[0] in (*WRITES, MANY) or OUTSIDE.search(fields[0]):
                 raise ValueError(f"the word {fields[0]!r}")
             words.append((fields[0], None))
         elif kind == "file" and len(fields) == 2 and NAME.fullmatch(fields[1]) and fields[0].split("=")[0] not in WRITES:
@@ -115,9 +119,9 @@ def made_of(text, read):
             if name is not None:
                 (folder / "source" / name).write_bytes(read(name))
         line = [word if name is None else f"{word}source/{name}" for word, name in words]
-        out = [word for name in MADE for word in (f"--{name.removesuffix('.csv')}", f"made/{name}")]
+        out = ["--out", "made"] if tool == "from_totals.py" else ["--banks", "made/banks.csv", "--debts", "made/debts.csv"]
         script = f"from clearing_tools.imports.{TOOLS[tool]} import main; main()"
-        done = subprocess.run([sys.executable, "-c", script, *line, *out], cwd=folder, stdin=subprocess.DEVNULL, capture_output=True,
+        done = subprocess.run([sys.executable, "-c", script, *line, *out, "--summary", "made/summary.csv"], cwd=folder, stdin=subprocess.DEVNULL, capture_output=True,
                               timeout=MOST_SECONDS, env={**os.environ, "PYTHONPATH": str(SOURCES)})
         if done.returncode:
             raise Failed(done.stderr.decode("utf-8", "replace").strip(), 4 if done.returncode == 1 else 2)

@@ -108,8 +108,10 @@
     Array.from(rowOf.get(bank).cells).forEach((cell, place) => {
       if (place === 0) { title.append(cell.querySelector("a").cloneNode(true)); return; }
       const term = document.createElement("dt"), text = document.createElement("dd");
-      term.textContent = heads[place].textContent;
-      text.textContent = cell.textContent;
+      // An amount, whose head has a unit, stands here to the last digit.
+      const unit = heads[place].querySelector(".unit"), value = data.columns[place][bank];
+      term.textContent = unit ? unit.previousSibling.textContent.trim() : heads[place].textContent;
+      text.textContent = unit && value !== null ? money(value) : cell.textContent;
       list.append(term, text);
     });
     by("shown").replaceChildren(title, list);
