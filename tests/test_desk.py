@@ -301,9 +301,13 @@ class TakenAway(Desk):
 
     def test_labels_stand_beside_the_names(self):
         labels = self.file("labels.csv", f"code,name\nKemi,Kemin Pankki Oyj\nNobody,No bank\nIsar,{SCRIPT}\n")
-        network = self.desk(None, "--labels", labels).see("/network")
+        desk = self.desk(None, "--labels", labels)
+        network = desk.see("/network")
         found = dict(zip(network["names"], network["labels"]))
         self.assertEqual((found["Kemi"], found["Isar"], found["Alster"]), ("Kemin Pankki Oyj", SCRIPT, ""))
+        # In the picture and in the report too.
+        self.assertIn("<title>Kemi (Kemin Pankki Oyj): ", desk.see("/state/0")["picture"]["body"])
+        self.assertIn('Kemi</a> <span class="full">Kemin Pankki Oyj</span>', desk.see("/take/0/report").decode())
 
 
 class Attacks(Desk):

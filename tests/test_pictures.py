@@ -158,6 +158,27 @@ class Network(Pictures):
             self.assertEqual("<U+202E>A" in said, form == "graph")
             self.assertEqual([name for name in names if shown(name) != name and name in said], [])
 
+    def test_full_names_stand_behind_the_names(self):
+        labels = self.file("l.csv", "code,name\nA,Aster & Söhne\nC,<b>Cedar\u202e</b>\nX,nobody\n")
+        for form in ("graph", "matrix"):
+            svg = self.drawn(CHAIN, "--form", form, "--labels", labels)
+            said = " ".join(texts(svg))
+            self.assertIn("A (Aster & Söhne)", said)
+            self.assertIn("C (<b>Cedar<U+202E></b>)", said)
+            self.assertIn("A (Aster & Söhne) to B: 7 of 10 paid", titles(svg))
+            self.assertNotIn("nobody", svg)
+        self.assertIn("B to C (<b>Cedar<U+202E></b>): 8 of 9 paid", titles(self.drawn(CHAIN, "--around", "C", "--labels", labels)))
+        payments, defaults = self.both(CHAIN)
+        for text, status, message in [("name,label\n", 1, "the first row is not code,name"), ("code,name\nA\n", 1, "row 1: 1 fields in place of 2"),
+                                      ("code,name\nA,x\nA,y\n", 1, "row 2: 'A' has a full name already"), ('code,name\n"A,x\n', 1, "unexpected end of data")]:
+            self.refused("who_pays.py", status, message, payments, defaults, "--labels", self.file("l.csv", text))
+        self.refused("who_pays.py", 1, "cannot be read", payments, defaults, "--labels", self.folder / "none.csv")
+        # No bank is called as another one is.
+        banks = self.file("banks.csv", "name,cash,rule\nA,1,order\nA (x),1,order\n")
+        payments, defaults = self.both(["--banks", banks, "--debts", self.file("debts.csv", "debtor,creditor,class,claim\nA,A (x),1,2\n")])
+        self.refused("who_pays.py", 1, "with its full name the bank 'A' is called as another bank is", payments, defaults,
+                     "--labels", self.file("l.csv", "code,name\nA,x\n"))
+
     def test_texts_of_other_networks_and_faulty_words_are_refused(self):
         payments, defaults = self.text("p.csv", "clear", CHAIN), self.text("d.csv", "defaults", HUB)
         self.refused("who_pays.py", 1, "it has no bank 'A'", payments, defaults)
@@ -195,6 +216,15 @@ class Charts(Pictures):
                 self.assertIn(words, said)
             self.assertNotIn("Alster", said)
         self.assertIn("EUR 1,493,329,000", " ".join(self.chart("shortfalls.py", defaults, "--unit", "1000", "--currency", "EUR")))
+
+    def test_full_names_stand_in_charts_too(self):
+        labels = self.file("l.csv", "code,name\nDunmore,Dunmore Bank plc\nIsar,Isar $1$ AG\nAlster,Alster Bank\n")
+        defaults = self.text("d.csv", "defaults", TWELVE)
+        stress = self.text("s.txt", "stress", TWELVE, "--scenarios", self.file("s.toml", '[[scenario]]\nname = "x"\n'))
+        for said in (self.chart("shortfalls.py", defaults, "--labels", labels), self.chart("stress_map.py", stress, "--labels", labels)):
+            for words in ("Dunmore (Dunmore Bank plc)", "Isar (Isar $1$ AG)", "Elbe", "Birk"):
+                self.assertIn(words, said)
+            self.assertNotIn("Alster", " ".join(said))
 
     def test_a_bank_that_defaults_on_outside_claims_alone_is_shown(self):
         files = self.alone_outside()

@@ -55,6 +55,25 @@ class TheFile(Report):
         data = json.loads(next(text for _, pairs, text in read.raw if pairs.get("type") == "application/json"))
         self.assertEqual(data["names"], list(map(shown, names)))
 
+    def test_full_names_stand_behind_the_names(self):
+        labels = self.file("l.csv", "code,name\nDunmore,<i>Dunmore</i> & Co\nKemi,\u05d1\u05e0\u05e7\u202e\nNobody,nowhere\n")
+        text = self.page(files_of(TWELVE), "--labels", labels, "--d3", self.file("d3.js", "0;"))
+        read = Reader(text)
+        rows = {pairs["data-bank"]: cells[0] for pairs, cells in read.rows if "data-bank" in pairs}
+        self.assertEqual((rows["3"], rows["0"]), ("Dunmore <i>Dunmore</i> & Co", "Alster"))
+        self.assertIn("Kemi \u05d1\u05e0\u05e7<U+202E>", rows.values())
+        self.assertFalse([tag for tag, _ in read.elements if tag == "i"])
+        self.assertNotIn("nowhere", text)
+        # In the summary, above the part of the bank and in the picture; and the script can find it.
+        self.assertIn("<li>Dunmore (&lt;i&gt;Dunmore&lt;/i&gt; &amp; Co) and Isar could not pay", text)
+        self.assertIn('Dunmore <span class="full">&lt;i&gt;Dunmore&lt;/i&gt; &amp; Co</span>: in default by its own fundamentals</h3>', text)
+        self.assertIn("<title>Dunmore (&lt;i&gt;Dunmore&lt;/i&gt; &amp; Co): in default", text)
+        data = json.loads(next(text for _, pairs, text in read.raw if pairs.get("type") == "application/json"))
+        self.assertEqual(data["full"], {"3": "<i>Dunmore</i> & Co", str(data["names"].index("Kemi")): "\u05d1\u05e0\u05e7<U+202E>"})
+        # Its file is among the evidence.
+        self.assertIn("l.csv", text)
+        self.page(files_of(TWELVE), "--labels", self.file("l.csv", "name\n"), status=1, message="the first row is not code,name")
+
     def test_the_evidence_can_be_made_again(self):
         for name in ("banks.csv", "debts.csv", "scenarios.toml"):
             shutil.copy(TWELVE / name, self.folder / name)

@@ -67,11 +67,11 @@ def style_text() -> str:
     return page.tokens() + web.style() + (HERE / "style/desk.css").read_text(encoding="utf-8")
 
 
-def application(bottle: Any, desk: Desk, labels: Dict[str, str], d3: Optional[bytes]) -> Callable[..., Any]:
+def application(bottle: Any, desk: Desk, d3: Optional[bytes]) -> Callable[..., Any]:
     """The WSGI application."""
     app, steps = bottle.Bottle(), Steps()
     pages(bottle, app, d3)
-    app.route("/network", callback=lambda: sent(bottle, view.network_view(desk.base, labels, d3 is not None)))
+    app.route("/network", callback=lambda: sent(bottle, view.network_view(desk.base, desk.full, d3 is not None)))
     answers(bottle, app, desk, steps)
     app.default_error_handler = lambda error: error.body if isinstance(error.body, str) else "Not to be had.\n"
     return app
@@ -129,7 +129,7 @@ def answers(bottle: Any, app: Any, desk: Desk, steps: Steps) -> None:
         return int(bank)
 
     def view_of(number: int, state: State, found: Any) -> Dict[str, Any]:
-        return {"id": number, "line": steps.line(number), **view.state_view(desk.base, state, found)}
+        return {"id": number, "line": steps.line(number), **view.state_view(desk.base, state, found, desk.full)}
 
     def one_state(number: str) -> Any:
         state = step_of(number).state

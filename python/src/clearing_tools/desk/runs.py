@@ -20,6 +20,7 @@ from ..analysis import breaking, impact
 from ..analysis.rescues import numbered_files
 from ..checks.why import faults_of
 from ..evidence import shock
+from ..fullnames import FullNames
 from . import state as states
 from .state import Base, State
 
@@ -128,8 +129,8 @@ def base_of(runs: Runs, banks: str, debts: str, scenarios: Optional[str]) -> Bas
 class Desk:
     """The network, and the clearings of its states that were asked for last."""
 
-    def __init__(self, runs: Runs, base: Base) -> None:
-        self.runs, self.base = runs, base
+    def __init__(self, runs: Runs, base: Base, full: FullNames) -> None:
+        self.runs, self.base, self.full = runs, base, full
         self.kept: "OrderedDict[Any, Cleared]" = OrderedDict()
         self.debts: Tuple[Any, Any] = (None, None)  # the debts that were asked for last: while a slider moves they stay
         self.lock = threading.Lock()

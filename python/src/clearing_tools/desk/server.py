@@ -25,8 +25,6 @@ Example:
 """
 import argparse
 import contextlib
-import csv
-import io
 import os
 import pathlib
 import signal
@@ -35,10 +33,11 @@ import sys
 import threading
 import time
 import webbrowser
-from typing import Any, Dict, Optional
+from typing import Any, Optional
 from wsgiref.simple_server import WSGIRequestHandler, WSGIServer
 
-from .. import cli, files, runner
+from .. import cli, runner
+from ..fullnames import add_labels, read_labels
 from ..report.gather import D3
 from ..runner import Failed, command, work_folder
 from .app import application
@@ -106,23 +105,6 @@ def bottle_of() -> Any:
     return bottle
 
 
-def labels_of(name: Optional[str]) -> Dict[str, str]:
-    """The full names of a file `code,name`, by the code."""
-    if name is None:
-        return {}
-    try:
-        rows = list(csv.reader(io.StringIO(files.text_of(name), newline="")))
-    except csv.Error as fault:
-        raise Failed(f"{name}: {fault}", 4) from fault
-    rows = [[field.strip(" \t") for field in row] for row in rows if row]
-    if not rows or rows[0] != ["code", "name"]:
-        raise Failed(f"{name}: the first row is not code,name", 4)
-    for at, row in enumerate(rows[1:], 1):
-        if len(row) != 2:
-            raise Failed(f"{name} row {at}: {len(row)} fields in place of 2", 4)
-    return {row[0]: row[1] for row in rows[1:]}
-
-
 def library() -> Optional[bytes]:
     """The library d3, nothing where it is not there."""
     for name in D3:
@@ -142,7 +124,7 @@ def minutes(word: str) -> float:
 def words() -> argparse.Namespace:
     parser = cli.files_parser(__doc__)
     parser.add_argument("--scenarios", metavar="FILE", help="the scenarios file")
-    parser.add_argument("--labels", metavar="FILE", help="a CSV file code,name")
+    add_labels(parser)
     parser.add_argument("--no-browser", action="store_true", help="open no browser")
     parser.add_argument("--idle", metavar="MINUTES", type=minutes, default=60.0, help="end after so many minutes without a request (60)")
     return parser.parse_args()
@@ -173,12 +155,13 @@ def main() -> int:
     bottle = bottle_of()
     # Runs go on in folders of their own.
     os.environ["CLEARING"] = runner.program()
-    labels = labels_of(asked.labels)
+    full = read_labels(asked.labels, 4)
     with work_folder() as folder:
         runs = Runs(folder)
         base = base_of(runs, asked.banks, asked.debts, asked.scenarios)
+        full.check((bank.name for bank in base.banks), 4)
         server, clock = Server(), Clock()
-        guard = Guard(application(bottle, Desk(runs, base), labels, library()), server.server_port, clock.asked)
+        guard = Guard(application(bottle, Desk(runs, base, full), library()), server.server_port, clock.asked)
         server.set_app(guard)
         serving = threading.Thread(target=server.serve_forever, args=(0.1,), daemon=True)
         try:

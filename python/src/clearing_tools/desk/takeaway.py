@@ -8,6 +8,7 @@ from typing import List, Tuple
 from clearing_client.scenarios import Scenarios
 
 from .. import runner
+from ..fullnames import text_of
 from . import state as states
 from .runs import AT_ONCE, Desk, Place
 from .state import State
@@ -33,7 +34,9 @@ def taken(desk: Desk, state: State, what: str) -> Tuple[bytes, str, str]:
     with Place(desk.runs) as place:
         desk.files(place, state)
         if what == "report":
-            made(desk, place, "report.gather", ["--banks", "banks.csv", "--debts", "debts.csv", "--title", "Tried at the desk", "--out", name])
+            (place.path / "labels.csv").write_text(text_of(desk.full), encoding="utf-8")
+            labels = ["--labels", "labels.csv"] if desk.full.full else []
+            made(desk, place, "report.gather", ["--banks", "banks.csv", "--debts", "debts.csv", *labels, "--title", "Tried at the desk", "--out", name])
         if what == "evidence":
             made(desk, place, "evidence.evidence", ["make", "evidence", "--banks", "banks.csv", "--debts", "debts.csv"])
             return archive(place.path, "evidence"), name, kind

@@ -8,6 +8,7 @@ from clearing_client.format import RULES
 
 from .. import texts
 from ..drawing import network
+from ..fullnames import FullNames
 from ..money import Money
 from ..report import gather, page
 from . import state as states
@@ -15,11 +16,11 @@ from .runs import Cleared, Desk, Place, lines_from
 from .state import Base, State
 
 
-def network_view(base: Base, labels: Dict[str, str], has_d3: bool) -> Dict[str, Any]:
+def network_view(base: Base, full: FullNames, has_d3: bool) -> Dict[str, Any]:
     """What stays as it is while the desk is there."""
     return {
         "names": [bank.name for bank in base.banks],
-        "labels": [labels.get(bank.name, "") for bank in base.banks],
+        "labels": [full.of(bank.name) for bank in base.banks],
         "debts": len(base.debts),
         "scenarios": [scenario.name for scenario in base.scenarios],
         "rules": list(RULES),
@@ -27,21 +28,21 @@ def network_view(base: Base, labels: Dict[str, str], has_d3: bool) -> Dict[str, 
     }
 
 
-def drawing_of(found: Cleared) -> Tuple[str, network.Drawn]:
+def drawing_of(found: Cleared, full: FullNames) -> Tuple[str, network.Drawn]:
     """The network drawn, as the report has it: a graph or a matrix."""
     place = {bank.name: at for at, bank in enumerate(found.banks)}
     flows = texts.flows_of(found.payments, found.banks)
     form = "graph" if network.is_small(flows, found.banks) else "matrix"
-    return form, network.drawing_of(flows, found.banks, Money(), form, lambda bank: f"bank-{place[bank.name]}")
+    return form, network.drawing_of(flows, found.banks, Money(), form, lambda bank: f"bank-{place[bank.name]}", full)
 
 
-def picture_of(found: Cleared) -> Dict[str, Any]:
+def picture_of(found: Cleared, full: FullNames) -> Dict[str, Any]:
     """The network drawn and its legend, for the page."""
-    form, drawn = drawing_of(found)
+    form, drawn = drawing_of(found, full)
     return {"form": form, "box": [round(part) for part in drawn.box], "body": drawn.body, "legend": drawn.legend}
 
 
-def state_view(base: Base, state: State, found: Cleared) -> Dict[str, Any]:
+def state_view(base: Base, state: State, found: Cleared, full: FullNames) -> Dict[str, Any]:
     """A state: what was changed, and a list over the banks for each thing that the program says of them."""
     rows = [states.row_of(base, state, place) for place in range(len(base.banks))]
     scenario = states.as_scenario(base, state, found.left)
@@ -66,7 +67,7 @@ def state_view(base: Base, state: State, found: Cleared) -> Dict[str, Any]:
         "debts": len(found.keys),
         "changedDebts": changed_debts(base, state),
         "isScenario": scenario is not None,
-        "picture": picture_of(found),
+        "picture": picture_of(found, full),
     }
 
 
@@ -166,5 +167,5 @@ def journal_view(desk: Desk, state: State) -> Dict[str, Any]:
         frames = gather.frames_of(gather.read_journal(path, keys))
     place = {bank.name: at for at, bank in enumerate(found.banks)}
     cash = {bank.name: left for bank, left in zip(found.banks, found.left)}
-    matter = SimpleNamespace(money=Money(), place=place, banks=found.banks, cash=cash, debts=found.payments, frames=frames)
-    return {"picture": picture_of(found), "data": json.loads(page.data_of(matter, drawing_of(found)[1], []))}
+    matter = SimpleNamespace(money=Money(), place=place, banks=found.banks, cash=cash, debts=found.payments, frames=frames, full=desk.full)
+    return {"picture": picture_of(found, desk.full), "data": json.loads(page.data_of(matter, drawing_of(found, desk.full)[1], []))}

@@ -23,10 +23,21 @@ def is_small(flows, banks):
     return len(banks) <= MOST_IN_GRAPH and len(flows) <= MOST_PAIRS_IN_GRAPH
 
 
-def drawing_of(flows, banks, money, form=None, link=None):
-    """A graph of a small and thin network, else a matrix. `link` gives what a bank links to in the report."""
+def drawing_of(flows, banks, money, form=None, link=None, say=str):
+    """A graph of a small and thin network, else a matrix. `link` gives what a bank links to in the report, and `say` what a bank of a
+    name is called."""
     form = form or ("graph" if is_small(flows, banks) else "matrix")
-    return graph(flows, banks, money, link) if form == "graph" else matrix(flows, banks, money, link)
+    return graph(flows, banks, money, link, say) if form == "graph" else matrix(flows, banks, money, link, say)
+
+
+def bank_said(bank, money, say):
+    """How a bank stands, in a line."""
+    return say_bank(bank._replace(name=say(bank.name)), money)
+
+
+def flow_said(flow, money, say):
+    """What a bank owes another and pays, in a line."""
+    return say_flow(flow._replace(debtor=say(flow.debtor), creditor=None if flow.creditor is None else say(flow.creditor)), money)
 
 
 def share_of(flow):
@@ -98,7 +109,7 @@ def tip(points, share, key=""):
     return f'<polygon class="head{" full" if share >= 1 else ""}"{mark} points="{points}"/>'
 
 
-def graph(flows, banks, money, link=None):
+def graph(flows, banks, money, link=None, say=str):
     """The network as a ring of banks, in file order, with a pipe for each flow."""
     out_there = any(flow.creditor is None for flow in flows)
     most_due = max([due_of(bank) for bank in banks], default=0) or 1
@@ -114,13 +125,13 @@ def graph(flows, banks, money, link=None):
         flow = flows[at]
         width = max(LEAST_WIDTH, MOST_WIDTH * flow.claim / most_claim)
         path, length, points = curve(place[flow.debtor], place[flow.creditor], width)
-        pipes.append(pipe(path, length, width, share_of(flow), at, say_flow(flow, money)))
+        pipes.append(pipe(path, length, width, share_of(flow), at, flow_said(flow, money, say)))
         tips.append(tip(points, share_of(flow), at))
     nodes = []
     for at, bank in enumerate(banks):
         here = place[bank.name]
-        body = glyph(f"fill-{at}", bank, here.x, here.y, here.radius) + label(bank.name, note_of(bank), here, box)
-        nodes.append(linked(body, say_bank(bank, money), link(bank) if link else ""))
+        body = glyph(f"fill-{at}", bank, here.x, here.y, here.radius) + label(say(bank.name), note_of(bank), here, box)
+        nodes.append(linked(body, bank_said(bank, money, say), link(bank) if link else ""))
     if out_there:
         here = place[None]
         nodes.append(f'<rect class="box" x="{here.x - 13:.1f}" y="{here.y - 13:.1f}" width="26" height="26" rx="8"/>')
@@ -197,7 +208,8 @@ def largest_of(claims):
 class Grid:
     """Where the rows and columns of a matrix are, and how large its squares."""
 
-    def __init__(self, flows, banks, rest):
+    def __init__(self, flows, banks, rest, say=str):
+        self.called = say
         self.banks = {
             bank.name: bank for bank in sorted(banks, key=lambda bank: (STATES.index(bank.state) or 9, -due_of(bank)))
         }
@@ -214,7 +226,7 @@ class Grid:
         self.largest_outside = max((flow.claim for flow in flows if flow.creditor is None and flow.debtor != OTHERS), default=0) or 1
 
     def say(self, name):
-        return self.words.get(name, name)
+        return self.words[name] if name in self.words else self.called(name)
 
     def box(self):
         """The box that holds the squares and the names; those of the columns lean, so that they can be read."""
@@ -262,7 +274,7 @@ class Grid:
             return text
         bank = self.banks[name]
         body = text + glyph(f"fill-{at}", bank, -0.62 * self.cell, y, 0.3 * self.cell, "small ")
-        return linked(body, say_bank(bank, money), link(bank) if link else "")
+        return linked(body, bank_said(bank, money, self.called), link(bank) if link else "")
 
     def square(self, at, flow, money):
         largest = self.largest_outside if flow.creditor is None else self.largest
@@ -270,9 +282,7 @@ class Grid:
         x = self.cell * self.column[flow.creditor] + (self.cell - side) / 2
         y = self.cell * self.row[flow.debtor] + (self.cell - side) / 2
         part = filled(share_of(flow), side) * side
-        title = say_flow(
-            flow._replace(debtor=self.say(flow.debtor), creditor=flow.creditor and self.say(flow.creditor)), money
-        )
+        title = flow_said(flow, money, self.say)
         return (
             f'<g class="cell" data-flow="{at}"><title>{shown(title)}</title>'
             f'<rect class="box" x="{x:.1f}" y="{y:.1f}" width="{side:.1f}" height="{side:.1f}"/>'
@@ -281,10 +291,10 @@ class Grid:
         )
 
 
-def matrix(flows, banks, money, link=None, most=MOST_IN_MATRIX):
+def matrix(flows, banks, money, link=None, say=str, most=MOST_IN_MATRIX):
     """The network as a matrix, banks in default first; above so many banks those that matter least are one."""
     banks, flows, rest = gathered(flows, banks, most)
-    grid = Grid(flows, banks, rest)
+    grid = Grid(flows, banks, rest, say)
     body = [grid.ground()]
     body += [grid.column_name(at, name) for at, name in enumerate(grid.columns)]
     body += [grid.row_name(at, name, money, link) for at, name in enumerate(grid.rows)]

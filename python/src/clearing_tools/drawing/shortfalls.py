@@ -4,6 +4,7 @@ In:   DEFAULTS     what `clearing defaults` prints
       --payments   what `clearing clear` prints for the same files
       --bounds     what `clearing bounds` prints for the same files: banks in gridlock then have a mark of their own
       --banks      the banks file: what banks owe outside is then drawn whole, else as far as it is paid
+      --labels     a file `code,name`: the full names of banks, shown behind the names of the files
 Out:  a bar for each bank in default, the longest shortfall first: what it pays of all it owes, in blue, and what it leaves unpaid,
       hollow. With --payments two bars: what it has, cash and receipts, and below it what it owes, outside first and then class by
       class, paid and unpaid. The mark beside a name is the bank's state. --unit and --currency say what a unit of account is worth. The
@@ -18,6 +19,7 @@ Ends with 0, with 1 where a file cannot be read or written or is not such a text
 understood or matplotlib is missing.
 """
 from .. import cli, labels, runner, texts
+from ..fullnames import add_labels, read_labels
 from ..money import Money, add_money
 from ..runner import command
 from ..texts import STATES, due_of, shortfall_of
@@ -55,13 +57,13 @@ def part(axes, place, at, units, kind, height):
     return at + units
 
 
-def draw(pyplot, banks, debts, money, most):
-    """A bar for each bank, or two where the debts are known."""
+def draw(pyplot, banks, debts, money, most, say=str):
+    """A bar for each bank, or two where the debts are known; `say` gives what a bank of a name is called."""
     short, shown = in_default(banks, most)
     longest = max([max(due_of(bank), bank.estate) for bank in shown], default=0) or 1
     step = 0.6 if debts is not None else 0.34
     wide, tall = 9.5, 2.3 + step * max(len(shown), 1)
-    left = max([style.width_of(runner.shown(bank.name), 10) / 72 + 0.55 for bank in shown], default=1.0)
+    left = max([style.width_of(runner.shown(say(bank.name)), 10) / 72 + 0.55 for bank in shown], default=1.0)
     figure, axes = pyplot.subplots(figsize=(wide, tall))
     figure.subplots_adjust(left=left / wide, right=1 - 0.25 / wide, bottom=1.15 / tall, top=1 - 0.8 / tall)
     for place, bank in enumerate(shown):
@@ -72,6 +74,7 @@ def draw(pyplot, banks, debts, money, most):
         axes.plot([-0.018 * longest], [place], clip_on=False, **style.mark_of(bank.state, 7))
     titles(figure, banks, short, shown, money)
     scale(axes, shown, longest, money)
+    axes.set_yticks(range(len(shown)), [style.plain(say(bank.name)) for bank in shown], fontsize=10)
     legend(pyplot, figure, shown, debts)
     return figure
 
@@ -113,7 +116,6 @@ def scale(axes, shown, longest, money):
     right = max([due / (1 - part) for due, part in room] + [1.02 * longest])
     sizes = money.scale_of([longest])
     axes.set(xlim=(-0.035 * longest, right), ylim=(max(len(shown), 1) - 0.4, -0.6))
-    axes.set_yticks(range(len(shown)), [style.plain(bank.name) for bank in shown], fontsize=10)
     axes.tick_params(axis="y", length=0, pad=8)
     axes.locator_params(axis="x", nbins=6)
     axes.xaxis.set_major_formatter(lambda units, _: sizes.number(round(units)) if units >= 0 else "")
@@ -143,6 +145,7 @@ def words():
     parser.add_argument("--bounds", metavar="FILE", help="what `clearing bounds` prints")
     parser.add_argument("--banks", metavar="FILE", help="the banks file, for what banks owe outside")
     parser.add_argument("--most", metavar="N", type=int, default=40, help="how many banks are shown at most (40)")
+    add_labels(parser)
     add_money(parser)
     asked = parser.parse_args()
     if asked.most < 1:
@@ -161,5 +164,6 @@ def main():
     debts = texts.read_payments(asked.payments) if asked.payments else None
     if debts is not None:
         texts.check_same_network(debts, banks, asked.payments, asked.defaults)
-    figure = draw(pyplot, banks, debts, Money(asked.unit, asked.currency), asked.most)
-    style.save(figure, asked.output, [asked.defaults, asked.payments, asked.bounds, asked.banks])
+    full = read_labels(asked.labels).check(bank.name for bank in banks)
+    figure = draw(pyplot, banks, debts, Money(asked.unit, asked.currency), asked.most, full)
+    style.save(figure, asked.output, [asked.defaults, asked.payments, asked.bounds, asked.banks, asked.labels])

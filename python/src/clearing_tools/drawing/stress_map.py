@@ -2,6 +2,7 @@
 
 In:   STRESS     what `clearing stress` prints
       --banks    the banks file: what is left unpaid then has what banks owe outside, too
+      --labels   a file `code,name`: the full names of banks, shown behind the names of the files
 Out:  a map with a row for each scenario, in file order, and a column for each bank that defaults in one of them, those that default
       most often first. A cell has the share of all it owes that the bank leaves unpaid, and a strip filled with blue as far as it
       pays; a square marks a default by the bank's own fundamentals, a diamond one by contagion. The margins count the defaults of
@@ -17,6 +18,7 @@ understood or matplotlib is missing.
 from collections import namedtuple
 
 from .. import cli, labels, runner, texts
+from ..fullnames import add_labels, read_labels
 from ..runner import Failed, command
 from ..texts import DEFAULTS_HEADERS, due_of, given_by, lines_in, shortfall_of
 from . import style
@@ -96,11 +98,11 @@ class Map:
 
     WIDE, TALL, BELOW = 0.68, 0.42, 1.0
 
-    def __init__(self, pyplot, scenarios, shown, title):
-        self.pyplot, self.scenarios, self.shown = pyplot, scenarios, shown
+    def __init__(self, pyplot, scenarios, shown, title, say=str):
+        self.pyplot, self.scenarios, self.shown, self.called = pyplot, scenarios, shown, say
         rows, columns = len(scenarios), max(len(shown), 1)
         left = max(style.width_of(runner.shown(scenario.name), 9) for scenario in scenarios) / 72 + 0.3
-        above = max([style.width_of(runner.shown(name), 9) for name in shown], default=0) / 72 * 0.87 + 0.3
+        above = max([style.width_of(runner.shown(say(name)), 9) for name in shown], default=0) / 72 * 0.87 + 0.3
         wide = max(left + self.WIDE * columns + 1.1, 7)
         lines = style.wrapped(title, int(wide * 10))
         tall = above + self.TALL * rows + self.BELOW + 0.3 + 0.2 * len(lines)
@@ -141,7 +143,7 @@ class Map:
         for column, name in enumerate(self.shown):
             defaults = sum(scenario.banks[name].state != "sound" for scenario in self.scenarios)
             axes.text(column + 0.5, rows + 0.35, defaults, ha="center", **how)
-            axes.text(column + 0.4, -0.15, style.plain(name), rotation=60, ha="left", **{**how, "va": "bottom"})
+            axes.text(column + 0.4, -0.15, style.plain(self.called(name)), rotation=60, ha="left", **{**how, "va": "bottom"})
         axes.text(columns + 0.15, rows + 0.35, "defaults", **{**how, "fontsize": 8, "color": LIGHT["muted"]})
 
     def legend(self):
@@ -153,11 +155,11 @@ class Map:
         self.figure.legend(marks + boxes, words, loc="lower left", bbox_to_anchor=place, ncol=2, frameon=False, fontsize=9)
 
 
-def draw(pyplot, scenarios, most):
-    """The map, with at most so many banks."""
+def draw(pyplot, scenarios, most, say=str):
+    """The map, with at most so many banks; `say` gives what a bank of a name is called."""
     columns = columns_of(scenarios)
     shown = columns[:most]
-    whole = Map(pyplot, scenarios, shown, title_of(scenarios, columns, shown))
+    whole = Map(pyplot, scenarios, shown, title_of(scenarios, columns, shown), say)
     for row, scenario in enumerate(scenarios):
         for column, name in enumerate(shown):
             whole.cell(column, row, scenario.banks[name])
@@ -172,8 +174,11 @@ def main():
     parser.add_argument("stress", metavar="STRESS", help="what `clearing stress` prints")
     parser.add_argument("output", metavar="OUTPUT", help="the picture to write")
     parser.add_argument("--banks", metavar="FILE", help="the banks file, for what banks owe outside")
+    add_labels(parser)
     asked = cli.parse_most(parser, "banks are shown", 30)
     pyplot = style.pyplot_of()
     style.check_kind(asked.output)
     outside = texts.read_outside(asked.banks) if asked.banks else None
-    style.save(draw(pyplot, read_stress(asked.stress, outside), asked.most), asked.output, [asked.stress, asked.banks])
+    scenarios = read_stress(asked.stress, outside)
+    full = read_labels(asked.labels).check(scenarios[0].banks)
+    style.save(draw(pyplot, scenarios, asked.most, full), asked.output, [asked.stress, asked.banks, asked.labels])

@@ -4,6 +4,7 @@ In:   PAYMENTS   what `clearing clear` prints: debtor,creditor,class,claim,paid 
       DEFAULTS   what `clearing defaults` prints for the same files
       --bounds   what `clearing bounds` prints for the same files: banks in gridlock then have a shape of their own
       --banks    the banks file: what banks owe outside is then drawn whole, else as far as it is paid
+      --labels   a file `code,name`: the full names of banks, shown behind the names of the files
 Out:  an SVG picture on standard output, or in the file of --output: a graph of up to 15 banks with not too many debts, above that
       a matrix of debtors by creditors; --form chooses one. --only-unpaid leaves out the debts that are paid in full, --around BANK
       all debts but those of one bank; banks without a debt left are left out then. --unit and --currency say what a unit is worth.
@@ -20,6 +21,7 @@ Example:
 Ends with 0, with 1 where a file cannot be read or written or is not such a text, and with 2 where the command line is not understood.
 """
 from .. import cli, files, labels, texts
+from ..fullnames import add_labels, read_labels
 from ..money import Money, add_money
 from ..runner import Failed, command
 from . import network
@@ -74,11 +76,13 @@ def draw(asked):
         banks = texts.with_gridlock(banks, texts.read_gridlock(asked.bounds))
     if not banks:
         raise Failed(f"{asked.defaults}: it has no bank")
+    full = read_labels(asked.labels).check(bank.name for bank in banks)
     title, below = caption(banks, asked, money)
     debts, banks = chosen(debts, banks, asked)
     if not banks:
         return network.picture(network.Drawn("", [0, 0, 0, 0], [], [], []), title, f"{below} There is no such debt.")
-    return network.picture(network.drawing_of(flows_shown(debts, banks, asked), banks, money, asked.form), title, below)
+    drawn = network.drawing_of(flows_shown(debts, banks, asked), banks, money, asked.form, say=full)
+    return network.picture(drawn, title, below)
 
 
 def words():
@@ -90,6 +94,7 @@ def words():
     parser.add_argument("--form", choices=("graph", "matrix"), help="a graph up to 15 banks and 60 pairs, else a matrix")
     parser.add_argument("--only-unpaid", action="store_true", help="the debts that are not paid in full")
     parser.add_argument("--around", metavar="BANK", help="the debts of one bank")
+    add_labels(parser)
     add_money(parser)
     parser.add_argument("--output", metavar="FILE", help="standard output where it is not given")
     return parser.parse_args()
@@ -98,4 +103,4 @@ def words():
 @command("who_pays.py")
 def main():
     asked = words()
-    files.put(draw(asked), asked.output, [asked.payments, asked.defaults, asked.bounds, asked.banks])
+    files.put(draw(asked), asked.output, [asked.payments, asked.defaults, asked.bounds, asked.banks, asked.labels])

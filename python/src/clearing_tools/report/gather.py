@@ -3,6 +3,7 @@
 In:   --banks, --debts   the two files of the network
       --scenarios        the scenarios file: what each leaves, and what changes
       --journal          the journal of a run, judged by `clearing replay` and played in the page; without it one is made by one worker
+      --labels           a file `code,name`: the full names of banks, shown behind the names of the files
       --title            the title of the page
       --unit, --currency what a unit of account is worth, such as --unit 1000 --currency EUR: amounts are in the currency then
       --rescues          for how many banks in default the least rescue is asked, those of the largest shortfall first (100)
@@ -35,6 +36,7 @@ from clearing_client.results import Bounds, Check, Rescue, Verdict as Judged
 from .. import cli, files, labels, texts
 from ..drawing.stress_map import read_stress
 from ..evidence import evidence
+from ..fullnames import add_labels, read_labels
 from ..money import Money, add_money
 from ..runner import Failed, command, work_folder
 from . import page
@@ -132,7 +134,7 @@ def frames_of(raises):
 def inputs_of(asked):
     """The files given, each with what it is, its name, size and checksum. What is longer than any such file is left to the program to
     refuse."""
-    names = [("banks", asked.banks), ("debts", asked.debts), ("scenarios", asked.scenarios), ("journal", asked.journal)]
+    names = [("banks", asked.banks), ("debts", asked.debts), ("scenarios", asked.scenarios), ("journal", asked.journal), ("labels", asked.labels)]
     return [
         Given(what, name, os.path.getsize(name), sum_of(name))
         for what, name in names
@@ -223,6 +225,7 @@ def gather(asked, folder):
         title=asked.title or f"Clearing of {labels.count(len(banks), 'bank')}",
         money=Money(asked.unit, asked.currency),
         banks=banks,
+        full=read_labels(asked.labels).check(cash),
         cash=cash,
         rules={bank.name: bank.rule for bank in known},
         debts=debts,
@@ -263,6 +266,7 @@ def words():
     parser.add_argument("--debts", metavar="FILE", required=True, help="the debts file")
     parser.add_argument("--scenarios", metavar="FILE", help="the scenarios file")
     parser.add_argument("--journal", metavar="FILE", help="the journal of a run")
+    add_labels(parser)
     parser.add_argument("--title", metavar="TEXT", help="the title of the page")
     add_money(parser)
     parser.add_argument(
@@ -285,7 +289,7 @@ def is_taken(folder):
 @command("report.py")
 def main():
     asked = words()
-    inputs = [name for name in (asked.banks, asked.debts, asked.scenarios, asked.journal) if name]
+    inputs = [name for name in (asked.banks, asked.debts, asked.scenarios, asked.journal, asked.labels) if name]
     try:
         files.check_apart([asked.out], inputs)
         if asked.keep and is_taken(asked.keep):

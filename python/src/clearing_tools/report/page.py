@@ -22,7 +22,7 @@ Verdict = namedtuple("Verdict", "lawful line words")
 Evidence = namedtuple("Evidence", "files commit toolchain commands rescues verdict made words")
 # A scenario: its name, its banks in file order, and the cash that it leaves.
 Scenario = namedtuple("Scenario", "name banks cash")
-Answers = namedtuple("Answers", "title money banks cash rules debts waves more rescued rankings scenarios frames evidence")
+Answers = namedtuple("Answers", "title money banks full cash rules debts waves more rescued rankings scenarios frames evidence")
 # Parts of the page, in its order: the key of each and its name.
 PARTS = {
     "summary": "Summary",
@@ -38,7 +38,11 @@ PARTS = {
 
 
 class Matter(Answers):
-    """All that a report says, as the program answered it; amounts are whole units of account."""
+    """All that a report says, as the program answered it; amounts are whole units of account. `full` are the full names of banks."""
+
+    def called(self, name):
+        """A bank within a sentence, with its full name where it has one."""
+        return labels.apart(self.full(name))
 
     @functools.cached_property
     def place(self):
@@ -69,13 +73,17 @@ def templates():
 
 
 def names_of(matter, markup):
-    """The names of the banks as HTML, held apart where they may run from right to left; and each as a link to its part."""
+    """What gives a name as HTML, held apart where it may run from right to left; what gives the full name of a bank; and the banks by their
+    names, each with a link to its part."""
     def name(text):
         text = labels.shown(text)
         return markup("<bdi>{}</bdi>").format(text) if labels.is_turned(text) else markup.escape(text)
 
-    linked = {bank.name: markup('<a href="#bank-{}">{}</a>').format(at, name(bank.name)) for at, bank in enumerate(matter.banks)}
-    return name, linked
+    def full(bank):
+        return markup(' <span class="full">{}</span>').format(name(matter.full.of(bank))) if matter.full.of(bank) else ""
+
+    linked = {bank.name: markup('<a href="#bank-{}">{}</a>{}').format(at, name(bank.name), full(bank.name)) for at, bank in enumerate(matter.banks)}
+    return name, full, linked
 
 
 def icon(state):
@@ -134,7 +142,8 @@ def drawing_of(matter):
     """The network drawn, and whether as a graph or as a matrix."""
     flows = flows_of(matter.debts, matter.banks)
     form = "graph" if network.is_small(flows, matter.banks) else "matrix"
-    return network.drawing_of(flows, matter.banks, matter.money, form, lambda bank: f"bank-{matter.place[bank.name]}"), form
+    link = lambda bank: f"bank-{matter.place[bank.name]}"  # noqa: E731
+    return network.drawing_of(flows, matter.banks, matter.money, form, link, matter.full), form
 
 
 def tokens():
@@ -170,6 +179,7 @@ def data_of(matter, drawn, columns):
     data = {
         "names": names,
         "hidden": {at: bank.name for at, bank in enumerate(matter.banks) if names[at] != bank.name},
+        "full": {at: labels.shown(matter.full.of(bank.name)) for at, bank in enumerate(matter.banks) if matter.full.of(bank.name)},
         "state": [bank.state for bank in matter.banks],
         "cash": [matter.cash[bank.name] for bank in matter.banks],
         "owed": [bank.owed for bank in matter.banks],
@@ -210,7 +220,7 @@ def page_of(matter, library, environment):
     drawn, form = drawing_of(matter)
     columns = tables.columns_of(matter)
     rows = tables.rows_of_banks(matter, columns)
-    name, linked = names_of(matter, Markup)
+    name, full, linked = names_of(matter, Markup)
     style = tokens() + web.style()
     scripts = [library, web.with_player((FOLDER / "script/script.js").read_text(encoding="utf-8"))] if library else []
     maps, in_maps = tables.maps_of(matter) if matter.scenarios else ([], 0)
@@ -224,6 +234,7 @@ def page_of(matter, library, environment):
         data=Markup(data_of(matter, drawn, columns)) if scripts else "",
         page_title=labels.shown(matter.title),
         name=name,
+        full=full,
         link=linked.__getitem__,
         icons={state: Markup(icon(state)) for state in STATES},
         choices=tables.CHOICES,

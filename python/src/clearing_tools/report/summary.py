@@ -8,9 +8,9 @@ def summary(matter):
     return [falls(matter), why(matter), saved(matter), worst(matter), following(matter)]
 
 
-def names(banks):
+def names(matter, banks):
     """The names of banks in a sentence."""
-    return listed([apart(bank.name) for bank in banks])
+    return listed([matter.called(bank.name) for bank in banks])
 
 
 def falls(matter):
@@ -32,17 +32,17 @@ def why(matter):
     of = {state: [bank for bank in matter.banks if bank.state == state] for state in ("fundamental", "contagion", "gridlock")}
     parts = []
     if of["fundamental"]:
-        parts.append(f"{names(of['fundamental'])} could not pay even if all who owe to them paid in full")
+        parts.append(f"{names(matter, of['fundamental'])} could not pay even if all who owe to them paid in full")
     if of["contagion"]:
         one = len(of["contagion"]) == 1
-        parts.append(f"{names(of['contagion'])} {'falls' if one else 'fall'} because those who owe to {'it' if one else 'them'} do not")
+        parts.append(f"{names(matter, of['contagion'])} {'falls' if one else 'fall'} because those who owe to {'it' if one else 'them'} do not")
     if of["gridlock"]:
-        begins = f"{names(of['gridlock'])} could pay, but nobody begins"
+        begins = f"{names(matter, of['gridlock'])} could pay, but nobody begins"
         parts.append(begins + (f", and greater payments, by {matter.money.in_short(matter.more)} in all, would clear too" if matter.more else ""))
     if parts:
         return "; ".join(parts) + "."
     keeps = min((bank for bank in matter.banks), key=lambda bank: bank.equity, default=None)
-    return f"The least is left at {apart(keeps.name)}, {matter.money.in_short(keeps.equity)}." if keeps else "There is no bank."
+    return f"The least is left at {matter.called(keeps.name)}, {matter.money.in_short(keeps.equity)}." if keeps else "There is no bank."
 
 
 def saved(matter):
@@ -53,11 +53,11 @@ def saved(matter):
     if not cheap:
         return "What would save the banks in default was not asked."
     first, best = cheap[0], max(cheap, key=lambda each: each.also)
-    said = f"The cheapest to save is {apart(first.bank)}: with {matter.money.in_short(first.added)} more it pays all that it owes"
+    said = f"The cheapest to save is {matter.called(first.bank)}: with {matter.money.in_short(first.added)} more it pays all that it owes"
     if first.also:
         said += f", and so {count(first.also, 'other does', 'others do')}"
     if best.also > first.also:
-        said += f"; {matter.money.in_short(best.added)} for {apart(best.bank)} would save {count(best.also, 'other', 'others')} too"
+        said += f"; {matter.money.in_short(best.added)} for {matter.called(best.bank)} would save {count(best.also, 'other', 'others')} too"
     return said + "."
 
 
@@ -83,7 +83,7 @@ def following(matter):
     if not near:
         left = any(bank.state == "sound" for bank in matter.banks)
         return "No other bank would fall, even if all cash were lost." if left else "No bank is left that could fall."
-    said = f"The next to fall is {apart(near[0].bank)}, where {percent(near[0].cut, 1000)} of all cash is lost"
+    said = f"The next to fall is {matter.called(near[0].bank)}, where {percent(near[0].cut, 1000)} of all cash is lost"
     if len(near) > 1:
-        said += f"; then {apart(near[1].bank)}, at {percent(near[1].cut, 1000)}"
+        said += f"; then {matter.called(near[1].bank)}, at {percent(near[1].cut, 1000)}"
     return said + "."

@@ -29,7 +29,7 @@
     const state = by("state").value, bank = bankOf(row);
     const inState = state === "all" || data.state[bank] === state || (state === "default" && data.state[bank] !== "sound");
     const word = by("search").value.replace(/^ +| +$/g, "").toLocaleLowerCase();
-    return inState && [data.names[bank], data.hidden[bank] || ""].some((name) => name.toLocaleLowerCase().includes(word));
+    return inState && [data.names[bank], data.hidden[bank] || "", data.full[bank] || ""].some((name) => name.toLocaleLowerCase().includes(word));
   };
 
   const layTable = () => {
@@ -106,7 +106,7 @@
     flows.classed("lit", (flow) => data.flows[flow][0] === bank || data.flows[flow][1] === bank);
     const title = document.createElement("h3"), list = document.createElement("dl");
     Array.from(rowOf.get(bank).cells).forEach((cell, place) => {
-      if (place === 0) { title.append(cell.querySelector("a").cloneNode(true)); return; }
+      if (place === 0) { title.append(...Array.from(cell.childNodes, (part) => part.cloneNode(true))); return; }
       const term = document.createElement("dt"), text = document.createElement("dd");
       // An amount, whose head has a unit, stands here to the last digit.
       const unit = heads[place].querySelector(".unit"), value = data.columns[place][bank];

@@ -1,0 +1,66 @@
+"""Full names beside the names of banks: what --labels reads, a file `code,name`, and how the two are said together."""
+import argparse
+import csv
+import io
+from typing import Dict, Iterable, Mapping, Optional
+
+from . import files
+from .runner import Failed, shown
+
+HEADER = ["code", "name"]
+
+
+class FullNames:
+    """The full names of some banks. Called with a name it gives the two, such as `KMI (Kemin Pankki)`, or the name alone."""
+
+    def __init__(self, full: Optional[Mapping[str, str]] = None) -> None:
+        self.full: Dict[str, str] = {code: name for code, name in (full or {}).items() if name and name != code}
+
+    def __call__(self, name: str) -> str:
+        return f"{name} ({self.full[name]})" if name in self.full else name
+
+    def of(self, name: str) -> str:
+        """The full name of a bank alone, or nothing."""
+        return self.full.get(name, "")
+
+    def check(self, names: Iterable[str], status: int = 1) -> "FullNames":
+        """Fails with this status where a bank has the name that another one has with its full name."""
+        names = set(names)
+        for name in names & self.full.keys():
+            if self(name) in names:
+                raise Failed(f"with its full name the bank {shown(name)!r} is called as another bank is", status)
+        return self
+
+
+def add_labels(parser: argparse.ArgumentParser) -> None:
+    """The word --labels of a tool that shows banks."""
+    parser.add_argument("--labels", metavar="FILE", help="a CSV file code,name: full names, shown beside the names of the files")
+
+
+def read_labels(name: Optional[str], status: int = 1) -> FullNames:
+    """The full names of a file `code,name`; none where no file is named. Codes are not looked at. Fails with this status where it is no
+    such file."""
+    if name is None:
+        return FullNames()
+    try:
+        rows = list(csv.reader(io.StringIO(files.text_of(name), newline=""), strict=True))
+    except csv.Error as fault:
+        raise Failed(f"{name}: {fault}", status) from fault
+    rows = [[field.strip(" \t") for field in row] for row in rows if row]
+    if not rows or rows[0] != HEADER:
+        raise Failed(f"{name}: the first row is not {','.join(HEADER)}", status)
+    full: Dict[str, str] = {}
+    for at, row in enumerate(rows[1:], 1):
+        if len(row) != 2:
+            raise Failed(f"{name} row {at}: {len(row)} fields in place of 2", status)
+        if row[0] in full:
+            raise Failed(f"{name} row {at}: {shown(row[0])!r} has a full name already", status)
+        full[row[0]] = row[1]
+    return FullNames(full)
+
+
+def text_of(full: FullNames) -> str:
+    """The file of some full names."""
+    text = io.StringIO()
+    csv.writer(text, lineterminator="\n").writerows([HEADER, *full.full.items()])
+    return text.getvalue()
