@@ -81,7 +81,7 @@ class Sizes(InTheBrowser):
     PAPERS = {"A4": (8.27, 11.69), "Letter": (8.5, 11)}
 
     def pages(self, paper):
-        """The texts of the pages on paper of this kind, with none of its heads at the foot of a page."""
+        """The texts of the pages on paper of this kind, with none of its heads at the foot of a page, alone or with its first words."""
         wide, tall = self.PAPERS[paper]
         printed = self.run_of("Page.printToPDF", paperWidth=wide, paperHeight=tall, preferCSSPageSize=True, printBackground=False)["data"]
         file = self.file("paper.pdf", base64.b64decode(printed))
@@ -89,7 +89,13 @@ class Sizes(InTheBrowser):
         heads = set(self.js("return [...document.querySelectorAll('h2, h3, caption')].map(e => e.textContent.trim())"))
         last = [[line.strip() for line in page.split("\n") if line.strip()][-1:] for page in pages]
         self.assertEqual([line for line in last if line and line[0] in heads], [])
-        return [" ".join(page.split()) for page in pages]
+        pages = [" ".join(page.split()) for page in pages]
+        # Nor stands a head there with nothing but its first words.
+        first = self.js("return [...document.querySelectorAll('h2 + p')].map(p => [p.previousElementSibling.textContent.trim(), p.textContent])")
+        alone = [head for head, words in first for page in pages
+                 if f"{head} " in page and " ".join(words.split()).startswith(page.rpartition(f"{head} ")[2])]
+        self.assertEqual(alone, [])
+        return pages
 
     @needs("pdftotext")
     def test_twelve_banks_are_four_pages(self):
