@@ -226,7 +226,9 @@ class WhoMayRead(Case):
         program.chmod(0o755)
         environment = {**os.environ, "CLEARING": str(program), "REAL": PROGRAM, "PYTHONDONTWRITEBYTECODE": "1"}
         running = subprocess.Popen([sys.executable, str(ROOT / "tools/evidence.py"), "make", str(place / "evidence"), *map(str, FILES)], env=environment,
-                                   stdout=subprocess.PIPE, stderr=subprocess.PIPE, start_new_session=True)
+                                   stdout=subprocess.PIPE, stderr=subprocess.PIPE, start_new_session=True,
+                                   # A caller that ignores the signal, as nohup does, would hand that down.
+                                   preexec_fn=lambda: signal.signal(signal.SIGHUP, signal.SIG_DFL))
         self.addCleanup(running.stdout.close)
         self.addCleanup(running.stderr.close)
         deadline = time.monotonic() + 30
@@ -234,7 +236,7 @@ class WhoMayRead(Case):
             time.sleep(0.02)
         time.sleep(0.3)
         running.send_signal(signal.SIGHUP)
-        self.assertEqual(running.wait(30), 130)
+        self.assertEqual(running.wait(60), 130)
         self.assertEqual(os.listdir(place), [])
 
 
