@@ -16,25 +16,29 @@ import os
 import pathlib
 import re
 import signal
+import stat
 import subprocess
 import sys
 import unittest
 
 HERE = pathlib.Path(__file__).resolve().parent
+# Devices that all share, whose modes a test by root could change.
+DEVICES = ["/dev/null", "/dev/zero", "/dev/full"]
 COUNTS = re.compile(r"([0-9]+) passed, ([0-9]+) failed(?:, ([0-9]+) skipped)?")
 
 
 class Told(unittest.TextTestResult):
-    """A result that counts each test once: as failed, else as skipped, else as passed."""
+    """A result that counts each test once: as failed, else as skipped, else as passed. A test during which the mode of a device changed has
+    failed, and so may one that ran beside it; the mode is put right."""
 
     def __init__(self, *words, **options):
         super().__init__(*words, **options)
         self.counts = {"passed": 0, "failed": 0, "skipped": 0}
-        self.current = None
+        self.current, self.modes = None, {}
 
     def startTest(self, test):
         super().startTest(test)
-        self.current = "passed"
+        self.current, self.modes = "passed", {name: os.stat(name).st_mode for name in DEVICES}
 
     def mark(self, state):
         # A fault or a skip of a whole class or module stands alone.
@@ -65,6 +69,12 @@ class Told(unittest.TextTestResult):
         self.mark("skipped")
 
     def stopTest(self, test):
+        for name, mode in self.modes.items():
+            if os.stat(name).st_mode != mode:
+                self.stream.writeln(f"{test}: the mode of {name} was changed to {os.stat(name).st_mode:o}")
+                with contextlib.suppress(OSError):
+                    os.chmod(name, stat.S_IMODE(mode))
+                self.mark("failed")
         super().stopTest(test)
         self.counts[self.current] += 1
         self.current = None

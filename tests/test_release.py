@@ -159,6 +159,9 @@ class Release(Case):
         try:
             for path, mode in modes.items():
                 path.chmod(mode & 0o700)
+            # That the sources were touched is told by whoever runs the program next, and once.
+            environment = {key: value for key, value in os.environ.items() if key != "CLEARING"}
+            self.assertIn("it is not built again", ran(self.checkout / "clearing", "check", env=environment).stderr)
             second = self.made(self.folder / "two")
         finally:
             for path, mode in modes.items():

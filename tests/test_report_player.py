@@ -117,7 +117,7 @@ class Player(InTheBrowser):
         for _ in range(80):
             self.press(Keys.TAB)
             reached.append(self.js("const e = document.activeElement; return e.id || e.dataset.bank || e.textContent.trim()"))
-        for key in ("To the summary", "0", "11", "step", "first", "back", "play", "next", "last", "search", "state", "Estate"):
+        for key in ("To the summary", "0", "11", "step", "first", "back", "play", "next", "last", "search", "state", "Estate thousand units"):
             self.assertIn(key, reached)
         self.js("document.getElementById('step').focus()")
         self.press(Keys.HOME)

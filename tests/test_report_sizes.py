@@ -104,7 +104,7 @@ class Sizes(InTheBrowser):
             pages = self.pages(paper)
             self.assertLessEqual(len(pages), 4, paper)
             for words in ("Summary", "Rankings", "Nearest to breaking", "What this model says", "The evidence", "On paper stand the 8"):
-                self.assertIn(words, "".join(pages))
+                self.assertIn(words, " ".join(pages))
 
     def thirty(self):
         """Thirty banks and a hundred scenarios."""
@@ -121,8 +121,8 @@ class Sizes(InTheBrowser):
         for paper in self.PAPERS:
             pages = self.pages(paper)
             self.assertLessEqual(len(pages), 12, paper)
-            self.assertIn("shock number 99", "".join(pages))
-            self.assertIn("On paper stand the first 8", "".join(pages))
+            self.assertIn("shock number 99", " ".join(pages))
+            self.assertIn("On paper stand the first 8", " ".join(pages))
 
     def test_a_phone_shows_the_summary_first(self):
         self.open(files_of(TWELVE), "--scenarios", TWELVE / "scenarios.toml", "--unit", "1000", "--currency", "EUR")
@@ -184,4 +184,4 @@ class Sizes(InTheBrowser):
         if shutil.which("pdftotext"):
             pages = self.pages("A4")
             self.assertLessEqual(len(pages), 20)
-            self.assertIn("On paper stand the 100 that leave most unpaid", "".join(pages))
+            self.assertIn("On paper stand the 100 that leave most unpaid", " ".join(pages))

@@ -1,5 +1,4 @@
 import os
-import shutil
 import subprocess
 import sys
 
@@ -29,9 +28,16 @@ GONE = "import os\nos._exit(3)\n"
 
 
 class Run(Case):
+    def setUp(self):
+        super().setUp()
+        self.device = self.file("device", "")
+        self.device.chmod(0o666)
+
     def run_of(self, *words, **modules):
         """The status and the lines of a run of some modules of tests with some words."""
-        shutil.copy(ROOT / "tests/run.py", self.folder / "run.py")
+        text = (ROOT / "tests/run.py").read_text()
+        self.assertIn('"/dev/null"', text)
+        self.file("run.py", text.replace('"/dev/null"', repr(str(self.device))))
         for name, text in modules.items():
             self.file(f"test_{name}.py", text)
         environment = {**os.environ, "PYTHONDONTWRITEBYTECODE": "1"}
@@ -50,6 +56,12 @@ class Run(Case):
     def test_a_test_that_fails_counts_once(self):
         status, lines = self.run_of(a=GOOD, b=BAD)
         self.assertEqual((status, lines[-1]), (1, "2 passed, 1 failed"))
+
+    def test_a_test_that_changes_the_mode_of_a_device_fails_and_the_mode_is_put_right(self):
+        status, lines = self.run_of(a=GOOD.replace("pass", f"import os; os.chmod({str(self.device)!r}, 0o755)"))
+        self.assertEqual((status, lines[-1]), (1, "0 passed, 1 failed"))
+        self.assertIn(f"the mode of {self.device} was changed to 100755", "\n".join(lines))
+        self.assertEqual(self.device.stat().st_mode & 0o777, 0o666)
 
     def test_what_breaks_off_is_a_failure(self):
         for text in (OF_CLASS, BROKEN, GONE, ""):
