@@ -8,6 +8,7 @@ import pathlib
 import re
 import shlex
 import statistics
+import time
 import unittest
 
 import browser
@@ -284,9 +285,12 @@ class Doing(InTheBrowser):
         self.click("play")
         self.until(lambda: "Nobody can pay more" in self.text("raise"))
         self.until(lambda: self.picture() == final)
-        # Another state takes the player away.
+        # Another state takes the player away, also while it plays; tearDown looks for errors.
+        self.click("first")
+        self.click("play")
         self.slide("cut", 0)
         self.until(lambda: not self.js("return document.getElementById('play')"))
+        time.sleep(2)
 
     def test_the_tour_of_the_guide_is_so(self):
         self.open(None, "--scenarios", SCENARIOS)

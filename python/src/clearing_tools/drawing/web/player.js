@@ -109,6 +109,7 @@
     draw(moving);
     d3.select("#rise .now").attr("x1", across(at)).attr("x2", across(at));
   };
+  const place = by("player");
   const pause = () => Math.min(Math.max(24000 / frames.length, 40), 900);
   const stop = () => {
     if (timer) timer.stop();
@@ -121,7 +122,12 @@
     if (at === frames.length) goTo(0, false);
     by("play").textContent = "Pause";
     by("frame").setAttribute("aria-live", "off");
-    timer = d3.interval(() => { if (at >= frames.length) stop(); else goTo(at + 1, true); }, pause());
+    timer = d3.interval(() => {
+      // The desk takes the player away while it plays.
+      if (!place.isConnected) timer.stop();
+      else if (at >= frames.length) stop();
+      else goTo(at + 1, true);
+    }, pause());
   };
   by("play").addEventListener("click", play);
   by("first").addEventListener("click", () => { stop(); goTo(0, false); });
