@@ -1,3 +1,3 @@
 pub mod Desks
-pub mod Kept
+pub mod Fields
 pub mod Cases

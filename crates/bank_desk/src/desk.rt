@@ -27,15 +27,14 @@ pub struct Desk {
 }
 
 impl Model for Desk {
-    ghost use Rattle.bank_desk.specs.Desks.{BankView};
+    ghost use Rattle.bank_desk.specs.Desks.{BankView, IsSound};
+    ghost use Rattle.bank_desk.specs.Fields.{view_of};
 
     ghost Value = { BankView };
 
-    ghost use Rattle.bank_desk.specs.Kept.{view_of, IsKept};
-
     ghost view = { view_of };
 
-    ghost invariant = { IsKept };
+    ghost invariant = { λ d. IsSound (view_of d) };
 }
 
 impl Desk {

@@ -12,7 +12,7 @@ use Rattle.bank_desk.specs.Desks.{BankView}
 use Rattle.pay_words.specs.declared.view.Shown.{Shown}
 use Rattle.pay_words.specs.Views.{holds, is_marked}
 use Rattle.bank_worker.specs.BankSets.{AreSetOut, HaveNoneInBoth, is_in}
-use Rattle.bank_worker.specs.Called.{AreCalledOrSettled, AreCalledTo, AreCreditorsIn, CallsOthers, KeepsOthers, StayIn}
+use Rattle.bank_worker.specs.Called.{AreCalledOrAtRest, AreCalledTo, AreCreditorsIn, CallsOthers, KeepsOthers, StayIn}
 use Rattle.bank_worker.specs.Raises.{IsRaisedIn, debts_of}
 use Rattle.bank_worker.specs.Rings.{creditors_of}
 use Rattle.bank_worker.proofs.Basics.{below_more_cases}
@@ -31,12 +31,14 @@ pub record AreInPlace (banks mine : List ℕ) (workers : ℕ) : Type 0 where
   pub rise : Rises banks
   pub out : AreSetOut mine workers banks
 
--- those of the desks of a seat are so
-pub in_place : (s : Shown) (desks : List BankView) (banks mine : List ℕ) (workers : ℕ) → desks ≡ desks_held s → banks ≡ banks_of desks
-    → AreSetOut mine workers (banks_held s) → AreInPlace banks mine workers
-in_place s desks banks mine workers are banks_are out =
+-- those of the desks of a seat are so, with the set and the number of workers that are known
+pub in_place : (s : Shown) {desks : List BankView} {banks mine known : List ℕ} {workers n : ℕ} → desks ≡ desks_held s → banks ≡ banks_of desks
+    → mine ≡ known → workers ≡ n → AreSetOut known n (banks_held s) → AreInPlace banks mine workers
+in_place s {desks} {banks} {mine} {known} {workers} {n} are banks_are mine_is count out =
     let same : banks_held s ≡ banks = sym (banks_are ∙ ap banks_of are ∙ banks_of_desks s.net (banks_held s)) in
-    subst (λ bs. AreInPlace bs mine workers) same (record { rise = filter_rises (holds s) 0 (length s.net.banks); out = out })
+    let rise = filter_rises (holds s) 0 (length s.net.banks) in
+    subst (λ bs. AreInPlace bs mine workers) same
+    (subst (λ k. AreInPlace (banks_held s) mine k) (sym count) (subst (λ m. AreInPlace (banks_held s) m n) (sym mine_is) (record { rise = rise; out = out })))
 
 -- a bank of the set from one on stands in no earlier place
 pub place_ahead : (banks mine : List ℕ) (workers from b : ℕ) → AreInPlace banks mine workers → from < length banks
@@ -67,7 +69,7 @@ none_called s desks banks mine called workers from k to are banks_are h none ge 
 
 -- where all banks are called, so are those of the desks
 pub all_called : (s : Shown) (desks : List BankView) (called : List ℕ) → IsNetwork s.net → desks ≡ desks_held s
-    → ((b : ℕ) → b < MAX_BANKS → is_in called b ≡ true) → AreCalledOrSettled called s desks
+    → ((b : ℕ) → b < MAX_BANKS → is_in called b ≡ true) → AreCalledOrAtRest called s desks
 all_called s desks called network are all k l out =
     let known = (desk_is s desks k are l).bank in
     absurd (true≢false (sym (all (desk_at desks k).bank (omega (arith, known, network.banks_in_limit))) ∙ out))
@@ -93,8 +95,8 @@ has_too old more new e b h = e b ∙ or_right (is_in old b) (is_in more b) h
 pub now_in : (old new : List ℕ) (c : ℕ) → ((b : ℕ) → is_in new b ≡ (is_in old b || (b == c))) → is_in new c ≡ true
 now_in old new c e = e c ∙ or_right (is_in old c) (c == c) (eq-eqb c c refl)
 
--- where more banks are called, those that are not are settled still
-pub called_still : (s : Shown) (desks : List BankView) (old new : List ℕ) → StayIn old new → AreCalledOrSettled old s desks → AreCalledOrSettled new s desks
+-- where more banks are called, those that are not are at rest still
+pub called_still : (s : Shown) (desks : List BankView) (old new : List ℕ) → StayIn old new → AreCalledOrAtRest old s desks → AreCalledOrAtRest new s desks
 called_still s desks old new stay h k l out =
     h k l (false_from_ne_true (is_in old (desk_at desks k).bank) (λ is. true≢false (sym (stay (desk_at desks k).bank is) ∙ out)))
 

@@ -10,14 +10,14 @@ use Rattle.bank_worker.specs.Raises.{IsRaisedIn, debts_of}
 use Rattle.bank_worker.specs.Views.{Crew, Divides, desk_at}
 
 -- the bank of the desk pays its division at what was last seen, which is at least the floor
-pub record IsSettled (s : Shown) (desk : BankView) : Type 0 where
+pub record IsAtRest (s : Shown) (desk : BankView) : Type 0 where
   pub divides : Divides s desk
   pub seen : HasSeenFloor s desk.bank
 
--- each bank of these desks is called, or it is settled
-abbrev pub AreCalledOrSettled : List ℕ → Shown → List BankView → Type 0
-AreCalledOrSettled called s desks = (k : ℕ) → k < length desks
-    → is_in called (desk_at desks k).bank ≡ false → IsSettled s (desk_at desks k)
+-- each bank of these desks is called, or it is at rest
+abbrev pub AreCalledOrAtRest : List ℕ → Shown → List BankView → Type 0
+AreCalledOrAtRest called s desks = (k : ℕ) → k < length desks
+    → is_in called (desk_at desks k).bank ≡ false → IsAtRest s (desk_at desks k)
 
 -- each bank that was called and that the seat does not hold is called still
 abbrev pub KeepsOthers : Shown → List ℕ → List ℕ → Type 0

@@ -147,13 +147,13 @@ MayRest s desks = (k : ℕ) → k < length desks
     → (is_marked s.fresh (desk_at desks k).bank ≡ true) ⊎ Divides s (desk_at desks k)
 
 -- each bank of these desks pays its division at what was last seen, which is at least the floor
-pub record AreSettled (s : Shown) (desks : List BankView) : Type 0 where
+pub record AreAtRest (s : Shown) (desks : List BankView) : Type 0 where
   pub divide : (k : ℕ) → k < length desks → Divides s (desk_at desks k)
   pub seen : (k : ℕ) → k < length desks → HasSeenFloor s (desk_at desks k).bank
 
 -- a round that raised n units
 pub record IsRounded (n : ℕ) (old new : Crew) : Type 0 where
-  pub settled : AreSettled new.seat.shows new.desks
+  pub at_rest : AreAtRest new.seat.shows new.desks
   pub rose : paid_by_all new.seat.shows new.desks ≡ paid_by_all old.seat.shows old.desks + n
   pub none_fell : (x : ℕ) → x < length old.seat.shows.net.debts
       → slice_index old.seat.shows.paid x ≤ slice_index new.seat.shows.paid x

@@ -1,10 +1,10 @@
 ghost use Rattle.bank_worker.specs.BankSets.{is_in};
-ghost use Rattle.bank_worker.specs.Called.{AreCalledOrSettled, AreCalledTo, AreCreditorsIn};
+ghost use Rattle.bank_worker.specs.Called.{AreCalledOrAtRest, AreCalledTo, AreCreditorsIn};
 ghost use Rattle.bank_worker.specs.Called.{CallsOthers, KeepsOthers, StayIn};
 ghost use Rattle.bank_worker.specs.Grows.{Grows, HasGone};
 ghost use Rattle.bank_worker.specs.Offices.{IsOfficeFor};
 ghost use Rattle.bank_worker.specs.Views.{banks_held, desk_at, desks_held};
-ghost use Rattle.bank_worker.specs.Visits.{AreSettled, IsAllCalm, IsDown, IsRounded, IsSameCrew};
+ghost use Rattle.bank_worker.specs.Visits.{AreAtRest, IsAllCalm, IsDown, IsRounded, IsSameCrew};
 ghost use Rattle.bank_worker.specs.Visits.{IsStopped, IsVisited, MakesRound, MayRest};
 ghost use Rattle.bank_worker.specs.Visits.{VisitsByBells, WhenMem, WhenRaised};
 ghost use Rattle.clr_net.specs.declared.TheConstants.{MAX_BANKS, MAX_OWED};
@@ -203,7 +203,7 @@ impl Worker {
         requires visits { self.old.visits ≤ 2 ^ 62 }
         requires idle { OwesNoRing self.old.seat.shows × IsAllCalm self.old.seat.shows
             × MayRest self.old.seat.shows self.old.desks }
-        requires called { AreCalledOrSettled called.old self.old.seat.shows self.old.desks }
+        requires called { AreCalledOrAtRest called.old self.old.seat.shows self.old.desks }
         ensures same { IsSameCrew self.old self.new }
         ensures visits { VisitsByBells sweeps self.old self.new }
         ensures raised { WhenRaised result (λ n. IsRounded n self.old self.new) }
@@ -258,7 +258,7 @@ impl Worker {
         requires visits { self.old.visits ≤ 2 ^ 62 }
         requires idle { IsAllCalm self.old.seat.shows
             × MayRest self.old.seat.shows self.old.desks }
-        requires called { AreCalledOrSettled called.old self.old.seat.shows self.old.desks }
+        requires called { AreCalledOrAtRest called.old self.old.seat.shows self.old.desks }
         ensures round { MakesRound sweeps result self.old self.new }
         ensures others { KeepsOthers self.old.seat.shows called.old called.new }
         ensures rung { CallsOthers self.old self.new called.new }
@@ -286,12 +286,12 @@ impl Worker {
         requires visits { self.old.visits < 2 ^ 62 + 2 ^ 61 }
         requires idle { IsAllCalm self.old.seat.shows
             × MayRest self.old.seat.shows self.old.desks }
-        requires called { AreCalledOrSettled called.old self.old.seat.shows self.old.desks }
+        requires called { AreCalledOrAtRest called.old self.old.seat.shows self.old.desks }
         ensures same { IsSameCrew self.old self.new }
         ensures visits { VisitsByBells 1 self.old self.new }
         ensures gone { WhenRaised result (λ n. HasGone n self.old self.new) }
-        ensures settled { WhenRaised result (λ n.
-            AreSettled self.new.seat.shows self.new.desks) }
+        ensures at_rest { WhenRaised result (λ n.
+            AreAtRest self.new.seat.shows self.new.desks) }
         ensures few { WhenRaised result (λ n. n ≤ length self.old.desks * MAX_OWED) }
         ensures mem { WhenMem result (IsStopped 1 self.old self.new) }
         ensures others { KeepsOthers self.old.seat.shows called.old called.new }

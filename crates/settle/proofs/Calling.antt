@@ -9,7 +9,7 @@ use Rattle.pay_words.specs.declared.view.Shown.{Shown}
 use Rattle.bank_worker.specs.BankSets.{is_in}
 use Rattle.bank_worker.specs.Called.{AreCreditorsIn, StayIn}
 use Rattle.bank_worker.specs.Views.{Crew}
-use Rattle.settle.specs.Calls.{HaveCalledFrom, RestAreSettled}
+use Rattle.settle.specs.Calls.{HaveCalledFrom, OthersAreAtRest}
 use Rattle.settle.specs.Rounds.{crew_at}
 
 -- the raises of one worker more
@@ -23,5 +23,5 @@ called_from net old new ws n rs h stay e own i le li = ⊎_elim
     (cases_lt i (n + 1))
 
 -- where all banks are called there is nothing to show
-pub all_called : (net : Net) (called : List ℕ) (s : Shown) → IsNetwork net → ((b : ℕ) → b < MAX_BANKS → is_in called b ≡ true) → RestAreSettled net called s
+pub all_called : (net : Net) (called : List ℕ) (s : Shown) → IsNetwork net → ((b : ℕ) → b < MAX_BANKS → is_in called b ≡ true) → OthersAreAtRest net called s
 all_called net called s network all b lb out = absurd (true≢false (sym (all b (omega (arith, lb, network.banks_in_limit))) ∙ out))

@@ -11,12 +11,12 @@ use Rattle.pay_words.specs.declared.view.Shown.{Shown}
 use Rattle.pay_words.specs.Views.{Panel, OwesNoRing, HoldsAll, HoldsAllOf, handed, holds, is_marked, is_of_worker, without}
 use Rattle.pay_words.proofs.Handing.{holds_of_all, holds_of_others}
 use Rattle.pay_words.proofs.Tables.{tabled_at, length-tabled}
-use Rattle.bank_worker.specs.Called.{AreCalledOrSettled, IsSettled}
+use Rattle.bank_worker.specs.Called.{AreCalledOrAtRest, IsAtRest}
 use Rattle.bank_worker.specs.Views.{Crew, Divides, desk_at, desks_held}
 use Rattle.bank_worker.specs.Visits.{IsAllCalm, MayRest}
 use Rattle.bank_worker.proofs.Manned.{desk_is}
 use Rattle.settle.specs.Between.{IsBetween, crew_of, crews, without_first}
-use Rattle.settle.specs.Calls.{AllCalledOrSettled, AreApart, RestAreSettled}
+use Rattle.settle.specs.Calls.{AllCalledOrAtRest, AreApart, OthersAreAtRest}
 use Rattle.settle.specs.Rounds.{AreReady, IsReady, crew_at, no_crew}
 
 -- the master that handed out n seats shows what it showed, but for its banks and seats
@@ -84,20 +84,20 @@ crews_ready board net w s n here h = All-from_get_or (IsReady board) (crews w bo
       rest = handed_rests net w i s h;
     }))
 
--- a worker's banks are called, or they are settled as the master shows them
-handed_called : (net : Net) (w i : ℕ) (s : Shown) (called : List ℕ) → IsBetween net s → RestAreSettled net called s
-    → AreCalledOrSettled called (handed w i s) (desks_held (handed w i s))
+-- a worker's banks are called, or they are at rest as the master shows them
+handed_called : (net : Net) (w i : ℕ) (s : Shown) (called : List ℕ) → IsBetween net s → OthersAreAtRest net called s
+    → AreCalledOrAtRest called (handed w i s) (desks_held (handed w i s))
 handed_called net w i s called h rest k lk out =
     let d = desk_at (desks_held (handed w i s)) k in
     let f = desk_is (handed w i s) (desks_held (handed w i s)) k refl lk in
     let known : d ≡ desk_of net d.bank = f.known ∙ ap (λ (m : Net). desk_of m d.bank) h.net_is in
-    let r : IsSettled s d = subst (IsSettled s) (sym known) (rest d.bank (omega (arith, f.bank, ap (λ (m : Net). length m.banks) h.net_is)) out) in
+    let r : IsAtRest s d = subst (IsAtRest s) (sym known) (rest d.bank (omega (arith, f.bank, ap (λ (m : Net). length m.banks) h.net_is)) out) in
     record { divides = r.divides; seen = r.seen }
 
-pub crews_called : (net : Net) (w : ℕ) (table : Place) (s : Shown) (called : List ℕ) → IsBetween net s → RestAreSettled net called s
-    → AllCalledOrSettled called (crews w table s w)
+pub crews_called : (net : Net) (w : ℕ) (table : Place) (s : Shown) (called : List ℕ) → IsBetween net s → OthersAreAtRest net called s
+    → AllCalledOrAtRest called (crews w table s w)
 crews_called net w table s called h rest i li =
-    subst (λ (c : Crew). AreCalledOrSettled called c.seat.shows c.desks) (sym (crew_there w table s w i (omega (arith, li, length-crews w table s w))))
+    subst (λ (c : Crew). AreCalledOrAtRest called c.seat.shows c.desks) (sym (crew_there w table s w i (omega (arith, li, length-crews w table s w))))
     (handed_called net w i s called h rest)
 
 -- no worker is handed a bank of another

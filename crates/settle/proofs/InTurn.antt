@@ -5,21 +5,21 @@ use Rattle.std.proofs.lemmas.List.{get_or-set_other, get_or_default, length-take
 use Rattle.clr_net.specs.declared.TheConstants.{MAX_OWED}
 use Rattle.pay_words.specs.Views.{Panel}
 use Rattle.bank_worker.specs.BankSets.{is_in}
-use Rattle.bank_worker.specs.Called.{AreCalledOrSettled, KeepsOthers}
+use Rattle.bank_worker.specs.Called.{AreCalledOrAtRest, KeepsOthers}
 use Rattle.bank_worker.specs.Views.{Crew, desk_at}
 use Rattle.bank_worker.specs.Visits.{IsRounded, IsSameCrew, VisitsByBells}
-use Rattle.settle.specs.Calls.{AllCalledOrSettled, AreApart}
+use Rattle.settle.specs.Calls.{AllCalledOrAtRest, AreApart}
 use Rattle.settle.specs.Rounds.{AreReady, AreRounded, IsReady, crew_at, no_crew}
 use Rattle.settle.proofs.Joined.{rounded_append, rounded_one}
 
--- the first n workers made their rounds, by so many units, and the others did nothing yet; each bank of these is called, or it is settled
+-- the first n workers made their rounds, by so many units, and the others did nothing yet; each bank of these is called, or it is at rest
 pub record TurnTo (sweeps units : ℕ) (olds news : List Crew) (n : ℕ) (called : List ℕ) : Type 0 where
   pub as_many : length news ≡ length olds
   pub rounded : AreRounded sweeps units (take n olds) (take n news)
   pub left : (i : ℕ) → n ≤ i → crew_at news i ≡ crew_at olds i
-  pub waiting : (i : ℕ) → n ≤ i → i < length olds → AreCalledOrSettled called (crew_at olds i).seat.shows (crew_at olds i).desks
+  pub waiting : (i : ℕ) → n ≤ i → i < length olds → AreCalledOrAtRest called (crew_at olds i).seat.shows (crew_at olds i).desks
 
-pub turn_none : (sweeps : ℕ) (ws : List Crew) (called : List ℕ) → AllCalledOrSettled called ws → TurnTo sweeps 0 ws ws 0 called
+pub turn_none : (sweeps : ℕ) (ws : List Crew) (called : List ℕ) → AllCalledOrAtRest called ws → TurnTo sweeps 0 ws ws 0 called
 turn_none sweeps ws called h = record {
   as_many = refl;
   rounded = record { as_many = refl; each = λ i lt. absurd (omega (arith, lt)); rose = refl; few = omega arith };
@@ -37,15 +37,15 @@ pub turn_ready : (board : Panel) (sweeps units : ℕ) (olds news : List Crew) (n
     → IsReady board (get_or news n d)
 turn_ready board sweeps units olds news n called d lt ready h = subst (IsReady board) (sym (turn_of sweeps units olds news n called d lt h)) (ready n no_crew lt)
 
--- and each of its banks is called, or it is settled
+-- and each of its banks is called, or it is at rest
 pub turn_called : (sweeps units : ℕ) (olds news : List Crew) (n : ℕ) (called : List ℕ) (d : Crew) → n < length olds → TurnTo sweeps units olds news n called
-    → AreCalledOrSettled called (get_or news n d).seat.shows (get_or news n d).desks
+    → AreCalledOrAtRest called (get_or news n d).seat.shows (get_or news n d).desks
 turn_called sweeps units olds news n called d lt h =
-    subst (λ (c : Crew). AreCalledOrSettled called c.seat.shows c.desks) (sym (turn_of sweeps units olds news n called d lt h)) (h.waiting n (omega arith) lt)
+    subst (λ (c : Crew). AreCalledOrAtRest called c.seat.shows c.desks) (sym (turn_of sweeps units olds news n called d lt h)) (h.waiting n (omega arith) lt)
 
 -- another worker's banks stay called
 others_called : (olds : List Crew) (n i : ℕ) (old new : List ℕ) → AreApart olds → n < length olds → i < length olds → n < i → KeepsOthers (crew_at olds n).seat.shows old new
-    → AreCalledOrSettled old (crew_at olds i).seat.shows (crew_at olds i).desks → AreCalledOrSettled new (crew_at olds i).seat.shows (crew_at olds i).desks
+    → AreCalledOrAtRest old (crew_at olds i).seat.shows (crew_at olds i).desks → AreCalledOrAtRest new (crew_at olds i).seat.shows (crew_at olds i).desks
 others_called olds n i old new apart ln li less keeps h k lk out =
     let b = (desk_at (crew_at olds i).desks k).bank in
     ⊎_elim

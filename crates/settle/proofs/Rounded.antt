@@ -1,10 +1,11 @@
 -- What a round of all workers leaves, once the seats are back.
-use Rattle.std.proofs.Common.{◌≡◌, ◌≢◌, ℕ, suc, ◌+◌, ◌*◌, ◌<◌, ◌≤◌, true, true≢false, List, [], ◌∷◌, length, get_or, map, sum, inr, refl, sym, ap, ◌∙◌, subst, ⊎_elim, arith, eq-eqb, eqb-true}
+use Rattle.std.proofs.Common.{◌≡◌, ◌≢◌, ℕ, suc, ◌+◌, ◌*◌, ◌<◌, ◌≤◌, true, true≢false, List, [], ◌∷◌, ◌++◌, length, get_or, map, sum, inr, refl, sym, ap, ◌∙◌, subst, ⊎_elim, arith, eq-eqb, eqb-true}
 use Rattle.std.specs.Prelude.{◌%◌, sum_by, slice_index}
 use Rattle.std.proofs.lemmas.Bool.{cases_lt}
 use Rattle.std.proofs.lemmas.List.{get_or-map, get_or_past, length-map}
 use Rattle.std.proofs.lemmas.List.FromFn.{length-range_with_len}
 use Rattle.std.proofs.lemmas.List.Sums.{get_or-le-sum_by, sum-map, sum_by-cons, sum_by-le-sum_by}
+use Rattle.clear_core.specs.Clearing.{least}
 use Rattle.clr_net.specs.Amounts.{IsAtMost}
 use Rattle.clr_net.specs.Net.{Net, row, debtor_of, creditor_of}
 use Rattle.clr_net.proofs.Lists.{same_from_sum, sum_rises, sums_agree}
@@ -19,13 +20,13 @@ use Rattle.bank_worker.proofs.Manned.{desk_is, few_desks}
 use Rattle.bank_worker.proofs.Sweeping.{divides_kept, few_in_all, paid_by_kept}
 use mathlib.Core.Logic.{dite}
 use native.Mathlib.Decide.{ℕ_discrete}
-use Rattle.settle.specs.Between.{AreOfBoard, IsBack, IsBetween, crew_of, crews, raises_by, shown_by}
-use Rattle.settle.specs.Calls.{HaveCalledFrom, RestAreSettled}
+use Rattle.settle.specs.Between.{AreOfBoard, IsBack, IsBetween, IsRoundOf, crew_of, crews, raises_by, raises_of_all, shown_by, without_first}
+use Rattle.settle.specs.Calls.{HaveCalledFrom, OthersAreAtRest}
 use Rattle.settle.specs.Rounds.{AreRounded, MadeRound, crew_at, no_crew, paid_by_crew}
 use Rattle.std.specs.List.{range_with_len}
 use Rattle.bank_worker.proofs.Rooms.{banks_of_seat}
 use Rattle.settle.proofs.Shares.{all_shares}
-use Rattle.settle.proofs.Handed.{crew_there, handed_holds, length-crews}
+use Rattle.settle.proofs.Handed.{IsRest, crew_there, first_rest, handed_holds, length-crews}
 
 -- of two lists, of which one gives nowhere less than the other, with a sum no greater: they give the same in each place
 agree_where_sums_do : {A : Type 0} (d : A) (f g : A → ℕ) (xs ys : List A) → length ys ≡ length xs → ((k : ℕ) → k < length xs → f (get_or xs k d) ≤ g (get_or ys k d)) → sum_by g ys ≤ sum_by f xs
@@ -77,7 +78,7 @@ module _ (board : Panel) (net : Net) (s : Shown) (w sweeps n : ℕ) (news : List
       }
 
   -- all visits are at most so many sweeps over all banks
-  pub few_in_round : sum_by (λ (k : Crew). k.visits) news ≤ sweeps * length net.banks
+  few_in_round : sum_by (λ (k : Crew). k.visits) news ≤ sweeps * length net.banks
   few_in_round =
       let nb = length net.banks in
       omega (
@@ -105,7 +106,7 @@ module _ (board : Panel) (net : Net) (s : Shown) (w sweeps n : ℕ) (news : List
       )
 
   -- where units were raised, some worker made a raise
-  pub some_raise : n ≢ 0 → 1 ≤ sum_by raises_by news
+  some_raise : n ≢ 0 → 1 ≤ sum_by raises_by news
   some_raise some_units = dite (ℕ_discrete (sum_by raises_by news) 0)
       (λ none. absurd (some_units (none_more (λ i li.
       let m = made_round i li in
@@ -115,13 +116,16 @@ module _ (board : Panel) (net : Net) (s : Shown) (w sweeps n : ℕ) (news : List
       (λ more. absurd (omega (arith, m.rounded.raises.1 more, zero)))))))
       (λ some. omega (arith, some))
 
-  -- the worker of the bank b has settled it
+  -- the worker of the bank b has brought it to rest
   module _ (b : ℕ) (lb : b < length net.banks) where
     pub worker_of : b % w < w
     worker_of = omega arith
 
     pub shown : Shown
     shown = (crew_at news (b % w)).seat.shows
+
+    holds_it : holds (crew_at news (b % w)).seat.shows b ≡ true
+    holds_it = ap (λ bs. is_marked bs b) (made_round (b % w) worker_of).same.seat.banks ∙ handed_holds net w (b % w) s b between.net_is lb ∙ eq-eqb (b % w) (b % w) refl
 
     place : (k : ℕ) × (k < length (crew_at news (b % w)).desks) × (desk_at (crew_at news (b % w)).desks k ≡ desk_of net b)
     place =
@@ -136,14 +140,14 @@ module _ (board : Panel) (net : Net) (s : Shown) (w sweeps n : ℕ) (news : List
         )
 
     pub divides_there : Divides (crew_at news (b % w)).seat.shows (desk_of net b)
-    divides_there = subst (Divides (crew_at news (b % w)).seat.shows) place.2 ((made_round (b % w) worker_of).rounded.settled.divide place.0 place.1)
+    divides_there = subst (Divides (crew_at news (b % w)).seat.shows) place.2 ((made_round (b % w) worker_of).rounded.at_rest.divide place.0 place.1)
 
     -- each debt to the bank is seen at no less than was paid before the round
     pub seen_there : (x : ℕ) → x < length net.debts → creditor_of net x ≡ b → get_or s.paid x 0 ≤ get_or (crew_at news (b % w)).seat.shows.sights x 0
     seen_there x lx owed =
         let i = b % w in
         let m = made_round i worker_of in
-        let seen = m.rounded.settled.seen place.0 place.1 x (omega (arith, lx, ap (λ (m : Net). length m.debts) (net_of i worker_of)))
+        let seen = m.rounded.at_rest.seen place.0 place.1 x (omega (arith, lx, ap (λ (m : Net). length m.debts) (net_of i worker_of)))
         (ap (λ (m : Net). creditor_of m x) (net_of i worker_of) ∙ owed ∙ sym (ap (λ (d : BankView). d.bank) place.2)) in
         omega (arith, seen, ap (λ fs. get_or fs x 0) m.same.seat.floor, between.floor x lx)
 
@@ -170,16 +174,16 @@ module _ (board : Panel) (net : Net) (s : Shown) (w sweeps n : ℕ) (news : List
     sight_is : (x : ℕ) → x < length net.debts → get_or t.sights x 0 ≡ get_or (shown_by w news (creditor_of net x)).sights x 0
     sight_is x lx = back'.sights x lx (omega arith) (lw (creditor_of net x))
 
-    pub all_divide : (b : ℕ) → b < length net.banks → Divides t (desk_of net b)
+    all_divide : (b : ℕ) → b < length net.banks → Divides t (desk_of net b)
     all_divide b lb = divides_kept net (desk_of net b) (shown_by w news b) t refl
         (λ x lx e. paid_is x lx ∙ ap (λ c. get_or (shown_by w news c).paid x 0) e)
         (λ x lx e. sight_is x lx ∙ ap (λ c. get_or (shown_by w news c).sights x 0) e)
         (divides_there b lb)
 
-    pub all_seen : (x : ℕ) → x < length net.debts → get_or s.paid x 0 ≤ get_or t.sights x 0
+    all_seen : (x : ℕ) → x < length net.debts → get_or s.paid x 0 ≤ get_or t.sights x 0
     all_seen x lx = omega (arith, sight_is x lx, seen_there (creditor_of net x) (creditor x lx) x lx refl)
 
-    pub none_fell : (x : ℕ) → x < length net.debts → get_or s.paid x 0 ≤ get_or t.paid x 0
+    none_fell : (x : ℕ) → x < length net.debts → get_or s.paid x 0 ≤ get_or t.paid x 0
     none_fell x lx = omega (arith, paid_is x lx, not_fallen (debtor_of net x) (debtor x lx) x lx)
 
     pub between_again : t.master ≡ true → IsBetween net t
@@ -197,7 +201,7 @@ module _ (board : Panel) (net : Net) (s : Shown) (w sweeps n : ℕ) (news : List
           let same = net_of i li in
           back'.rings x lx (omega arith) (lw b)
           ∙ (made_round i li).rounded.no_rings x (omega (arith, lx, ap (λ (m : Net). length m.debts) same))
-          (ap (λ (m : Net). holds (crew_at news i).seat.shows (debtor_of m x)) same ∙ ap (λ bs. is_marked bs b) (made_round i li).same.seat.banks ∙ handed_holds net w i s b between.net_is lb ∙ eq-eqb i i refl);
+          (ap (λ (m : Net). holds (crew_at news i).seat.shows (debtor_of m x)) same ∙ holds_it b lb);
       calm = λ x lx.
           let b = creditor_of net x in
           let i = b % w in
@@ -206,15 +210,15 @@ module _ (board : Panel) (net : Net) (s : Shown) (w sweeps n : ℕ) (news : List
           let same = net_of i li in
           back'.pending x lx (omega arith) (lw b)
           ∙ (made_round i li).rounded.calm b (omega (arith, lb, ap (λ (m : Net). length m.banks) same))
-          (ap (λ bs. is_marked bs b) (made_round i li).same.seat.banks ∙ handed_holds net w i s b between.net_is lb ∙ eq-eqb i i refl)
+          (holds_it b lb)
           x (omega (arith, lx, ap (λ (m : Net). length m.debts) same)) (ap (λ (m : Net). creditor_of m x) same);
       rest = λ b lb. inr (all_divide b lb);
       floor = λ x lx. back'.floor x lx (omega arith) (lw (debtor_of net x)) ∙ sym (paid_is x lx);
     }
 
     -- a bank that is not called has seen all that is paid to it: no debt to it was raised, since the creditors of all raises are called
-    pub rest_settled : (called : List ℕ) → IsBetween net t → HaveCalledFrom 0 net called news → RestAreSettled net called t
-    rest_settled called again calls b lb out = record {
+    pub others_at_rest : (called : List ℕ) → IsBetween net t → HaveCalledFrom 0 net called news → OthersAreAtRest net called t
+    others_at_rest called again calls b lb out = record {
       divides = all_divide b lb;
       seen = λ x lt owed.
           let lx : x < length net.debts = omega (arith, lt, ap (λ (m : Net). length m.debts) back'.net_is) in
@@ -236,7 +240,7 @@ module _ (board : Panel) (net : Net) (s : Shown) (w sweeps n : ℕ) (news : List
         (cases_lt x (length s.net.debts))
 
     -- a round that raised nothing left all payments as they were
-    pub none_rose : n ≡ 0 → (x : ℕ) → x < length net.debts → get_or t.paid x 0 ≡ get_or s.paid x 0
+    none_rose : n ≡ 0 → (x : ℕ) → x < length net.debts → get_or t.paid x 0 ≡ get_or s.paid x 0
     none_rose zero_units x lx =
         let b = debtor_of net x in
         let lb = debtor x lx in
@@ -276,7 +280,7 @@ module _ (board : Panel) (net : Net) (s : Shown) (w sweeps n : ℕ) (news : List
         ap (λ j. get_or (crew_at news j).seat.shows.paid x 0) (sym mine) ∙ ap (λ c. get_or (shown_by w news c).paid x 0) (sym e) ∙ sym (paid_is x lx) ∙ same x lx))) in
         desks_same ∙ ap (λ es. paid_by_all u es) (sym (made_round i li).same.desks))
 
-    pub some_rose : n ≢ 0 → sum s.paid + 1 ≤ sum t.paid
+    some_rose : n ≢ 0 → sum s.paid + 1 ≤ sum t.paid
     some_rose some_units =
         let same_debts : length t.net.debts ≡ length s.net.debts = ap (λ (m : Net). length m.debts) (back'.net_is ∙ sym between.net_is) in
         omega (
@@ -288,3 +292,31 @@ module _ (board : Panel) (net : Net) (s : Shown) (w sweeps n : ℕ) (news : List
               (cases_lt x (length net.debts)))
               (λ e. some_units (raised_nothing (λ x lx. ap (λ P. get_or P x 0) (sym e)))),
         )
+
+    -- the round, where the master shows so many takes and the workers' raises more, and nothing above the least payments
+    pub round_is : (visits : ℕ) → m ≡ without_first w w s → t.taken ≡ m.taken + visits → visits ≡ sum_by (λ (k : Crew). k.visits) news
+        → length t.raises ≡ length m.raises + sum_by raises_by news → t.raises ≡ m.raises ++ raises_of_all news
+        → IsAtMost t.paid (least t.net) → IsAtMost t.sights (least t.net) → IsRoundOf net (record { workers = w; sweeps = sweeps }) n visits s t
+    round_is visits is taken in_all many made paid_low sights_low =
+        let rest = subst (IsRest w s) (sym is) (first_rest w w s) in
+        record {
+          none_fell = none_fell;
+          some_rose = some_rose;
+          none_rose = none_rose;
+          divide = all_divide;
+          seen = all_seen;
+          visits_are = omega (arith, taken, rest.taken);
+          visits_by_banks = subst (λ k. k ≤ sweeps * length net.banks) (sym in_all) few_in_round;
+          seats = back'.seats ∙ rest.seats;
+          raises = (omega (arith, many, ap length rest.raises), λ some. omega (arith, many, ap length rest.raises, some_raise some));
+          paid_low = subst (λ (k : Net). IsAtMost t.paid (least k)) back'.net_is paid_low;
+          sights_low = subst (λ (k : Net). IsAtMost t.sights (least k)) back'.net_is sights_low;
+          by_visits = record {
+            table = board.table;
+            workers = news;
+            rounded = rounded;
+            raises = made ∙ ap (λ rs. rs ++ raises_of_all news) rest.raises;
+            visits_are = in_all;
+            back = subst (λ (u : Shown). IsBack w net u news t 0) is back';
+          };
+        }

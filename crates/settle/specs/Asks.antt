@@ -5,20 +5,17 @@ use Rattle.clear_core.specs.declared.event.Raise.{Raise}
 use Rattle.pay_words.specs.Traces.{start_of}
 use Rattle.pay_words.specs.Views.{Chair, Panel, opening}
 use Rattle.settle.specs.Between.{IsBetween}
-use Rattle.settle.specs.Calls.{RestAreSettled}
 use Rattle.settle.specs.Drives.{IsPlan}
 use Rattle.settle.specs.Offices.{AreOffices}
 use Rattle.settle.specs.declared.plan.Plan.{Plan}
 use Rattle.settle.specs.declared.state.RunState.{RunState}
 
--- a run on this board stands between two rounds: its master does, each worker has its office, and
--- each bank that is not called is settled
+-- a run on this board stands between two rounds: its master does, and each worker has its office
 pub record IsReady (board : Panel) (net : Net) (plan : Plan) (master : Chair) (state : RunState)
     : Type 0 where
   pub table_is : master.table ≡ board.table
   pub between : IsBetween net master.shows
   pub offices : AreOffices net plan.workers plan.workers state.offices.items
-  pub called : RestAreSettled net state.called master.shows
 
 -- a run may be driven: the network, the past and the workers are those of the board, which its
 -- master has just opened

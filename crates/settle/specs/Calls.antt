@@ -3,21 +3,21 @@ use Rattle.std.specs.Prelude.{◌≡◌, ◌≢◌, ℕ, ◌<◌, ◌≤◌, fal
 use Rattle.clr_net.specs.Net.{Net}
 use Rattle.bank_desk.specs.Desks.{desk_of}
 use Rattle.bank_worker.specs.BankSets.{is_in}
-use Rattle.bank_worker.specs.Called.{AreCalledOrSettled, AreCreditorsIn, IsSettled}
+use Rattle.bank_worker.specs.Called.{AreCalledOrAtRest, AreCreditorsIn, IsAtRest}
 use Rattle.bank_worker.specs.Views.{Crew, desk_at}
 use Rattle.pay_words.specs.declared.view.Shown.{Shown}
 use Rattle.pay_words.specs.Views.{holds}
 use Rattle.settle.specs.Rounds.{crew_at}
 
--- each bank of the network that is not called is settled
-abbrev pub RestAreSettled : Net → List ℕ → Shown → Type 0
-RestAreSettled net called s = (b : ℕ) → b < length net.banks → is_in called b ≡ false
-    → IsSettled s (desk_of net b)
+-- each bank of the network that is not called is at rest
+abbrev pub OthersAreAtRest : Net → List ℕ → Shown → Type 0
+OthersAreAtRest net called s = (b : ℕ) → b < length net.banks → is_in called b ≡ false
+    → IsAtRest s (desk_of net b)
 
--- each bank of each worker is called, or it is settled
-abbrev pub AllCalledOrSettled : List ℕ → List Crew → Type 0
-AllCalledOrSettled called ws = (i : ℕ) → i < length ws
-    → AreCalledOrSettled called (crew_at ws i).seat.shows (crew_at ws i).desks
+-- each bank of each worker is called, or it is at rest
+abbrev pub AllCalledOrAtRest : List ℕ → List Crew → Type 0
+AllCalledOrAtRest called ws = (i : ℕ) → i < length ws
+    → AreCalledOrAtRest called (crew_at ws i).seat.shows (crew_at ws i).desks
 
 -- no worker holds a bank of another
 abbrev pub AreApart : List Crew → Type 0

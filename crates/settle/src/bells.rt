@@ -2,11 +2,13 @@ ghost use Rattle.clear_core.specs.Clearing.{Clears, least};
 ghost use Rattle.settle.specs.Asks.{IsReady};
 ghost use Rattle.settle.specs.Bells.{IsIdle};
 ghost use Rattle.settle.specs.Between.{HaveGrownAlike, IsRoundOf};
+ghost use Rattle.settle.specs.Calls.{OthersAreAtRest};
 ghost use Rattle.std.specs.Prelude.{◌≡◌, ◌+◌, ◌<◌, ℕ, IfOk, OnOk, true};
 
 use crate::run::{Run, Way};
 use crate::state::RunState;
 use crate::teams::round;
+use bank_worker::BankSet;
 use clr_edge::Gate;
 use clr_net::{BankId, Mem, Network};
 use pay_words::{Board, PaySeat};
@@ -35,8 +37,8 @@ pub fn nobody_can_pay_more(net: &Network, board: &Board, master: &mut PaySeat) -
     true
 }
 
-/// Makes a round as [`round`] does, of workers beside one another, and answers whether it was joined
-/// with all bells down.
+/// Calls all banks, makes a round as [`round`] does, of workers beside one another, and answers
+/// whether it was joined with all bells down.
 ///
 /// When a round in which no visit found want of memory is joined with all bells down, nobody can
 /// pay more: the payments are the least that clear the network. `Mem` is want of memory.
@@ -50,6 +52,8 @@ pub fn round_and_ask<R: Threads + Sync, G: Gate + Sync>(
     ensures table { master.new.table ≡ master.old.table }
     ensures ready { OnOk result
         (IsReady run.now.board.now run.now.net.now run.now.plan master.new state.new) }
+    ensures called { OnOk result
+        (OthersAreAtRest run.now.net.now state.new.called master.new.shows) }
     ensures seats { OnOk result
         (master.new.shows.seats ≡ master.old.shows.seats + run.now.plan.workers) }
     ensures noted { OnOk result (HaveGrownAlike state.old.journal.raises state.new.journal.raises
@@ -61,6 +65,7 @@ pub fn round_and_ask<R: Threads + Sync, G: Gate + Sync>(
     ensures least { IfOk result
         (λ down. down ≡ true → master.new.shows.paid ≡ least run.now.net.now) }
 {
+    state.called = BankSet::all();
     let _raised = round(run, master, state, Way::Beside)?;
     Ok(nobody_can_pay_more(run.net, run.board, master))
 }

@@ -1,4 +1,8 @@
 //! The run: rounds of all workers of a board, side by side, until a round raises nothing.
+//!
+//! Contracts see a board as a `Panel`, in a place of memory, a `Place`, and a seat as a `Chair`
+//! (`pay_words`), and a worker as a `Crew` (`bank_worker`). A `Shift` is a worker in one round: as
+//! it began, and as it ended.
 #![tactic(auto)]
 
 mod bells;

@@ -5,7 +5,7 @@ ghost use Rattle.settle.specs.Bells.{IsIdle};
 ghost use Rattle.settle.specs.Between.{AreOfBoard, HaveGrownAlike, IsBack, IsBetween, IsRoundOf};
 ghost use Rattle.settle.specs.Between.{crews, raises_by, raises_of_all, without_first};
 ghost use Rattle.raise_journal.specs.Gathered.{HasMerged};
-ghost use Rattle.settle.specs.Calls.{HaveCalledFrom};
+ghost use Rattle.settle.specs.Calls.{HaveCalledFrom, OthersAreAtRest};
 ghost use Rattle.settle.specs.Offices.{AreOffices, with_cash_of};
 ghost use Rattle.std.specs.Prelude.{◌≡◌, ◌+◌, ◌++◌, ◌<◌, ◌≤◌, ℕ, [], All, IfOk, OnOk};
 ghost use Rattle.std.specs.Prelude.{length, map, sum_by, true, vec_len};
@@ -189,12 +189,15 @@ pub fn round<R: Threads + Sync, G: Gate + Sync>(
     way: Way,
 ) -> Result<(u64, u64), Mem>
     requires ready { IsReady run.now.board.now run.now.net.now run.now.plan master.old state.old }
+    requires called { OthersAreAtRest run.now.net.now state.old.called master.old.shows }
     requires seats { master.old.shows.seats + run.now.plan.workers < 4294967295 }
     ensures table { master.new.table ≡ master.old.table }
     ensures net { master.new.shows.net ≡ master.old.shows.net }
     ensures idle { OnOk result (IsIdle run.now.net.now master.new.shows) }
     ensures ready { OnOk result
         (IsReady run.now.board.now run.now.net.now run.now.plan master.new state.new) }
+    ensures called { OnOk result
+        (OthersAreAtRest run.now.net.now state.new.called master.new.shows) }
     ensures round { IfOk result (λ r.
         IsRoundOf run.now.net.now run.now.plan r.0 r.1 master.old.shows master.new.shows) }
     ensures noted { OnOk result (HaveGrownAlike state.old.journal.raises state.new.journal.raises

@@ -1,6 +1,6 @@
 ghost use Rattle.bank_worker.specs.Visits.{WhenRaised};
 ghost use Rattle.clr_net.specs.declared.TheConstants.{MAX_OWED};
-ghost use Rattle.settle.specs.Calls.{AllCalledOrSettled, AreApart};
+ghost use Rattle.settle.specs.Calls.{AllCalledOrAtRest, AreApart};
 ghost use Rattle.settle.specs.Rounds.{AreReady, AreRounded};
 ghost use Rattle.std.specs.Prelude.{◌≡◌, ◌+◌, ◌*◌, ◌++◌, ◌^◌, ◌<◌, ◌≤◌, ℕ, length};
 ghost use Rattle.std.specs.Thread.{IsSync};
@@ -21,7 +21,7 @@ pub(crate) fn work_all<R: Threads + Sync, G: Gate + Sync>(
 ) -> Visit
     requires some { length workers.old ≡ run.now.plan.workers }
     requires ready { AreReady run.now.board.now workers.old }
-    requires called { AllCalledOrSettled called.old workers.old }
+    requires called { AllCalledOrAtRest called.old workers.old }
     requires apart { AreApart workers.old }
     ensures rounded { WhenRaised result
         (λ n. AreRounded run.now.plan.sweeps n workers.old workers.new) }
@@ -47,7 +47,7 @@ fn in_turn<G: Gate>(
     requires sweeps { (1 ≤ sweeps) × (sweeps ≤ 1000) }
     requires few { length workers.old ≤ 64 }
     requires ready { AreReady board.now workers.old }
-    requires called { AllCalledOrSettled called.old workers.old }
+    requires called { AllCalledOrAtRest called.old workers.old }
     requires apart { AreApart workers.old }
     ensures rounded { WhenRaised result (λ n. AreRounded sweeps n workers.old workers.new) }
 {

@@ -3,9 +3,11 @@ mod hostile;
 mod networks;
 mod records;
 mod sinks;
+mod steered;
 mod tasks;
 mod threads;
 mod twelve_banks;
+mod waits;
 
 use clear_top::{Ended, Status, run};
 use clr_edge::{Gate, MemShelf, MemSink, OpenGate, Shelf, Sink};

@@ -2,6 +2,7 @@
 //! scenarios, whose boards start no threads of their own.
 
 use super::tasks::NO_DEBTS;
+use super::waits::{LONG, SHORT, waits_for};
 use super::{runs_on, shelf_of_three};
 use clr_edge::Gate;
 use std::alloc::Global;
@@ -9,33 +10,27 @@ use std::process::Abort;
 use std::sync::atomic::{AtomicU64, Ordering};
 use std::test::Fail;
 use std::thread::Threads;
+use std::time::Clock;
 
 // Lets some first visits of a round go on, and has each later one wait until so many have come.
 #[derive(Drop)]
-struct Meeting {
+struct Meeting<'a, R: Clock + Sync> {
+    rt: &'a R,
     skipped: u64,
     wanted: u64,
+    // For how many milliseconds each waits.
+    millis: u32,
     come: AtomicU64,
     // How many did not wait in vain.
     met: AtomicU64,
 }
 
-// Waits a while until a number is reached, and answers whether it was.
-fn waits_for(number: &AtomicU64, wanted: u64) -> bool {
-    for _ in 0..50_000_000_u32 {
-        if number.load(Ordering::SeqCst) >= wanted {
-            return true;
-        }
-    }
-    false
-}
-
-impl Gate for Meeting {
+impl<'a, R: Clock + Sync> Gate for Meeting<'a, R> {
     fn at(&self, _worker: u32, visit: u64) {
         if visit != 1 || self.come.fetch_add(1, Ordering::SeqCst) < self.skipped {
             return;
         }
-        if waits_for(&self.come, self.wanted) {
+        if waits_for(self.rt, &self.come, self.wanted, self.millis) {
             self.met.fetch_add(1, Ordering::SeqCst);
         }
     }
@@ -102,15 +97,18 @@ const CASES: [Case<'static>; 11] = [
     ),
 ];
 
-fn meets<R: Threads + Sync + Abort>(
+fn meets<R: Threads + Clock + Sync + Abort>(
     rt: &R,
     alloc: Global,
     (line, scenarios, skipped, wanted, met): Case<'_>,
 ) -> Result<(), Fail> {
     let mut files = shelf_of_three(alloc, [FOUR_BANKS, NO_DEBTS, scenarios])?;
+    let in_vain = met < wanted.saturating_sub(skipped);
     let gate = Meeting {
+        rt,
         skipped,
         wanted,
+        millis: if in_vain { SHORT } else { LONG },
         come: AtomicU64::new(0),
         met: AtomicU64::new(0),
     };

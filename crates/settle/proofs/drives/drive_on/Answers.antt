@@ -24,8 +24,8 @@ loop-state-init g c =
         table_is = c.requires.table;
         between = driven.between;
         offices = subst (λ os. AreOffices net w w os) (sym (ap (λ v. v.items) (state.offices ∙ c.replace-held.ensures.value))) c.requires.offices;
-        called = all_called net c.in_ok-state.state.called s network state.called;
       };
+      called = all_called net c.in_ok-state.state.called s network state.called;
       driven = driven;
     }
 
@@ -49,6 +49,7 @@ loop-state-preserved g c =
     record {
       table = after.table ∙ c.loop-state.invariant.table;
       ready = after.ready;
+      called = after.called;
       driven = driven_more c.loop-state.invariant.driven after.ready.between after.round after.noted c.if-units-eq0.false;
     }
 

@@ -19,7 +19,8 @@ use Rattle.pay_words.specs.declared.view.Shown.{Shown}
 use Rattle.raise_journal.proofs.Lawful.{lawful_is}
 use Rattle.settle.specs.Drives.{EndsAtRest}
 use Rattle.settle.proofs.Limits.{within_limits}
-use Rattle.settle.proofs.Finished.{length-payments_of, written_over}
+use Rattle.bank_worker.proofs.Recashed.{written_over}
+use Rattle.settle.proofs.Finished.{length-payments_of}
 use Rattle.settle.proofs.runs.run_on.Goals as goal
 
 pub payments_after-requires : goal.payments_after-requires

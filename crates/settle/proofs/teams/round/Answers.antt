@@ -1,27 +1,19 @@
-use Rattle.std.proofs.Common.{◌≡◌, ◌≢◌, ℕ, ◌+◌, ◌*◌, ◌≤◌, ◌++◌, List, length, sym, ap, ◌∙◌, subst, arith}
+use Rattle.std.proofs.Common.{◌≡◌, ℕ, true, List, length, sym, ap, ◌∙◌, subst, arith}
 use Rattle.std.proofs.lemmas.List.{with_items_is}
-use Rattle.std.specs.Prelude.{sum_by}
 use Rattle.std.specs.Global.{Vec}
 use Rattle.std.specs.Vec.{with_items}
 use Rattle.bank_worker.specs.Views.{Crew}
-use Rattle.bank_worker.specs.Visits.{AddsRaises}
-use Rattle.clr_net.specs.Amounts.{IsAtMost}
 use Rattle.clr_net.specs.Limits.{IsNetwork}
 use Rattle.clr_net.specs.Net.{Net}
-use Rattle.clear_core.specs.Clearing.{least}
 use Rattle.pay_words.specs.declared.view.Shown.{Shown}
-use Rattle.settle.specs.Between.{HaveGrownAlike, IsBack, IsBetween, raises_by, raises_of_all}
-use Rattle.settle.specs.Calls.{AllCalledOrSettled, AreApart, HaveCalledFrom}
+use Rattle.settle.specs.Between.{HaveGrownAlike, IsBetween}
+use Rattle.settle.specs.Calls.{AllCalledOrAtRest, AreApart, HaveCalledFrom}
 use Rattle.settle.specs.Offices.{AreOffices}
 use Rattle.settle.specs.Rounds.{AreReady, AreRounded}
 use Rattle.settle.proofs.AllDown.{idle_between}
 use Rattle.settle.proofs.Handed.{IsRest, crews_apart, crews_called, crews_ready, first_rest, length-crews}
-use Rattle.settle.proofs.Rounded.{few_in_round, of_board, between_again, all_divide, all_seen, none_fell, none_rose, rest_settled, some_raise, some_rose}
+use Rattle.settle.proofs.Rounded.{between_again, of_board, others_at_rest, round_is}
 use Rattle.settle.proofs.teams.round.Goals as goal
-
--- so many raises more are raises that were added
-added_raises : (n : ℕ) (s t : Shown) (k : ℕ) → length t.raises ≡ length s.raises + k → (n ≢ 0 → 1 ≤ k) → AddsRaises n s t
-added_raises n s t k e some = (omega (arith, e), λ d. omega (arith, e, some d))
 
 -- the workers as they stand in their list after the round
 all_back : (sweeps n : ℕ) (v : Vec Crew) (lent olds news : List Crew) → lent ≡ v.items → v.items ≡ olds → AreRounded sweeps n lent news
@@ -46,8 +38,8 @@ work_all-requires-clause-called g c κs within =
     let w = c.args.run.now.plan.workers in
     let s = c.args.master.now.shows in
     let called = c.args.state.now.called in
-    subst (AllCalledOrSettled called) (sym (c.deref_mut.ensures.value ∙ c.in_ok-workers.ensures.crews))
-    (crews_called c.args.run.now.net.now w c.args.run.now.board.now.table s called c.requires.ready.between c.requires.ready.called)
+    subst (AllCalledOrAtRest called) (sym (c.deref_mut.ensures.value ∙ c.in_ok-workers.ensures.crews))
+    (crews_called c.args.run.now.net.now w c.args.run.now.board.now.table s called c.requires.ready.between c.requires.called)
 
 pub work_all-requires-clause-apart : goal.work_all-requires-clause-apart
 work_all-requires-clause-apart g c κs within =
@@ -93,17 +85,16 @@ returns g c =
     let m = c.open_workers.new.master.shows in
     let t = c.close_workers.new.master.shows in
     let rounded = all_back sweeps units c.in_ok-workers.workers _ _ _ c.deref_mut.ensures.value c.in_ok-workers.ensures.crews c.in-Raised.ensures.rounded in
-    let rest = subst (IsRest w s) (sym c.in_ok-workers.ensures.rest) (first_rest w w s) in
-    let back = c.in_ok-visits.ensures.back in
-    let over = c.clock-clock.ensures.over in
+    let closed = c.in_ok-visits.ensures in
+    let clock = c.clock-clock.ensures in
     let on_board = c.args.run.now.on_board in
     let here = on_board.net_is in
+    let workers = on_board.workers_are in
     let between = c.requires.ready.between in
     let some = on_board.limits.some_workers in
     let few = on_board.limits.few_sweeps in
-    let same_net : t.net ≡ net = back.net_is ∙ sym here in
-    let again : IsBetween net t = between_again board net s w sweeps units news here on_board.workers_are some few between rounded m t over back
-    (back.master ∙ rest.master ∙ between.master) in
+    let master = subst (λ (u : Shown). u.master ≡ true) (sym c.in_ok-workers.ensures.rest) ((first_rest w w s).master ∙ between.master) in
+    let again : IsBetween net t = between_again board net s w sweeps units news here workers some few between rounded m t clock.over closed.back (closed.back.master ∙ master) in
     record {
       table = c.close_workers.ensures.table ∙ c.open_workers.ensures.table;
       net = c.close_workers.ensures.net ∙ c.open_workers.ensures.net;
@@ -111,36 +102,13 @@ returns g c =
       ready = record {
         table_is = c.close_workers.ensures.table ∙ c.open_workers.ensures.table ∙ c.requires.ready.table_is;
         between = again;
-        offices = subst (λ k. AreOffices net k k c.close_workers.new.state.offices.items) (sym on_board.workers_are)
-            (subst (λ (m : Net). AreOffices m board.table.workers board.table.workers c.close_workers.new.state.offices.items) (sym here) c.in_ok-visits.ensures.offices);
-        called = rest_settled board net s w sweeps units news here on_board.workers_are some few between rounded m t over back c.close_workers.new.state.called again
-            (subst (λ (m : Net). HaveCalledFrom 0 m c.close_workers.new.state.called news) (sym here) c.in_ok-visits.ensures.called);
+        offices = subst (λ k. AreOffices net k k c.close_workers.new.state.offices.items) (sym workers)
+            (subst (λ (m : Net). AreOffices m board.table.workers board.table.workers c.close_workers.new.state.offices.items) (sym here) closed.offices);
       };
-      round = record {
-        none_fell = none_fell board net s w sweeps units news here on_board.workers_are some few between rounded m t over back;
-        some_rose = some_rose board net s w sweeps units news here on_board.workers_are some few between rounded m t over back;
-        none_rose = none_rose board net s w sweeps units news here on_board.workers_are some few between rounded m t over back;
-        divide = all_divide board net s w sweeps units news here on_board.workers_are some few between rounded m t over back;
-        seen = all_seen board net s w sweeps units news here on_board.workers_are some few between rounded m t over back;
-        visits_are = c.in_ok-visits.ensures.visits ∙ ap (λ k. k + c.in_ok-visits.visits) rest.taken;
-        visits_by_banks = subst (λ k. k ≤ sweeps * length net.banks) (sym c.in_ok-visits.ensures.sum)
-            (few_in_round board net s w sweeps units news here on_board.workers_are some few between rounded);
-        raises =
-            added_raises units s t (sum_by raises_by news) (c.in_ok-visits.ensures.raises ∙ ap (λ rs. length rs + sum_by raises_by news) rest.raises)
-            (some_raise board net s w sweeps units news here on_board.workers_are some few between rounded);
-        seats = back.seats ∙ rest.seats;
-        paid_low = subst (λ (n : Net). IsAtMost t.paid (least n)) same_net c.clock-clock.ensures.paid_below_least;
-        sights_low = subst (λ (n : Net). IsAtMost t.sights (least n)) same_net c.clock-clock.ensures.sights_below_least;
-        by_visits = record {
-          table = board.table;
-          workers = news;
-          rounded = rounded;
-          raises = c.in_ok-visits.ensures.made ∙ ap (λ rs. rs ++ raises_of_all news) rest.raises;
-          visits_are = c.in_ok-visits.ensures.sum;
-          back = subst (λ (u : Shown). IsBack w net u news t 0) c.in_ok-workers.ensures.rest
-              (subst (λ k. IsBack k net m news t 0) (sym on_board.workers_are)
-              (subst (λ (n : Net). IsBack board.table.workers n m news t 0) (sym here) back));
-        };
-      };
-      noted = subst (λ rs. HaveGrownAlike c.args.state.now.journal.raises c.close_workers.new.state.journal.raises rs t.raises) rest.raises c.in_ok-visits.ensures.noted;
+      called = others_at_rest board net s w sweeps units news here workers some few between rounded m t clock.over closed.back c.close_workers.new.state.called again
+          (subst (λ (m : Net). HaveCalledFrom 0 m c.close_workers.new.state.called news) (sym here) closed.called);
+      round = round_is board net s w sweeps units news here workers some few between rounded m t clock.over closed.back c.in_ok-visits.visits
+          c.in_ok-workers.ensures.rest closed.visits closed.sum closed.raises closed.made clock.paid_below_least clock.sights_below_least;
+      noted = subst (λ rs. HaveGrownAlike c.args.state.now.journal.raises c.close_workers.new.state.journal.raises rs t.raises)
+          (ap (λ (u : Shown). u.raises) c.in_ok-workers.ensures.rest ∙ (first_rest w w s).raises) closed.noted;
     }

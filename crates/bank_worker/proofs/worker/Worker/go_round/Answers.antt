@@ -32,8 +32,8 @@ loop-preserved g c =
     let stay = c.call_anew.ensures.kept in
     let kept : KeepsOthers c.loop.self.seat.shows c.loop.called c.sweep.new.called = λ b other is. e.others b other (stay b is) in
     record {
-      round = round_more c.args.self.now c.loop.self c.sweep.new.self c.loop.counter c.in-Raised.more c.loop.units e.visits e.gone e.settled e.few h.round;
-      called = λ k lk _. record { divides = e.settled.divide k lk; seen = e.settled.seen k lk };
+      round = round_more c.args.self.now c.loop.self c.sweep.new.self c.loop.counter c.in-Raised.more c.loop.units e.visits e.gone e.at_rest e.few h.round;
+      called = λ k lk _. record { divides = e.at_rest.divide k lk; seen = e.at_rest.seen k lk };
       others = λ b other is. kept b (ap (λ bs. is_marked bs b) h.round.gone.grows.same.seat.banks ∙ other) (h.others b other is);
       rung = calls_more c.args.self.now c.loop.self c.sweep.new.self c.loop.called c.sweep.new.called h.round.gone.grows.same.seat kept h.rung e.rung;
     }
@@ -59,7 +59,7 @@ returns-then-self-visits g c =
     record {
       round = round_made c.args.self.now c.sweep.new.self (c.loop.counter + 1) c.args.sweeps (c.loop.units + c.in-Raised.more) (omega arith) (omega arith) c.requires.sweeps.1
           (omega (arith, c.desks-desks.ensures.desks, c.desks-desks.ensures.few))
-          (round_more c.args.self.now c.loop.self c.sweep.new.self c.loop.counter c.in-Raised.more c.loop.units e.visits e.gone e.settled e.few h.round);
+          (round_more c.args.self.now c.loop.self c.sweep.new.self c.loop.counter c.in-Raised.more c.loop.units e.visits e.gone e.at_rest e.few h.round);
       others = λ b other is. kept b (ap (λ bs. is_marked bs b) h.round.gone.grows.same.seat.banks ∙ other) (h.others b other is);
       rung = calls_more c.args.self.now c.loop.self c.sweep.new.self c.loop.called c.sweep.new.called h.round.gone.grows.same.seat kept h.rung e.rung;
     }

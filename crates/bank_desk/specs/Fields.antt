@@ -1,7 +1,7 @@
--- How the type `Desk` keeps what a bank knows.
+-- What a bank knows, as the fields of the type `Desk` have it.
 use Rattle.clr_net.specs.Net.{numbers}
 use Rattle.bank_desk.specs.declared.desk.Desk.TheInside.{Inside}
-use Rattle.bank_desk.specs.Desks.{BankView, IsSound}
+use Rattle.bank_desk.specs.Desks.{BankView}
 
 -- the bank that contracts see
 abbrev pub view_of : Inside → BankView
@@ -15,7 +15,3 @@ view_of a = record {
   classes = a.classes.items;
   debts_in = numbers a.debts_in.items;
 }
-
--- what always holds of the fields
-abbrev pub IsKept : Inside → Type 0
-IsKept a = IsSound (view_of a)
