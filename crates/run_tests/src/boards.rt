@@ -1,13 +1,17 @@
+ghost use Rattle.bank_worker.specs.BankSets.{is_in};
+ghost use Rattle.clr_net.specs.declared.TheConstants.{MAX_BANKS};
 ghost use Rattle.pay_words.specs.Traces.{start_of};
 ghost use Rattle.pay_words.specs.Views.{HoldsAll, IsAt, opening};
 ghost use Rattle.settle.specs.Drives.{IsPlan};
-ghost use Rattle.std.specs.Prelude.{◌≡◌, ◌≤◌, IfOk, [], length};
+ghost use Rattle.settle.specs.Offices.{AreOffices};
+ghost use Rattle.pay_words.specs.Words.{unpaid as unpaid_word};
+ghost use Rattle.std.specs.Prelude.{◌≡◌, ◌<◌, ◌≤◌, ℕ, IfOk, [], length, replicate, true};
 
 use clear_core::Raise;
 use clr_edge::Gate;
 use clr_net::{BankId, Mem, Network};
 use pay_words::{Board, PaySeat, Payment};
-use settle::{Plan, drive};
+use settle::{Plan, Run, RunState, drive, offices_of};
 use std::alloc::Global;
 use std::thread::Threads;
 
@@ -17,13 +21,34 @@ pub(crate) const UNPAID: Payment = Payment { value: 0, stamp: 0 };
 // A board for so many workers on which nothing is paid, and its master.
 pub(crate) fn new_board(alloc: Global, net: &Network, workers: u32) -> Result<(Board, PaySeat), Mem>
     requires workers { (1 ≤ workers) × (workers ≤ 64) }
-    requires debts { length net.now.debts ≡ 2 }
     ensures board { IfOk result (λ r. (r.0.net ≡ net.now) × (r.0.past ≡ [])
         × (r.0.table.workers ≡ workers)) }
     ensures master { IfOk result (λ r. (r.1.table ≡ r.0.table)
         × (r.1.shows ≡ opening net.now (start_of net.now []))) }
 {
-    Board::make(alloc, net, workers, &[UNPAID, UNPAID], &[])
+    let start = unpaid(alloc, net.debts() as usize)?;
+    Board::make(alloc, net, workers, start.as_slice(), &[])
+}
+
+// As many debts on which nothing is paid.
+fn unpaid(alloc: Global, debts: usize) -> Result<Vec<Payment>, Mem>
+    ensures { IfOk result (λ ps. ps.items ≡ replicate debts unpaid_word) }
+{
+    let mut payments = Vec::new(alloc);
+    payments.resize(debts, UNPAID)?;
+    Ok(payments)
+}
+
+// The state of a run on such a board before its first round.
+pub(crate) fn new_state<R: Threads + Sync, G: Gate + Sync>(
+    run: &Run<'_, R, G>,
+) -> Result<RunState, Mem>
+    ensures offices { IfOk result (λ s. AreOffices run.now.net.now run.now.plan.workers
+        run.now.plan.workers s.offices.items) }
+    ensures called { IfOk result (λ s. (b : ℕ) → b < MAX_BANKS → is_in s.called b ≡ true) }
+{
+    let offices = offices_of(run.alloc, run.net, run.plan.workers)?;
+    RunState::of(run.alloc, &[], offices)
 }
 
 // The rounds, the visits and the raises of a run that is driven on such a board.
@@ -34,7 +59,6 @@ pub(crate) fn driven_by_hand<R: Threads + Sync, G: Gate + Sync>(
     plan: Plan,
     gate: &G,
 ) -> Result<[u64; 3], Mem>
-    requires debts { length net.now.debts ≡ 2 }
     requires plan { IsPlan plan }
 {
     let (board, mut master) = new_board(alloc, net, plan.workers)?;

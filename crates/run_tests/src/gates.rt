@@ -2,13 +2,24 @@ use clr_edge::Gate;
 use clr_net::Mem;
 use std::alloc::Global;
 use std::sync::atomic::{AtomicU64, Ordering};
+use std::thread::sleep;
+use std::time::{Clock, Duration};
 
-// Waits a while until a number is reached, and answers whether it was.
-fn waits_for(number: &AtomicU64, wanted: u64) -> bool {
-    for _ in 0..50_000_000_u32 {
+// For how many milliseconds a thread waits for another that comes: longer than any machine keeps a
+// thread from its work.
+pub(crate) const LONG: u32 = 20_000;
+
+// And for one that does not come.
+pub(crate) const SHORT: u32 = 300;
+
+// Waits until a number is reached, at most so many milliseconds, and answers whether it was. It
+// sleeps between two looks, so that the others go on.
+fn waits_for<R: Clock>(rt: &R, number: &AtomicU64, wanted: u64, millis: u32) -> bool {
+    for _ in 0..millis {
         if number.load(Ordering::SeqCst) >= wanted {
             return true;
         }
+        sleep(rt, Duration::from_millis(1));
     }
     false
 }
@@ -30,17 +41,20 @@ impl Gate for FirstVisits {
 // In one round, the first visit of each worker waits until so many have come. Each worker comes
 // once.
 #[derive(Drop)]
-pub(crate) struct Meeting {
+pub(crate) struct Meeting<'a, R: Clock + Sync> {
+    rt: &'a R,
     wanted: u64,
     // Which round it is, from 0.
     round: u64,
+    // For how many milliseconds a worker waits.
+    millis: u32,
     // How many first visits each worker made.
-    rounds: [AtomicU64; 8],
+    rounds: Vec<AtomicU64>,
     come: AtomicU64,
     pub(crate) met: AtomicU64,
 }
 
-impl Gate for Meeting {
+impl<'a, R: Clock + Sync> Gate for Meeting<'a, R> {
     fn at(&self, worker: u32, visit: u64) {
         let Some(rounds) = self.rounds.get(worker as usize) else {
             return;
@@ -49,54 +63,63 @@ impl Gate for Meeting {
             return;
         }
         self.come.fetch_add(1, Ordering::SeqCst);
-        if waits_for(&self.come, self.wanted) {
+        if waits_for(self.rt, &self.come, self.wanted, self.millis) {
             self.met.fetch_add(1, Ordering::SeqCst);
         }
     }
 }
 
-// The meeting of so many of at most eight workers in a round.
-pub(crate) fn new_meeting(wanted: u64, round: u64) -> Meeting {
-    Meeting {
+// The meeting of so many workers in a round, where each waits at most so long.
+pub(crate) fn new_meeting<R: Clock + Sync>(
+    rt: &R,
+    alloc: Global,
+    wanted: u64,
+    round: u64,
+    millis: u32,
+) -> Result<Meeting<'_, R>, Mem> {
+    Ok(Meeting {
+        rt,
         wanted,
         round,
-        rounds: [
-            AtomicU64::new(0),
-            AtomicU64::new(0),
-            AtomicU64::new(0),
-            AtomicU64::new(0),
-            AtomicU64::new(0),
-            AtomicU64::new(0),
-            AtomicU64::new(0),
-            AtomicU64::new(0),
-        ],
+        millis,
+        rounds: one_each(alloc)?,
         come: AtomicU64::new(0),
         met: AtomicU64::new(0),
+    })
+}
+
+// A number for each worker that there may be, from 0 on.
+fn one_each(alloc: Global) -> Result<Vec<AtomicU64>, Mem> {
+    let mut numbers = Vec::new(alloc);
+    for _ in 0..64 {
+        numbers.push(AtomicU64::new(0))?;
     }
+    Ok(numbers)
 }
 
 // Lets the worker 1 go on to its second visit once the worker 0 is at its third, and that on from
 // there once the worker 1 is at its own third.
 #[derive(Drop)]
-pub(crate) struct InTurn {
+pub(crate) struct InTurn<'a, R: Clock + Sync> {
+    rt: &'a R,
     reached: AtomicU64,
     rung: AtomicU64,
     // The last visit of each.
-    pub(crate) last: [AtomicU64; 2],
+    pub(crate) first: AtomicU64,
+    pub(crate) second: AtomicU64,
 }
 
-impl Gate for InTurn {
+impl<'a, R: Clock + Sync> Gate for InTurn<'a, R> {
     fn at(&self, worker: u32, visit: u64) {
-        if let Some(last) = self.last.get(worker as usize) {
-            last.store(visit, Ordering::SeqCst);
-        }
+        let last = if worker == 0 { &self.first } else { &self.second };
+        last.store(visit, Ordering::SeqCst);
         match (worker, visit) {
             (0, 3) => {
                 self.reached.store(1, Ordering::SeqCst);
-                waits_for(&self.rung, 1);
+                waits_for(self.rt, &self.rung, 1, LONG);
             }
             (1, 2) => {
-                waits_for(&self.reached, 1);
+                waits_for(self.rt, &self.reached, 1, LONG);
             }
             (1, 3) => self.rung.store(1, Ordering::SeqCst),
             _ => {}
@@ -104,39 +127,43 @@ impl Gate for InTurn {
     }
 }
 
-pub(crate) fn new_turns() -> InTurn {
+pub(crate) fn new_turns<R: Clock + Sync>(rt: &R) -> InTurn<'_, R> {
     InTurn {
+        rt,
         reached: AtomicU64::new(0),
         rung: AtomicU64::new(0),
-        last: [AtomicU64::new(0), AtomicU64::new(0)],
+        first: AtomicU64::new(0),
+        second: AtomicU64::new(0),
     }
 }
 
 // Lets A pay only once B is at its gate, and lets B on only once A has paid. A is the bank that
 // worker 0 visits in this turn, and B that which worker 1 does.
 #[derive(Drop)]
-pub(crate) struct PaidBefore {
+pub(crate) struct PaidBefore<'a, R: Clock + Sync> {
+    rt: &'a R,
     turn: u64,
     waiting: AtomicU64,
     paid: AtomicU64,
 }
 
-impl Gate for PaidBefore {
+impl<'a, R: Clock + Sync> Gate for PaidBefore<'a, R> {
     fn at(&self, worker: u32, visit: u64) {
         let next = visit.saturating_add(1);
         if worker == 0 && (visit == self.turn || next == self.turn) {
-            waits_for(&self.waiting, 1);
+            waits_for(self.rt, &self.waiting, 1, LONG);
         } else if worker == 0 && visit > self.turn {
             self.paid.store(1, Ordering::SeqCst);
         } else if worker == 1 && visit == self.turn {
             self.waiting.store(1, Ordering::SeqCst);
-            waits_for(&self.paid, 1);
+            waits_for(self.rt, &self.paid, 1, LONG);
         }
     }
 }
 
-pub(crate) fn new_paid_before(turn: u64) -> PaidBefore {
+pub(crate) fn new_paid_before<R: Clock + Sync>(rt: &R, turn: u64) -> PaidBefore<'_, R> {
     PaidBefore {
+        rt,
         turn,
         waiting: AtomicU64::new(0),
         paid: AtomicU64::new(0),
@@ -172,12 +199,8 @@ impl Gate for Numbers {
 
 impl Numbers {
     pub(crate) fn new(alloc: Global) -> Result<Numbers, Mem> {
-        let mut last = Vec::new(alloc);
-        for _ in 0..64 {
-            last.push(AtomicU64::new(0))?;
-        }
         Ok(Numbers {
-            last,
+            last: one_each(alloc)?,
             calls: AtomicU64::new(0),
             firsts: AtomicU64::new(0),
             others: AtomicU64::new(0),

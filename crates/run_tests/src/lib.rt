@@ -3,7 +3,11 @@
 #![tactic(auto)]
 
 #[cfg(test)]
+mod asks;
+#[cfg(test)]
 mod boards;
+#[cfg(test)]
+mod counts;
 #[cfg(test)]
 mod desks;
 #[cfg(test)]

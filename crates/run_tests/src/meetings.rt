@@ -1,7 +1,7 @@
 ghost use Rattle.settle.specs.Drives.{IsPlan};
 
 use crate::boards::driven_by_hand;
-use crate::gates::new_meeting;
+use crate::gates::{LONG, SHORT, new_meeting};
 use crate::nets::{Sample, net_of};
 use clr_edge::Gate;
 use clr_net::{Mem, Network};
@@ -11,6 +11,7 @@ use std::process::Abort;
 use std::sync::atomic::Ordering;
 use std::test::Fail;
 use std::thread::Threads;
+use std::time::Clock;
 
 // How a run is begun.
 #[derive(Clone, Copy)]
@@ -18,7 +19,7 @@ enum Run {
     Settled,
     // Without threads of its own.
     Alone,
-    // On a board that was made by hand, of two debts.
+    // On a board that was made by hand.
     Driven,
 }
 
@@ -45,23 +46,21 @@ fn run_by<R: Threads + Sync, G: Gate + Sync>(
             settle_alone(rt, alloc, net.copy(alloc)?, plan, gate, &mut offices)?;
         }
         Run::Driven => {
-            if net.debts() != 2 {
-                return Err(Mem);
-            }
             driven_by_hand(rt, alloc, net, plan, gate)?;
         }
     }
     Ok(())
 }
 
-// How many do not wait in vain.
-fn met_in<R: Threads + Sync>(
+// How many do not wait in vain, where each waits at most so many milliseconds.
+fn met_in<R: Threads + Clock + Sync>(
     rt: &R,
     alloc: Global,
     (run, sample, [workers, sweeps], round, wanted, _): Case,
+    millis: u32,
 ) -> Result<u64, Mem> {
     let net = net_of(alloc, sample)?;
-    let gate = new_meeting(wanted, round);
+    let gate = new_meeting(rt, alloc, wanted, round, millis)?;
     let plan = Plan {
         workers: workers.clamp(1, 64),
         sweeps: sweeps.clamp(1, 1000),
@@ -71,16 +70,21 @@ fn met_in<R: Threads + Sync>(
 }
 
 // In each case as many meet as are wanted.
-fn all_meet<R: Threads + Sync + Abort>(rt: &R, alloc: Global, cases: &[Case]) -> Result<(), Fail> {
+fn all_meet<R: Threads + Clock + Sync + Abort>(
+    rt: &R,
+    alloc: Global,
+    cases: &[Case],
+    millis: u32,
+) -> Result<(), Fail> {
     for (place, case) in cases.iter().enumerate() {
-        let met = met_in(rt, alloc, *case)?;
+        let met = met_in(rt, alloc, *case, millis)?;
         assert_eq!(rt; met, case.5, "{place}");
     }
     Ok(())
 }
 
 // On networks of two debts, and of three debts a bank.
-const AT_FIRST: [Case; 20] = [
+const AT_FIRST: [Case; 24] = [
     (Run::Settled, Sample::Chain, [2, 1], 0, 2, 2),
     (Run::Settled, Sample::TwoPairs, [2, 1], 0, 2, 2),
     (Run::Settled, Sample::TwoPairs, [3, 1], 0, 3, 3),
@@ -99,18 +103,22 @@ const AT_FIRST: [Case; 20] = [
     (Run::Settled, Sample::Woven(700), [2, 3], 0, 2, 2),
     (Run::Settled, Sample::Woven(700), [3, 3], 0, 3, 3),
     (Run::Settled, Sample::Woven(700), [8, 3], 0, 8, 8),
+    (Run::Settled, Sample::Woven(700), [64, 1], 0, 64, 64),
     (Run::Driven, Sample::Chain, [2, 1], 0, 2, 2),
     (Run::Driven, Sample::TwoPairs, [3, 3], 0, 3, 3),
+    (Run::Driven, Sample::Woven(30), [2, 1], 0, 2, 2),
+    (Run::Driven, Sample::Woven(30), [8, 3], 0, 8, 8),
+    (Run::Driven, Sample::Woven(700), [64, 1], 0, 64, 64),
 ];
 
 #[test]
 fn all_workers_work_at_once(rt: HostRuntime) -> Result<(), Fail> {
-    all_meet(&rt, rt.alloc(), &AT_FIRST)
+    all_meet(&rt, rt.alloc(), &AT_FIRST, LONG)
 }
 
 // Of the two pairs, two of two or four workers have a visit in the second round. Down the stairs,
-// whose steps are of one worker each, each of all workers has one.
-const LATER: [Case; 9] = [
+// whose steps are of one worker each, each of all workers has one in each of the first rounds.
+const LATER: [Case; 17] = [
     (Run::Settled, Sample::TwoPairs, [2, 1], 1, 2, 2),
     (Run::Settled, Sample::TwoPairs, [4, 1], 1, 2, 2),
     (Run::Settled, Sample::Stairs(700, 2), [2, 1], 1, 2, 2),
@@ -119,23 +127,33 @@ const LATER: [Case; 9] = [
     (Run::Settled, Sample::Stairs(700, 2), [2, 3], 1, 2, 2),
     (Run::Settled, Sample::Stairs(700, 3), [3, 3], 1, 3, 3),
     (Run::Settled, Sample::Stairs(700, 8), [8, 3], 1, 8, 8),
+    (Run::Settled, Sample::Stairs(700, 64), [64, 1], 1, 64, 64),
+    (Run::Settled, Sample::Stairs(700, 2), [2, 1], 2, 2, 2),
+    (Run::Settled, Sample::Stairs(700, 3), [3, 3], 2, 3, 3),
+    (Run::Settled, Sample::Stairs(700, 8), [8, 1], 2, 8, 8),
+    (Run::Settled, Sample::Stairs(700, 64), [64, 1], 2, 64, 64),
     (Run::Driven, Sample::TwoPairs, [2, 1], 1, 2, 2),
+    (Run::Driven, Sample::Stairs(700, 3), [3, 1], 1, 3, 3),
+    (Run::Driven, Sample::Stairs(700, 3), [3, 1], 2, 3, 3),
+    (Run::Driven, Sample::Stairs(700, 64), [64, 1], 2, 64, 64),
 ];
 
 #[test]
 fn workers_work_at_once_in_a_later_round_too(rt: HostRuntime) -> Result<(), Fail> {
-    all_meet(&rt, rt.alloc(), &LATER)
+    all_meet(&rt, rt.alloc(), &LATER, LONG)
 }
 
 // The first worker waits in vain for a second one, and the others find it there.
-const ALONE: [Case; 4] = [
+const ALONE: [Case; 6] = [
     (Run::Alone, Sample::TwoPairs, [2, 1], 0, 2, 1),
     (Run::Alone, Sample::TwoPairs, [3, 1], 0, 2, 2),
     (Run::Alone, Sample::TwoPairs, [8, 1], 0, 2, 7),
     (Run::Alone, Sample::TwoPairs, [4, 1], 1, 2, 1),
+    (Run::Alone, Sample::Woven(700), [64, 1], 0, 2, 63),
+    (Run::Alone, Sample::Stairs(700, 4), [4, 1], 2, 2, 3),
 ];
 
 #[test]
 fn alone_no_worker_works_beside_another(rt: HostRuntime) -> Result<(), Fail> {
-    all_meet(&rt, rt.alloc(), &ALONE)
+    all_meet(&rt, rt.alloc(), &ALONE, SHORT)
 }

@@ -1,4 +1,4 @@
-ghost use Rattle.std.specs.Prelude.{◌≡◌, ◌<◌, ◌≤◌, IfOk, length};
+ghost use Rattle.std.specs.Prelude.{◌<◌, ◌≤◌};
 
 use clr_net::{Mem, Network};
 use net_samples::{add_bank, add_debt, chain, ring, woven};
@@ -7,6 +7,7 @@ use std::alloc::Global;
 // The networks on which runs are tried.
 #[derive(Clone, Copy)]
 pub(crate) enum Sample {
+    NoBank,
     Chain,
     Ring,
     // A ring whose debts are of 150 units.
@@ -17,7 +18,7 @@ pub(crate) enum Sample {
     TwoPoorPairs,
     // So many banks, which owe round a circle.
     Woven(u32),
-    // So many banks, of which each from this number on owes a unit to the bank as many before it.
+    // So many banks of a unit each, of which each from this number on owes the bank as many before it.
     Stairs(u32, u32),
 }
 
@@ -51,17 +52,15 @@ fn add_two_pairs(alloc: Global, net: &mut Network, banks: u32, cash: u64) -> Res
     add_debt(net, 7, 3, 1)
 }
 
-// Adds the banks of stairs. The last ones, as many as a step goes over, have a unit each, which
-// goes down a step in each sweep over the banks.
+// Adds the banks of stairs. In each sweep over the banks all that a bank has goes down a step.
 fn add_stairs(alloc: Global, net: &mut Network, banks: u32, step: u32) -> Result<(), Mem>
     requires { (1 ≤ step) × (banks ≤ 1000) }
 {
     for number in 0..banks {
-        let cash = u64::from(banks - number <= step);
-        add_numbered(alloc, net, number, cash)?;
+        add_numbered(alloc, net, number, 1)?;
     }
     for number in step..banks {
-        add_debt(net, number, number - step, 1)?;
+        add_debt(net, number, number - step, 20)?;
     }
     Ok(())
 }
@@ -88,17 +87,6 @@ pub(crate) fn net_of(alloc: Global, sample: Sample) -> Result<Network, Mem> {
         Sample::Woven(banks) => woven(alloc, banks),
         _ => made_by_hand(alloc, sample),
     }
-}
-
-// The same, which has two debts.
-pub(crate) fn pair_of(alloc: Global, sample: Sample) -> Result<Network, Mem>
-    ensures { IfOk result (λ net. length net.debts ≡ 2) }
-{
-    let net = net_of(alloc, sample)?;
-    if net.debts() != 2 {
-        return Err(Mem);
-    }
-    Ok(net)
 }
 
 // Adds the banks of a chain of three of which the first is the bank that worker 0 of two visits in

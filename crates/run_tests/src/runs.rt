@@ -1,27 +1,23 @@
 ghost use Rattle.clr_net.specs.Samples.{chain as chain_net};
 ghost use Rattle.std.specs.Prelude.{◌≡◌, ◌<◌, ◌≤◌, All, length};
-ghost use Rattle.settle.specs.Between.{IsBetween};
 ghost use Rattle.settle.specs.Drives.{IsPlan};
 ghost use Rattle.settle.specs.Runs.{CanGoOn};
 
-use crate::boards::{driven_by_hand, first_raises, new_board, take_bells};
-use crate::gates::{Numbers, new_meeting, new_paid_before, new_turns};
-use crate::nets::{Sample, late_chain, net_of, pair_of};
+use crate::boards::first_raises;
+use crate::gates::{LONG, new_meeting, new_paid_before, new_turns};
+use crate::nets::late_chain;
 use clear_core::{Raise, Scratch};
 use clear_least::central;
 use clr_edge::{Gate, OpenGate};
 use clr_net::{Amounts, BankId, Mem, Network};
 use net_samples::{add_bank, add_debt, chain, ring, woven};
-use pay_words::{Board, PaySeat};
 use raise_journal::{Verdict, replay};
-use settle::{
-    Plan, Run, RunState, Settled, calls_two_workers, nobody_can_pay_more, offices_of,
-    round_and_ask, settle, settle_from, settle_owned,
-};
+use settle::{Plan, Settled, settle, settle_from, settle_owned};
 use std::alloc::Global;
 use std::sync::atomic::Ordering;
 use std::test::Fail;
 use std::thread::Threads;
+use std::time::Clock;
 
 // A plan of one worker and one sweep.
 const ALONE: Plan = Plan {
@@ -199,169 +195,6 @@ fn no_bank_takes_one_round(rt: HostRuntime) -> Result<(), Fail> {
     Ok(())
 }
 
-// The last answer of so many rounds of the workers of a board, made by hand, and whether nobody can
-// pay more then.
-fn asked_after<R: Threads + Sync, G: Gate + Sync>(
-    rt: &R,
-    alloc: Global,
-    net: &Network,
-    plan: Plan,
-    board: &Board,
-    master: &mut PaySeat,
-    gate: &G,
-    rounds: u32,
-) -> Result<[bool; 2], Mem>
-    requires board { (net.now ≡ board.now.net) × (board.now.table.workers ≡ plan.workers) }
-    requires master { (master.old.table ≡ board.now.table) × IsBetween net.now master.old.shows }
-    requires rounds { (rounds ≤ 10) × (master.old.shows.seats ≡ 0) }
-    requires plan { IsPlan plan }
-{
-    let run = Run {
-        rt,
-        alloc,
-        net,
-        plan,
-        board,
-        gate,
-    };
-    let offices = offices_of(alloc, net, plan.workers)?;
-    let mut state = RunState::of(alloc, &[], offices)?;
-    let mut down = false;
-    for _ in 0..rounds {
-        down = round_and_ask(&run, master, &mut state)?;
-    }
-    let now = nobody_can_pay_more(net, board, master);
-    Ok([down, now])
-}
-
-// The same, on a new board.
-fn asked<R: Threads + Sync, G: Gate + Sync>(
-    rt: &R,
-    alloc: Global,
-    net: &Network,
-    plan: Plan,
-    gate: &G,
-    rounds: u32,
-) -> Result<[bool; 2], Mem>
-    requires net { (length net.now.debts ≡ 2) × (rounds ≤ 10) }
-    requires plan { IsPlan plan }
-{
-    let (board, mut master) = new_board(alloc, net, plan.workers)?;
-    asked_after(rt, alloc, net, plan, &board, &mut master, gate, rounds)
-}
-
-// The same, of a sample.
-fn asked_of<R: Threads + Sync, G: Gate + Sync>(
-    rt: &R,
-    alloc: Global,
-    sample: Sample,
-    plan: Plan,
-    gate: &G,
-    rounds: u32,
-) -> Result<[bool; 2], Mem>
-    requires rounds { rounds ≤ 10 }
-    requires plan { IsPlan plan }
-{
-    let net = pair_of(alloc, sample)?;
-    asked(rt, alloc, &net, plan, gate, rounds)
-}
-
-// A network, the sweeps of one worker, so many rounds, and whether all bells are down then. Without
-// a round no answer is given.
-const ASKED: [(Sample, u32, u32, bool); 8] = [
-    (Sample::Chain, 1, 0, false),
-    (Sample::Chain, 1, 1, true),
-    (Sample::Ring, 1, 1, false),
-    (Sample::Ring, 1, 5, false),
-    (Sample::Ring, 1, 6, true),
-    (Sample::Ring, 7, 1, true),
-    (Sample::TwoPairs, 1, 1, false),
-    (Sample::TwoPairs, 1, 2, true),
-];
-
-#[test]
-fn the_bells_are_down_once_nobody_can_pay_more(rt: HostRuntime) -> Result<(), Fail> {
-    for (place, (sample, sweeps, rounds, wanted)) in ASKED.iter().enumerate() {
-        let plan = Plan {
-            workers: 1,
-            sweeps: (*sweeps).clamp(1, 1000),
-        };
-        let told = asked_of(&rt, rt.alloc(), *sample, plan, &OpenGate, (*rounds).min(10))?;
-        assert_eq!(rt; told, [*wanted; 2], "{place}");
-    }
-    Ok(())
-}
-
-// How many workers of the chain meet in a round that is made by hand.
-fn met_by_hand<R: Threads + Sync>(rt: &R, alloc: Global, workers: u32) -> Result<u64, Mem>
-    requires { (1 ≤ workers) × (workers ≤ 64) }
-{
-    let gate = new_meeting(u64::from(workers), 0);
-    let plan = Plan { workers, sweeps: 1 };
-    asked_of(rt, alloc, Sample::Chain, plan, &gate, 1)?;
-    Ok(gate.met.load(Ordering::SeqCst))
-}
-
-#[test]
-fn a_round_by_hand_has_all_workers_at_once(rt: HostRuntime) -> Result<(), Fail> {
-    for workers in [2, 3] {
-        let met = met_by_hand(&rt, rt.alloc(), workers)?;
-        assert_eq!(rt; met, u64::from(workers));
-    }
-    Ok(())
-}
-
-// Whether bells of two workers are up, where those of these banks alone are.
-fn two_called(alloc: Global, net: &Network, workers: u32, up: [u32; 3]) -> Result<bool, Mem>
-    requires { (length net.now.debts ≡ 2) × (1 ≤ workers) × (workers ≤ 64) }
-{
-    let (board, mut master) = new_board(alloc, net, workers)?;
-    take_bells(&board, &mut master, net.banks(), up);
-    Ok(calls_two_workers(net, &board, workers))
-}
-
-// Workers, the banks whose bells are up, and whether they call two of the workers. There is no bank
-// 1,000.
-const CALLING: [(u32, [u32; 3], bool); 18] = [
-    (2, [0, 1, 2], true),
-    (2, [0, 1, 1], true),
-    (2, [1, 2, 2], true),
-    (2, [0, 2, 2], false),
-    (2, [1, 1, 1], false),
-    (2, [1000, 1000, 1000], false),
-    (3, [0, 2, 2], true),
-    (3, [2, 2, 2], false),
-    (1, [0, 1, 2], false),
-    (2, [5, 698, 698], true),
-    (2, [4, 6, 698], false),
-    (2, [700, 999, 999], true),
-    (4, [703, 999, 999], false),
-    (5, [5, 610, 695], false),
-    (5, [5, 610, 999], true),
-    (8, [5, 701, 997], false),
-    (8, [5, 701, 998], true),
-    (64, [3, 67, 640], true),
-];
-
-// The first case in which it is not so, on 1,000 banks.
-fn first_uncalled(alloc: Global) -> Result<Option<usize>, Mem> {
-    let net = pair_of(alloc, Sample::TwoPoorPairs)?;
-    for (place, (workers, up, wanted)) in CALLING.iter().enumerate() {
-        let workers = (*workers).clamp(1, 64);
-        if two_called(alloc, &net, workers, *up)? != *wanted {
-            return Ok(Some(place));
-        }
-    }
-    Ok(None)
-}
-
-#[test]
-fn bells_of_two_workers_call_both(rt: HostRuntime) -> Result<(), Fail> {
-    let wrong = first_uncalled(rt.alloc())?;
-    assert_eq!(rt; wrong, None);
-    Ok(())
-}
-
 // Adds five banks, of which C owes A a unit, and D one to B and one to E.
 fn add_five(alloc: Global, net: &mut Network) -> Result<(), Mem> {
     for (name, cash) in [(b"A", 0), (b"B", 0), (b"C", 1), (b"D", 2), (b"E", 0)] {
@@ -373,19 +206,17 @@ fn add_five(alloc: Global, net: &mut Network) -> Result<(), Mem> {
 }
 
 // A run on them by two workers in turn: the last visit of each, the rounds and all visits.
-fn run_in_turn<R: Threads + Sync>(rt: &R, alloc: Global) -> Result<[u64; 4], Mem> {
+fn run_in_turn<R: Threads + Clock + Sync>(rt: &R, alloc: Global) -> Result<[u64; 4], Mem> {
     let mut net = Network::empty(alloc);
     add_five(alloc, &mut net)?;
-    let gate = new_turns();
+    let gate = new_turns(rt);
     let plan = Plan {
         workers: 2,
         sweeps: 2,
     };
     let told = run(rt, alloc, &net, plan, &gate)?;
-    let [first, second] = [
-        gate.last[0].load(Ordering::SeqCst),
-        gate.last[1].load(Ordering::SeqCst),
-    ];
+    let first = gate.first.load(Ordering::SeqCst);
+    let second = gate.second.load(Ordering::SeqCst);
     Ok([first, second, told.rounds, told.visits])
 }
 
@@ -399,7 +230,7 @@ fn a_sweep_hears_a_bell_that_another_worker_rang(rt: HostRuntime) -> Result<(), 
 }
 
 // The journal of a run by two workers on a chain whose banks are visited in this turn.
-fn run_late<R: Threads + Sync>(
+fn run_late<R: Threads + Clock + Sync>(
     rt: &R,
     alloc: Global,
     turn: u32,
@@ -407,7 +238,7 @@ fn run_late<R: Threads + Sync>(
     requires { (1 ≤ turn) × (turn ≤ 100) }
 {
     let net = late_chain(alloc, turn)?;
-    let gate = new_paid_before(u64::from(turn));
+    let gate = new_paid_before(rt, u64::from(turn));
     let plan = Plan {
         workers: 2,
         sweeps: 1,
@@ -422,81 +253,6 @@ fn a_bank_passes_the_gate_before_it_looks(rt: HostRuntime) -> Result<(), Fail> {
         let told = run_late(&rt, rt.alloc(), turn.clamp(1, 100))?;
         // B has seen what A paid while it was at the gate, and so pays all at once.
         assert_eq!(rt; told, (2, [(1, 0, 7), (2, 1, 8)]), "{turn}");
-    }
-    Ok(())
-}
-
-// A network, workers and sweeps; the rounds, visits, raises and seats of a run; and the calls of
-// its gate, those of a first visit, those of a wrong one, and the workers.
-type Counted = (Sample, u32, u32, [u64; 4], [u64; 4]);
-
-// On the long ring there are two visits in each of 150 rounds and one in the last, numbered anew in
-// each; by sweeps enough all are of the first. Of the 700 banks two are visited a second time.
-const COUNTED: [Counted; 6] = [
-    (Sample::Ring, 1, 1, [6, 11, 10, 6], [11, 6, 0, 1]),
-    (
-        Sample::LongRing,
-        1,
-        1,
-        [151, 301, 300, 151],
-        [301, 151, 0, 1],
-    ),
-    (Sample::LongRing, 1, 1000, [2, 301, 300, 2], [301, 1, 0, 1]),
-    (Sample::TwoPairs, 1, 1, [2, 702, 2, 2], [702, 2, 0, 1]),
-    (Sample::TwoPairs, 4, 1, [2, 702, 2, 8], [702, 6, 0, 4]),
-    (
-        Sample::TwoPoorPairs,
-        64,
-        1,
-        [1, 1000, 0, 64],
-        [1000, 64, 0, 64],
-    ),
-];
-
-// What a run on a network comes to in such numbers.
-fn counted<R: Threads + Sync>(
-    rt: &R,
-    alloc: Global,
-    sample: Sample,
-    plan: Plan,
-) -> Result<([u64; 4], [u64; 4]), Mem>
-    requires { IsPlan plan }
-{
-    let net = net_of(alloc, sample)?;
-    let gate = Numbers::new(alloc)?;
-    let told = run(rt, alloc, &net, plan, &gate)?;
-    Ok((
-        [told.rounds, told.visits, told.made, told.seats],
-        gate.counts(),
-    ))
-}
-
-// The same of a run that is driven on a board made by hand, but for the seats.
-fn driven<R: Threads + Sync>(
-    rt: &R,
-    alloc: Global,
-    sample: Sample,
-    plan: Plan,
-) -> Result<([u64; 3], [u64; 4]), Mem>
-    requires { IsPlan plan }
-{
-    let net = pair_of(alloc, sample)?;
-    let gate = Numbers::new(alloc)?;
-    let told = driven_by_hand(rt, alloc, &net, plan, &gate)?;
-    Ok((told, gate.counts()))
-}
-
-#[test]
-fn the_gate_is_told_the_worker_and_the_visit(rt: HostRuntime) -> Result<(), Fail> {
-    for (place, (sample, workers, sweeps, run, gate)) in COUNTED.iter().enumerate() {
-        let plan = Plan {
-            workers: (*workers).clamp(1, 64),
-            sweeps: (*sweeps).clamp(1, 1000),
-        };
-        let told = counted(&rt, rt.alloc(), *sample, plan)?;
-        assert_eq!(rt; told, (*run, *gate), "{place}");
-        let told = driven(&rt, rt.alloc(), *sample, plan)?;
-        assert_eq!(rt; told, ([run[0], run[1], run[2]], *gate), "{place} by hand");
     }
     Ok(())
 }
@@ -563,7 +319,7 @@ fn a_run_goes_on_where_a_bank_has_more(rt: HostRuntime) -> Result<(), Fail> {
 
 #[test]
 fn a_run_that_goes_on_has_all_workers_at_once(rt: HostRuntime) -> Result<(), Fail> {
-    let gate = new_meeting(3, 0);
+    let gate = new_meeting(&rt, rt.alloc(), 3, 0, LONG)?;
     run_again(&rt, rt.alloc(), 3, &gate)?;
     assert_eq!(rt; gate.met.load(Ordering::SeqCst), 3);
     Ok(())

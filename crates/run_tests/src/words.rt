@@ -54,7 +54,7 @@ fn look_at_once<R: Threads + Sync>(
     )
 }
 
-// A seat raises a debt and another looks at one, in threads of their own.
+// A seat raises a debt and another looks at it, in threads of their own.
 fn raise_beside_look<R: Threads + Sync>(
     rt: &R,
     board: &Board,
@@ -62,7 +62,6 @@ fn raise_beside_look<R: Threads + Sync>(
     two: &mut PaySeat,
     a: DebtId,
     to: u64,
-    b: DebtId,
 ) -> (u64, Payment)
     requires one { IsAt board.now one.old × (one.old.shows.master ≡ false)
         × (a.0 < length board.now.net.debts)
@@ -71,11 +70,11 @@ fn raise_beside_look<R: Threads + Sync>(
     requires within { to ≤ part board.now.net a.0 (receipts board.now.net one.old.shows.sights
         (debtor_of board.now.net a.0)) }
     requires two { IsAt board.now two.old × (two.old.shows.master ≡ false)
-        × (b.0 < length board.now.net.debts)
-        × (holds two.old.shows (creditor_of board.now.net b.0) ≡ true) }
+        × (a.0 < length board.now.net.debts)
+        × (holds two.old.shows (creditor_of board.now.net a.0) ≡ true) }
     ensures one { (one.new.table ≡ one.old.table) × (one.new.shows ≡ raised one.old.shows a.0 to) }
     ensures two { (two.new.table ≡ two.old.table)
-        × (two.new.shows ≡ looked two.old.shows b.0 result.1) }
+        × (two.new.shows ≡ looked two.old.shows a.0 result.1) }
 {
     join_mut(
         rt,
@@ -90,11 +89,11 @@ fn raise_beside_look<R: Threads + Sync>(
         { board.raise(one, a, to) },
         &mut || -> Payment
             requires { IsAt board.now two.now × (two.now.shows.master ≡ false)
-                × (b.0 < length board.now.net.debts)
-                × (holds two.now.shows (creditor_of board.now.net b.0) ≡ true) }
+                × (a.0 < length board.now.net.debts)
+                × (holds two.now.shows (creditor_of board.now.net a.0) ≡ true) }
             ensures { (two.exit.now.table ≡ two.entry.now.table)
-                × (two.exit.now.shows ≡ looked two.entry.now.shows b.0 result) }
-        { board.look(two, b) },
+                × (two.exit.now.shows ≡ looked two.entry.now.shows a.0 result) }
+        { board.look(two, a) },
     )
 }
 
@@ -103,7 +102,6 @@ pub(crate) fn two_seats(
     alloc: Global,
     net: &Network,
 ) -> Result<(Board, PaySeat, PaySeat, PaySeat), Mem>
-    requires debts { length net.now.debts ≡ 2 }
     ensures board { IfOk result (λ r. (r.0.net ≡ net.now) × (r.0.past ≡ [])
         × (r.0.table.workers ≡ 2)) }
     ensures master { IfOk result (λ r. IsAt r.0 r.1 × (r.1.shows.master ≡ true)
@@ -158,7 +156,7 @@ fn raised_beside<R: Threads + Sync>(
 {
     let (board, mut master, mut first, mut second) = two_seats(alloc, net)?;
     let debt = DebtId(0);
-    let (stamp, seen) = raise_beside_look(rt, &board, &mut first, &mut second, debt, 1, debt);
+    let (stamp, seen) = raise_beside_look(rt, &board, &mut first, &mut second, debt, 1);
     board.ring(&mut first, BankId(1));
     take_both(&board, &mut master, first, second);
     Ok((stamp, seen, closed(board, master)))

@@ -6,7 +6,7 @@ ghost use Rattle.pay_words.specs.Views.{IsAt, OwesNoRing, opening};
 ghost use Rattle.settle.specs.Between.{IsBetween};
 ghost use Rattle.std.specs.Prelude.{◌≡◌, ◌+◌, ◌*◌, ◌<◌, ◌≤◌, [], OnOk, length};
 
-use crate::boards::{NONE, first_raises, new_board, take_bells};
+use crate::boards::{NONE, first_raises, new_board, new_state, take_bells};
 use crate::gates::FirstVisits;
 use crate::words::two_seats;
 use bank_worker::{BankSet, SeatBack, Visit, Worker};
@@ -14,7 +14,7 @@ use clr_edge::OpenGate;
 use clr_net::{BankId, DebtId, MAX_BANKS, Mem, Network};
 use net_samples::{chain, ring};
 use pay_words::{Board, PaySeat};
-use settle::{Plan, Run, RunState, Way, offices_of, round};
+use settle::{Plan, Run, Way, round};
 use std::alloc::Global;
 use std::sync::atomic::{AtomicU64, Ordering};
 use std::test::Fail;
@@ -31,35 +31,22 @@ struct Told {
 
 // So many rounds at one office: in each a worker takes another seat to it, and leaves it again.
 fn rounds_on<R: Threads + Sync>(
-    rt: &R,
-    alloc: Global,
-    net: &Network,
-    board: &Board,
+    run: &Run<'_, R, OpenGate>,
     master: &mut PaySeat,
-    sweeps: u32,
     rounds: usize,
 ) -> Result<Told, Mem>
-    requires board { (net.now ≡ board.now.net) × (board.now.table.workers ≡ 1) }
-    requires master { (master.old.table ≡ board.now.table) × IsBetween net.now master.old.shows }
+    requires one { run.now.plan.workers ≡ 1 }
+    requires master { (master.old.table ≡ run.now.board.now.table)
+        × IsBetween run.now.net.now master.old.shows }
     requires rounds { (rounds ≤ 6) × (master.old.shows.seats ≡ 0) }
-    requires sweeps { (1 ≤ sweeps) × (sweeps ≤ 1000) }
     ensures table { master.new.table ≡ master.old.table }
-    ensures between { OnOk result (IsBetween net.now master.new.shows) }
+    ensures between { OnOk result (IsBetween run.now.net.now master.new.shows) }
 {
-    let run = Run {
-        rt,
-        alloc,
-        net,
-        plan: Plan { workers: 1, sweeps },
-        board,
-        gate: &OpenGate,
-    };
-    let offices = offices_of(alloc, net, 1)?;
-    let mut state = RunState::of(alloc, &[], offices)?;
+    let mut state = new_state(run)?;
     let mut told = [(0, 0, 0); 6];
     for number in 0..rounds {
         let before = state.journal.as_slice().len();
-        let (units, visits) = round(&run, master, &mut state, Way::InTurn)?;
+        let (units, visits) = round(run, master, &mut state, Way::InTurn)?;
         told[number] = (units, visits, state.journal.as_slice().len() - before);
     }
     let raises = first_raises(state.journal.as_slice());
@@ -79,12 +66,19 @@ fn rounds_of<R: Threads + Sync>(
     sweeps: u32,
     rounds: usize,
 ) -> Result<Told, Mem>
-    requires debts { length net.now.debts ≡ 2 }
     requires rounds { rounds ≤ 6 }
     requires sweeps { (1 ≤ sweeps) × (sweeps ≤ 1000) }
 {
     let (board, mut master) = new_board(alloc, net, 1)?;
-    let mut told = rounds_on(rt, alloc, net, &board, &mut master, sweeps, rounds)?;
+    let run = Run {
+        rt,
+        alloc,
+        net,
+        plan: Plan { workers: 1, sweeps },
+        board: &board,
+        gate: &OpenGate,
+    };
+    let mut told = rounds_on(&run, &mut master, rounds)?;
     let up = take_bells(&board, &mut master, net.banks(), NONE);
     told.up = up;
     Ok(told)

@@ -2,7 +2,7 @@ use Rattle.std.proofs.Common.{[], sym, subst, rules}
 use Rattle.pay_words.specs.declared.view.Shown.{Shown}
 use Rattle.settle.specs.Between.{IsBetween}
 use Rattle.settle.proofs.ByHand.{opened_stands}
-use Rattle.run_tests.proofs.runs.asked.Goals as goal
+use Rattle.run_tests.proofs.asks.asked.Goals as goal
 
 pub asked_after-requires-clause-master : goal.asked_after-requires-clause-master
 asked_after-requires-clause-master g c κs within = (
