@@ -105,14 +105,14 @@ pub(crate) struct InTurn<'a, R: Clock + Sync> {
     reached: AtomicU64,
     rung: AtomicU64,
     // The last visit of each.
-    pub(crate) last: [AtomicU64; 2],
+    pub(crate) first: AtomicU64,
+    pub(crate) second: AtomicU64,
 }
 
 impl<'a, R: Clock + Sync> Gate for InTurn<'a, R> {
     fn at(&self, worker: u32, visit: u64) {
-        if let Some(last) = self.last.get(worker as usize) {
-            last.store(visit, Ordering::SeqCst);
-        }
+        let last = if worker == 0 { &self.first } else { &self.second };
+        last.store(visit, Ordering::SeqCst);
         match (worker, visit) {
             (0, 3) => {
                 self.reached.store(1, Ordering::SeqCst);
@@ -132,7 +132,8 @@ pub(crate) fn new_turns<R: Clock + Sync>(rt: &R) -> InTurn<'_, R> {
         rt,
         reached: AtomicU64::new(0),
         rung: AtomicU64::new(0),
-        last: [AtomicU64::new(0), AtomicU64::new(0)],
+        first: AtomicU64::new(0),
+        second: AtomicU64::new(0),
     }
 }
 

@@ -215,10 +215,8 @@ fn run_in_turn<R: Threads + Clock + Sync>(rt: &R, alloc: Global) -> Result<[u64;
         sweeps: 2,
     };
     let told = run(rt, alloc, &net, plan, &gate)?;
-    let [first, second] = [
-        gate.last[0].load(Ordering::SeqCst),
-        gate.last[1].load(Ordering::SeqCst),
-    ];
+    let first = gate.first.load(Ordering::SeqCst);
+    let second = gate.second.load(Ordering::SeqCst);
     Ok([first, second, told.rounds, told.visits])
 }
 
