@@ -111,7 +111,11 @@ pub(crate) struct InTurn<'a, R: Clock + Sync> {
 
 impl<'a, R: Clock + Sync> Gate for InTurn<'a, R> {
     fn at(&self, worker: u32, visit: u64) {
-        let last = if worker == 0 { &self.first } else { &self.second };
+        let last = if worker == 0 {
+            &self.first
+        } else {
+            &self.second
+        };
         last.store(visit, Ordering::SeqCst);
         match (worker, visit) {
             (0, 3) => {
