@@ -106,6 +106,19 @@ class Planted(Case):
             self.assertNotEqual(done.returncode, 0, (name, done.stdout))
             self.assertTrue(pathlib.Path(self.work / "clearing").exists())
 
+    def test_what_is_installed_is_of_an_absolute_entry_of_the_path(self):
+        prefix, own = self.folder / "prefix", self.honest / "clearing"
+        own.unlink()
+        own.write_text("#!/bin/sh\necho own\n")
+        own.chmod(0o755)
+        install = [ROOT / "tools/install.sh", prefix]
+        done = self.run_in(self.work, install, CLEARING="clearing", PATH=f".::bin:{self.honest}:/usr/bin:/bin")
+        self.assertEqual((done.returncode, done.stderr), (0, ""))
+        self.assertEqual((prefix / "bin/clearing").read_text(), own.read_text())
+        shutil.rmtree(prefix)
+        done = self.run_in(self.work, install, CLEARING="clearing", PATH=".::bin:/usr/bin:/bin")
+        self.assertEqual((done.returncode, prefix.exists(), self.mark.exists()), (1, False, False), done.stderr)
+
 
 if __name__ == "__main__":
     unittest.main()
