@@ -138,6 +138,43 @@ class Workbooks(Case):
         self.made_of(book, {"mimetype": b"application/zip"})
         self.refuse("is no workbook of the form .xlsx or .ods", book)
 
+    def test_rows_and_columns_stand_in_their_order_within_a_sheet(self):
+        book, name = written(self.folder / "m.xlsx", {"S": MATRIX}), "xl/worksheets/sheet1.xml"
+        archive = zipfile.ZipFile(book)
+        parts = {info.filename: archive.read(info) for info in archive.infolist()}
+        late = "".join(f'<row r="{row}"><c r="XFD{row}" s="0"/></row>' for row in range(5, 305))
+        for old, new, told in [
+            ("</sheetData>", '<row r="999999999999"><c r="A999999999999"><v>1</v></c></row></sheetData>', "has a row 999999999999 behind row 4; rows rise to 1,048,576"),
+            ("</sheetData>", '<row r="5"><c r="AAAA5"><v>1</v></c></row></sheetData>', "has a cell AAAA5 behind column none; columns rise to XFD"),
+            ("</sheetData>", f"{late}</sheetData>", "has more than 4,000,000 cells"),
+            # What the library would pass over.
+            ('<row r="4"', '<row r="2"', "has a row 2 behind row 3"),
+            ('r="C2"', 'r="F2"', "has a cell D2 behind column F"),
+        ]:
+            content = parts[name].decode()
+            self.assertIn(old, content)
+            self.made_of(book, {**parts, name: content.replace(old, new).encode()})
+            self.refuse(f"{book} {told}", book)
+
+    @needs_modules("openpyxl", "odf")
+    def test_comments_and_blanks_of_a_cell_are_no_part_of_a_name(self):
+        script = (
+            "import sys\nfrom odf import office, opendocument, table, text\nbook = opendocument.OpenDocumentSpreadsheet()\nsheet = table.Table(name='S')\n"
+            "book.spreadsheet.addElement(sheet)\nfor record in ROWS:\n    row = table.TableRow()\n    sheet.addElement(row)\n    for value in record:\n"
+            "        cell = table.TableCell(valuetype='string') if isinstance(value, str) else table.TableCell(valuetype='float', value=value)\n"
+            "        note = office.Annotation()\n        note.addElement(text.P(text='seen by X'))\n        cell.addElement(note)\n"
+            "        line = text.P(text=str(value))\n        line.addElement(text.S(c=BLANKS))\n        cell.addElement(line)\n        row.addElement(cell)\n"
+            "book.save(sys.argv[1])\n")
+        rows = [[value or 0 if at else value for at, value in enumerate(row)] if row[0] else row for row in MATRIX]
+        python, book = python_with("openpyxl", "odf"), self.folder / "m.ods"
+        for blanks, told in ((3, None), (2_000_000_000, f"{book} has more than 10,000,000 blanks")):
+            subprocess.run([python, "-c", f"ROWS, BLANKS = {rows!r}, {blanks}\n{script}", book], check=True)
+            if told:
+                self.refuse(told, book)
+            else:
+                self.take(book)
+                self.check()
+
     def made_of(self, book, parts, whole=True):
         with zipfile.ZipFile(book, "w", zipfile.ZIP_DEFLATED) as archive:
             for part, content in parts.items():
