@@ -252,6 +252,13 @@ class Totals(Case):
         self.refuse("row 2 column assets: 30.445: thousands or decimals?", head + "A,30.445,1,1\nB,1,30.445,1\n", "--round")
         self.refuse("1.5 is not a whole number of units", head + "A,1.5,1,1\nB,1,1.5,1\n")
         self.refuse("row 5: All is a row of totals", head + "A,10,20,1\nB,20,5,1\nC,5,10,7\nAll,35,35,9\n")
+        # A line that is a sum but for one number that is near is one of totals, and no bank that doubles all claims.
+        for all_, column, says, others in (("1501,1500,30", "assets", "1,501", "1,500"), ("1500,1450,30", "liabilities", "1,450", "1,500"), ("1500,1500,33", "cash", "33", "30")):
+            table = f"{head}AT,700,600,10\nBE,300,400,20\nCH,500,500,0\nAll countries,{all_}\n"
+            self.refuse("row 5: All countries is a row of totals: each of its cells is the sum of the others but for what is told below", table)
+            told = f"row 5 column {column}: All countries says {says}, and the others come to {others}: correct the sheet"
+            self.refuse(told, table)
+            self.refuse(told, table, "--drop", "All countries")
         self.refuse("all claims come to 40,000,000 units: 30,000,000 more than the most, 10,000,000", head + "A,20000000,20000000,1\nB,20000000,20000000,1\n")
         self.refuse("a claim of 2,000,000 units, 1,000,000 more than the most", head + "A,2000000,2000000,1\nB,2000000,2000000,1\n")
         self.refuse("--samples is for sparse and sample", TABLE, "--samples", 2, status=2)
