@@ -1,10 +1,14 @@
+import contextlib
 import itertools
+import os
+import pty
 import random
 import re
 import shutil
+import subprocess
 import sys
 
-from common import ODD_NAMES, Case, all_names, needs_modules, python_with, tool
+from common import ODD_NAMES, ROOT, Case, all_names, needs_modules, python_with, tool
 
 from clearing_tools.imports import methods  # noqa: E402
 
@@ -262,6 +266,21 @@ class Totals(Case):
         self.refuse("all claims come to 40,000,000 units: 30,000,000 more than the most, 10,000,000", head + "A,20000000,20000000,1\nB,20000000,20000000,1\n")
         self.refuse("a claim of 2,000,000 units, 1,000,000 more than the most", head + "A,2000000,2000000,1\nB,2000000,2000000,1\n")
         self.refuse("--samples is for sparse and sample", TABLE, "--samples", 2, status=2)
+
+    def test_a_terminal_is_told_how_far_each_method_is(self):
+        for method, told in (("entropy", b"round of the fit 1 of "), ("sparse", b"run 1 of "), ("sample", b"per cent of the steps 1 of 100")):
+            main, other = pty.openpty()
+            words = [self.file("t.csv", TABLE), "--out", self.folder / "out", "--method", method, "--summary", self.folder / "summary.csv"]
+            running = subprocess.Popen([python_with("numpy"), str(ROOT / "tools/from_totals.py"), *map(str, words)], stdout=subprocess.DEVNULL, stderr=other)
+            os.close(other)
+            said = b""
+            with contextlib.suppress(OSError):
+                while part := os.read(main, 4096):
+                    said += part
+            os.close(main)
+            self.assertEqual(running.wait(), 0, method)
+            self.assertIn(b"from_totals: " + told, said)
+            self.assertTrue(said.endswith(b"\r\x1b[K"), method)
 
     def test_a_unit_is_chosen_and_the_sums_are_kept(self):
         table = "bank,assets,liabilities,cash\nA,70000025,60000000,20\nB,40000000,50000050,10\nC,20000050,20000025,30\n"
