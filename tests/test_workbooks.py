@@ -244,6 +244,15 @@ class Made(Case):
             self.assertEqual([[cell[1].replace("None", "") for cell in row] for row in made["table"][1]], [line.split(",") for line in plain], words[0])
             self.assertIn("n", {cell[0] for cell in made["table"][1][1][1:]})
 
+    def test_a_matrix_of_a_workbook_is_read_back(self):
+        book, files = self.folder / "m.xlsx", ["--banks", self.folder / "b.csv", "--debts", self.folder / "d.csv"]
+        for unit in ([], ["--unit", "0.5"]):
+            done = tool("to_matrix.py", *self.HUB, "--out", book, *unit, python=PYTHON)
+            self.assertEqual((done.returncode, done.stdout, done.stderr), (0, "", ""))
+            self.assertIn("n", {cell[0] for cell in self.sheets(book)["matrix"][1][1][1:]})
+            self.told("from_matrix.py", book, *files, *unit, python=PYTHON)
+            self.assertEqual(self.printed("check", *files).splitlines()[:4], self.printed("check", *self.HUB).splitlines()[:4])
+
     def test_without_openpyxl_nothing_is_written(self):
         script = self.file("python", f'#!/bin/sh\nexec "{sys.executable}" -S "$@"\n')
         script.chmod(0o755)
