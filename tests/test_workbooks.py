@@ -105,6 +105,27 @@ class Workbooks(Case):
                 self.take(made / f"m.{kind}", "--sheet", "S")
                 self.check()
 
+    @needs("soffice")
+    def test_what_libreoffice_exports_in_each_locale_is_read(self):
+        # How each locale shows a number: a format of the workbook, and what then stands in the sheet.
+        shown = {"de": ("[$-407]#,##0.00", "123.456,75"), "fr": ("[$-40C]#,##0.00", "123[\u00a0\u202f]456,75"), "ch": ("[$-807]#,##0.00", "123['\u2019]456.75"),
+                 "us": ("[$-409]#,##0.00", "123,456.75"), "in": ("[$-4009]#,##,##0.00", "1,23,456.75")}
+        rows = [["", "Crédit", "B", "C", "cash"], ["Crédit", 0, 123456.75, 0.5, 1000], ["B", 4321.25, 0, 7, 2000], ["C", 1234.5, 3.75, 0, 12345]]
+        change = "for line in book['S'].iter_rows(min_row=2, min_col=2):\n    for cell in line:\n        cell.number_format = "
+        books = [written(self.folder / f"{locale}.xlsx", {"S": rows}, f"{change}{form!r}") for locale, (form, _) in shown.items()]
+        for charset, encoding in ((76, "utf-8"), (65535, "utf-16")):
+            made = self.folder / encoding
+            how = f"csv:Text - txt - csv (StarCalc):59,34,{charset},1,,0,false,false,true,false"
+            subprocess.run(["nice", "-n", "10", "soffice", f"-env:UserInstallation=file://{self.folder}/profile", "--headless", "--convert-to", how, "--outdir", made, *books],
+                           check=True, capture_output=True)
+            for locale, (_, want) in shown.items():
+                with self.subTest(locale=locale, encoding=encoding):
+                    self.assertRegex((made / f"{locale}.csv").read_text(encoding), want)
+                    told = self.take(made / f"{locale}.csv", "--unit", "0.25")
+                    self.assertIn("debts made: 6; 129,023.75 in all; in units of 0.25: 516,095\n", told)
+                    self.check("name,cash,rule\nCrédit,4000,webster\nB,8000,webster\nC,49380,webster\n",
+                               "debtor,creditor,class,claim\nCrédit,B,1,493827\nCrédit,C,1,2\nB,Crédit,1,17285\nB,C,1,28\nC,Crédit,1,4938\nC,B,1,15\n")
+
     def test_a_date_that_is_not_looked_at_is_no_fault(self):
         rows = [["day", "debtor", "creditor", "amount"], [datetime.date(2025, 12, 31), "A", "B", 5], [datetime.date(2025, 9, 30), "A", "B", 7]]
         listed = written(self.folder / "l.xlsx", {"S": rows})
