@@ -97,6 +97,23 @@ class Fields(Case):
             self.assertEqual(list(audit.records(data)), wanted, data)
 
 
+class Bounded(Case):
+    def test_what_is_far_too_long_is_not_read_to_its_end(self):
+        sparse = self.file("sparse", "")
+        os.truncate(sparse, 12 << 30)
+        sheet = self.file("sheet.csv", "debtor,creditor,amount\nA,B,1\n")
+        for name, words in [
+            ("draws.py", [*FILES, "--draws", 2, "--moments", "/dev/zero"]), ("draws.py", [*FILES, "--draws", 2, "--past", sparse]),
+            ("tidy.py", ["/dev/zero", "--folder", self.folder / "tables"]), ("tidy.py", [sparse, "--folder", self.folder / "tables"]),
+            ("evidence.sh", ["make", self.folder / "evidence", "--source", f"from_list.py {sparse} --table {sheet}"]),
+            ("evidence.sh", ["make", self.folder / "evidence", "--source", f"from_list.py {sheet} --table {sparse}"]),
+        ]:
+            with self.subTest(name, words=words):
+                done = limited(1200, name, *words)
+                self.assertGreater(done.returncode, 0)
+                self.assertRegex(done.stderr, "longer than [0-9,]+ bytes")
+
+
 class Endless(unittest.TestCase):
     def test_a_file_without_an_end_ends_no_tool(self):
         """/dev/zero, and a file of 12 GiB that has no content, in the place of each input of each tool."""
@@ -119,7 +136,7 @@ class Endless(unittest.TestCase):
                 done = limited(2500, name, *words, python=python, seconds=240)
             except subprocess.TimeoutExpired:
                 return f"{name} {given}: it goes on"
-            if done.returncode <= 0 or "Traceback" in done.stderr or "MemoryError" in done.stderr:
+            if done.returncode <= 0 or "Traceback" in done.stderr or any(word in done.stderr for word in ("MemoryError", "not enough memory")):
                 return f"{name} {given}: {done.returncode} {done.stderr[-500:]}"
             return None
 

@@ -56,6 +56,27 @@ class Planted(Case):
         done = self.run_in(self.work, [sys.executable, "-c", find], PYTHONPATH=str(place), PATH="/usr/bin:/bin")
         self.assertEqual(done.stdout, f"{self.folder}/share/clearing/clearing\n" * 2, done.stderr)
 
+    def test_evidence_runs_nothing_above_the_package(self):
+        """Neither the program of a repository that was planted there, nor what its settings of git name."""
+        net = ["--banks", HUB / "banks.csv", "--debts", HUB / "debts.csv"]
+        built = self.work / "crates/clear_main/out/clear_main"
+        built.parent.mkdir()
+        shutil.copy(self.work / "clearing", built)
+        if shutil.which("git"):
+            for words in (["init", "--quiet"], ["add", "clearing"], ["-c", "user.name=a", "-c", "user.email=a@b", "commit", "--quiet", "-m", "a"],
+                          ["config", "core.fsmonitor", built]):
+                self.assertEqual(self.run_in(self.work, ["git", *words]).returncode, 0, words)
+        place, folder = self.package(self.work / "a/b"), self.folder / "evidence"
+        run = [sys.executable, "-c", "from clearing_tools.evidence.evidence import main; main()"]
+        done = self.run_in(self.folder, [*run, "make", folder, *net], PYTHONPATH=str(place), CLEARING=PROGRAM)
+        self.assertEqual((done.returncode, self.mark.exists()), (0, False), done.stderr)
+        # What was built there, and then the script that builds.
+        for _ in range(2):
+            done = self.run_in(self.folder, [*run, "check", folder], PYTHONPATH=str(place))
+            self.assertEqual((done.returncode, self.mark.exists()), (0, False), (done.stdout, done.stderr))
+            self.assertIn("not checked: the same by the program: none is built here\n", done.stdout)
+            shutil.rmtree(self.work / "crates", ignore_errors=True)
+
     def test_of_the_path_the_absolute_entries_alone_are_looked_at(self):
         net = ["--banks", HUB / "banks.csv", "--debts", HUB / "debts.csv"]
         moments = self.file("moments.csv", "of,mean,deviation\nSouth,1,1\n")
@@ -84,6 +105,19 @@ class Planted(Case):
             self.assertFalse(self.mark.exists(), (name, "the planted program ran"))
             self.assertNotEqual(done.returncode, 0, (name, done.stdout))
             self.assertTrue(pathlib.Path(self.work / "clearing").exists())
+
+    def test_what_is_installed_is_of_an_absolute_entry_of_the_path(self):
+        prefix, own = self.folder / "prefix", self.honest / "clearing"
+        own.unlink()
+        own.write_text("#!/bin/sh\necho own\n")
+        own.chmod(0o755)
+        install = [ROOT / "tools/install.sh", prefix]
+        done = self.run_in(self.work, install, CLEARING="clearing", PATH=f".::bin:{self.honest}:/usr/bin:/bin")
+        self.assertEqual((done.returncode, done.stderr), (0, ""))
+        self.assertEqual((prefix / "bin/clearing").read_text(), own.read_text())
+        shutil.rmtree(prefix)
+        done = self.run_in(self.work, install, CLEARING="clearing", PATH=".::bin:/usr/bin:/bin")
+        self.assertEqual((done.returncode, prefix.exists(), self.mark.exists()), (1, False, False), done.stderr)
 
 
 if __name__ == "__main__":

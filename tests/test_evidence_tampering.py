@@ -9,7 +9,7 @@ import shutil
 import socket
 import unittest
 
-from common import PROGRAM
+from common import PROGRAM, ROOT
 from evidences import EvidenceCase, evidence
 
 ONE = """[[scenario]]
@@ -279,6 +279,17 @@ class Tampering(EvidenceCase):
             self.assertNotIn(word, told)
         self.assertIn("not checked: that the inputs are true (inputs/banks.csv, inputs/debts.csv), ", told)
         self.assertIn("not checked: that versions.txt is true\n", told)
+
+    def test_what_may_be_altered_is_named_as_not_checked(self):
+        """In the output, by the row of the table, and in GUIDE."""
+        guide = (ROOT / "docs/GUIDE.md").read_text(encoding="utf-8").partition("**What no check of files says**")[2].partition("\n\n")[0]
+        for about, _, status, line in TABLE:
+            if status == 0:
+                self.assertTrue(line.startswith("not checked: "), about)
+                named = next((word for word in ("versions.txt", "numbers of rounds") if word in line), "")
+                self.assertTrue(named and named in guide, (about, guide))
+        for word in ("inputs", "sheets", "who ran", "[proofs]"):
+            self.assertIn(word, " ".join(guide.split()))
 
 
 if __name__ == "__main__":

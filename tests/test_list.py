@@ -263,6 +263,10 @@ class Lines(List):
     def test_amounts_of_several_currencies_are_converted(self):
         text = "debtor,creditor,amount,ccy\nA,B,10,EUR\nA,B,40,USD\nB,C,8,USD\nC,A,3,GBP\n"
         self.refuse("row 1 column ccy: amounts are in EUR, GBP, USD; say --rate ccy=FILE, --where ccy=CODE, or --ignore ccy\n", text, "--sum")
+        # Codes in small letters, a code that is not usual or none in a column of such a name.
+        for change, told in ((("GBP", "gbp"), "column ccy: amounts are in EUR, USD, gbp; say"), (("GBP", "XAU"), "column ccy: amounts are in EUR, USD, XAU; say"),
+                             ((",GBP", ","), "column ccy: amounts are in none, EUR, USD; say"), (("ccy", "Währung"), "column Währung: amounts are in EUR, GBP, USD; say")):
+            self.refuse(told, text.replace(*change), "--sum")
         rates = self.file("rates.csv", "currency;rate\nEUR;1\nUSD;0,5\n")
         self.refuse(f"list.csv row 5 column ccy: {rates} has no rate for 'GBP'\n", text, "--sum", "--rate", f"ccy={rates}")
         told = self.take(text.replace("GBP", "EUR"), "--sum", "--rate", f"ccy={rates}")
@@ -289,13 +293,18 @@ class Lines(List):
         self.assertIn("banks of groups that are not here: 1; X\ngroups: 1; of 2 banks\ndebts within groups, left out: 1; 10 in all\n"
                       "debts summed by groups: 2; into 1\n", told)
         self.check("name,cash,rule,outside\nAB Holding,7,order,3\nC,5,webster,0\n", "debtor,creditor,class,claim\nAB Holding,C,1,9\nC,AB Holding,1,1\n")
+        # A group of the name of a bank has that bank too, and none of a bank of another group.
+        told = self.take(text, "--groups", self.file("g.csv", "bank,group\nA,B\n"), table=table)
+        self.assertIn("groups: 1; of 2 banks\ndebts within groups, left out: 1; 10 in all\n", told)
         self.banks.unlink(), self.debts.unlink()
+        self.refuse("the group B has the name of a bank of another group", text, "--groups", self.file("g.csv", "bank,group\nA,B\nB,H\n"), table=table)
         self.refuse("the banks of the group AB Holding have the rules order and webster; give them one", text, "--groups", groups,
                     table=table.replace("4,2,order", "4,2,webster"))
 
     def test_a_column_that_may_be_owed_outside_is_asked_for(self):
         text = "debtor,creditor,amount\nA,B,10\n"
-        for column in ("deposits", "External liabilities", "Other liabilities", "Einlagen", "el", "owed outside"):
+        for column in ("deposits", "External liabilities", "Other liabilities", "Einlagen", "el", "owed outside", "Kundenverbindlichkeiten", "Debt securities in issue",
+                       "Bonds issued", "liabilities to clients"):
             word = column if " " not in column else f"'{column}'"
             told = f"table.csv row 1 column {column}: it may be what is owed outside; say --outside {word}, or --no-outside\n"
             table = f"bank,cash,{column}\nA,3,1\nB,4,2\n"

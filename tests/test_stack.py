@@ -1,13 +1,15 @@
 """Each task on runs of a million rounds and of five million units in five classes, on a stack of 256 KB, that of its threads too. What
-calls itself once for each round, sweep or unit ends there by a signal. And scenarios that are nested as deep as they may be, and deeper."""
+calls itself once for each round, sweep or unit ends there by a signal. Scenarios that are nested as deep as they may be, and deeper. And
+each task on as much stack as PROVED says that it takes."""
 import json
+import re
 import resource
 import subprocess
 import sys
 import unittest
 from unittest import mock
 
-from common import PROGRAM, ROOT, Case
+from common import PROGRAM, ROOT, TWELVE, Case, clearing, files_of, needs
 
 sys.path.insert(0, str(ROOT / "tests/system"))
 import model  # noqa: E402
@@ -16,6 +18,8 @@ from networks import judge_compression  # noqa: E402
 STACK = 256 * 1024
 # For what is nested deepest.
 DEEP_STACK = 2048 * 1024
+# By as much the loader of another machine may take more.
+LOADER = 8 * 1024
 UNITS = 1_000_000
 SECONDS = 300
 
@@ -28,11 +32,11 @@ def to_and_fro(classes):
 
 
 class Stack(Case):
-    def ended(self, *words, stack=STACK):
+    def ended(self, *words, stack=STACK, environment={}):
         """A run on a small stack. Its environment counts as stack too, so it has none."""
         limit = lambda: resource.setrlimit(resource.RLIMIT_STACK, (stack, stack))
         run = [PROGRAM, *map(str, words)]
-        done = subprocess.run(run, stdin=subprocess.DEVNULL, capture_output=True, encoding="utf-8", env={}, timeout=SECONDS, preexec_fn=limit)
+        done = subprocess.run(run, stdin=subprocess.DEVNULL, capture_output=True, encoding="utf-8", env=environment, timeout=SECONDS, preexec_fn=limit)
         return done.returncode, done.stdout, done.stderr
 
     def text(self, *words):
@@ -82,6 +86,44 @@ class Stack(Case):
     def test_the_largest_network_by_most_workers(self):
         words = ["gen", "--seed", 1, "--size", 1000, "--tries", 20_000]
         self.assertEqual(self.text(*words, "--workers", 64), self.text(*words, "--workers", 1))
+
+    def said(self):
+        """The bytes that PROVED says of the main thread, a thread, and the deepest scenarios."""
+        text = (ROOT / "docs/PROVED.md").read_text(encoding="utf-8")
+        found = re.search(r"the main thread takes ([0-9,]+) KB at most .*?\ba thread ([0-9,]+) KB,.*? the deepest scenarios take ([0-9,]+) KB", text, re.DOTALL)
+        return [int(number.replace(",", "")) * 1024 for number in found.groups()]
+
+    def tasks(self):
+        """A run of each task, with 8 workers where it has some."""
+        files = files_of(TWELVE)
+        journal = self.file("journal.csv", clearing("clear", *files, "--show", "journal", "--workers", 1).stdout)
+        for words in [["check"], ["convert"], ["central"], ["compress"], ["costs", "--keep", 500], ["replay", "--journal", journal]]:
+            yield [words[0], *files, *words[1:]]
+        for words in [["clear"], ["defaults"], ["bounds"], ["rescue", "--bank", "Dunmore"], ["stress", "--scenarios", TWELVE / "scenarios.toml"]]:
+            yield [words[0], *files, *words[1:], "--workers", 8]
+        yield ["gen", "--seed", 1, "--size", 1000, "--tries", 20_000, "--workers", 64]
+
+    def test_what_is_said_of_the_stack_is_enough(self):
+        main, _, deepest = self.said()
+        for words in self.tasks():
+            told = clearing(*words)
+            # Where the stack begins is drawn at each run.
+            for _ in range(5):
+                self.assertEqual(self.ended(*words, stack=main + LOADER), (0, told.stdout.decode(), ""), words)
+        key = ".".join(["a"] * 80)
+        deep = self.file("s.toml", f"[{key}]\n{key} = {'{' + ' = {'.join([key] * 80) + ' = 1' + '}' * 80}")
+        for _ in range(5):
+            status, _, message = self.ended("stress", *files_of(TWELVE), "--scenarios", deep, stack=deepest + LOADER)
+            self.assertEqual((status, message), (4, "clearing: scenarios row 0: shape (17)\n"))
+
+    @needs("cc")
+    def test_what_is_said_of_the_stack_of_a_thread_is_enough(self):
+        least = self.folder / "small.so"
+        subprocess.run(["cc", "-shared", "-fPIC", f"-DKILOBYTES={self.said()[1] // 1024}", "-o", least, ROOT / "tests/system/small.c", "-ldl"], check=True)
+        for words in self.tasks():
+            if "--workers" in words:
+                told = clearing(*words)
+                self.assertEqual(self.ended(*words, environment={"LD_PRELOAD": str(least)}), (0, told.stdout.decode(), ""), words)
 
     def test_scenarios_that_are_nested_deep(self):
         files = ["--banks", self.file("banks.csv", "name,cash,rule\n"), "--debts", self.file("debts.csv", "debtor,creditor,class,claim\n")]

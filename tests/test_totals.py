@@ -1,10 +1,14 @@
+import contextlib
 import itertools
+import os
+import pty
 import random
 import re
 import shutil
+import subprocess
 import sys
 
-from common import ODD_NAMES, Case, all_names, needs_modules, python_with, tool
+from common import ODD_NAMES, ROOT, Case, all_names, needs_modules, python_with, tool
 
 from clearing_tools.imports import methods  # noqa: E402
 
@@ -252,9 +256,31 @@ class Totals(Case):
         self.refuse("row 2 column assets: 30.445: thousands or decimals?", head + "A,30.445,1,1\nB,1,30.445,1\n", "--round")
         self.refuse("1.5 is not a whole number of units", head + "A,1.5,1,1\nB,1,1.5,1\n")
         self.refuse("row 5: All is a row of totals", head + "A,10,20,1\nB,20,5,1\nC,5,10,7\nAll,35,35,9\n")
+        # A line that is a sum but for one number that is near is one of totals, and no bank that doubles all claims.
+        for all_, column, says, others in (("1501,1500,30", "assets", "1,501", "1,500"), ("1500,1450,30", "liabilities", "1,450", "1,500"), ("1500,1500,33", "cash", "33", "30")):
+            table = f"{head}AT,700,600,10\nBE,300,400,20\nCH,500,500,0\nAll countries,{all_}\n"
+            self.refuse("row 5: All countries is a row of totals: each of its cells is the sum of the others but for what is told below", table)
+            told = f"row 5 column {column}: All countries says {says}, and the others come to {others}: correct the sheet"
+            self.refuse(told, table)
+            self.refuse(told, table, "--drop", "All countries")
         self.refuse("all claims come to 40,000,000 units: 30,000,000 more than the most, 10,000,000", head + "A,20000000,20000000,1\nB,20000000,20000000,1\n")
         self.refuse("a claim of 2,000,000 units, 1,000,000 more than the most", head + "A,2000000,2000000,1\nB,2000000,2000000,1\n")
         self.refuse("--samples is for sparse and sample", TABLE, "--samples", 2, status=2)
+
+    def test_a_terminal_is_told_how_far_each_method_is(self):
+        for method, told in (("entropy", b"round of the fit 1 of "), ("sparse", b"run 1 of "), ("sample", b"per cent of the steps 1 of 100")):
+            main, other = pty.openpty()
+            words = [self.file("t.csv", TABLE), "--out", self.folder / "out", "--method", method, "--summary", self.folder / "summary.csv"]
+            running = subprocess.Popen([python_with("numpy"), str(ROOT / "tools/from_totals.py"), *map(str, words)], stdout=subprocess.DEVNULL, stderr=other)
+            os.close(other)
+            said = b""
+            with contextlib.suppress(OSError):
+                while part := os.read(main, 4096):
+                    said += part
+            os.close(main)
+            self.assertEqual(running.wait(), 0, method)
+            self.assertIn(b"from_totals: " + told, said)
+            self.assertTrue(said.endswith(b"\r\x1b[K"), method)
 
     def test_a_unit_is_chosen_and_the_sums_are_kept(self):
         table = "bank,assets,liabilities,cash\nA,70000025,60000000,20\nB,40000000,50000050,10\nC,20000050,20000025,30\n"

@@ -105,6 +105,27 @@ class Workbooks(Case):
                 self.take(made / f"m.{kind}", "--sheet", "S")
                 self.check()
 
+    @needs("soffice")
+    def test_what_libreoffice_exports_in_each_locale_is_read(self):
+        # How each locale shows a number: a format of the workbook, and what then stands in the sheet.
+        shown = {"de": ("[$-407]#,##0.00", "123.456,75"), "fr": ("[$-40C]#,##0.00", "123[\u00a0\u202f]456,75"), "ch": ("[$-807]#,##0.00", "123['\u2019]456.75"),
+                 "us": ("[$-409]#,##0.00", "123,456.75"), "in": ("[$-4009]#,##,##0.00", "1,23,456.75")}
+        rows = [["", "Crédit", "B", "C", "cash"], ["Crédit", 0, 123456.75, 0.5, 1000], ["B", 4321.25, 0, 7, 2000], ["C", 1234.5, 3.75, 0, 12345]]
+        change = "for line in book['S'].iter_rows(min_row=2, min_col=2):\n    for cell in line:\n        cell.number_format = "
+        books = [written(self.folder / f"{locale}.xlsx", {"S": rows}, f"{change}{form!r}") for locale, (form, _) in shown.items()]
+        for charset, encoding in ((76, "utf-8"), (65535, "utf-16")):
+            made = self.folder / encoding
+            how = f"csv:Text - txt - csv (StarCalc):59,34,{charset},1,,0,false,false,true,false"
+            subprocess.run(["nice", "-n", "10", "soffice", f"-env:UserInstallation=file://{self.folder}/profile", "--headless", "--convert-to", how, "--outdir", made, *books],
+                           check=True, capture_output=True)
+            for locale, (_, want) in shown.items():
+                with self.subTest(locale=locale, encoding=encoding):
+                    self.assertRegex((made / f"{locale}.csv").read_text(encoding), want)
+                    told = self.take(made / f"{locale}.csv", "--unit", "0.25")
+                    self.assertIn("debts made: 6; 129,023.75 in all; in units of 0.25: 516,095\n", told)
+                    self.check("name,cash,rule\nCrédit,4000,webster\nB,8000,webster\nC,49380,webster\n",
+                               "debtor,creditor,class,claim\nCrédit,B,1,493827\nCrédit,C,1,2\nB,Crédit,1,17285\nB,C,1,28\nC,Crédit,1,4938\nC,B,1,15\n")
+
     def test_a_date_that_is_not_looked_at_is_no_fault(self):
         rows = [["day", "debtor", "creditor", "amount"], [datetime.date(2025, 12, 31), "A", "B", 5], [datetime.date(2025, 9, 30), "A", "B", 7]]
         listed = written(self.folder / "l.xlsx", {"S": rows})
@@ -137,6 +158,43 @@ class Workbooks(Case):
         self.refuse("save it as .xlsx without one", self.file("m.xls", bytes.fromhex("d0cf11e0a1b11ae1") + bytes(600)))
         self.made_of(book, {"mimetype": b"application/zip"})
         self.refuse("is no workbook of the form .xlsx or .ods", book)
+
+    def test_rows_and_columns_stand_in_their_order_within_a_sheet(self):
+        book, name = written(self.folder / "m.xlsx", {"S": MATRIX}), "xl/worksheets/sheet1.xml"
+        archive = zipfile.ZipFile(book)
+        parts = {info.filename: archive.read(info) for info in archive.infolist()}
+        late = "".join(f'<row r="{row}"><c r="XFD{row}" s="0"/></row>' for row in range(5, 305))
+        for old, new, told in [
+            ("</sheetData>", '<row r="999999999999"><c r="A999999999999"><v>1</v></c></row></sheetData>', "has a row 999999999999 behind row 4; rows rise to 1,048,576"),
+            ("</sheetData>", '<row r="5"><c r="AAAA5"><v>1</v></c></row></sheetData>', "has a cell AAAA5 behind column none; columns rise to XFD"),
+            ("</sheetData>", f"{late}</sheetData>", "has more than 4,000,000 cells"),
+            # What the library would pass over.
+            ('<row r="4"', '<row r="2"', "has a row 2 behind row 3"),
+            ('r="C2"', 'r="F2"', "has a cell D2 behind column F"),
+        ]:
+            content = parts[name].decode()
+            self.assertIn(old, content)
+            self.made_of(book, {**parts, name: content.replace(old, new).encode()})
+            self.refuse(f"{book} {told}", book)
+
+    @needs_modules("openpyxl", "odf")
+    def test_comments_and_blanks_of_a_cell_are_no_part_of_a_name(self):
+        script = (
+            "import sys\nfrom odf import office, opendocument, table, text\nbook = opendocument.OpenDocumentSpreadsheet()\nsheet = table.Table(name='S')\n"
+            "book.spreadsheet.addElement(sheet)\nfor record in ROWS:\n    row = table.TableRow()\n    sheet.addElement(row)\n    for value in record:\n"
+            "        cell = table.TableCell(valuetype='string') if isinstance(value, str) else table.TableCell(valuetype='float', value=value)\n"
+            "        note = office.Annotation()\n        note.addElement(text.P(text='seen by X'))\n        cell.addElement(note)\n"
+            "        line = text.P(text=str(value))\n        line.addElement(text.S(c=BLANKS))\n        cell.addElement(line)\n        row.addElement(cell)\n"
+            "book.save(sys.argv[1])\n")
+        rows = [[value or 0 if at else value for at, value in enumerate(row)] if row[0] else row for row in MATRIX]
+        python, book = python_with("openpyxl", "odf"), self.folder / "m.ods"
+        for blanks, told in ((3, None), (2_000_000_000, f"{book} has more than 10,000,000 blanks")):
+            subprocess.run([python, "-c", f"ROWS, BLANKS = {rows!r}, {blanks}\n{script}", book], check=True)
+            if told:
+                self.refuse(told, book)
+            else:
+                self.take(book)
+                self.check()
 
     def made_of(self, book, parts, whole=True):
         with zipfile.ZipFile(book, "w", zipfile.ZIP_DEFLATED) as archive:
@@ -206,6 +264,15 @@ class Made(Case):
             self.assertEqual(list(made), sheets)
             self.assertEqual([[cell[1].replace("None", "") for cell in row] for row in made["table"][1]], [line.split(",") for line in plain], words[0])
             self.assertIn("n", {cell[0] for cell in made["table"][1][1][1:]})
+
+    def test_a_matrix_of_a_workbook_is_read_back(self):
+        book, files = self.folder / "m.xlsx", ["--banks", self.folder / "b.csv", "--debts", self.folder / "d.csv"]
+        for unit in ([], ["--unit", "0.5"]):
+            done = tool("to_matrix.py", *self.HUB, "--out", book, *unit, python=PYTHON)
+            self.assertEqual((done.returncode, done.stdout, done.stderr), (0, "", ""))
+            self.assertIn("n", {cell[0] for cell in self.sheets(book)["matrix"][1][1][1:]})
+            self.told("from_matrix.py", book, *files, *unit, python=PYTHON)
+            self.assertEqual(self.printed("check", *files).splitlines()[:4], self.printed("check", *self.HUB).splitlines()[:4])
 
     def test_without_openpyxl_nothing_is_written(self):
         script = self.file("python", f'#!/bin/sh\nexec "{sys.executable}" -S "$@"\n')

@@ -66,6 +66,20 @@ else
         fail "the program is not built"
     program=$root/crates/clear_main/out/clear_main
 fi
+# One without a folder is looked for in the absolute entries of the path alone.
+case $program in
+*/*) ;;
+*)
+    name=$program program= rest=$PATH:
+    while [ -n "$rest" ] && [ -z "$program" ]; do
+        entry=${rest%%:*} rest=${rest#*:}
+        case $entry in
+        /*) [ ! -f "$entry/$name" ] || [ ! -x "$entry/$name" ] || program=$entry/$name ;;
+        esac
+    done
+    [ -n "$program" ] || fail "CLEARING names $name, which is on no absolute entry of the path"
+    ;;
+esac
 [ -x "$program" ] && [ -f "$program" ] || fail "$program is no program"
 case $(realpath -- "$program") in */first-look) fail "$program is a first look, which is not proved" ;; esac
 

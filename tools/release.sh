@@ -84,6 +84,7 @@ fi
 if [ -n "${CLEARING:-}" ]; then
     [ -n "$draft" ] || fail "a release has the repository's own program; CLEARING is for drafts alone"
     program=$CLEARING
+    case $program in */*) ;; *) fail "CLEARING is to name $program with its folder" ;; esac
     [ -f "$program" ] && [ -x "$program" ] || fail "$program is no program"
     case $(realpath -- "$program") in */first-look) fail "$program is a first look, which is not proved" ;; esac
 else

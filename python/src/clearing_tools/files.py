@@ -36,12 +36,17 @@ csv.field_size_limit(MOST_BYTES)
 
 def bytes_of(name: Any, most: int = MOST_BYTES) -> bytes:
     """The bytes of a file. Fails where there are more than that."""
-    content = io.BytesIO()
     with open(name, "rb") as file:
-        while block := file.read(1 << 20):
-            content.write(block)
-            if content.tell() > most or os.fstat(file.fileno()).st_size > most:
-                raise OSError(errno.EFBIG, f"it is longer than {most:,} bytes")
+        return bytes_in(file, most)
+
+
+def bytes_in(file: IO[bytes], most: int = MOST_BYTES) -> bytes:
+    """What is left of a file that is open. Fails where that is more, or the file longer."""
+    content = io.BytesIO()
+    while block := file.read(1 << 20):
+        content.write(block)
+        if content.tell() > most or os.fstat(file.fileno()).st_size > most:
+            raise OSError(errno.EFBIG, f"it is longer than {most:,} bytes")
     return content.getvalue()
 
 

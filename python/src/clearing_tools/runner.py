@@ -24,6 +24,8 @@ from typing import Any, Callable, Iterable, Iterator, List, Optional, Sequence, 
 
 PACKAGES, ROOT = (pathlib.Path(__file__).resolve().parents[above] for above in (1, 3))
 """The repository, or what stands for it where the package is installed."""
+STANDS = PACKAGES == ROOT / "python" / "src"
+"""Whether the packages stand in a repository, or in an installation: elsewhere nothing that is in ROOT is run or asked."""
 
 
 T = TypeVar("T")
@@ -49,8 +51,7 @@ def program() -> str:
     beside = ROOT / "clearing"
     if os.sep in named:
         found: Optional[str] = os.path.abspath(named)
-    # The packages stand in a repository, or in an installation, in one place alone.
-    elif not os.environ.get("CLEARING") and PACKAGES == ROOT / "python" / "src" and beside.is_file():
+    elif not os.environ.get("CLEARING") and STANDS and beside.is_file():
         found = str(beside)
     else:
         found = on_path(named)

@@ -34,7 +34,6 @@ import csv
 import io
 import math
 import operator
-import pathlib
 import random
 import statistics
 from collections import Counter, namedtuple
@@ -42,12 +41,14 @@ from decimal import Decimal
 
 from clearing_client.format import MAX_CUT
 
-from .. import cli
+from .. import cli, files
 from ..drawing import style
 from ..runner import Asking, Failed, command, work_folder
 from . import asking as ask
 
 CUT = "cut"
+# As many bytes has a file of losses at most.
+MOST_BYTES = 64_000_000
 QUANTILES = {"q1": 1, "q5": 5, "q25": 25, "median": 50, "q75": 75, "q95": 95, "q99": 99}
 
 Answer = namedtuple("Answer", "fundamental contagion unpaid outside_unpaid")  # the banks by their places, and units
@@ -60,9 +61,9 @@ Draw = namedtuple("Draw", "cut losses")  # losses by the banks' places
 def records_of(name):
     """The lines of a CSV, the fields without blanks at their ends, each with its number."""
     try:
-        text = pathlib.Path(name).read_bytes().decode("utf-8-sig")
+        text = files.bytes_of(name, MOST_BYTES).decode("utf-8-sig")
     except OSError as fault:
-        raise Failed(f"cannot read {name}", 3) from fault
+        raise Failed(f"cannot read {name}: {fault.strerror}", 3) from fault
     except UnicodeDecodeError as fault:
         raise Failed(f"{name}: it is not UTF-8", 4) from fault
     reader = csv.reader(io.StringIO(text, newline=""))

@@ -211,7 +211,7 @@ class Checking:
         if not os.environ.get("CLEARING"):
             # Beside installed tools stands the program itself, and in the repository the script that may build it.
             here = BUILT if (ROOT / "crates").is_dir() else ROOT / "clearing"
-            if not os.access(here, os.X_OK):
+            if not runner.STANDS or not os.access(here, os.X_OK):
                 return None
             os.environ["CLEARING"] = str(here)
         return program_sum()

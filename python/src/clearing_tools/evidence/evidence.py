@@ -61,6 +61,8 @@ def first_line(command):
 def commit_of():
     """The commit of the repository that the tools are in, none where they are in none, and whether its files were changed since. A
     file that it does not have counts below crates/ alone, where a build would take it up."""
+    if not runner.STANDS:
+        return None
     top = first_line(["git", "rev-parse", "--show-toplevel"])
     commit = first_line(["git", "rev-parse", "HEAD"])
     if commit is None or not runner.same_file(top, ROOT):

@@ -24,7 +24,7 @@ WRITES = ("--banks", "--debts", "--label", "--summary", "--out")
 OUTSIDE = re.compile(r"(^|=)[/~]|(^|[=/])\.\.(/|$)")
 NAME = re.compile(r"[0-9]+-[^/\0\t\n]{1,200}")
 MADE = ("banks.csv", "debts.csv", "summary.csv")
-MOST_SECONDS = 600
+MOST_SECONDS, MOST_OF_SHEETS = 600, 400_000_000
 
 
 def parsed(command):
@@ -65,9 +65,13 @@ def keep(folder, command, put):
             continue
         kept = f"{len(lines)}-{os.path.basename(name)}"
         try:
-            put(folder, f"source/{kept}", pathlib.Path(name).read_bytes())
+            with open(name, "rb") as sheet:
+                content = sheet.read(MOST_OF_SHEETS + 1)
+            if len(content) > MOST_OF_SHEETS:
+                raise OSError(0, f"it is longer than {MOST_OF_SHEETS:,} bytes")
         except OSError as fault:
-            raise Failed(f"cannot read {name}", 3) from fault
+            raise Failed(f"cannot read {name}: {fault.strerror}", 3) from fault
+        put(folder, f"source/{kept}", content)
         lines.append(f"file\t{word}\t{kept}")
     if any(re.search("[\n\r]", line) or line.count("\t") > 2 for line in lines):
         raise Failed("a word of --source has a tab or the end of a line", 2)

@@ -5,17 +5,21 @@ In:  --banks FILE and --debts FILE, two files that `clearing check` accepts. Wit
 Out: on standard output, or in --out FILE, comma-separated records in UTF-8: the names of the banks in the first row
      and the first column, where they meet what the bank of the row owes or pays the bank of the column, all classes
      together or one alone (--class), and last the columns `cash`, `outside` where the banks file has it, and `rule`.
-     from_matrix.py reads it back. No file that is read is written over.
+     from_matrix.py reads it back. No file that is read is written over. A file whose name ends with .xlsx is a
+     workbook, which needs openpyxl (Debian's package python3-openpyxl).
 
 With --unit, amounts are units times it, as decimal numbers.
 
 Ends with 0, or with 1 and a message where a file is not as it should be, or with 2 where the words are not understood.
 """
+from decimal import Decimal
+
 from clearing_client.texts import DEBTS
 
 from .. import cli, files, money
 from ..runner import Failed, command
 from ..texts import number, read_accounts, read_payments, records_in
+from .workbook import book_of, is_book
 
 
 def debts_in(name):
@@ -74,5 +78,9 @@ def main():
     money.add_unit(parser)
     parser.add_argument("--out", metavar="FILE", help="the file to write, in place of standard output")
     words = parser.parse_args()
-    text = files.csv_text(matrix_of(words, money.amount_by(words.unit)))
-    files.put(text, words.out, [words.banks, words.debts, words.payments])
+    amount = money.amount_by(words.unit)
+    if is_book(words.out):
+        made = book_of({"matrix": matrix_of(words, lambda units: Decimal(amount(units)))})
+    else:
+        made = files.csv_text(matrix_of(words, amount))
+    files.put(made, words.out, [words.banks, words.debts, words.payments])

@@ -19,6 +19,7 @@ Ends with 0, or with 1 and a message where a file cannot be read, is not what `c
 with 2 where the words are not understood. Then nothing is written.
 """
 import contextlib
+import errno
 import itertools
 import os
 import pathlib
@@ -39,6 +40,8 @@ from .workbook import book_of, is_book
 AMOUNTS = set(
     "claim paid least greatest estate outside_paid owed equity lost cash outside to added short cancelled had allowed".split()
 )
+# A journal and what is printed beside it are no longer, and no header is.
+MOST_BYTES, MOST_LINE = 2_000_000_000, 1_000_000
 SHOWN = {True: "yes", False: "no", None: ""}
 
 
@@ -62,11 +65,13 @@ def tables_of(output, as_amount, undo):
     name = "standard input" if output == "-" else output
     with opened(output) as stream:
         try:
-            first = stream.readline()
+            first = stream.readline(MOST_LINE)
+            if len(first) == MOST_LINE:
+                raise OSError(errno.EFBIG, f"its first line is longer than {MOST_LINE - 1:,} bytes")
             start = first.decode("utf-8-sig")
             if start.startswith("scenario,") and start.rstrip("\r\n") != SUMS:
                 return stress_tables(name, itertools.chain([first], stream), as_amount, undo)
-            text = (first + stream.read()).decode("utf-8-sig").replace("\r\n", "\n")
+            text = (first + files.bytes_in(stream, MOST_BYTES)).decode("utf-8-sig").replace("\r\n", "\n")
         except (OSError, UnicodeDecodeError) as fault:
             raise Failed(f"{name}: cannot be read: {fault}") from fault
     return {table: "".join(csv_lines(each, as_amount)) for table, each in parsed(name, text).tables().items()}
@@ -113,7 +118,7 @@ def sheets_of(output, as_amount):
     name = "standard input" if output == "-" else output
     with opened(output) as stream:
         try:
-            text = stream.read().decode("utf-8-sig").replace("\r\n", "\n")
+            text = files.bytes_in(stream, MOST_BYTES).decode("utf-8-sig").replace("\r\n", "\n")
         except (OSError, UnicodeDecodeError) as fault:
             raise Failed(f"{name}: cannot be read: {fault}") from fault
     sheets = {}

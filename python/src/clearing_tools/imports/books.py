@@ -13,10 +13,12 @@ from ..runner import Failed
 from .amounts import CURRENCIES, Cell
 
 MAX_UNPACKED, MAX_PARTS, MAX_CELLS, MAX_DEPTH = 1 << 29, 10_000, 4_000_000, 64
+MAX_ROW, LAST_COLUMN, MAX_BLANKS = 1_048_576, "XFD", 10_000_000
 ZIP, OLD = b"PK\x03\x04", bytes.fromhex("d0cf11e0a1b11ae1")
 ODS = b"application/vnd.oasis.opendocument.spreadsheet"
 OFFICE = "urn:oasis:names:tc:opendocument:xmlns:office:1.0"
 TABLE = "urn:oasis:names:tc:opendocument:xmlns:table:1.0"
+PARAGRAPH = ("urn:oasis:names:tc:opendocument:xmlns:text:1.0", "p")
 ERROR = re.compile(r"#(DIV/0!|N/A|NAME\?|NULL!|NUM!|REF!|VALUE!|SPILL!|CALC!|GETTING_DATA)|Err:[0-9]{3}")
 
 
@@ -57,10 +59,13 @@ def check_parts(name, archive):
 
 
 class Scan:
-    """What a part of a workbook shows before it is read: cells whose formula has no value, and hidden rows."""
+    """What a part of a workbook shows before it is read: cells whose formula has no value, and hidden rows. Rows and the cells of a
+    row stand in their order, or the library would pass over some."""
 
     def __init__(self, name):
-        self.name, self.depth, self.cells, self.hidden = name, 0, 0, 0
+        self.name, self.depth, self.cells, self.hidden, self.blanks = name, 0, 0, 0, 0
+        # The number of the last row, the column of its last cell where it is open, and how many cells there are up to such columns.
+        self.row, self.column, self.walked = 0, None, 0
         self.unknown, self.cell, self.parser = [], None, expat.ParserCreate()
         self.parser.StartElementHandler, self.parser.EndElementHandler = self.start, self.end
         self.parser.StartDoctypeDeclHandler = self.refuse
@@ -72,25 +77,54 @@ class Scan:
         tag = tag.rpartition(":")[2]
         if tag == "c":
             self.cells += 1
+            self.see_column(attributes.get("r", ""))
             # Its name, whether it has a formula, and whether it has a value; a text may be empty.
             self.cell = [attributes.get("r", "?"), False, attributes.get("t") == "str"]
         elif tag == "f" and self.cell:
             self.cell[1] = True
         elif tag == "v" and self.cell and self.cell[1]:
             self.parser.CharacterDataHandler = self.value
-        elif tag == "row" and attributes.get("hidden") in ("1", "true"):
-            self.hidden += 1
+        elif tag == "row":
+            self.hidden += attributes.get("hidden") in ("1", "true")
+            self.see_row(attributes.get("r"))
         elif tag in ("table-cell", "covered-table-cell"):
             self.cells += 1
-        if self.cells > MAX_CELLS:
+        elif tag == "s":
+            self.see_blanks(attributes)
+        if max(self.cells, self.walked) > MAX_CELLS:
             raise Failed(f"{self.name} has more than {MAX_CELLS:,} cells")
+
+    def see_row(self, number):
+        """Refuses a row behind the last of a sheet, or not behind the one before it."""
+        before, self.row, self.column = self.row, float(number) if number else self.row + 1, ""
+        if not before < self.row <= MAX_ROW:
+            raise Failed(f"{self.name} has a row {number} behind row {before:.0f}; rows rise to {MAX_ROW:,}: save it anew")
+
+    def see_column(self, cell):
+        """Refuses a cell of a row behind the last column of a sheet, or not behind the cell before it."""
+        column = cell.rstrip("0123456789")
+        if self.column is None or not column:
+            return
+        if not (len(self.column), self.column) < (len(column), column) <= (len(LAST_COLUMN), LAST_COLUMN):
+            raise Failed(f"{self.name} has a cell {cell} behind column {self.column or 'none'}; columns rise to {LAST_COLUMN}: save it anew")
+        self.column = column
+
+    def see_blanks(self, attributes):
+        """Counts the blanks that one element stands for."""
+        count = next((value for key, value in attributes.items() if key.rpartition(":")[2] == "c"), "")
+        self.blanks += int(count) if count.isdecimal() else 0
+        if self.blanks > MAX_BLANKS:
+            raise Failed(f"{self.name} has more than {MAX_BLANKS:,} blanks")
 
     def value(self, _):
         self.cell[2] = True
 
     def end(self, tag):
         self.depth -= 1
-        if self.cell and tag.rpartition(":")[2] == "c":
+        tag = tag.rpartition(":")[2]
+        if tag == "row" and self.column is not None:
+            self.walked, self.column = self.walked + place_of(self.column), None
+        if self.cell and tag == "c":
             self.parser.CharacterDataHandler = None
             if self.cell[1] and not self.cell[2]:
                 self.unknown.append(self.cell[0])
@@ -136,6 +170,14 @@ def letters(at):
         at, rest = divmod(at - 1, 26)
         text = chr(65 + rest) + text
     return text
+
+
+def place_of(column):
+    """The place of a column from 1, by its letters; 0 of none."""
+    at = 0
+    for letter in column:
+        at = 26 * at + ord(letter) - 64
+    return at
 
 
 def limited(name, rows):
@@ -254,10 +296,10 @@ class OdsBook:
 
     def __init__(self, name, scans):
         try:
-            from odf import opendocument, table, teletype, text
+            from odf import opendocument, table, teletype
         except ImportError as fault:
             raise Failed(f"{sys.executable} has no odf, which reads {name} (Debian's package python3-odf is for /usr/bin/python3)", 2) from fault
-        self.name, self.teletype, self.paragraph = name, teletype, text.P
+        self.name, self.teletype = name, teletype
         try:
             self.book = opendocument.load(name)
         except Exception as fault:
@@ -313,8 +355,10 @@ class OdsBook:
         return cells
 
     def cell(self, element, place):
+        """What stands in a cell, without the comments on it."""
         has = element.attributes.get
-        kind, text = has((OFFICE, "value-type")), "\n".join(self.teletype.extractText(p) for p in element.getElementsByType(self.paragraph)).strip()
+        paragraphs = [child for child in element.childNodes if getattr(child, "qname", None) == PARAGRAPH]
+        kind, text = has((OFFICE, "value-type")), "\n".join(map(self.teletype.extractText, paragraphs)).strip()
         if kind is None and has((TABLE, "formula")) and not text:
             raise Failed(f"{self.name} {place()}: a formula whose value is not kept; open it in a spreadsheet and save it")
         if ERROR.fullmatch(text):

@@ -12,8 +12,9 @@ TOTALS = {
     "gesamtergebnis", "somme", "total général", "total general", "totale", "totali", "totaal", "suma", "soma", "summa", "razem",
     "celkem", "yhteensä",
 }
-# So many of its cells must be the sums of the others, and above 0, for a line to be one of totals with cells that are wrong.
-WITNESSES, SHARE = 3, 5
+# So many of its cells must be the sums of the others, and above 0, for a line to be one of totals with cells that are wrong; two where
+# what is wrong is off by a tenth at most.
+WITNESSES, SHARE, NEAR = 3, 5, 10
 
 
 def is_called_total(name):
@@ -87,7 +88,8 @@ def wrong_places(line, sums, most):
 
 def totals_in(lines, words, scale):
     """The lines of totals, each with the places at which it is wrong: a place, its value and the sum of the others. Lines are called
-    so, or are the sums of all the others, but for a few places where at least three are; one that is to be dropped where two are."""
+    so, or are the sums of all the others, but for a few places where at least three are; two where it is to be dropped, or where the
+    few are near."""
     keep = words.keep
     named = {name: line for name, line in lines.items() if name not in keep and is_called_total(name)}
     others = {name: line for name, line in lines.items() if name not in named}
@@ -98,8 +100,10 @@ def totals_in(lines, words, scale):
             continue
         is_dropped = name in words.drop
         judged = wrong_places(line, sums, max(1, len(line) // (2 if is_dropped else SHARE)))
-        if judged and judged[1] and (not judged[0] or judged[1] >= WITNESSES - is_dropped):
-            found[name] = [(at, line[at] or 0, sums[at][0] - (line[at] or 0)) for at in judged[0]]
+        off = [(at, line[at] or 0, sums[at][0] - (line[at] or 0)) for at in judged[0]] if judged else []
+        is_near = all(NEAR * abs(value - total) <= total for _, value, total in off)
+        if judged and judged[1] and (not off or judged[1] >= WITNESSES - (is_dropped or is_near)):
+            found[name] = off
     if found and named:
         rest = [sum_of(column, scale) for column in zip(*(line for name, line in others.items() if name not in found))]
     for name, line in named.items():

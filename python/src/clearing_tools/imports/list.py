@@ -57,6 +57,8 @@ from .units import Debt, Network, grouped
 CURRENCIES = set(
     "EUR USD GBP CHF JPY CNY INR AUD CAD NZD SEK NOK DKK PLN CZK HUF RON BGN TRY RUB BRL MXN ZAR KRW SGD HKD THB IDR MYR PHP ILS SAR AED".split()
 )
+# What a column of currencies may be called.
+CURRENCY = re.compile(r"currency|ccy|curr|währung|waehrung|devise|monnaie|valuta|divisa|moneda|moeda", re.IGNORECASE)
 
 
 def add_own(add):
@@ -326,11 +328,14 @@ class List:
         self.faults.add(self.list, 0, column, what + f"--where {word}=VALUE to take those of one value, or --rate {word}=FILE where these are currencies")
 
     def check_currencies(self):
-        """Refuses a column with several currencies that nothing was said of."""
+        """Refuses a column with several currencies that nothing was said of: all of them codes, or in a column of such a name."""
         for column in self.unlooked():
-            there = {str(text) for text in self.list.column(column).values()} - {""}
-            if column not in self.words.ignore and len(there) > 1 and there <= CURRENCIES:
-                what = f"amounts are in {', '.join(sorted(there))}; say --rate {quoted(column)}=FILE, --where {quoted(column)}=CODE, or --ignore {quoted(column)}"
+            there = {str(text) for text in self.list.column(column).values()}
+            is_named = CURRENCY.fullmatch(column.strip()) is not None
+            there -= set() if is_named else {""}
+            if column not in self.words.ignore and len(there) > 1 and (is_named or {text.upper() for text in there} <= CURRENCIES):
+                some = [text or "none" for text in sorted(there)]
+                what = f"amounts are in {', '.join(some[:5])}{', ..' if len(some) > 5 else ''}; say --rate {quoted(column)}=FILE, --where {quoted(column)}=CODE, or --ignore {quoted(column)}"
                 self.faults.add(self.list, 0, column, what)
 
 

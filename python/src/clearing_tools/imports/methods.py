@@ -131,14 +131,16 @@ def some_network(totals):
 def fitted(numpy, totals, support, most=FITTING):
     """The real matrix of maximum entropy on the cells of a support, by iterative proportional fitting."""
     owes, owed = (numpy.array(side, dtype=float) for side in totals.left())
-    matrix = numpy.outer(owes, owed) * support
+    matrix, told = numpy.outer(owes, owed) * support, Progress("round of the fit", most)
     for _ in range(most):
         for axis, want in ((1, owes), (0, owed)):
             have = matrix.sum(axis=axis)
             scale = numpy.divide(want, have, out=numpy.zeros_like(want), where=have > 0)
             matrix *= scale[:, None] if axis else scale[None, :]
+        told.one_more()
         if numpy.abs(matrix.sum(axis=1) - owes).max(initial=0) <= 1e-7:
             break
+    told.end()
     return matrix
 
 

@@ -11,7 +11,7 @@ from .reading import rows_of
 # What a column may be called that has what is owed to others than the banks, and what shows that it is no debt.
 OUTSIDE = re.compile(
     r"outside|extern|other liab|other debt|deposit|non.?bank|customer|einlagen|sonstige verb|übrige verb|dépôt|depot|autres dettes"
-    r"|autres engag|third.part|dritt|^el$", re.IGNORECASE)
+    r"|autres engag|third.part|dritt|kunden|client|in issue|issued|^el$", re.IGNORECASE)
 NO_DEBT = re.compile(r"asset|aktiv|actif|claim|forderung|créance|receiv|held|central bank", re.IGNORECASE)
 
 

@@ -194,11 +194,13 @@ def grouped(network, groups, faults, table, summary):
     """A network in which the banks of a group are one: debts within it are gone, all else adds up."""
     names = {bank.name for bank in network.banks}
     of = {bank: group for bank, group in groups.items() if bank in names}
+    # A group may have the name of a bank, which is then one of it.
+    of.update({group: group for group in set(of.values()) & names if group not in of})
     unknown = [bank for bank in groups if bank not in names]
     if unknown:
         summary.tell("banks of groups that are not here", len(unknown), None, ", ".join(unknown[:20]))
     for group in sorted(set(of.values())):
-        if group in names and of.get(group, group) != group:
+        if of.get(group, group) != group:
             faults.add(table, None, None, f"the group {group} has the name of a bank of another group")
     made = {}
     for bank in network.banks:
