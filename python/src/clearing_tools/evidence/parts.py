@@ -7,7 +7,7 @@ from collections import namedtuple
 
 from .. import runner
 from ..runner import ROOT, Failed
-from . import audit, shock, source
+from . import audit, shock
 
 BUILT = ROOT / "crates/clear_main/out/clear_main"
 UNREAD, SUMS, BANKS, JOURNAL, TABLES, PROGRAM = 3, 4, 5, 6, 7, 8
@@ -18,7 +18,7 @@ TEXTS = ("README.txt", "SHA256SUMS", "commands.tsv", "versions.txt")
 FILE = re.compile(r"inputs/(banks\.csv|debts\.csv|scenarios\.toml)|README\.txt|SHA256SUMS|commands\.tsv|versions\.txt|stress\.csv|rescue/rescue\.csv"
                   r"|source/(command\.tsv|summary\.csv|[0-9]+-[^/\0\t\n]{1,200})|(as-is|scenario-[1-9][0-9]{0,2}|rescue|unit-less)/(banks|journal|payments|defaults)\.csv")
 MOST = {"journal.csv": audit.SIZES["journal"], "stress.csv": 400_000_000}
-MOST_OF_OTHERS = 8_388_608
+MOST_OF_OTHERS, MOST_OF_SHEETS = 8_388_608, 400_000_000
 VERSIONS = re.compile(rb"repository [ -~]{1,200}\nprogram [0-9a-f]{64}\ntoolchain [ -~]{1,200}\npython [ -~]{1,100}\n")
 
 # A network of the evidence: what it is called, its folder, and its banks file, none where that is the one of the inputs.
@@ -58,7 +58,7 @@ def checksum_of(name, copy=None):
     """The checksum of a plain file, read block by block, as far as its limit; what is read is written to a copy where one is open.
     Nothing but a plain file is opened, and no link is followed."""
     is_sheet = os.path.basename(os.path.dirname(name)) == "source"
-    most = source.MOST_OF_SHEETS if is_sheet else MOST.get(os.path.basename(name), MOST_OF_OTHERS)
+    most = MOST_OF_SHEETS if is_sheet else MOST.get(os.path.basename(name), MOST_OF_OTHERS)
     number = os.open(name, os.O_RDONLY | os.O_NOFOLLOW | os.O_NONBLOCK)
     with open(number, "rb", buffering=0) as file:
         if not stat.S_ISREG(os.fstat(number).st_mode):

@@ -12,6 +12,7 @@ import sys
 import tempfile
 
 from ..runner import Failed
+from .parts import MOST_OF_SHEETS
 
 SOURCES = pathlib.Path(__file__).resolve().parents[2]
 TOOLS = {"from_matrix.py": "matrix", "from_list.py": "list", "from_totals.py": "totals"}
@@ -24,7 +25,7 @@ WRITES = ("--banks", "--debts", "--label", "--summary", "--out")
 OUTSIDE = re.compile(r"(^|=)[/~]|(^|[=/])\.\.(/|$)")
 NAME = re.compile(r"[0-9]+-[^/\0\t\n]{1,200}")
 MADE = ("banks.csv", "debts.csv", "summary.csv")
-MOST_SECONDS, MOST_OF_SHEETS = 600, 400_000_000
+MOST_SECONDS = 600
 
 
 def parsed(command):
