@@ -237,8 +237,8 @@ class Launcher(Case):
                        "CLEARING_JOBS": "2", "SLOW": "30"}
         going = subprocess.Popen([str(self.root / "clearing")], env=environment, stderr=subprocess.PIPE, encoding="utf-8",
                                  start_new_session=True)
-        deadline = time.monotonic() + 20
-        while not self.calls.read_text() and time.monotonic() < deadline:
+        deadline = time.monotonic() + 60
+        while not self.times.read_text() and time.monotonic() < deadline:
             time.sleep(0.1)
         time.sleep(0.5)
         return going
