@@ -256,8 +256,11 @@ class Launcher(Case):
         self.assertEqual(going.returncode, 8, message)
         self.assertIn("the build was interrupted", message)
         self.ends()
-        # What was begun stands in the repository again.
-        self.assertTrue((self.root / "crates/low/out/incremental/begun").exists())
+        # What was begun stands in the repository again, once the build has put it there.
+        begun, deadline = self.root / "crates/low/out/incremental/begun", time.monotonic() + 20
+        while not begun.exists() and time.monotonic() < deadline:
+            time.sleep(0.1)
+        self.assertTrue(begun.exists())
 
     def test_what_a_killed_build_left_is_gone_on_with(self):
         going = self.going()
