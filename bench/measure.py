@@ -4,7 +4,8 @@
     bench/measure.py [OPTION ..] TABLE [INPUT ..]
 
 TABLE is one of
-  tasks    every task beside `clear` by one worker, on the hardest networks within the limits; `stress` is told by the scenario
+  tasks    every task beside `clear` by one worker, on the hardest networks within the limits, in two tables: `stress` and `outcomes`
+           are told by the scenario, `impact` by the bank, and `rescues` by the bank in default
   rules    `clear` and `central` by each rule beside `order`; INPUT is `largest` or `star`
   workers  `clear` by 1, 2 and 4 workers beside `central`
   rounds   one round and all of them beside reading alone; and a round that moves one unit, with 19,990 debts at rest beside it
@@ -50,8 +51,8 @@ OTHERS = {"fictitious": "numpy", "iteration": "numpy", "graph": "networkx"}
 class Table:
     """Rows of ratios: what the first job took in milliseconds, and the others in times of it."""
 
-    def __init__(self, options, title, base, columns, memory=(), more=()):
-        self.options, self.columns, self.memory = options, [base, *columns], memory
+    def __init__(self, options, title, base, columns, memory=(), more=(), wide=38):
+        self.options, self.columns, self.memory, self.wide = options, [base, *columns], memory, wide
         self.base = options.beside or base
         if self.base not in self.columns:
             raise Fault(f"no column {self.base}; there are {', '.join(self.columns)}")
@@ -60,7 +61,7 @@ class Table:
         self.print(title, heads)
 
     def print(self, label, cells):
-        print(f"{label:38}" + "".join(f"{cell:>{width}}" for cell, width in zip(cells, self.widths)), flush=True)
+        print(f"{label:{self.wide}}" + "".join(f"{cell:>{width}}" for cell, width in zip(cells, self.widths)), flush=True)
 
     def row(self, label, jobs, ends={}, parts={}, more=()):
         """Measures jobs by their columns. `ends` has the statuses of those that end otherwise than with 0, `parts` the number by which the
@@ -101,31 +102,48 @@ class Program:
         return path
 
 
-def last_in_default(program, name):
-    """The last bank of the file that does not pay all that it owes, or the first bank where each does."""
+def states_of(program, name):
+    """The names of the banks, in file order, each with its state."""
     done = subprocess.run(program.words("defaults", name, *ONE), capture_output=True, encoding="utf-8", check=True)
-    rows = [line.split(",") for line in done.stdout.splitlines()[1:]]
-    return next((row[0] for row in reversed(rows) if row[-1] in ("fundamental", "contagion")), rows[0][0])
+    rows = [line.split(",") for line in done.stdout.splitlines()[1:-2]]
+    return {row[0]: row[-1] for row in rows}
 
 
 def tasks(program, options):
     """A ring without cash (`dry`) stands beside `clear` of the same ring with one unit at a bank. `rescue` saves the last bank that
-    defaults, and `replay` has the journal that `clear` prints."""
-    columns = "check central replay defaults stress bounds rescue compress costs".split()
-    table = Table(options, "every task", "clear", columns)
-    for name in options.inputs or HARDEST:
-        journal = program.kept(f"{name}-journal.csv", program.words("clear", name, "--show", "journal", *ONE))
-        more = {
-            "replay": ("--journal", journal),
-            "defaults": ONE,
-            "stress": ("--scenarios", inputs.cuts(), *ONE),
-            "rescue": ("--bank", last_in_default(program, name), *ONE),
-            "costs": ("--keep", "500"),
-            "bounds": ONE,
-        }
-        jobs = {"clear": program.words("clear", name.replace("dry-", "one-"), *ONE)}
-        jobs.update({task: program.words(task, name, *more.get(task, ())) for task in columns})
-        table.row(name, jobs, parts={"stress": inputs.SCENARIOS})
+    defaults, or the first bank where none does, and `replay` has the journal that `clear` prints."""
+    halves = {
+        "every task": "check central replay defaults stress bounds rescue compress costs".split(),
+        "and these": "breaking impact rescues outcomes cost-bounds".split(),
+    }
+    for title, columns in halves.items():
+        # What the others are told in stands in both tables.
+        if options.beside in sum(halves.values(), []) and options.beside not in columns:
+            columns = [options.beside, *columns]
+        table = Table(options, title, "clear", columns, wide=24)
+        for name in options.inputs or HARDEST:
+            row_of_tasks(program, table, columns, name)
+
+
+def row_of_tasks(program, table, columns, name):
+    """Some tasks on a network."""
+    journal = program.kept(f"{name}-journal.csv", program.words("clear", name, "--show", "journal", *ONE))
+    states = states_of(program, name)
+    short = [bank for bank, state in states.items() if state != "sound"]
+    more = {
+        "replay": ("--journal", journal),
+        "defaults": ONE,
+        "stress": ("--scenarios", inputs.cuts(), *ONE),
+        "outcomes": ("--scenarios", inputs.cuts()),
+        "rescue": ("--bank", short[-1] if short else next(iter(states)), *ONE),
+        "costs": ("--keep", "500"),
+        "cost-bounds": ("--keep", "500"),
+        "bounds": ONE,
+    }
+    jobs = {"clear": program.words("clear", name.replace("dry-", "one-"), *ONE)}
+    jobs.update({task: program.words(task, name, *more.get(task, ())) for task in columns})
+    scenarios = inputs.SCENARIOS
+    table.row(name, jobs, parts={"stress": scenarios, "outcomes": scenarios, "impact": len(states), "rescues": max(1, len(short))})
 
 
 def rules(program, options):

@@ -474,22 +474,23 @@ class Analysis(Case):
         self.addCleanup(running.stderr.close)
         return running
 
-    def test_answers_against_the_laws_are_told(self):
+    def test_answers_that_are_none_are_told(self):
         words = self.short()
-        # A program that lies: it says that all banks are sound in the last scenario of a file, it takes a bank's equity, it names a
-        # sum that saves nobody.
-        lies = [
-            ("breaking.py", LYING, "milder_shock_hurts_nobody"),
-            ("impact.py", 'if [ "$1" = stress ]; then "%s" "$@" | sed "s/^D,\\([0-9]*\\),0,0,0,[0-9]*,/D,\\1,0,0,0,1,/"; exit; fi', "ruin_of_a_bank_costs_its_cash"),
-            ("rescues.py", 'if [ "$1" = rescue ]; then "%s" "$@" | sed "1s/,[0-9]*$/,0/"; exit; fi', "there_is_a_least_sum"),
-        ]
-        for name, script, law in lies:
-            running = self.with_program(script % PROGRAM, name, *words)
+        # A program that says that all banks are sound in the last scenario of a file.
+        running = self.with_program(LYING % PROGRAM, "breaking.py", *words, "--loss", "A")
+        output, messages = running.communicate(timeout=60)
+        self.assertEqual((running.returncode, output), (1, b""), messages)
+        self.assertIn("milder_shock_hurts_nobody", messages.decode())
+        # One that answers another task, and one that leaves a scenario out.
+        script = f'case $1 in breaking|impact|rescues|outcomes) exec "{PROGRAM}" check "$2" "$3";; esac'
+        left_out = f'if [ "$1" = outcomes ]; then "{PROGRAM}" "$@" | sed 2d; exit; fi'
+        for script, command in [*((script, command) for command in self.commands()), (left_out, self.commands()[-1])]:
+            running = self.with_program(script, *command, *words)
             output, messages = running.communicate(timeout=60)
             self.assertEqual((running.returncode, output), (1, b""), messages)
-            self.assertIn(law, messages.decode())
+            self.assertIn("did not print", messages.decode())
         for command in self.commands():
-            running = self.with_program('case $1 in stress|rescue) echo "clearing: out of memory" >&2; exit 6;; esac', *command, *words)
+            running = self.with_program(f'case $1 in {ASKED}) echo "clearing: out of memory" >&2; exit 6;; esac', *command, *words)
             output, messages = running.communicate(timeout=60)
             self.assertEqual((running.returncode, output), (1, b""))
             self.assertIn("out of memory", messages.decode())
@@ -499,7 +500,7 @@ class Analysis(Case):
         for command in self.commands():
             output = self.folder / "out.csv"
             begun = self.folder / f"{command[0]}.begun"
-            running = self.with_program(f'case $1 in stress|rescue) echo $$ >>"{begun}"; exec sleep 60;; esac', *command, *words,
+            running = self.with_program(f'case $1 in {ASKED}) echo $$ >>"{begun}"; exec sleep 60;; esac', *command, *words,
                                         "--ranking" if command[0] == "impact.py" else "--output", output, start_new_session=True)
             deadline = time.monotonic() + 30
             while not begun.exists() and time.monotonic() < deadline:
@@ -552,6 +553,7 @@ class Analysis(Case):
 
     def test_a_request_to_end_leaves_no_file(self):
         """At any moment, of the group of processes too, as at a terminal: the status is 130, and no file is left."""
+        past = self.file("past.csv", "year,cut\n" + "".join(f"{cut},{cut}\n" for cut in range(1000)))
         banks, debts = self.file("g-banks.csv"), self.file("g-debts.csv")
         self.made("gen_files.py", "--seed", 5, "--size", 600, "--tries", 9000, "--banks", banks, "--debts", debts)
         banks.write_text("".join(line if at == 0 else ",".join([line.split(",")[0], "9", line.split(",")[2]])
@@ -560,11 +562,11 @@ class Analysis(Case):
         place.mkdir()
         for tries in range(6):
             running = subprocess.Popen(
-                [sys.executable, str(ROOT / "tools/rescues.py"), "--banks", str(banks), "--debts", str(debts)],
+                [sys.executable, str(ROOT / "tools/draws.py"), "--banks", str(banks), "--debts", str(debts), "--past", str(past), "--draws", "9999"],
                 env={**os.environ, "CLEARING": PROGRAM, "TMPDIR": str(place)}, stdin=subprocess.DEVNULL, stdout=subprocess.PIPE,
                 stderr=subprocess.PIPE, start_new_session=True)
             deadline = time.monotonic() + 30
-            while len(list(place.glob("*/*"))) < 3 + tries and time.monotonic() < deadline:
+            while len(list(place.glob("*/*"))) < 1 + tries % 2 and time.monotonic() < deadline:
                 time.sleep(0.01)
             for _ in range(1 + tries % 3):
                 (os.kill if tries % 2 else os.killpg)(running.pid, signal.SIGINT if tries % 4 == 2 else signal.SIGTERM)
@@ -575,7 +577,7 @@ class Analysis(Case):
     def test_a_terminal_is_told_how_far_it_is(self):
         pty = importlib.import_module("pty")
         main, other = pty.openpty()
-        running = subprocess.Popen([sys.executable, str(ROOT / "tools/impact.py"), *map(str, self.small())],
+        running = subprocess.Popen([sys.executable, str(ROOT / "tools/breaking.py"), *map(str, self.small()), "--loss", "A"],
                                    stdout=subprocess.DEVNULL, stderr=other)
         os.close(other)
         said = b""
@@ -586,7 +588,7 @@ class Analysis(Case):
             pass
         os.close(main)
         self.assertEqual(running.wait(), 0)
-        self.assertIn(b"impact.py: group of scenarios 0 of ", said)
+        self.assertIn(b"breaking.py: group of scenarios 0 of ", said)
         self.assertTrue(said.endswith(b"\r\x1b[K"))
 
     def test_pictures_are_drawn_where_matplotlib_is(self):
@@ -606,6 +608,9 @@ class Analysis(Case):
         if not importlib.util.find_spec("matplotlib"):
             self.skipTest("matplotlib is missing")
 
+
+# The tasks that the tools ask many times or for long.
+ASKED = "breaking|impact|rescues|outcomes"
 
 # All banks are sound in the last scenario of a file, and in no other.
 LYING = '''if [ "$1" = stress ]; then

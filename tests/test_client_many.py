@@ -11,7 +11,7 @@ from unittest import mock
 from common import CHAIN, HUB, ROOT, TWELVE, Case, needs_modules, python_with
 
 import clearing_client as cc
-from clearing_client import Network, Scenario, Scenarios, many, texts
+from clearing_client import Network, Scenario, Scenarios, many, network, texts
 
 
 def of(folder):
@@ -170,11 +170,6 @@ class Text(unittest.TestCase):
                     self.assertEqual(isinstance(whole, str), isinstance(streamed, str), text)
                     self.assertTrue(isinstance(whole, str) or whole == streamed, text)
 
-    def test_payments_are_passed_over(self):
-        two = [line.encode() for line in [*self.LINES, "\n", *self.LINES]]
-        left = list(many.without_payments(two))
-        self.assertEqual(left, [line for line in two if line != b"A,B,1,10,7\n"])
-
 
 class Executors(Case):
     def test_an_executor_that_is_given_runs_them_and_goes_on(self):
@@ -188,14 +183,16 @@ class Executors(Case):
                 self.assertEqual(executor.submit(abs, -1).result(), 1)
 
     def test_what_is_parsed_is_parsed_in_other_processes(self):
-        seen, parse = self.folder / "seen", many.outcomes_in
+        seen, parse, read = self.folder / "seen", many.outcomes_in, network.parse
 
-        def told(*words):
-            with open(seen, "a", encoding="utf-8") as file:
-                file.write(f"{os.getpid()}\n")
-            return parse(*words)
+        def told(parser):
+            def here(*words):
+                with open(seen, "a", encoding="utf-8") as file:
+                    file.write(f"{os.getpid()}\n")
+                return parser(*words)
+            return here
 
-        with mock.patch.object(many, "outcomes_in", told):
+        with mock.patch.object(many, "outcomes_in", told(parse)), mock.patch.object(network, "parse", told(read)):
             list(cc.map_stress([of(CHAIN), of(HUB)], Scenarios.cuts([1]), jobs=2))
             list(cc.map_outcomes([of(CHAIN), of(HUB)], Scenarios.cuts([1]), jobs=2))
         numbers = seen.read_text().split()

@@ -35,6 +35,12 @@ class Tasks(Case):
         yield net.bounds(), ["bounds"]
         yield net.rescue(last), ["rescue", "--bank", last]
         yield net.costs(900), ["costs", "--keep", 900]
+        yield net.cost_bounds(900), ["cost-bounds", "--keep", 900]
+        yield net.breaking(), ["breaking"]
+        yield net.impact(), ["impact"]
+        yield net.rescues(), ["rescues"]
+        yield net.outcomes(scenarios), ["outcomes", "--scenarios", toml]
+        yield net.outcomes(str(toml)), ["outcomes", "--scenarios", toml]
         yield net.compress(), ["compress"]
         yield net.replay(journal), ["replay", "--journal", written]
         yield net.replay(written), ["replay", "--journal", written]
@@ -66,6 +72,14 @@ class Tasks(Case):
         self.assertEqual(net.clear().payments.column("paid"), [7, 8])
         self.assertEqual(net.defaults().defaults, ["A", "B"])
         self.assertEqual((net.rescue("A").added, net.rescue("A").short), (3, 1))
+        self.assertEqual([tuple(bank) for bank in net.breaking().cuts], [("A", 0, "fundamental"), ("B", 0, "contagion"), ("C", 1001, "sound")])
+        self.assertEqual([tuple(pair) for pair in net.impact().pairs], [("A", "C", 7, False), ("B", "C", 1, False)])
+        self.assertEqual(net.impact().to_lists(), [[0, 0, 7], [0, 0, 1], [0, 0, 0]])
+        self.assertEqual([tuple(bank) for bank in net.rescues().banks], [("A", 3, 1, 1, 0), ("B", 1, 1, 0, 1)])
+        self.assertEqual([tuple(pair) for pair in net.rescues().saved], [("A", "B")])
+        self.assertEqual(tuple(net.outcomes([Scenario("half", 500)]).scenarios[0]), ("half", 5, 9, 0, 5, 2, 1))
+        self.assertEqual([tuple(bank)[1:] for bank in net.cost_bounds(500).standings],
+                         [(4, 0, "fundamental") * 2, (2, 0, "contagion") * 2, (0, 2, "sound") * 2])
         self.assertEqual(net.check().total, (3, 2, 19, 8))
         self.assertEqual(net.clear().to_lists(), [[0, 7, 0], [0, 0, 8], [0, 0, 0]])
         self.assertEqual(net.clear().to_lists("claim"), [[0, 10, 0], [0, 0, 9], [0, 0, 0]])
@@ -78,6 +92,7 @@ class Tasks(Case):
 
     def test_no_scenario_and_no_debt(self):
         self.assertEqual(Network(BANKS, []).stress([]).scenarios, ())
+        self.assertEqual(list(Network(BANKS, []).outcomes([]).banks), [("A", 0, 0), ("B", 0, 0), ("C", 0, 0)])
         self.assertEqual(len(Network(BANKS, {}).clear().payments), 0)
         self.assertEqual(Network([], []).check().total, (0, 0, 0, 0))
 

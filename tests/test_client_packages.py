@@ -14,7 +14,9 @@ def of(folder):
 class WithoutPackages(Case):
     def test_each_call_says_what_it_wants(self):
         net = Network({"A": 7, "B": 1}, {("A", "B"): 10})
-        for name, call in [("pandas", net.to_pandas), ("numpy", net.to_matrix), ("networkx", net.to_networkx)]:
+        impact = net.impact()
+        for name, call in [("pandas", net.to_pandas), ("numpy", net.to_matrix), ("networkx", net.to_networkx),
+                           ("pandas", impact.to_pandas), ("numpy", impact.to_matrix), ("networkx", impact.to_networkx)]:
             if there(name):
                 call()
             else:
@@ -41,7 +43,8 @@ class Pandas(Case):
         net = of(HUB)
         journal = net.clear(journal=True).journal
         results = [net.check(), net.clear(journal=True), net.central(), net.defaults(), net.bounds(), net.costs(900), net.compress(),
-                   net.stress(Scenarios.cuts([0, 500])), net.rescue("East"), net.replay(journal), net.replay([]),
+                   net.stress(Scenarios.cuts([0, 500])), net.rescue("East"), net.replay(journal), net.replay([]), net.breaking(), net.impact(),
+                   net.rescues(), net.outcomes(Scenarios.cuts([0, 500])), net.cost_bounds(900),
                    cc.generate(1, 3, 3)]
         for result in results:
             frames = result.to_pandas()
@@ -50,7 +53,7 @@ class Pandas(Case):
                 self.assertEqual(tuple(frame.columns), table.columns)
                 self.assertEqual([tuple(row) for row in frame.itertuples(index=False)], [tuple(row) for row in table])
                 for column in frame.columns:
-                    if name != "totals" and all(type(value) is int for value in table.column(column)):
+                    if name != "totals" and len(table) and all(type(value) is int for value in table.column(column)):
                         self.assertEqual(str(frame[column].dtype), "int64", (name, column))
 
     def test_no_line_of_sums_doubles_a_sum(self):
@@ -153,6 +156,12 @@ class Networkx(Case):
         graph = net.bounds().to_networkx()
         self.assertEqual(graph.edges["East", "Hub", 1]["greatest"], 80)
         self.assertEqual(net.compress().to_networkx().number_of_edges(), len(net.debts))
+        graph = net.cost_bounds(1000).to_networkx()
+        self.assertEqual((graph.edges["East", "Hub", 1]["greatest"], graph.nodes["Hub"]["state_at_greatest"]), (80, "sound"))
+        impact = net.impact()
+        graph = impact.to_networkx()
+        self.assertEqual(graph.nodes["Hub"], dict(zip(impact.banks.columns[1:], impact.banks[0][1:])))
+        self.assertEqual({(bank, of): each["lost"] for bank, of, each in graph.edges(data=True)}, {pair[:2]: pair.lost for pair in impact.pairs})
         # A result of a text alone has its own banks.
         self.assertEqual(cc.read(net.clear().text).to_networkx().nodes["Hub"], {})
 

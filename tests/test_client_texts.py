@@ -4,8 +4,8 @@ import unittest
 from common import CHAIN, EXAMPLES, HUB, TWELVE, Case, files_of, printed
 
 from clearing_client import TextError, read
-from clearing_client.results import Bounds, Check, Clearing, Compression, Converted, Costs, Defaults, Generated
-from clearing_client.results import Journal, Rescue, Stress, Verdict
+from clearing_client.results import Bounds, Breaking, Check, Clearing, Compression, Converted, CostBounds, Costs, Defaults, Generated
+from clearing_client.results import Impact, Journal, Outcomes, Rescue, Rescues, Stress, Verdict
 
 
 def lines(table, without=()):
@@ -51,6 +51,8 @@ def text_of(result, outside):
         parts = [[f"rescue,{result.bank},{result.added}", f"short,{result.short}"], lines(result.payments)]
     elif isinstance(result, Compression):
         parts = [lines(result.debts), [*lines(result.ranks), f"cancelled,{result.cancelled}"]]
+    elif isinstance(result, (Breaking, CostBounds, Impact, Outcomes, Rescues)):
+        parts = list(map(lines, result.tables().values()))
     elif isinstance(result, Costs):
         total = ",".join(map(str, result.total[:-1]))
         parts = [lines(result.payments), [*lines(result.standings), f"total,{total}", f"cash,{result.total.cash}"]]
@@ -69,7 +71,8 @@ class Texts(Case):
         first = folder.joinpath("banks.csv").read_text(encoding="utf-8").splitlines()[1].split(",")[0]
         for words in (["check"], ["clear", "--show", "both"], ["clear", "--show", "journal"], ["central"], ["defaults"],
                       ["stress", "--scenarios", scenarios], ["replay", "--journal", journal], ["convert"], ["bounds"],
-                      ["rescue", "--bank", first], ["compress"], ["costs", "--keep", 900]):
+                      ["rescue", "--bank", first], ["compress"], ["costs", "--keep", 900], ["cost-bounds", "--keep", 900], ["breaking"],
+                      ["impact"], ["rescues"], ["outcomes", "--scenarios", scenarios]):
             yield words[0], printed(*words, *files)
 
     def test_every_text_of_every_example_is_taken_apart_without_loss(self):
@@ -139,7 +142,8 @@ class Texts(Case):
         debts = self.file("d.csv", "debtor,creditor,class,claim\ntotal,cash,1,10\ncash,scenario,1,9\nrounds,total,1,0\n")
         scenarios = self.file("s.toml", '[[scenario]]\nname = "cash"\n')
         for words in (["check"], ["clear", "--show", "both"], ["defaults"], ["stress", "--scenarios", scenarios], ["bounds"],
-                      ["rescue", "--bank", "total"], ["compress"], ["costs", "--keep", 1]):
+                      ["rescue", "--bank", "total"], ["compress"], ["costs", "--keep", 1], ["cost-bounds", "--keep", 1], ["breaking"],
+                      ["impact"], ["rescues"], ["outcomes", "--scenarios", scenarios]):
             text = printed(*words, "--banks", banks, "--debts", debts)
             self.assertEqual(text_of(read(text), False), text)
 

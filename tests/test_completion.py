@@ -83,7 +83,9 @@ class Completion(Case):
 
     def test_words_are_completed(self):
         self.file("banks.csv", "name,cash,rule\nAster,1,order\nBank Two,2,order\n")
-        self.assertEqual(completed(self.folder, "clearing c"), ["check", "clear", "central", "compress", "costs", "convert"])
+        self.assertEqual(completed(self.folder, "clearing c"), ["check", "clear", "central", "compress", "costs", "cost-bounds", "convert"])
+        self.assertEqual(completed(self.folder, "clearing cost-bounds --banks banks.csv --"), ["--debts", "--keep"])
+        self.assertEqual(completed(self.folder, "clearing outcomes --banks banks.csv --"), ["--debts", "--scenarios"])
         self.assertEqual(completed(self.folder, "clearing clear --s"), ["--sweeps", "--show"])
         self.assertEqual(completed(self.folder, "clearing clear --show b"), ["both"])
         self.assertEqual(completed(self.folder, "clearing clear --show=b", "b"), ["both"])
@@ -142,8 +144,9 @@ class Completion(Case):
     def test_each_option_of_the_completion_is_one_of_the_program(self):
         # The program refuses words that are no job with 2; here it comes as far as a file that is missing.
         files = ["--banks", "none", "--debts", "none"]
-        more = {"stress": ["--scenarios", "none"], "replay": ["--journal", "none"], "rescue": ["--bank", "A"],
-                "costs": ["--keep", "1"], "gen": ["--seed", "1", "--size", "1", "--tries", "1"]}
+        more = {"stress": ["--scenarios", "none"], "outcomes": ["--scenarios", "none"], "replay": ["--journal", "none"],
+                "rescue": ["--bank", "A"], "costs": ["--keep", "1"], "cost-bounds": ["--keep", "1"],
+                "gen": ["--seed", "1", "--size", "1", "--tries", "1"]}
         value = {"--workers": "2", "--sweeps": "2", "--show": "both"}
         for task in completed(self.folder, "clearing "):
             words = ([] if task == "gen" else files) + more.get(task, [])

@@ -94,6 +94,12 @@ class Extremes(Case):
                 self.same(text, "rescue", "--bank", name, *plan)
         for keep in keeps:
             self.same(model.costs_text(net, keep), "costs", "--keep", keep)
+            if keep != 999:
+                # What is left of an estate falls by a thousandth a round.
+                self.same(model.cost_bounds_text(net, keep), "cost-bounds", "--keep", keep)
+        self.same(model.outcomes_text(net, scenarios), "outcomes", "--scenarios", toml)
+        if len(net.banks) <= 8:
+            self.same(model.impact_text(net), "impact")
         with self.subTest(task="compress"):
             self.assertIsNone(judge_compression(net, self.printed("compress", *self.files)))
         self.journals(net, low, plans)
@@ -121,6 +127,8 @@ class Extremes(Case):
             for more in ([], ["--sweeps", "2"]):
                 with self.subTest(scenarios=str(scenarios)[:100], count=len(scenarios), more=more):
                     self.assertEqual(self.printed("stress", *self.files, "--scenarios", toml, *more), model.stress_text(net, scenarios))
+            with self.subTest(task="outcomes", scenarios=str(scenarios)[:100], count=len(scenarios)):
+                self.assertEqual(self.printed("outcomes", *self.files, "--scenarios", toml), model.outcomes_text(net, scenarios))
         # Sums that only a search by halves finds: nothing comes in, or it comes whatever the bank has.
         for i in (2, 3, 4):
             sum_added = model.due(net, i) - model.estate(net, model.least(net), i)
@@ -146,6 +154,8 @@ class Extremes(Case):
     def test_without_debts(self):
         banks = [Bank("n" * 64, CASH, "order", OUTSIDE), Bank("B", 3, "adams", 5), Bank("C", 0, "equal", 0)]
         self.every_task(Net(banks, []), [Scenario("all", 1000, [(1, 2), (0, CASH)])], [0, 1, 2], plans=PLANS[:2])
+        self.same(model.breaking_text(Net(banks, [])), "breaking")
+        self.same("bank,added,short,also_saved,still_short\nB,2,1,0,0\n\nbank,saves\n", "rescues")
         self.every_task(Net([bank._replace(outside=0) for bank in banks], []), [], [2], plans=PLANS[:1])
         self.every_task(Net([], []), [Scenario("none", 0, [])], [], plans=PLANS[:2])
         for second in (False, True):
@@ -167,8 +177,16 @@ class Extremes(Case):
         self.assertIsNone(judge_journal(net, low, journal))
         with self.subTest(task="compress", what="a chain"):
             self.assertIsNone(judge_compression(net, self.printed("compress", *self.files)))
+        # The last bank's unit breaks all of them but the first, which owes nothing, and goes to it.
+        self.same("bank,cash,own,others,falls\n" + "".join(f"bank {i},{int(i == 999)},0,{int(i == 999)},0\n" for i in range(size))
+                  + "\nbank,of,lost,falls\nbank 999,bank 0,1,no\n", "impact")
+        self.same("bank,cut,state\nbank 0,1001,sound\n" + "".join(f"bank {i},0,contagion\n" for i in range(1, 999))
+                  + "bank 999,0,fundamental\n", "breaking")
         for bank, paid in ((1, [2] + low[1:]), (999, [2] * 999)):
             self.same(f"rescue,bank {bank},1\nshort,1\n\n" + model.payments_text(net, paid), "rescue", "--bank", f"bank {bank}")
+        saves = "".join(f"bank {i},1,1,{i - 1},{999 - i}\n" for i in range(1, 1000))
+        pairs = "".join(f"bank {i},bank {j}\n" for i in range(1, 1000) for j in range(1, i))
+        self.same(f"bank,added,short,also_saved,still_short\n{saves}\nbank,saves\n{pairs}", "rescues")
         for size, claim, cls in ((1000, 5, 9), (200, 1, 3), (10, CLAIM, 5), (4, 7, 1), (3, 7, 9)):
             net = Net([Bank(f"bank {i}", 0, RULES[i % 6], 0) for i in range(size + (size < 5))], [Debt(i, (i + 1) % size, cls, claim) for i in range(size)])
             self.write(net)
@@ -234,7 +252,8 @@ class Extremes(Case):
         payments = model.payments_text(net, low)
         texts = [(model.check_text(net), "check"), (model.banks_text(net, True), "convert"), (payments, "clear"), (payments, "central"),
                  (model.defaults_text(net, low), "defaults"), (model.bounds_text(net), "bounds"), (model.costs_text(net, 500), "costs", "--keep", 500),
-                 (model.rescue_text(net, 0), "rescue", "--bank", net.banks[0].name), (model.stress_text(net, scenarios), "stress", "--scenarios", toml)]
+                 (model.rescue_text(net, 0), "rescue", "--bank", net.banks[0].name), (model.stress_text(net, scenarios), "stress", "--scenarios", toml),
+                 (model.impact_text(net), "impact"), (model.outcomes_text(net, scenarios), "outcomes", "--scenarios", toml)]
 
         def late(text, size):
             """The text with blank records after its header and at its end, with so many bytes or as few as it has then."""
@@ -279,7 +298,9 @@ class Extremes(Case):
             self.same(model.rescue_text(net, 0), "rescue", "--bank", net.banks[0].name, *plan, files=files)
             self.same(model.gen_text(generated(5, 7, 20)), "gen", "--seed", "5", "--size", "7", "--tries", "20", *plan, files=[])
         keep = ["--keep", f"{1000:020}"]
-        for task, *plan in (["check"], ["central"], ["convert"], ["compress"], ["defaults", *more], ["bounds", *more], ["costs", *keep]):
+        self.same(model.outcomes_text(net, [Scenario("a", 1, [])]), "outcomes", "--scenarios", third, "--", files=files)
+        for task, *plan in (["check"], ["central"], ["convert"], ["compress"], ["defaults", *more], ["bounds", *more], ["costs", *keep],
+                            ["cost-bounds", *keep], ["breaking"], ["impact"], ["rescues"]):
             with self.subTest(task=task):
                 self.assertEqual(self.printed(task, *files, *plan, "--"), self.printed(task, *self.files, *plan))
         with self.subTest(task="replay"):

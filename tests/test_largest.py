@@ -64,6 +64,7 @@ class Largest(Case):
         self.same(model.defaults_text(net, low), "defaults")
         self.same(model.bounds_text(net), "bounds")
         self.same(model.costs_text(net, 500), "costs", "--keep", "500")
+        self.same(model.cost_bounds_text(net, 500), "cost-bounds", "--keep", "500")
         # A bank that lacks little, since the model tries all sums.
         lacks = {i: model.due(net, i) - model.estate(net, low, i) for i in range(BANKS)}
         bank = min((i for i in lacks if lacks[i] > 3), key=lacks.get)
@@ -71,6 +72,7 @@ class Largest(Case):
         with self.subTest(task="compress"):
             self.assertIsNone(judge_compression(net, self.text("compress")))
         self.stressed(net)
+        self.turned_round(net)
         journal = self.text("clear", "--show", "journal", "--workers", "4")
         self.assertIsNone(judge_journal(net, low, journal))
         raises = journal.count("\n") - 2
@@ -87,12 +89,63 @@ class Largest(Case):
                      model.Scenario("losses", 1, [(i, 1 + i % 50) for i in range(1, BANKS)]), model.Scenario("all", 1000, [])]
         loss = lambda pair: f'[[scenario.loss]]\nbank = "{net.banks[pair[0]].name}"\namount = {pair[1]}\n'
         toml = "".join(f'[[scenario]]\nname = "{one.name}"\ncut = {one.cut}\n' + "".join(map(loss, one.losses)) for one in scenarios)
-        blocks = []
+        blocks, sums, fallen, own = [], "", [0] * BANKS, [0] * BANKS
         for scenario in scenarios:
             left = self.file("left.csv", model.banks_text(model.shocked(net, scenario), True))
             files = ["--banks", left, *self.files[2:]]
-            blocks.append(f"scenario,{scenario.name}\n" + self.printed("central", *files) + self.printed("defaults", *files))
+            defaults = self.printed("defaults", *files)
+            blocks.append(f"scenario,{scenario.name}\n" + self.printed("central", *files) + defaults)
+            *rows, total, cash = (line.split(",") for line in defaults.splitlines()[1:])
+            states = [row[-1] for row in rows]
+            sums += f"{scenario.name},{cash[1]},{total[3]},{total[2]},{total[5]},{total[6]},{states.count('fundamental')}\n"
+            fallen = [count + (state != "sound") for count, state in zip(fallen, states)]
+            own = [count + (state == "fundamental") for count, state in zip(own, states)]
         self.same("\n".join(blocks), "stress", "--scenarios", self.file("s.toml", toml))
+        counts = "".join(f"{bank.name},{count},{deep}\n" for bank, count, deep in zip(net.banks, fallen, own))
+        self.same(f"scenario,cash,paid,outside_paid,equity,defaults,fundamental\n{sums}\nbank,defaults,fundamental\n{counts}",
+                  "outcomes", "--scenarios", self.file("s.toml", toml))
+
+    def standing(self, banks):
+        """What each bank keeps where the banks are these, and its state."""
+        files = ["--banks", self.file("other.csv", model.banks_text(model.Net(banks, []), True)), *self.files[2:]]
+        rows = [line.split(",") for line in self.printed("defaults", *files).splitlines()[1:-2]]
+        return [int(row[2]) + int(row[5]) for row in rows], [row[-1] for row in rows]
+
+    def turned_round(self, net):
+        """Of some banks what `breaking`, `impact` and `rescues` say, by the networks that are meant."""
+        kept, states = self.standing(net.banks)
+        some = [0, *range(3, BANKS, 211)]
+        with self.subTest(task="impact"):
+            first, second = (part.splitlines()[1:] for part in self.text("impact").split("\n\n"))
+            for j in some:
+                then, after = self.standing([bank._replace(cash=0) if i == j else bank for i, bank in enumerate(net.banks)])
+                lost = [old - new for old, new in zip(kept, then)]
+                falls = [old == "sound" != new for old, new in zip(states, after)]
+                name, cash = net.banks[j].name, net.banks[j].cash
+                self.assertEqual(first[j], f"{name},{cash},{lost[j]},{cash - lost[j]},{sum(falls) - falls[j]}")
+                wanted = [f"{name},{net.banks[i].name},{lost[i]},{'yes' if falls[i] else 'no'}" for i in range(BANKS) if lost[i] or falls[i]]
+                self.assertEqual([line for line in second if line.startswith(f"{name},")], wanted)
+        with self.subTest(task="breaking"):
+            lines = [line.split(",") for line in self.text("breaking").splitlines()[1:]]
+            self.assertEqual([line[0] for line in lines], [bank.name for bank in net.banks])
+            for at in some:
+                cut = int(lines[at][1])
+                for tried in {cut - 1, cut} & set(range(1001)):
+                    after = self.standing(model.shocked(net, model.Scenario("", tried, [])).banks)[1][at]
+                    self.assertEqual(after, lines[at][2] if tried == cut else "sound", (at, tried))
+                self.assertEqual(lines[at][2] == "sound", cut == 1001)
+        with self.subTest(task="rescues"):
+            first, second = (part.splitlines()[1:] for part in self.text("rescues").split("\n\n"))
+            short = [i for i in range(BANKS) if states[i] != "sound"]
+            self.assertEqual([line.split(",")[0] for line in first], [net.banks[i].name for i in short])
+            for at in range(0, len(short), 97):
+                name, added, lacks, also, still = first[at].split(",")
+                told = self.text("rescue", "--bank", name).split("\n", 2)
+                self.assertEqual(told[:2], [f"rescue,{name},{added}", f"short,{lacks}"])
+                after = self.standing([bank._replace(cash=bank.cash + int(added)) if i == short[at] else bank for i, bank in enumerate(net.banks)])[1]
+                others = [net.banks[i].name for i in short if after[i] == "sound" and i != short[at]]
+                self.assertEqual((also, still), (f"{len(others)}", f"{BANKS - after.count('sound')}"))
+                self.assertEqual([line for line in second if line.startswith(f"{name},")], [f"{name},{other}" for other in others])
 
     def test_large_claims_by_another_route(self):
         net = large_claims()
@@ -120,6 +173,7 @@ class Largest(Case):
             self.assertEqual([int(line.split(",")[4]) for line in bounds], paid)
             self.assertTrue(all(int(line.split(",")[4]) <= int(line.split(",")[5]) <= int(line.split(",")[3]) for line in bounds))
         self.same(payments, "costs", "--keep", "1000", cut=lambda text: text.partition("\n\n")[0] + "\n")
+        self.same(self.text("bounds").partition("\n\n")[0], "cost-bounds", "--keep", "1000", cut=lambda text: text.partition("\n\n")[0])
         with self.subTest(task="compress"):
             self.assertIsNone(judge_compression(net, self.text("compress")))
         # With the sum that saves a bank it is sound, and with a unit less it lacks what is said.

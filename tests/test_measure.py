@@ -56,9 +56,19 @@ class Measure(Case):
 
     def test_each_table_has_milliseconds_of_one_and_ratios_to_it(self):
         ratios = ["check", "central", "replay", "defaults", "stress", "bounds", "rescue", "compress", "costs"]
+        further = ["breaking", "impact", "rescues", "outcomes", "cost-bounds"]
+        for words, first, second in (
+            (["tasks", "chain", "linked-1"], ["clear, ms", *ratios], ["clear, ms", *further]),
+            (["tasks", "--beside", "check", "chain", "linked-1"], ["check, ms", "clear", *ratios[1:]], ["check, ms", "clear", *further]),
+            (["tasks", "--beside", "impact", "chain", "linked-1"], ["impact, ms", "clear", *ratios], ["impact, ms", "clear", "breaking", *further[2:]]),
+        ):
+            with self.subTest(words=words):
+                status, lines, told = self.run_of(*words)
+                self.assertEqual(status, 0, told)
+                self.table(lines[:3], "every task", first, ["chain", "linked-1"])
+                self.table(lines[3:], "and these", second, ["chain", "linked-1"])
+                self.assertLessEqual(max(map(len, lines)), 136 if "impact" in words else 132)
         for words, title, heads, labels in (
-            (["tasks", "chain", "leak"], "every task", ["clear, ms", *ratios], ["chain", "leak"]),
-            (["tasks", "--beside", "check", "linked-1"], "every task", ["check, ms", "clear", *ratios[1:]], ["linked-1"]),
             (["rules", "star"], "by each rule", ["order, ms", "equal", "losses", "jefferson", "webster", "adams"],
              ["star, clear", "star, central"]),
             (["workers", "chain"], "clear, by workers", ["central, ms", "1", "2", "4"], ["chain"]),

@@ -13,7 +13,8 @@ from common import PROGRAM, Case
 BANKS = "name,cash,rule\nA,7,order\nB,1,order\nC,0,order\n"
 DEBTS = "debtor,creditor,class,claim\nA,B,1,10\nB,C,1,9\n"
 PAID = "debtor,creditor,class,claim,paid\nA,B,1,10,7\nB,C,1,9,8\n"
-THIRDS = {"stress": ("scenarios", '[[scenario]]\nname = "a"\n'), "replay": ("journal", "stamp,debtor,creditor,class,to\n1,A,B,1,7\n2,B,C,1,8\n")}
+SCENARIOS = '[[scenario]]\nname = "a"\n'
+THIRDS = {"stress": ("scenarios", SCENARIOS), "outcomes": ("scenarios", SCENARIOS), "replay": ("journal", "stamp,debtor,creditor,class,to\n1,A,B,1,7\n2,B,C,1,8\n")}
 MEMORY = "clearing: out of memory\n"
 # Long enough for any run here, and far from forever.
 SECONDS = 20
@@ -38,8 +39,9 @@ class Outside(Case):
 
     def tasks(self):
         """Each task that reads files: its words, and the paths of its files."""
-        more = {"costs": ["--keep", "500"], "rescue": ["--bank", "B"], "clear": ["--workers", "1"]}
-        for task in ("check", "clear", "central", "defaults", "convert", "bounds", "compress", "costs", "rescue", "stress", "replay"):
+        more = {"costs": ["--keep", "500"], "cost-bounds": ["--keep", "500"], "rescue": ["--bank", "B"], "clear": ["--workers", "1"]}
+        for task in ("check", "clear", "central", "defaults", "convert", "bounds", "compress", "costs", "cost-bounds", "rescue", "rescues",
+                     "breaking", "impact", "stress", "outcomes", "replay"):
             third = self.thirds.get(task, [])
             yield [task, *self.files, *third, *more.get(task, [])], [self.files[1], self.files[3], *third[1:]]
 

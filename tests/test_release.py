@@ -10,7 +10,8 @@ import unittest
 from common import PROGRAM, ROOT, Case
 
 LACKS = [name for name in ("pandoc", "dpkg-deb", "git") if not shutil.which(name)]
-TASKS = sorted("check clear central defaults stress replay bounds rescue compress costs convert gen".split())
+TASKS = sorted("""check clear central defaults stress outcomes replay bounds rescue rescues breaking impact compress costs cost-bounds convert
+    gen""".split())
 
 
 def ran(*words, **more):
@@ -36,7 +37,7 @@ class Completions(Case):
         fish = (ROOT / "tools/clearing.fish").read_text(encoding="utf-8")
         self.assertEqual(sorted(re.search(r"^set -l tasks (.*)$", fish, re.MULTILINE)[1].split()), TASKS)
         zsh = (ROOT / "tools/clearing.zsh").read_text(encoding="utf-8")
-        self.assertEqual(sorted(re.findall(r"^        '(\w+):", zsh, re.MULTILINE)), TASKS)
+        self.assertEqual(sorted(re.findall(r"^        '([\w-]+):", zsh, re.MULTILINE)), TASKS)
 
     @unittest.skipUnless(shutil.which("fish"), "fish is missing")
     def test_fish_completes_words(self):
@@ -47,9 +48,11 @@ class Completions(Case):
                        env={**os.environ, "HOME": str(self.folder)})
             return [word.split("\t")[0] for word in done.stdout.splitlines()]
 
-        self.assertEqual(sorted(offered("clearing c")), ["central", "check", "clear", "compress", "convert", "costs"])
+        self.assertEqual(sorted(offered("clearing c")), ["central", "check", "clear", "compress", "convert", "cost-bounds", "costs"])
         self.assertEqual(offered("clearing clear --show b"), ["both"])
         self.assertEqual(sorted(offered("clearing costs --")), ["--banks", "--debts", "--keep"])
+        self.assertEqual(sorted(offered("clearing cost-bounds --")), ["--banks", "--debts", "--keep"])
+        self.assertEqual(sorted(offered("clearing outcomes --")), ["--banks", "--debts", "--scenarios"])
         self.assertEqual(sorted(offered("clearing gen --")), ["--seed", "--size", "--sweeps", "--tries", "--workers"])
         self.assertEqual(offered("clearing rescue --banks banks.csv --bank A"), ["Aster"])
 

@@ -183,7 +183,7 @@ class TheFile(Report):
     def test_an_interrupt_ends_at_once_and_leaves_nothing(self):
         place, told = self.folder / "tmp", self.folder / "told"
         place.mkdir()
-        for task, number in (("defaults", signal.SIGINT), ("defaults", signal.SIGTERM), ("rescue", signal.SIGTERM)):
+        for task, number in (("defaults", signal.SIGINT), ("defaults", signal.SIGTERM), ("rescues", signal.SIGTERM)):
             script = f"#!/bin/sh\ncase $1 in {task}) echo $$ >>{shlex.quote(str(told))}; exec sleep 60;; esac\n"
             program = self.file("program", f'{script}exec {shlex.quote(PROGRAM)} "$@"\n')
             program.chmod(0o755)
@@ -210,7 +210,7 @@ class TheFile(Report):
         program = self.file("program", f"#!/bin/sh\n{script}")
         program.chmod(0o755)
         words = [*map(str, files_of(TWELVE)), "--scenarios", str(TWELVE / "scenarios.toml"), "--out", str(self.folder / "r.html")]
-        for task in ("check", "clear", "defaults", "bounds", "replay", "stress", "rescue"):
+        for task in ("check", "clear", "defaults", "bounds", "replay", "stress", "rescues", "impact", "breaking"):
             for said in ("", "lawful\n", "\n\n\n", "a,b\n\nc\n\nd\n"):
                 # Of a file without scenarios nothing is printed.
                 if (task, said) == ("stress", ""):

@@ -43,7 +43,7 @@ class Names(InTheBrowser):
         for number, names in enumerate(networks_of_every_character()):
             files, title = self.ring_of(names), f"</title><img src=x> {names[number % len(names)]}"
             given, names = names, list(map(shown, names))
-            self.open(files, "--title", title, "--rescues", "2")
+            self.open(files, "--title", title)
             with self.subTest(names=number):
                 # The page's own table, its data, its title, its scenarios, and the parts of some banks, which are laid out when asked for.
                 self.assertEqual(self.js("return [...document.querySelectorAll('#banks-table tbody th')].map(h => h.textContent)"), names)
@@ -69,7 +69,7 @@ class Names(InTheBrowser):
                         self.js("const box = document.getElementById('search'); box.value = arguments[0]; box.dispatchEvent(new Event('input'))", word)
                         self.assertIn(name, self.shown_rows())
                 found = self.elements()
-                self.page(self.ring_of([f"N{at}" for at in range(len(names))]), "--title", "N", "--rescues", "2")
+                self.page(self.ring_of([f"N{at}" for at in range(len(names))]), "--title", "N")
                 self.driver.get(self.address)
                 self.click("first")
                 self.click("next")

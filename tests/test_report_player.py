@@ -152,7 +152,7 @@ class Player(InTheBrowser):
         ]
         for name, files in made:
             with self.subTest(network=name):
-                self.open(files(), "--rescues", "1")
+                self.open(files())
                 final = self.flows()
                 self.walk()
                 self.assert_same(self.flows(), final)

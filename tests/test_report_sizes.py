@@ -158,7 +158,7 @@ class Sizes(InTheBrowser):
         files = largest(self.folder)
         loss = '[[scenario]]\nname = "shock {0}"\ncut = {1}\n[[scenario.loss]]\nbank = "bank {2}"\namount = {3}\n'
         scenarios = self.file("s.toml", "".join(loss.format(k, 9 * k, 7 * k, 11 * k) for k in range(100)))
-        self.open(files, "--rescues", "3", "--scenarios", scenarios)
+        self.open(files, "--scenarios", scenarios)
         self.assertLess((self.folder / "report.html").stat().st_size, 8_000_000)
         # What is laid out at first does not grow with the banks: no part of a bank, and of each table a page.
         self.assertEqual(self.js("return document.getElementById('part').childNodes.length"), 0)

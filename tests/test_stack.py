@@ -70,6 +70,15 @@ class Stack(Case):
         lines = "".join(f"{','.join(map(str, model.debt_fields(net, debt)))},{UNITS},{UNITS},{UNITS}\n" for debt in net.debts)
         self.same(f"debtor,creditor,class,claim,least,greatest\n{lines}\nbank,wave,gridlock,equity\nA,0,no,1\nB,0,no,0\nC,1,no,0\n", "bounds", *files)
         self.same(f"rescue,C,9\nshort,1\n\n{payments}", "rescue", *files, "--bank", "C")
+        self.same("bank,added,short,also_saved,still_short\nC,9,1,0,0\n\nbank,saves\n", "rescues", *files)
+        self.same("bank,cut,state\nA,1000,contagion\nB,1000,contagion\nC,0,fundamental\n", "breaking", *files)
+        self.same("bank,cash,own,others,falls\nA,1,1,0,1\nB,0,0,0,0\nC,0,0,0,0\n\nbank,of,lost,falls\nA,A,1,yes\nA,B,0,yes\n", "impact", *files)
+        sums = "".join(f"{name},1,{sum(low)},0,1,1,1\n" for name in scenarios)
+        self.same(f"scenario,cash,paid,outside_paid,equity,defaults,fundamental\n{sums}\nbank,defaults,fundamental\nA,0,0\nB,0,0\nC,2,2\n",
+                  "outcomes", *files, "--scenarios", self.file("s.toml", toml))
+        ends = ",".join(f"{what}_at_{end}" for end in ("least", "greatest") for what in ("lost", "equity", "state"))
+        self.same(f"debtor,creditor,class,claim,least,greatest\n{lines}\nbank,{ends}\nA,0,1,sound,0,1,sound\nB,0,0,sound,0,0,sound\n"
+                  "C,0,0,fundamental,0,0,fundamental\n", "cost-bounds", *files, "--keep", 1000)
         with self.subTest(task="compress"):
             self.assertIsNone(judge_compression(net, self.text("compress", *files)))
         if journal:

@@ -60,9 +60,15 @@ class Threads(Case):
     def test_four_scenarios_at_once(self):
         for count, wanted in ((1, 0), (2, 1), (3, 2), (4, 3), (64, 3)):
             text = "".join(f'[[scenario]]\nname = "{number}"\ncut = {number}\n' for number in range(count))
-            with self.subTest(count=count):
-                words = ["stress", *files_of(TWELVE), "--scenarios", self.file("scenarios.toml", text), "--workers", 4]
-                self.assertEqual(self.started(*words), wanted)
+            for task, *more in (["stress", "--workers", 4], ["outcomes"]):
+                with self.subTest(task=task, count=count):
+                    words = [task, *files_of(TWELVE), "--scenarios", self.file("scenarios.toml", text), *more]
+                    self.assertEqual(self.started(*words), wanted)
+
+    def test_four_shares_of_cuts_and_of_banks_at_once(self):
+        for task in ("breaking", "impact", "rescues"):
+            with self.subTest(task=task):
+                self.assertEqual(self.started(task, *files_of(TWELVE)), 3)
 
     @staticmethod
     def a_bank():

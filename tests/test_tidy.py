@@ -52,6 +52,15 @@ class Tidy(Case):
         text = self.printed("costs", *HUB, "--keep", 900)
         made = self.tidy(text)
         self.assertEqual(lines_of(made["payments"]) + [""] + lines_of(made["standings"]), text.splitlines()[:-2])
+        scenarios = ["--scenarios", self.file("s.toml", SCENARIOS)]
+        for task, *names in (["breaking", "cuts"], ["impact", "banks", "pairs"], ["rescues", "banks", "saved"],
+                             ["cost-bounds", "payments", "standings", "--keep", 900], ["outcomes", "scenarios", "banks", *scenarios]):
+            text = self.printed(task, *HUB, *names[1 if task == "breaking" else 2 :])
+            made = self.tidy(text)
+            self.assertEqual("\n".join(made[name].read_text() for name in made), text, task)
+            self.assertEqual(list(made), names[: len(made)])
+        made = self.tidy(self.printed("impact", *HUB), "--unit", "10")
+        self.assertEqual(lines_of(made["banks"])[1].split(",")[:2], ["Hub", "1200"])
         text = self.printed("compress", *HUB)
         made = self.tidy(text)
         self.assertEqual(lines_of(made["debts"]) + [""] + lines_of(made["ranks"]), text.splitlines()[:-1])

@@ -98,14 +98,14 @@ class Why(Case):
     def test_the_table_is_that_of_the_program(self):
         """The tasks and options in the program's own source."""
         source = (ROOT / "crates/clear_words/src/task.rt").read_text(encoding="utf-8")
-        words = dict((name, word) for word, name in re.findall(r'"([a-z]+)" => Some\(Task::([A-Z][a-z]+)\)', source))
+        words = dict((name, word) for word, name in re.findall(r'"([a-z-]+)" => Some\(Task::([A-Za-z]+)\)', source))
         self.assertEqual(sorted(words.values()), sorted(why.TASKS))
         options = (ROOT / "crates/clear_words/src/option.rt").read_text(encoding="utf-8")
         names = re.findall(r'JobOption::([A-Z][a-z]+) => "([a-z]+)"', options)
         self.assertEqual([name for _, name in names], list(why.OPTIONS))
         uses = source[source.index("fn uses(") :]
         for name, word in words.items():
-            body = re.search(rf"Task::{name} => (.*?)(?=\n            Task::|\Z)", uses, re.DOTALL)[1]
+            body = re.search(rf"Task::{name}(?: \| Task::\w+)* => (.*?)(?=\n            Task::|\Z)", uses, re.DOTALL)[1]
             required = ["banks", "debts"] if "both_files" in body else []
             allowed = ["workers", "sweeps"] if "on_workers" in body else []
             required += re.findall(r"(\w+): Use::Required", body)
@@ -117,7 +117,7 @@ class Why(Case):
             ("clearing stress --banks b --debts d --scenario s", ["word 7 '--scenario': there is no option --scenario; is it --scenarios?", "stress requires --scenarios", "2 faults"]),
             ("./clearing clera --banks b --debts d", ["word 2 'clera': there is no task 'clera'; is it clear?", "1 fault"]),
             ("clear --banks b --debts d --show all", ["word 7 'all': 'all' is no value of --show: it is one of payments, journal, both", "1 fault"]),
-            ("clear --banks b --debts d --keep=5", ["word 6 '--keep=5': clear has no option --keep; it is of costs", "1 fault"]),
+            ("clear --banks b --debts d --keep=5", ["word 6 '--keep=5': clear has no option --keep; it is of costs, cost-bounds", "1 fault"]),
             ("gen --seed 1 --size 1,000 --tries -5", ["word 5 '1,000': '1,000' is no value of --size: a number is 1 to 20 digits 0 to 9, and nothing else",
                                                    "word 6 '--tries': --tries has no value; a value does not begin with a dash", "word 7 '-5': there are no options of one dash", "3 faults"]),
             ("rescue --banks b --debts d --bank Bank Two", ["word 8 'Two': the task is 'rescue' already, and it is the only word that is no option; a value with a blank in it stands between quotes", "1 fault"]),

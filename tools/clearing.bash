@@ -5,13 +5,14 @@
 
 _clearing_options() { # the task
     case $1 in
-    check | convert | central | compress) echo "--banks --debts" ;;
+    check | convert | central | compress | breaking | impact | rescues) echo "--banks --debts" ;;
     clear) echo "--banks --debts --workers --sweeps --show" ;;
     defaults | bounds) echo "--banks --debts --workers --sweeps" ;;
     stress) echo "--banks --debts --scenarios --workers --sweeps" ;;
+    outcomes) echo "--banks --debts --scenarios" ;;
     replay) echo "--banks --debts --journal" ;;
     rescue) echo "--banks --debts --bank --workers --sweeps" ;;
-    costs) echo "--banks --debts --keep" ;;
+    costs | cost-bounds) echo "--banks --debts --keep" ;;
     gen) echo "--seed --size --tries --workers --sweeps" ;;
     esac
 }
@@ -119,7 +120,7 @@ _clearing_value() { # the option
 }
 
 _clearing() {
-    local tasks="check clear central defaults stress replay bounds rescue compress costs convert gen"
+    local tasks="check clear central defaults stress outcomes replay bounds rescue rescues breaking impact compress costs cost-bounds convert gen"
     local words typed quote all names task= given option at IFS=$' \t\n'
     _clearing_words "$COMP_LINE"
     all=("${words[@]}")
@@ -128,7 +129,7 @@ _clearing() {
     local word=${words[last]} before=
     ((last > 0)) && before=${words[last - 1]}
     for given in "${words[@]:1:last-1}"; do
-        [[ $given != *[!a-z]* && " $tasks " == *" $given "* ]] && task=$given
+        [[ $given != *[!a-z-]* && " $tasks " == *" $given "* ]] && task=$given
     done
     # Of `--banks=FILE` the shell completes what stands after the sign, as of any word with one.
     local head=${typed%"$text"}

@@ -4,7 +4,7 @@ complete -c clearing -f
 function __clearing_task
     set -l words (commandline -opc)
     for word in $words[2..-1]
-        if contains -- $word check clear central defaults stress replay bounds rescue compress costs convert gen
+        if contains -- $word check clear central defaults stress outcomes replay bounds rescue rescues breaking impact compress costs cost-bounds convert gen
             echo $word
             return 0
         end
@@ -40,18 +40,18 @@ function __clearing_banks
         }'
 end
 
-set -l tasks check clear central defaults stress replay bounds rescue compress costs convert gen
+set -l tasks check clear central defaults stress outcomes replay bounds rescue rescues breaking impact compress costs cost-bounds convert gen
 complete -c clearing -n 'not __clearing_task' -a "$tasks"
 set -l workers clear defaults bounds stress rescue gen
 complete -c clearing -n 'not __clearing_task_in gen; and __clearing_task' -l banks -r -F -d 'the banks file'
 complete -c clearing -n 'not __clearing_task_in gen; and __clearing_task' -l debts -r -F -d 'the debts file'
-complete -c clearing -n '__clearing_task_in stress' -l scenarios -r -F -d 'the scenarios, in TOML'
+complete -c clearing -n '__clearing_task_in stress outcomes' -l scenarios -r -F -d 'the scenarios, in TOML'
 complete -c clearing -n '__clearing_task_in replay' -l journal -r -F -d 'the journal'
 complete -c clearing -n '__clearing_task_in rescue' -l bank -x -a '(__clearing_banks)' -d 'the bank to be saved'
 complete -c clearing -n "__clearing_task_in $workers" -l workers -x -d '1 to 64'
 complete -c clearing -n "__clearing_task_in $workers" -l sweeps -x -d '1 to 1000'
 complete -c clearing -n '__clearing_task_in clear' -l show -x -a 'payments journal both'
-complete -c clearing -n '__clearing_task_in costs' -l keep -x -d '0 to 1000 per mille'
+complete -c clearing -n '__clearing_task_in costs cost-bounds' -l keep -x -d '0 to 1000 per mille'
 complete -c clearing -n '__clearing_task_in gen' -l seed -x -d 'the number'
 complete -c clearing -n '__clearing_task_in gen' -l size -x -d '1 to 1000 banks'
 complete -c clearing -n '__clearing_task_in gen' -l tries -x -d '0 to 20000 tries at a debt'

@@ -30,11 +30,16 @@ _clearing() {
         'central:the same payments, computed on one thread'
         'defaults:who defaults, and whether it is its own doing'
         'stress:the payments and defaults of each scenario'
+        'outcomes:the sums of each scenario, and how often each bank defaults'
         'replay:whether a journal is lawful and complete'
         'bounds:the least and the greatest payments'
         'rescue:the least sum of cash that saves a bank'
+        'rescues:the least sum for each bank in default, and whom it saves besides'
+        'breaking:the least cut of all cash that breaks each bank'
+        'impact:what the loss of the cash of each bank costs it and others'
         'compress:the debts with cycles cancelled'
         'costs:where an estate in default is worth only a part'
+        'cost-bounds:the least and the greatest payments where it is so'
         'convert:the banks file in its second form'
         'gen:a network made from a number'
     )
@@ -53,10 +58,10 @@ _clearing() {
     esac
     case $task in
     clear) options+=('--show[what is printed]:what:(payments journal both)') ;;
-    stress) options+=('--scenarios[the scenarios, in TOML]:file:_files') ;;
+    stress | outcomes) options+=('--scenarios[the scenarios, in TOML]:file:_files') ;;
     replay) options+=('--journal[the journal]:file:_files') ;;
     rescue) options+=('--bank[the bank to be saved]:bank:_clearing_banks') ;;
-    costs) options+=('--keep[0 to 1000 per mille]:number:') ;;
+    costs | cost-bounds) options+=('--keep[0 to 1000 per mille]:number:') ;;
     gen) options+=('--seed[the number]:number:' '--size[1 to 1000 banks]:number:' '--tries[0 to 20000 tries]:number:') ;;
     esac
     _arguments "1:task:" $options

@@ -26,7 +26,9 @@ def jobs_of(task, bank, size, tries):
         "bounds": [["--workers", "1"], ["--workers", "2"]],
         "rescue": [[f"--bank={bank}"]],
         "costs": [["--keep", "500"]],
+        "cost-bounds": [["--keep", "500"]],
         "stress": [["--scenarios", "scenarios.toml"]],
+        "outcomes": [["--scenarios", "scenarios.toml"]],
         "replay": [["--journal", "journal.csv"]],
     }
     if task == "gen":

@@ -14,7 +14,7 @@ banks=
 case ${1:-} in
     [1-9]*) banks=$1; shift ;;
 esac
-tasks=${*:-check clear central convert defaults bounds compress rescue costs stress replay gen}
+tasks=${*:-check clear central convert defaults bounds compress rescue rescues breaking impact costs cost-bounds stress outcomes replay gen}
 "${CC:-cc}" -O2 -shared -fPIC -o refuse.so "$root/tests/system/refuse.c" -ldl || exit 1
 
 # The program reads names in the current folder.

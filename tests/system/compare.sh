@@ -4,9 +4,10 @@
 #   tests/system/compare.sh [--record] [N [SEED]]    100 networks and seed 1 where none is given
 #
 # A case is a run of the program, of which the status, the output and the messages are compared. Of each network there are some
-# twenty: clear, central, defaults, bounds, costs, rescue, stress, check and convert, and gen of another; journals of the model's,
-# lawful and changed, are replayed; the journal of a run of several workers is judged by the model and replayed, and what compress
-# prints is judged. Of a hundred networks eleven have 9 to 30 banks, and of a thousand three have 200.
+# thirty: clear, central, defaults, bounds, costs and cost-bounds, rescue, stress and outcomes, check and convert, of small ones impact,
+# rescues and breaking, and gen of another; journals of the model's, lawful and changed, are replayed; the journal of a run of several
+# workers is judged by the model and replayed, and what compress prints is judged. Of a hundred networks eleven have 9 to 30 banks, and
+# of a thousand three have 200.
 #
 # Each difference is printed, and the last line is `N networks, C cases, M networks differ`; the script ends with 1 where some
 # differ, and the networks that do stay in a folder that it names. An interrupt ends it after the network at hand, with the counts so

@@ -36,7 +36,7 @@ mkdir folder
 files="--banks banks.csv --debts debts.csv"
 large="--banks large-banks.csv --debts large-debts.csv"
 no_files="--banks no-banks.csv --debts no-debts.csv"
-two_file_tasks="check clear central defaults convert bounds compress"
+two_file_tasks="check clear central defaults convert bounds compress breaking impact rescues"
 
 # The message of a status, as a pattern.
 pattern_of() { # the status
@@ -106,7 +106,9 @@ each_task() { # the function
     "$1" clear $files --show both --workers 1
     "$1" rescue $files --bank B
     "$1" costs $files --keep 500
+    "$1" cost-bounds $files --keep 500
     "$1" stress $files --scenarios scenarios.toml
+    "$1" outcomes $files --scenarios scenarios.toml
     "$1" replay $files --journal journal.csv
     "$1" gen --seed 7 --size 10 --tries 30
 }

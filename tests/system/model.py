@@ -154,10 +154,10 @@ def least(net, keep=1000, start=None):
     return paid
 
 
-def falling(net):
+def falling(net, keep=1000):
     """The payments before each round on the way down from all debts paid in full; the last clear."""
     lists = [[debt.claim for debt in net.debts]]
-    while (below := pay(net, lists[-1])) != lists[-1]:
+    while (below := pay(net, lists[-1], keep)) != lists[-1]:
         lists.append(below)
     return lists
 
@@ -199,6 +199,24 @@ def rescue(net, i):
 def shocked(net, scenario):
     losses = dict(scenario.losses)
     return with_cash(net, lambda i, bank: max(0, bank.cash - bank.cash * scenario.cut // 1000 - losses.get(i, 0)))
+
+
+def breaking(net):
+    """The least cut that breaks each bank, and its state then: all cuts are tried, from the greatest down. A milder one lowers no
+    payment, so each begins with what was paid before."""
+    found, paid = [(1001, "sound")] * len(net.banks), None
+    for cut in range(1000, -1, -1):
+        left = shocked(net, Scenario("", cut, []))
+        paid = least(left, start=paid)
+        for i in range(len(net.banks)):
+            if state(left, paid, i) != "sound":
+                found[i] = cut, state(left, paid, i)
+    return found
+
+
+def keeps(net, paid, i):
+    """What a bank does not pay on its debts."""
+    return estate(net, paid, i) - sum(paid[x] for x in net.rows[i])
 
 
 def verdict(net, raises):
@@ -267,21 +285,91 @@ def bounds_text(net):
     return text
 
 
+def cost_standing(net, keep, paid, i):
+    """What a bank has, loses, pays outside, pays on its debts and keeps, and its state."""
+    has = estate(net, paid, i)
+    left = kept(net, keep, i, has)
+    outside, on_debts = min(net.banks[i].outside, left), sum(paid[x] for x in net.rows[i])
+    health = "sound" if has >= due(net, i) else "fundamental" if worth(net, i) < due(net, i) else "contagion"
+    return [has, has - left, outside, on_debts, left - outside - on_debts], health
+
+
 def costs_text(net, keep):
     paid = least(net, keep)
     text = payments_text(net, paid) + "\n" + line(
         "bank", "estate", "lost", "outside_paid", "paid", "equity", "state")
     totals, defaults = [0] * 5, 0
     for i, bank in enumerate(net.banks):
-        has = estate(net, paid, i)
-        keeps = kept(net, keep, i, has)
-        outside, pays = min(bank.outside, keeps), sum(paid[x] for x in net.rows[i])
-        health = "sound" if has >= due(net, i) else "fundamental" if worth(net, i) < due(net, i) else "contagion"
-        numbers = [has, has - keeps, outside, pays, keeps - outside - pays]
+        numbers, health = cost_standing(net, keep, paid, i)
         totals = [a + b for a, b in zip(totals, numbers)]
         defaults += health != "sound"
         text += line(bank.name, *numbers, health)
     return text + line("total", *totals, defaults) + cash_line(net)
+
+
+def cost_bounds_text(net, keep):
+    ends = least(net, keep), falling(net, keep)[-1]
+    text = line("debtor", "creditor", "class", "claim", "least", "greatest")
+    for x, debt in enumerate(net.debts):
+        text += line(*debt_fields(net, debt), debt.claim, *(paid[x] for paid in ends))
+    text += "\n" + line("bank", *(f"{what}_at_{end}" for end in ("least", "greatest") for what in ("lost", "equity", "state")))
+    for i, bank in enumerate(net.banks):
+        fields = []
+        for paid in ends:
+            (_, lost, _, _, equity), health = cost_standing(net, keep, paid, i)
+            fields += [lost, equity, health]
+        text += line(bank.name, *fields)
+    return text
+
+
+def breaking_text(net):
+    return line("bank", "cut", "state") + "".join(line(bank.name, *told) for bank, told in zip(net.banks, breaking(net)))
+
+
+def impact_text(net):
+    paid, first, second = least(net), line("bank", "cash", "own", "others", "falls"), line("bank", "of", "lost", "falls")
+    banks = range(len(net.banks))
+    for j in banks:
+        ruined = with_cash(net, lambda i, bank: 0 if i == j else bank.cash)
+        then = least(ruined)
+        lost = [keeps(net, paid, i) - keeps(ruined, then, i) for i in banks]
+        falls = [state(net, paid, i) == "sound" != state(ruined, then, i) for i in banks]
+        first += line(net.banks[j].name, net.banks[j].cash, lost[j], sum(lost) - lost[j], sum(falls) - falls[j])
+        for i in banks:
+            if lost[i] or falls[i]:
+                second += line(net.banks[j].name, net.banks[i].name, lost[i], "yes" if falls[i] else "no")
+    return first + "\n" + second
+
+
+def rescues_text(net, found):
+    """`found` has what rescue() tells of each bank in default."""
+    paid, first, second = least(net), line("bank", "added", "short", "also_saved", "still_short"), line("bank", "saves")
+    fallen = [i for i in range(len(net.banks)) if state(net, paid, i) != "sound"]
+    for i in fallen:
+        sum_added, lacks, then = found[i]
+        still = [j for j in range(len(net.banks)) if state(added(net, i, sum_added), then, j) != "sound"]
+        saved = [j for j in fallen if j != i and j not in still]
+        first += line(net.banks[i].name, sum_added, lacks, len(saved), len(still))
+        second += "".join(line(net.banks[i].name, net.banks[j].name) for j in saved)
+    return first + "\n" + second
+
+
+def outcomes_text(net, scenarios):
+    text = line("scenario", "cash", "paid", "outside_paid", "equity", "defaults", "fundamental")
+    banks = range(len(net.banks))
+    fallen, own = [0] * len(banks), [0] * len(banks)
+    for scenario in scenarios:
+        left = shocked(net, scenario)
+        paid = least(left)
+        states = [state(left, paid, i) for i in banks]
+        outside = sum(min(bank.outside, estate(left, paid, i)) for i, bank in enumerate(left.banks))
+        equity = sum(keeps(left, paid, i) for i in banks) - outside
+        defaults, fundamental = len(banks) - states.count("sound"), states.count("fundamental")
+        text += line(scenario.name, sum(bank.cash for bank in left.banks), sum(paid), outside, equity, defaults, fundamental)
+        fallen = [n + (told != "sound") for n, told in zip(fallen, states)]
+        own = [n + (told == "fundamental") for n, told in zip(own, states)]
+    text += "\n" + line("bank", "defaults", "fundamental")
+    return text + "".join(line(bank.name, fallen[i], own[i]) for i, bank in enumerate(net.banks))
 
 
 def rescue_text(net, i):

@@ -2,8 +2,9 @@
 import collections
 
 from model import (
-    RULES, Bank, Debt, Net, Scenario, banks_text, bounds_text, check_text, costs_text, debt_fields, debts_text, defaults_text,
-    due, gen_text, journal_text, least, line, pay, payments_text, put, rescue_text, stress_text, verdict)
+    RULES, Bank, Debt, Net, Scenario, banks_text, bounds_text, breaking_text, check_text, cost_bounds_text, costs_text, debt_fields,
+    debts_text, defaults_text, due, gen_text, impact_text, journal_text, least, line, outcomes_text, pay, payments_text, put, rescue,
+    rescue_text, rescues_text, state, stress_text, verdict)
 
 NAMES = [
     "A", "B", "Crédit Loire", "銀行", "x y", "o'Hara", "a\\b", "rounds", "total", "-dash", "#1", "[scenario]", "=", "7",
@@ -181,6 +182,19 @@ def drawn_net(rng):
     return wide_net(rng) if drawn < 0.3 else random_net(rng, rng.randint(2, 8))
 
 
+def further_cases(rng, net, low, files, scenarios):
+    """Cases that clear a network many times over. Where the model would take long, only some of them."""
+    cases = [(["outcomes", *files, "--scenarios", "scenarios.toml"], outcomes_text(net, scenarios), 0)]
+    if len(net.banks) <= 30:
+        cases.append((["impact", *files], impact_text(net), 0))
+    if len(net.banks) <= 8 and rng.random() < 0.2:
+        cases.append((["breaking", *files], breaking_text(net), 0))
+    fallen = [i for i in range(len(net.banks)) if state(net, low, i) != "sound"]
+    if all(due(net, i) - net.banks[i].cash <= 100 for i in fallen):
+        cases.append((["rescues", *files], rescues_text(net, {i: rescue(net, i) for i in fallen}), 0))
+    return cases
+
+
 def files_and_cases(rng, net):
     """The files of a network by their names, and its cases: the words of a run, its text, and its status."""
     second = any(bank.outside for bank in net.banks) or rng.random() < 0.3
@@ -205,6 +219,8 @@ def files_and_cases(rng, net):
     ]
     for keep in [1000, rng.choice([0, 1, 999]), rng.randint(0, 1000)]:
         cases.append((["costs", *files, "--keep", str(keep)], costs_text(net, keep), 0))
+        cases.append((["cost-bounds", *files, "--keep", str(keep)], cost_bounds_text(net, keep), 0))
+    cases += further_cases(rng, net, low, files, scenarios)
     for i in rng.sample(range(len(net.banks)), min(3, len(net.banks))):
         name = net.banks[i].name
         if due(net, i) - net.banks[i].cash > 100:

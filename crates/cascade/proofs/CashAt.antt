@@ -98,6 +98,22 @@ cash_kept (b ∷ banks) (suc i) c e = ap (λ (bs : List Bank). b ∷ bs) (cash_k
 pub own_cash : (net : Net) (i c : ℕ) → c ≡ cash_of net i → with_cash net i c ≡ net
 own_cash net i c e = ap (with_banks net) (cash_kept net.banks i c e)
 
+-- of two cashes given one after the other, the later counts
+cash_twice : (banks : List Bank) (i c d : ℕ) → cash_at (cash_at banks i c) i d ≡ cash_at banks i d
+cash_twice [] i c d = refl
+cash_twice (b ∷ banks) zero c d = refl
+cash_twice (b ∷ banks) (suc i) c d = ap (λ (bs : List Bank). b ∷ bs) (cash_twice banks i c d)
+
+-- and so in the network
+pub later_cash_counts : (net : Net) (i c d : ℕ)
+    → with_cash (with_cash net i c) i d ≡ with_cash net i d
+later_cash_counts net i c d = ap (with_banks net) (cash_twice net.banks i c d)
+
+-- so a bank that is given another cash, and then its own again, is as it was
+pub given_back : (net : Net) (i c d : ℕ) → d ≡ cash_of net i
+    → with_cash (with_cash net i c) i d ≡ net
+given_back net i c d e = later_cash_counts net i c d ∙ own_cash net i d e
+
 -- all cash changes by as much as the bank's
 sum-cash_at : (banks : List Bank) (i c : ℕ) → i < length banks
     → sum_by (λ b. b.cash) (cash_at banks i c) + cash_in banks i ≡ sum_by (λ b. b.cash) banks + c

@@ -35,7 +35,7 @@ no_term a (suc n) k v l = omega (
 )
 
 -- and over a range that has it
-one_term : (a n k v : ℕ) → a ≤ k → k < a + n → sum_by (λ i. cond (k == i) v 0) (range_with_len a n) ≡ v
+pub one_term : (a n k v : ℕ) → a ≤ k → k < a + n → sum_by (λ i. cond (k == i) v 0) (range_with_len a n) ≡ v
 one_term a zero k v g l = absurd (omega arith)
 one_term a (suc n) k v g l = ⊎_elim
     (λ (e : k ≡ a). omega (

@@ -1,10 +1,10 @@
 -- Networks that differ in cash alone, and what more of it does.
-use Rattle.std.specs.Prelude.{◌≡◌, ℕ, ◌≤◌, length}
+use Rattle.std.specs.Prelude.{◌≡◌, ℕ, ◌≤◌, Bool, length}
 use Rattle.clr_net.specs.Amounts.{IsAtMost}
 use Rattle.clr_net.specs.Net.{Net, cash_of, outside_of, rule_of}
 use Rattle.clear_core.specs.Clearing.{estate, least}
 use Rattle.cascade.specs.declared.standing.Health.TheVariants as health
-use Rattle.cascade.specs.Standings.{health_of, kept}
+use Rattle.cascade.specs.Standings.{health_of, is_sound, kept}
 
 -- another network has the same debts, and as many banks, of the same rules and outside claims, of
 -- which none has less cash
@@ -18,6 +18,10 @@ pub record HasMoreCash (net more : Net) : Type 0 where
 -- the bank i is sound under the least payments that clear
 abbrev pub IsSoundAtLeast : Net → ℕ → Type 0
 IsSoundAtLeast net i = health_of net (least net) i ≡ health.Sound
+
+-- the same, as a test
+abbrev pub is_sound_at_least : Net → ℕ → Bool
+is_sound_at_least net i = is_sound (health_of net (least net) i)
 
 -- nobody is worse off in another network, under the least payments that clear each: no debt is paid
 -- less, no bank has less or keeps less, and the banks that are sound here are sound there

@@ -10,7 +10,9 @@
 //!
 //! By sweeps, from payments that are known to be on the way: a bank pays anew only where a payment
 //! to it has risen since it last paid. That is [`least_from`], and [`least_by`] where banks divide
-//! something else than all that they have, as a [`Spending`] says.
+//! something else than all that they have, as a [`Spending`] says. [`least_again`] is told which
+//! banks may pay more, and takes no memory: many networks that differ in cash are cleared so, one
+//! after another.
 #![tactic(auto)]
 
 mod repetition;
@@ -20,4 +22,4 @@ mod sweep;
 
 pub use repetition::central;
 pub use spending::{Spending, WithoutCosts};
-pub use sweep::{least_by, least_from};
+pub use sweep::{least_again, least_by, least_from};

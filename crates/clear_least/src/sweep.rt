@@ -1,5 +1,5 @@
 ghost use Rattle.clear_core.specs.Buffers.{HasRoom};
-ghost use Rattle.clear_core.specs.Clearing.{IsLeast, IsLeastBy, IsOnWayBy, NeverFalls, least, least_by as least_payments, pay};
+ghost use Rattle.clear_core.specs.Clearing.{IsLeast, IsLeastBy, IsOnWayBy, NeverFalls, least, least_by as least_payments, pay, spend};
 ghost use Rattle.clear_least.specs.Sweeps.{IsQuietBy, IsSwept};
 ghost use Rattle.clr_net.specs.Amounts.{IsAtMost};
 ghost use Rattle.clr_net.specs.Limits.{IsNetwork};
@@ -59,6 +59,21 @@ pub fn least_by<S: Spending>(
     Ok(paid)
 }
 
+/// Makes payments that are on the way to the least that clear those, where it is known which banks
+/// may pay more: each bank that has no mark would pay on its debts just what it has paid.
+///
+/// `paid` has a place for each debt, in file order, in units, and `marks` one for each bank. Costs
+/// what [`least_from`] does, but that only the marked banks are visited at first. Takes no memory.
+pub fn least_again(net: &Network, paid: &mut [u64], marks: &mut [bool], scratch: &mut Scratch)
+    requires network { IsNetwork net.now }
+    requires swept { IsSwept net.now (spend net.now) paid.old marks.old }
+    requires room { HasRoom net.now scratch.old }
+    ensures payments { paid.new ≡ least net.now }
+    ensures room { scratch.new ≡ scratch.old }
+{
+    repeat(net, &WithoutCosts, paid, marks, scratch);
+}
+
 // Sweeps over the banks up to the first sweep in which none pays more.
 fn repeat<S: Spending>(
     net: &Network,
@@ -70,7 +85,8 @@ fn repeat<S: Spending>(
     requires network { IsNetwork net.now }
     requires swept { IsSwept net.now (S.spends spending.now net.now) paid.old marks.old }
     requires room { HasRoom net.now scratch.old }
-    ensures { paid.new ≡ least_payments net.now (S.spends spending.now net.now) }
+    ensures payments { paid.new ≡ least_payments net.now (S.spends spending.now net.now) }
+    ensures room { scratch.new ≡ scratch.old }
 {
     while sweep(net, spending, paid, marks, scratch) {}
 }

@@ -3,3 +3,4 @@ pub mod Lines
 pub mod Begun
 pub mod Standings
 pub mod Verdicts
+pub mod Pieces

@@ -67,3 +67,25 @@ pub three_pieces : (t₀ t₁ t₂ t₃ a b c : List ℕ)
     → t₁ ≡ t₀ ++ a → t₂ ≡ t₁ ++ b → t₃ ≡ t₂ ++ c → t₃ ≡ t₀ ++ (a ++ (b ++ c))
 three_pieces t₀ t₁ t₂ t₃ a b c p q r =
     two_pieces t₀ t₁ t₃ a (b ++ c) p (two_pieces t₁ t₂ t₃ b c q r)
+
+-- five fields appended one after another, four of them with a comma, are a line
+pub five_fields : (a b d e f t₀ t₁ t₂ t₃ t₄ t₅ : List ℕ) → t₀ ≡ []
+    → t₁ ≡ t₀ ++ (a ++ 44 ∷ []) → t₂ ≡ t₁ ++ (b ++ 44 ∷ []) → t₃ ≡ t₂ ++ (d ++ 44 ∷ [])
+    → t₄ ≡ t₃ ++ (e ++ 44 ∷ []) → t₅ ≡ t₄ ++ (f ++ 10 ∷ [])
+    → t₅ ≡ line (a ∷ b ∷ d ∷ e ∷ f ∷ [])
+five_fields a b d e f t₀ t₁ t₂ t₃ t₄ t₅ begun p q r s u =
+    let first = a ++ 44 ∷ [] in
+    let second = b ++ 44 ∷ [] in
+    let third = d ++ 44 ∷ [] in
+    let fourth = e ++ 44 ∷ [] in
+    let last = f ++ 10 ∷ [] in
+    let commas : with_commas (b ∷ d ∷ e ∷ []) ++ last ≡ second ++ (third ++ (fourth ++ last)) =
+    append_assoc second (third ++ (fourth ++ [])) last
+    ∙ ap (λ (t : List ℕ). second ++ t)
+    (append_assoc third (fourth ++ []) last
+    ∙ ap (λ (t : List ℕ). third ++ t) (append_assoc fourth [] last)) in
+    three_pieces t₀ t₁ t₂ t₅ first second (third ++ (fourth ++ last)) p q
+    (three_pieces t₂ t₃ t₄ t₅ third fourth last r s u)
+    ∙ ap (λ (t : List ℕ). t ++ (first ++ (second ++ (third ++ (fourth ++ last))))) begun
+    ∙ ap (λ (t : List ℕ). first ++ t) (sym commas)
+    ∙ line_is a (b ∷ d ∷ e ∷ []) f

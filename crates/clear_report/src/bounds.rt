@@ -43,7 +43,7 @@ pub fn bounds_text(
 }
 
 // The table of the debts.
-fn debts_table(
+pub fn debts_table(
     alloc: Global,
     net: &Network,
     least: &[u64],

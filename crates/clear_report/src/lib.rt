@@ -6,29 +6,41 @@
 #![tactic(auto)]
 
 mod bounds;
+mod breaking;
 mod check;
 mod compression;
+mod cost_bounds;
 mod defaults;
 mod heads;
 mod journals;
 pub mod laws;
 mod line;
+mod outcomes;
 mod payments;
+mod piece;
 pub mod read_back;
 mod rescues;
+mod ruins;
+mod savings;
 mod scenarios;
 mod summary;
 mod sums;
 mod with_costs;
 
 pub use bounds::bounds_text;
+pub use breaking::breaking_text;
 pub use check::{check_text, totals_text};
 pub use compression::compress_text;
+pub use cost_bounds::cost_bounds_text;
 pub use defaults::default_text;
 pub use heads::line_heads;
 pub use journals::{journal_text, lawful_text, rounds_text, verdict_text};
+pub use outcomes::{falls_text, outcome_line, outcomes_header};
 pub use payments::pay_text;
+pub use piece::Piece;
 pub use rescues::rescue_text;
+pub use ruins::{impact_begun, impact_piece};
+pub use savings::{saving_piece, savings_begun};
 pub use scenarios::{scenario_block, scenario_text};
 pub use summary::summary_text;
 pub use with_costs::cost_text;

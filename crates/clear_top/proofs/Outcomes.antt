@@ -85,3 +85,8 @@ kind_of task.Rescue job on o h = inr (inr (
 ))
 kind_of task.Compress job on o (claims, ranks, n, compresses, plain) = bare task.Compress on _ o refl plain
 kind_of task.Costs job on o comes = bare task.Costs on _ o refl comes
+kind_of task.Breaking job on o comes = bare task.Breaking on _ o refl comes
+kind_of task.Impact job on o comes = bare task.Impact on _ o refl comes
+kind_of task.Rescues job on o comes = bare task.Rescues on _ o refl comes
+kind_of task.Outcomes job on o comes = bare task.Outcomes on _ o refl comes
+kind_of task.CostBounds job on o comes = bare task.CostBounds on _ o refl comes

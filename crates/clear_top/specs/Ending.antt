@@ -1,5 +1,5 @@
 -- How a run ends, status by status, and what is seen of the outside in it.
-use Rattle.std.specs.Prelude.{◌≡◌, ◌≢◌, ◌⊎◌, ◌<◌, ℕ, List, length, All, Option, None, Some}
+use Rattle.std.specs.Prelude.{◌≡◌, ◌≢◌, ◌⊎◌, ◌<◌, ◌≤◌, ℕ, List, length, All, Option, None, Some}
 use Rattle.std.specs.Prelude.{true, Result, Ok, Err}
 use Rattle.std.specs.Borrow.{Bor}
 use Rattle.clr_edge.specs.Faults.{HasRisen}
@@ -14,6 +14,7 @@ use Rattle.raise_journal.specs.Verdicts.{judged}
 use Rattle.raise_journal.specs.declared.verdict.Verdict.{Verdict}
 use Rattle.raise_journal.specs.declared.verdict.Verdict.TheVariants as verdict
 use Rattle.stress.specs.Shocks.{IsScenarioOf}
+use Rattle.stress.specs.declared.TheConstants.{MAX_SCENARIOS}
 use Rattle.clear_top.specs.Sources.{has_record, name_in, source_of}
 use Rattle.pay_words.specs.Sealed.{Sealed}
 use Rattle.net_gen.specs.Generated.{generated}
@@ -115,10 +116,12 @@ GivesBoth files job banks debts =
     GivesWhole files file.Banks job.banks (Ok banks)
     × GivesWhole files file.Debts job.debts (Ok debts)
 
--- what a job works on can be worked on: its scenarios, its journal or its bank are of its network
+-- what a job works on can be worked on: its scenarios, of which there are not too many, its journal
+-- or its bank are of its network
 abbrev pub IsUsable : Source → Input → Type 0
 IsUsable source.Files on = Unit {0}
-IsUsable source.FilesAndScenarios on = All (IsScenarioOf on.net) on.scenarios
+IsUsable source.FilesAndScenarios on =
+    All (IsScenarioOf on.net) on.scenarios × (length on.scenarios ≤ MAX_SCENARIOS)
 IsUsable source.FilesAndJournal on = All (λ r. r.debt.0 < length on.net.debts) on.journal
 IsUsable source.FilesAndBank on = on.bank < length on.net.banks
 IsUsable source.Generated on = Unit {0}

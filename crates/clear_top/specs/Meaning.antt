@@ -9,10 +9,15 @@ use Rattle.clear_core.specs.declared.event.Raise.{Raise}
 use Rattle.clear_report.specs.Blocks.{scenario_block, stress_text}
 use Rattle.clear_report.specs.Bounds.{bounds_tables}
 use Rattle.clear_report.specs.Compression.{compressed_text}
+use Rattle.clear_many.specs.Texts.{breaking_report}
+use Rattle.clear_report.specs.CostBounds.{cost_bounds_text}
 use Rattle.clear_report.specs.Costs.{costs_text}
 use Rattle.clear_report.specs.Defaults.{defaults_text}
+use Rattle.clear_report.specs.Impact.{impact_text}
 use Rattle.clear_report.specs.Journals.{journal_and_rounds, lawful_and_payments}
+use Rattle.clear_report.specs.Outcomes.{outcomes_text}
 use Rattle.clear_report.specs.Rescues.{rescued_text}
+use Rattle.clear_report.specs.Savings.{savings_text}
 use Rattle.clear_report.specs.Summary.{summary_lines}
 use Rattle.clear_report.specs.Text.{checked_text, payments_text}
 use Rattle.clear_report.specs.Words.{one_above_other}
@@ -22,7 +27,7 @@ use Rattle.clear_words.specs.declared.show.Show.TheVariants as show
 use Rattle.clear_words.specs.declared.task.Task.{Task}
 use Rattle.clear_words.specs.declared.task.Task.TheVariants as task
 use Rattle.compress.specs.Compression.{Compression}
-use Rattle.costs.specs.Costs.{cost_least}
+use Rattle.costs.specs.Costs.{cost_greatest, cost_least}
 use Rattle.costs.specs.CostStandings.{cost_standings}
 use Rattle.net_csv.specs.Printing.{banks_text, banks_text_2, debts_text}
 use Rattle.raise_journal.specs.Texts.{verdict_line}
@@ -139,6 +144,13 @@ abbrev pub costs_report : Net → ℕ → List ℕ
 costs_report net keep =
     costs_text net (cost_least net keep) (cost_standings net keep (cost_least net keep))
 
+-- both ends where so many thousandths are kept on default, and how the banks stand at each
+abbrev pub cost_bounds_report : Net → ℕ → List ℕ
+cost_bounds_report net keep =
+    let below = cost_least net keep in
+    let above = cost_greatest net keep in
+    cost_bounds_text net below above (cost_standings net keep below) (cost_standings net keep above)
+
 -- the network with the least sum that saves the bank added to its cash
 abbrev pub rescued_net : Net → ℕ → Net
 rescued_net net bank = added net bank (rescue net bank)
@@ -185,6 +197,11 @@ ComesTo task.Bounds job on = Settles on.net (plan_of job) (λ journal rounds. bo
 ComesTo task.Rescue job on = Rescues on.net (plan_of job) on.bank
 ComesTo task.Compress job on = IsCompressed on.net
 ComesTo task.Costs job on = IsPlain (costs_report on.net job.keep)
+ComesTo task.Breaking job on = IsPlain (breaking_report on.net)
+ComesTo task.Impact job on = IsPlain (impact_text on.net)
+ComesTo task.Rescues job on = IsPlain (savings_text on.net)
+ComesTo task.Outcomes job on = IsPlain (outcomes_text on.net on.scenarios)
+ComesTo task.CostBounds job on = IsPlain (cost_bounds_report on.net job.keep)
 
 -- with these files the job is accepted, and this is what it comes to
 abbrev pub Means : Files → Job → Outcome → Type 0

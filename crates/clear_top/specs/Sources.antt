@@ -30,6 +30,11 @@ needs_of task.Bounds = needs source.Files true
 needs_of task.Rescue = needs source.FilesAndBank true
 needs_of task.Compress = needs source.Files false
 needs_of task.Costs = needs source.Files false
+needs_of task.Breaking = needs source.Files false
+needs_of task.Impact = needs source.Files false
+needs_of task.Rescues = needs source.Files false
+needs_of task.Outcomes = needs source.FilesAndScenarios false
+needs_of task.CostBounds = needs source.Files false
 
 -- what a task works on
 abbrev pub source_of : Task → Source

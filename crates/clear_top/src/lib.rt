@@ -10,6 +10,7 @@ mod judge;
 pub mod laws;
 mod lines;
 mod load;
+mod many;
 mod message;
 mod outcome;
 mod plain;

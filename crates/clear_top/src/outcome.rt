@@ -1,4 +1,5 @@
 //! What the work on a job comes to, before it is written.
+ghost use Rattle.clear_many.specs.Texts.{text_of};
 ghost use Rattle.clear_report.specs.Words.{empty_line};
 ghost use Rattle.clear_top.specs.Ending.{TakesPart, TakesWhole, sink_call};
 ghost use Rattle.clear_top.specs.Meaning.{IsPlain};
@@ -181,6 +182,13 @@ impl Text {
         let mut text = Text::empty(alloc);
         text.add(piece)?;
         Ok(text)
+    }
+
+    /// A text of these pieces. Takes no memory.
+    pub fn of_pieces(pieces: Vec<Vec<u8>>) -> Text
+        ensures { result ≡ text_of pieces.items }
+    {
+        Text { pieces }
     }
 
     /// Adds a piece at the end.

@@ -1,17 +1,17 @@
 //! The tasks without workers.
 ghost use Rattle.clear_core.specs.Clearing.{least};
 ghost use Rattle.clear_report.specs.Text.{checked_text, payments_text};
-ghost use Rattle.clear_top.specs.Meaning.{IsCompressed, IsPlain, costs_report};
+ghost use Rattle.clear_top.specs.Meaning.{IsCompressed, IsPlain, cost_bounds_report, costs_report};
 ghost use Rattle.net_csv.specs.Printing.{banks_text, banks_text_2, debts_text};
 ghost use Rattle.std.specs.Prelude.{◌≤◌, IfOk};
 
 use crate::clear::is_network;
 use crate::outcome::{Outcome, Text};
 use clear_least::central;
-use clear_report::{compress_text, cost_text, pay_text, totals_text};
+use clear_report::{compress_text, cost_bounds_text, cost_text, pay_text, totals_text};
 use clr_net::{Mem, Network};
 use compress::{Compressed, compress};
-use costs::{cost_standings, least_with_costs};
+use costs::{cost_standings, greatest_with_costs, least_with_costs};
 use net_csv::{print_banks, print_banks_2, print_debts};
 use std::alloc::Global;
 
@@ -65,5 +65,26 @@ pub fn clear_with_costs(alloc: Global, net: &Network, keep: u32) -> Result<Outco
     let paid = least_with_costs(alloc, net, keep)?;
     let standings = cost_standings(alloc, net, keep, paid.as_slice())?;
     let text = cost_text(alloc, net, paid.as_slice(), standings.as_slice())?;
+    Outcome::plain(alloc, text)
+}
+
+/// The least and the greatest payments where an estate in default is worth only so much in a
+/// thousand, and how each bank stands at both.
+pub fn bound_with_costs(alloc: Global, net: &Network, keep: u32) -> Result<Outcome, Mem>
+    requires keep { keep ≤ 1000 }
+    ensures { IfOk result (IsPlain (cost_bounds_report net.now keep)) }
+{
+    let least = least_with_costs(alloc, net, keep)?;
+    let greatest = greatest_with_costs(alloc, net, keep)?;
+    let below = cost_standings(alloc, net, keep, least.as_slice())?;
+    let above = cost_standings(alloc, net, keep, greatest.as_slice())?;
+    let text = cost_bounds_text(
+        alloc,
+        net,
+        least.as_slice(),
+        greatest.as_slice(),
+        below.as_slice(),
+        above.as_slice(),
+    )?;
     Outcome::plain(alloc, text)
 }

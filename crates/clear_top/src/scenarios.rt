@@ -17,12 +17,10 @@ use clear_report::{line_heads, scenario_block};
 use clr_edge::Gate;
 use clr_net::{Mem, Name, Network};
 use settle::{Settled, offices_of, settle_alone};
+use shares::THREADS;
 use std::alloc::Global;
 use std::thread::{Threads, join};
 use stress::{Scenario, shock_again};
-
-// How many threads clear scenarios side by side, each its share of them in turn.
-const THREADS: usize = 4;
 
 /// Clears the network that each scenario leaves, four at once, and reports on each in file order.
 pub fn report_scenarios<R: Threads + Sync, G: Gate + Sync>(

@@ -36,5 +36,10 @@ pub fn source_of(task: Task) -> Source
         Task::Rescue => Source::FilesAndBank,
         Task::Compress => Source::Files,
         Task::Costs => Source::Files,
+        Task::Breaking => Source::Files,
+        Task::Impact => Source::Files,
+        Task::Rescues => Source::Files,
+        Task::Outcomes => Source::FilesAndScenarios,
+        Task::CostBounds => Source::Files,
     }
 }

@@ -8,8 +8,11 @@ ghost use Rattle.std.specs.Prelude.{◌≡◌, ◌<◌, IfOk, length};
 use crate::clear::Clearer;
 use crate::judge::judge;
 use crate::load::Input;
+use crate::many::{report_breaking, report_impact, report_outcomes, report_rescues};
 use crate::outcome::Outcome;
-use crate::plain::{cancel_cycles, check, clear_centrally, clear_with_costs, convert};
+use crate::plain::{
+    bound_with_costs, cancel_cycles, check, clear_centrally, clear_with_costs, convert,
+};
 use crate::saving::save;
 use crate::scenarios::report_scenarios;
 use clear_words::{Job, Task};
@@ -43,6 +46,11 @@ pub fn work<R: Threads + Sync, G: Gate + Sync>(
         Task::Rescue => save_bank(&clearer, input),
         Task::Compress => cancel_cycles(alloc, &input.net),
         Task::Costs => clear_with_costs(alloc, &input.net, job.keep),
+        Task::Breaking => report_breaking(rt, alloc, &input.net),
+        Task::Impact => report_impact(rt, alloc, &input.net),
+        Task::Rescues => report_rescues(rt, alloc, &input.net),
+        Task::Outcomes => report_outcomes(rt, alloc, &input.net, input.scenarios.as_slice()),
+        Task::CostBounds => bound_with_costs(alloc, &input.net, job.keep),
     }
 }
 

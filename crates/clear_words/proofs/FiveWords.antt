@@ -127,6 +127,11 @@ task_of_word task.Bounds = refl
 task_of_word task.Rescue = refl
 task_of_word task.Compress = refl
 task_of_word task.Costs = refl
+task_of_word task.Breaking = refl
+task_of_word task.Impact = refl
+task_of_word task.Rescues = refl
+task_of_word task.Outcomes = refl
+task_of_word task.CostBounds = refl
 
 -- and is no option
 may_name : (t : Task) → may_name_a_file (word_of t) ≡ true
@@ -142,6 +147,11 @@ may_name task.Bounds = refl
 may_name task.Rescue = refl
 may_name task.Compress = refl
 may_name task.Costs = refl
+may_name task.Breaking = refl
+may_name task.Impact = refl
+may_name task.Rescues = refl
+may_name task.Outcomes = refl
+may_name task.CostBounds = refl
 
 -- what is left of the tests where the other options are not there
 fit : (t : Task) (banks debts : Text) → may_name_a_file banks ≡ true → may_name_a_file debts ≡ true
@@ -168,6 +178,11 @@ enough task.Bounds banks debts alone b d = fit task.Bounds banks debts b d
 enough task.Rescue banks debts alone b d = absurd (cc)
 enough task.Compress banks debts alone b d = fit task.Compress banks debts b d
 enough task.Costs banks debts alone b d = absurd (cc)
+enough task.Breaking banks debts alone b d = fit task.Breaking banks debts b d
+enough task.Impact banks debts alone b d = fit task.Impact banks debts b d
+enough task.Rescues banks debts alone b d = fit task.Rescues banks debts b d
+enough task.Outcomes banks debts alone b d = absurd (cc)
+enough task.CostBounds banks debts alone b d = absurd (cc)
 
 -- the word of the task, and both files by their options, are the job of the task on these files
 pub five_words : (t : Task) (banks debts : Text) → needs_files_alone t ≡ true

@@ -38,10 +38,10 @@ asked lines = map job_of lines
 pub tasks_on_files :
     map (λ word. job_of (with_files word []))
     (codes "check" ∷ codes "clear" ∷ codes "central" ∷ codes "defaults" ∷ codes "convert"
-    ∷ codes "bounds" ∷ codes "compress" ∷ [])
+    ∷ codes "bounds" ∷ codes "compress" ∷ codes "breaking" ∷ codes "impact" ∷ codes "rescues" ∷ [])
     ≡ map (λ t. Some (on_files t))
     (task.Check ∷ task.Clear ∷ task.Central ∷ task.Defaults ∷ task.Convert ∷ task.Bounds
-    ∷ task.Compress ∷ [])
+    ∷ task.Compress ∷ task.Breaking ∷ task.Impact ∷ task.Rescues ∷ [])
 unfolding on_words
 tasks_on_files = refl
 
@@ -51,11 +51,15 @@ pub tasks_on_more :
     with_files (codes "stress") (codes "--scenarios" ∷ codes "s.toml" ∷ [])
     ∷ with_files (codes "replay") (codes "--journal" ∷ codes "j.csv" ∷ [])
     ∷ with_files (codes "rescue") (codes "--bank" ∷ codes "A" ∷ [])
-    ∷ with_files (codes "costs") (codes "--keep" ∷ codes "500" ∷ []) ∷ [])
+    ∷ with_files (codes "costs") (codes "--keep" ∷ codes "500" ∷ [])
+    ∷ with_files (codes "outcomes") (codes "--scenarios" ∷ codes "s.toml" ∷ [])
+    ∷ with_files (codes "cost-bounds") (codes "--keep" ∷ codes "500" ∷ []) ∷ [])
     ≡ Some (record (on_files task.Stress) { third = codes "s.toml" })
     ∷ Some (record (on_files task.Replay) { third = codes "j.csv" })
     ∷ Some (record (on_files task.Rescue) { bank = codes "A" })
-    ∷ Some (record (on_files task.Costs) { keep = 500 }) ∷ []
+    ∷ Some (record (on_files task.Costs) { keep = 500 })
+    ∷ Some (record (on_files task.Outcomes) { third = codes "s.toml" })
+    ∷ Some (record (on_files task.CostBounds) { keep = 500 }) ∷ []
 unfolding on_words
 tasks_on_more = refl
 
@@ -92,14 +96,28 @@ pub option_not_allowed :
 unfolding on_words
 option_not_allowed = refl
 
+-- what is told of many banks, scenarios or ends at once is computed without workers
+pub workers_not_allowed :
+    asked (
+    with_files (codes "breaking") (codes "--workers=2" ∷ [])
+    ∷ with_files (codes "impact") (codes "--bank=A" ∷ [])
+    ∷ with_files (codes "rescues") (codes "--bank=A" ∷ [])
+    ∷ with_files (codes "outcomes") (codes "--scenarios=s" ∷ codes "--sweeps=2" ∷ [])
+    ∷ with_files (codes "cost-bounds") (codes "--keep=5" ∷ codes "--workers=2" ∷ []) ∷ [])
+    ≡ replicate 5 None
+unfolding on_words
+workers_not_allowed = refl
+
 -- what it requires and does not find, and numbers out of their range
 pub option_wanting :
     asked (
     with_files (codes "stress") [] ∷ with_files (codes "replay") (codes "--scenarios=s" ∷ [])
+    ∷ with_files (codes "outcomes") [] ∷ with_files (codes "cost-bounds") []
     ∷ (codes "clear" ∷ codes "--banks" ∷ codes "b.csv" ∷ [])
     ∷ (codes "gen" ∷ codes "--seed=7" ∷ codes "--size=0" ∷ codes "--tries=5" ∷ [])
-    ∷ with_files (codes "clear") (codes "--workers=65" ∷ []) ∷ [])
-    ≡ replicate 5 None
+    ∷ with_files (codes "clear") (codes "--workers=65" ∷ [])
+    ∷ with_files (codes "cost-bounds") (codes "--keep=1001" ∷ []) ∷ [])
+    ≡ replicate 8 None
 unfolding on_words
 option_wanting = refl
 
@@ -128,10 +146,12 @@ option_without_its_value = refl
 -- no other words are a job
 pub other_words :
     asked (
-    with_files (codes "Clear") [] ∷ with_files (codes "clear") (codes "--threads=2" ∷ [])
+    with_files (codes "Clear") [] ∷ with_files (codes "cost_bounds") (codes "--keep=5" ∷ [])
+    ∷ with_files (codes "outcome") (codes "--scenarios=s" ∷ [])
+    ∷ with_files (codes "clear") (codes "--threads=2" ∷ [])
     ∷ with_files (codes "clear") (codes "again" ∷ []) ∷ [] ∷ (codes "--help" ∷ [])
     ∷ (codes "--version" ∷ []) ∷ [])
-    ≡ replicate 6 None
+    ≡ replicate 8 None
 unfolding on_words
 other_words = refl
 

@@ -53,6 +53,11 @@ uses_of task.Bounds = on_workers both_files
 uses_of task.Rescue = record (on_workers both_files) { bank = Required }
 uses_of task.Compress = both_files
 uses_of task.Costs = record both_files { keep = Required }
+uses_of task.Breaking = both_files
+uses_of task.Impact = both_files
+uses_of task.Rescues = both_files
+uses_of task.Outcomes = record both_files { scenarios = Required }
+uses_of task.CostBounds = record both_files { keep = Required }
 
 -- the word of a task
 abbrev pub word_of : Task → List ℕ
@@ -68,6 +73,11 @@ word_of task.Bounds = codes "bounds"
 word_of task.Rescue = codes "rescue"
 word_of task.Compress = codes "compress"
 word_of task.Costs = codes "costs"
+word_of task.Breaking = codes "breaking"
+word_of task.Impact = codes "impact"
+word_of task.Rescues = codes "rescues"
+word_of task.Outcomes = codes "outcomes"
+word_of task.CostBounds = codes "cost-bounds"
 
 -- the task that a word names
 abbrev pub task_named : List ℕ → Option Task
@@ -84,6 +94,11 @@ task_named word =
     else if bytes_eq word (word_of task.Rescue) then Some task.Rescue
     else if bytes_eq word (word_of task.Compress) then Some task.Compress
     else if bytes_eq word (word_of task.Costs) then Some task.Costs
+    else if bytes_eq word (word_of task.Breaking) then Some task.Breaking
+    else if bytes_eq word (word_of task.Impact) then Some task.Impact
+    else if bytes_eq word (word_of task.Rescues) then Some task.Rescues
+    else if bytes_eq word (word_of task.Outcomes) then Some task.Outcomes
+    else if bytes_eq word (word_of task.CostBounds) then Some task.CostBounds
     else None
 
 -- what these uses say of an option

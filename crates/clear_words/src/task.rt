@@ -32,6 +32,16 @@ pub enum Task {
     Compress,
     /// To clear the network where a default has costs (Rogers and Veraart 2013).
     Costs,
+    /// To tell the least cut of all cash that breaks each bank.
+    Breaking,
+    /// To tell what the ruin of each bank takes from each other.
+    Impact,
+    /// To tell the least sum that saves each bank in default, and whom else it saves.
+    Rescues,
+    /// To clear the network under each scenario of a file, and tell the sums.
+    Outcomes,
+    /// To tell the least and the greatest clearing payments where a default has costs.
+    CostBounds,
 }
 
 // What a task makes of an option.
@@ -141,6 +151,11 @@ impl Task {
             "rescue" => Some(Task::Rescue),
             "compress" => Some(Task::Compress),
             "costs" => Some(Task::Costs),
+            "breaking" => Some(Task::Breaking),
+            "impact" => Some(Task::Impact),
+            "rescues" => Some(Task::Rescues),
+            "outcomes" => Some(Task::Outcomes),
+            "cost-bounds" => Some(Task::CostBounds),
             _ => None,
         }
     }
@@ -179,8 +194,13 @@ impl Task {
                 ..both_files.on_workers()
             },
             Task::Compress => both_files,
-            Task::Costs => Uses {
+            Task::Costs | Task::CostBounds => Uses {
                 keep: Use::Required,
+                ..both_files
+            },
+            Task::Breaking | Task::Impact | Task::Rescues => both_files,
+            Task::Outcomes => Uses {
+                scenarios: Use::Required,
                 ..both_files
             },
         }

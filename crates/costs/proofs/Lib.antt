@@ -1,5 +1,6 @@
 pub mod Keeping
 pub mod CostPay
 pub mod CostLeast
+pub mod CostGreatest
 pub mod PayingOut
 pub mod OneStanding

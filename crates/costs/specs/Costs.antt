@@ -4,6 +4,7 @@ use Rattle.std.specs.Prelude.{◌≡◌, ℕ, ◌+◌, ◌-◌, ◌*◌, ◌/◌
 use Rattle.clr_net.specs.Net.{Net, cash_of, outside_of}
 use Rattle.clear_least.specs.Paying.{pay_by, IsLeastBy, least_by}
 use Rattle.cascade.specs.Standings.{due}
+use Rattle.upper.specs.Greatest.{IsGreatestBy, falling_by, greatest_by}
 
 -- what the bank i keeps of an estate of e units, where k thousandths are kept on default: all of it
 -- where it is no less than all that the bank owes
@@ -31,3 +32,16 @@ IsCostLeast net k = IsLeastBy net (cost_spend net k)
 -- the law `cost_least_is_least` says
 abbrev pub cost_least : Net → ℕ → List ℕ
 cost_least net k = least_by net (cost_spend net k)
+
+-- the greatest payments that clear with costs
+abbrev pub IsCostGreatest : Net → ℕ → List ℕ → Type 0
+IsCostGreatest net k = IsGreatestBy net (cost_spend net k)
+
+-- the payments after n rounds from all debts paid in full, in each of which all banks pay at once
+abbrev pub cost_falling : Net → ℕ → ℕ → List ℕ
+cost_falling net k = falling_by net (cost_spend net k)
+
+-- the payments after as many such rounds as units are owed: the greatest that clear, as the law
+-- `cost_greatest_is_greatest` says
+abbrev pub cost_greatest : Net → ℕ → List ℕ
+cost_greatest net k = greatest_by net (cost_spend net k)

@@ -2,10 +2,12 @@
 ghost use Rattle.clear_core.specs.Clearing.{least, pay};
 ghost use Rattle.clr_net.specs.Amounts.{IsAtMost};
 ghost use Rattle.clr_net.specs.Limits.{IsNetwork};
-ghost use Rattle.clr_net.specs.Net.{Net};
+ghost use Rattle.clr_net.specs.Net.{Net, units_owed};
 ghost use Rattle.costs.specs.CostStandings.{CostAddsUp, PaysFromKept};
-ghost use Rattle.costs.specs.Costs.{CostClears, IsCostLeast, cost_least, cost_pay};
+ghost use Rattle.costs.specs.Costs.{CostClears, IsCostGreatest, IsCostLeast, cost_falling};
+ghost use Rattle.costs.specs.Costs.{cost_greatest, cost_least, cost_pay};
 ghost use Rattle.std.specs.Prelude.{◌≡◌, ◌≤◌, ℕ, List};
+ghost use Rattle.upper.specs.Bounds.{greatest};
 
 /// No bank pays less on any debt as what was paid grows, or as more is kept.
 #[tactic(auto, using(crate::proofs::CostPay::cost_pay_mono))]
@@ -43,6 +45,41 @@ pub fn nothing_lost_is_least()
 pub fn more_lost_pays_no_more()
     ensures { (net : Net) (j k : ℕ) → j ≤ k → k ≤ 1000
         → IsAtMost (cost_least net j) (cost_least net k) }
+{}
+
+/// The payments after as many rounds as units are owed, from all debts paid in full, clear with
+/// costs, and are at least all that do (Rogers and Veraart 2013).
+pub fn cost_greatest_is_greatest()
+    ensures { (net : Net) (k : ℕ) → k ≤ 1000 → IsCostGreatest net k (cost_greatest net k) }
+{}
+
+/// There is only one greatest: whatever payments are the greatest that clear with costs are these.
+pub fn cost_greatest_is_the_only_one()
+    ensures { (net : Net) (k : ℕ) (P : List ℕ) → k ≤ 1000 → IsCostGreatest net k P
+        → P ≡ cost_greatest net k }
+{}
+
+/// No more rounds than units are owed come to them, and none after that changes anything.
+pub fn rounds_with_costs_come_to_the_greatest()
+    ensures { (net : Net) (k n : ℕ) → k ≤ 1000 → units_owed net ≤ n
+        → cost_falling net k n ≡ cost_greatest net k }
+{}
+
+/// They are nowhere below the least.
+pub fn cost_least_is_at_most_greatest()
+    ensures { (net : Net) (k : ℕ) → k ≤ 1000 → IsAtMost (cost_least net k) (cost_greatest net k) }
+{}
+
+/// Where all is kept they are the greatest that clear where default costs nothing.
+#[tactic(auto, using(crate::proofs::CostGreatest::cost_greatest_all))]
+pub fn nothing_lost_is_greatest()
+    ensures { (net : Net) → cost_greatest net 1000 ≡ greatest net }
+{}
+
+/// Where less is kept they are nowhere greater.
+pub fn more_lost_pays_no_more_at_most()
+    ensures { (net : Net) (j k : ℕ) → j ≤ k → k ≤ 1000
+        → IsAtMost (cost_greatest net j) (cost_greatest net k) }
 {}
 
 /// Where payments clear with costs, each bank pays from what it keeps.

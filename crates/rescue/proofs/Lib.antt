@@ -1,4 +1,5 @@
 pub mod MoreCash
-pub mod Saving
+pub mod LeastSum
 pub mod Searching
 pub mod OneUnit
+pub mod SavedBesides

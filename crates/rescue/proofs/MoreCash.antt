@@ -1,7 +1,6 @@
 -- What a bank's new cash changes, and what it leaves.
-use Rattle.std.proofs.Common.{◌≡◌, ℕ, zero, suc, ◌+◌, ◌<◌, ◌≤◌, List, [], ◌∷◌, length, refl, ap, subst, arith}
-use Rattle.clr_net.specs.declared.bank.Bank.{Bank}
-use Rattle.clr_net.specs.Net.{Net, with_cash, cash_of}
+use Rattle.std.proofs.Common.{◌≡◌, ℕ, ◌+◌, ◌<◌, ◌≤◌, List, length, subst, arith}
+use Rattle.clr_net.specs.Net.{Net, cash_of}
 use Rattle.clear_core.specs.Richer.{IsRicher}
 use Rattle.clear_core.proofs.Richer.{stands_richer, traced_richer}
 use Rattle.clear_core.specs.declared.event.Raise.{Raise}
@@ -9,7 +8,7 @@ use Rattle.pay_words.specs.Belongs.{Belongs}
 use Rattle.pay_words.specs.declared.payment.Payment.{Payment}
 use Rattle.cascade.specs.MoreCash.{HasMoreCash}
 use Rattle.cascade.proofs.CashAt.{cash_at, cash_is_set, has_more_cash, own_cash}
-use Rattle.cascade.proofs.MoreCash.{richer_by_cash, with_banks}
+use Rattle.cascade.proofs.MoreCash.{richer_by_cash}
 use Rattle.rescue.specs.Rescue.{added}
 
 -- the bank has the sum more
@@ -20,17 +19,6 @@ cash_added net i a l = cash_is_set net i (cash_of net i + a) l
 -- nothing added is nothing changed
 pub added_nothing : (net : Net) (i : ℕ) → added net i 0 ≡ net
 added_nothing net i = own_cash net i (cash_of net i + 0) (omega arith)
-
--- of two cashes given one after the other, the later counts
-cash_twice : (banks : List Bank) (i c d : ℕ) → cash_at (cash_at banks i c) i d ≡ cash_at banks i d
-cash_twice [] i c d = refl
-cash_twice (b ∷ banks) zero c d = refl
-cash_twice (b ∷ banks) (suc i) c d = ap (λ (bs : List Bank). b ∷ bs) (cash_twice banks i c d)
-
--- and so in the network
-pub later_cash_counts : (net : Net) (i c d : ℕ)
-    → with_cash (with_cash net i c) i d ≡ with_cash net i d
-later_cash_counts net i c d = ap (with_banks net) (cash_twice net.banks i c d)
 
 -- with a greater sum there is more cash than with a smaller one
 pub more_by_more : (net : Net) (i a b : ℕ) → a ≤ b → HasMoreCash (added net i a) (added net i b)

@@ -11,14 +11,10 @@ use Rattle.clear_core.specs.Clearing.{estate, pay, least}
 use Rattle.clear_core.proofs.Least.{least_clears}
 use Rattle.cascade.specs.Standings.{due}
 use Rattle.cascade.proofs.Limits.{clearing_over}
-use Rattle.rescue.specs.Rescue.{added, lacks, Saves, IsRescue, rescue, short_of}
-use Rattle.cascade.proofs.CashAt.{length-with_cash, outside_stays}
-use Rattle.rescue.proofs.MoreCash.{added_nothing, later_cash_counts}
-use Rattle.rescue.proofs.Saving.{saves_enough, enough_saves, less_fails, all_due_saves, goes_on, rescue_is, rescue_only, short_above}
-
--- the two networks differ in the cash of the bank i at most
-abbrev pub DifferInCash : Net → Net → ℕ → Type 0
-DifferInCash net more i = (c : ℕ) → with_cash more i c ≡ with_cash net i c
+use Rattle.rescue.specs.Rescue.{DifferInCash, added, lacks, Saves, IsRescue, rescue, short_of}
+use Rattle.cascade.proofs.CashAt.{later_cash_counts, length-with_cash, outside_stays}
+use Rattle.rescue.proofs.MoreCash.{added_nothing}
+use Rattle.rescue.proofs.LeastSum.{saves_enough, enough_saves, less_fails, all_due_saves, goes_on, rescue_is, rescue_only, short_above}
 
 -- payments on all debts, from which rounds rise to the least that clear
 abbrev pub GoOn : Net → List ℕ → Type 0

@@ -1,3 +1,4 @@
 pub mod Rescue
+pub mod Saved
 pub mod OneUnit
 pub mod Cases

@@ -12,6 +12,10 @@ use Rattle.cascade.specs.declared.standing.Health.TheVariants.{Sound}
 abbrev pub added : Net → ℕ → ℕ → Net
 added net i a = with_cash net i (cash_of net i + a)
 
+-- two networks differ in the cash of the bank i at most
+abbrev pub DifferInCash : Net → Net → ℕ → Type 0
+DifferInCash net more i = (c : ℕ) → with_cash more i c ≡ with_cash net i c
+
 -- how the bank i stands with a units more cash, under the least payments that clear then
 abbrev pub health_with : Net → ℕ → ℕ → Health
 health_with net i a = health_of (added net i a) (least (added net i a)) i

@@ -1,5 +1,6 @@
 //! The laws of rescue, for any network within the limits. A law has nothing to run; its `ensures`
 //! is proved.
+ghost use Rattle.cascade.specs.MoreCash.{NobodyLoses};
 ghost use Rattle.cascade.specs.Standings.{due};
 ghost use Rattle.clear_core.specs.Clearing.{least, pay};
 ghost use Rattle.clear_core.specs.Richer.{IsRicher};
@@ -35,6 +36,12 @@ pub fn least_payments_go_on_after_cash_is_added()
 /// A sum greater than one that saves a bank saves it too.
 pub fn greater_sum_saves_too()
     ensures { (net : Net) (i a b : ℕ) → IsNetwork net → a ≤ b → Saves net i a → Saves net i b }
+{}
+
+/// Cash that is added hurts nobody: no debt is paid less under the least payments, no bank has less
+/// or keeps less, and the sound stay sound.
+pub fn cash_added_hurts_nobody()
+    ensures { (net : Net) (i a : ℕ) → IsNetwork net → NobodyLoses net (added net i a) }
 {}
 
 /// Each bank has a least sum that saves it, which is at most what the bank owes above its cash.

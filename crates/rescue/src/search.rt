@@ -3,7 +3,8 @@ ghost use Rattle.clr_net.specs.Limits.{IsNetwork};
 ghost use Rattle.clr_net.specs.Net.{cash_of};
 ghost use Rattle.clr_net.specs.declared.TheConstants.{MAX_CASH};
 ghost use Rattle.cascade.specs.Standings.{due as due_of};
-ghost use Rattle.rescue.specs.Rescue.{IsRescue, rescue as rescue_of, short_of};
+ghost use Rattle.rescue.specs.Rescue.{DifferInCash, IsRescue, added as added_net};
+ghost use Rattle.rescue.specs.Rescue.{rescue as rescue_of, short_of};
 ghost use Rattle.std.specs.Prelude.{◌≡◌, ◌+◌, ◌-◌, ◌<◌, ◌≤◌, IfOk, length};
 
 use cascade::due;
@@ -39,6 +40,40 @@ pub fn rescue(alloc: Global, net: &Network, bank: BankId, least: &[u64]) -> Resu
     ensures short { IfOk result (λ found. found.short ≡ short_of net.now bank.0 found.added) }
     ensures lacking { IfOk result (λ found. 0 < found.added → 0 < found.short) }
 {
+    let found = search(alloc, net, net.copy(alloc)?, bank, least)?;
+    Ok(found.sum)
+}
+
+// What a search comes to: the least sum that saves a bank, the least payments with one unit less,
+// and the network with some sum at the bank.
+#[derive(Drop)]
+pub(crate) struct Found {
+    pub sum: Rescued,
+    pub known: Amounts,
+    pub more: Network,
+}
+
+// Searches for the least sum by halving, on a copy of the network.
+pub(crate) fn search(
+    alloc: Global,
+    net: &Network,
+    mut more: Network,
+    bank: BankId,
+    least: &[u64],
+) -> Result<Found, Mem>
+    requires bank { bank.0 < length net.now.banks }
+    requires least { least.now ≡ least_of net.now }
+    requires copy { more ≡ net.now }
+    ensures added { IfOk result (λ found. found.sum.added ≡ rescue_of net.now bank.0) }
+    ensures rescue { IfOk result (λ found. IsRescue net.now bank.0 found.sum.added) }
+    ensures fits { IfOk result (λ found. cash_of net.now bank.0 + found.sum.added ≤ MAX_CASH) }
+    ensures short { IfOk result (λ found.
+        found.sum.short ≡ short_of net.now bank.0 found.sum.added) }
+    ensures lacking { IfOk result (λ found. 0 < found.sum.added → 0 < found.sum.short) }
+    ensures known { IfOk result (λ found.
+        found.known ≡ least_of (added_net net.now bank.0 (found.sum.added - 1))) }
+    ensures differ { IfOk result (λ found. DifferInCash net.now found.more bank.0) }
+{
     prove!(bank.0 < net.banks());
     let cash = net.bank(bank).cash;
     let mut low = 0;
@@ -46,7 +81,6 @@ pub fn rescue(alloc: Global, net: &Network, bank: BankId, least: &[u64]) -> Resu
     // With one unit less than `low`: the least payments, and what the bank lacks.
     let mut known = Amounts::copy_of(alloc, least)?;
     let mut short = 0;
-    let mut more = net.copy(alloc)?;
     while low < high {
         let middle = low + (high - low) / 2;
         more.set_cash(bank, cash + middle);
@@ -60,7 +94,8 @@ pub fn rescue(alloc: Global, net: &Network, bank: BankId, least: &[u64]) -> Resu
             short = lacking;
         }
     }
-    Ok(Rescued { added: low, short })
+    let sum = Rescued { added: low, short };
+    Ok(Found { sum, known, more })
 }
 
 // What a bank lacks of all that it owes under payments that clear: 0 where it has enough.

@@ -1,9 +1,9 @@
 -- The scenarios that are read are scenarios of the network.
-use Rattle.std.proofs.Common.{◌≡◌, ◌≢◌, ℕ, zero, suc, ◌+◌, ◌<◌, ◌≤◌, not, nat_le, nat_lt, false, ℤ, pos, negsuc, List, [], ◌∷◌, ◌++◌, length, codes, position, Some, Result, Ok, Err, Vec, Global, true≢false, sym, ◌∙◌, subst, arith, eq-eqb}
+use Rattle.std.proofs.Common.{◌≡◌, ◌≢◌, ℕ, zero, suc, ◌+◌, ◌<◌, ◌≤◌, not, nat_le, nat_lt, false, ℤ, pos, negsuc, List, [], ◌∷◌, ◌++◌, length, length-append, codes, position, Some, Result, Ok, Err, Vec, Global, true≢false, sym, ◌∙◌, subst, arith, eq-eqb}
 use Rattle.std.specs.List.{All, AllPairs, list_any}
 use Rattle.std.specs.Option.{ok_or}
 use Rattle.std.specs.Result.{IfOk}
-use Rattle.std.proofs.lemmas.Bool.{leb-true, not-true, or_parts}
+use Rattle.std.proofs.lemmas.Bool.{leb-true, ltb-true, not-true, or_parts}
 use Rattle.std.proofs.lemmas.Option.{cond_some}
 use Rattle.std.proofs.lemmas.List.Elements.{All-push}
 use Rattle.std.proofs.lemmas.List.Quantifiers.{all_pairs_push}
@@ -174,6 +174,35 @@ document_is net document all h =
     let (values, _, is) = and_then-ok values_in read all shaped in
     all_are net values [] all (λ k d l. absurd (omega arith)) is
 
+-- no more scenarios are read than the limit
+none_too_many : (net : Net) (values : Items) (before after : List Scenario)
+    → length before ≤ MAX_SCENARIOS → read_all net before values ≡ Ok after
+    → length after ≤ MAX_SCENARIOS
+unfolding read_all
+none_too_many net no_items before after l h =
+    let same : before ≡ after = cc in subst (λ all. length all ≤ MAX_SCENARIOS) same l
+none_too_many net (item value rest) before after l h =
+    let row = length before + 1 in
+    let (s, is, more) = and_then-ok (next_scenario net before value)
+    (λ s. read_all net (before ++ s ∷ []) rest) after h in
+    let (fits, _) = fault_unless-ok (nat_lt (length before) MAX_SCENARIOS)
+    (fault_in row fault.TooMany) (scenario_in_row net row value) s is in
+    let one_more : length (before ++ s ∷ []) ≤ MAX_SCENARIOS =
+    omega (arith, length-append before (s ∷ []), ltb-true (length before) MAX_SCENARIOS fits) in
+    none_too_many net rest (before ++ s ∷ []) after one_more more
+
+-- nor from a document
+few_in_document : (net : Net) (document : Members) (all : List Scenario)
+    → scenarios_in net document ≡ Ok all → length all ≤ MAX_SCENARIOS
+few_in_document net document all h =
+    let read : Items → Result (List Scenario) Fault = λ values. read_all net [] values in
+    let values_in : Result Items Fault =
+    ok_or (array_or_none (get_member (codes "scenario") document)) (fault_in 0 fault.Shape) in
+    let (_, shaped) = fault_unless-ok (has_only (codes "scenario" ∷ []) document)
+    (fault_in 0 fault.Shape) (and_then values_in read) all h in
+    let (values, _, is) = and_then-ok values_in read all shaped in
+    none_too_many net values [] all (omega arith) is
+
 module _ (net : Net) (document : Members) where
   -- the scenarios of a document may be given to its network
   pub lawful : (r : Result (Vec Scenario Global) ReadNet)
@@ -188,3 +217,10 @@ module _ (net : Net) (document : Members) where
       → IfOk r (λ all. All HasLossesInLimit all.items)
   in_limit (Ok all) h = λ k d l. (document_is net document all.items h k d l).1
   in_limit (Err e) h = tt
+
+  -- and are no more than the limit
+  pub few : (r : Result (Vec Scenario Global) ReadNet)
+      → IfOk r (λ all. scenarios_in net document ≡ Ok all.items)
+      → IfOk r (λ all. length all.items ≤ MAX_SCENARIOS)
+  few (Ok all) h = few_in_document net document all.items h
+  few (Err e) h = tt

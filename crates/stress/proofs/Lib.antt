@@ -5,3 +5,6 @@ pub mod Cuts
 pub mod Taken
 pub mod Lawful
 pub mod Milder
+pub mod Places
+pub mod Descent
+pub mod Outcomes

@@ -23,7 +23,7 @@ after_cut_falls : (c d cash : ℕ) → c ≤ d → after_cut d cash ≤ after_cu
 after_cut_falls c d cash l = omega (arith, mul-le cash c cash d (omega arith) l)
 
 -- so a milder shock leaves no bank less
-milder_leaves_more : (net : Net) (milder harder : Scenario) → IsMilder milder harder
+pub milder_leaves_more : (net : Net) (milder harder : Scenario) → IsMilder milder harder
     → HasMoreCash (shocked net harder) (shocked net milder)
 milder_leaves_more net milder harder h =
     let less = keeps_all_but_cash net harder in

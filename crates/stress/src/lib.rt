@@ -4,18 +4,27 @@
 //! [`read_scenarios`] gives the scenarios of a document, or its first fault; each of them may be
 //! given to [`shocked`], which answers the network that is to be cleared in its place, and such a
 //! network may be given to [`shock_again`] for the next scenario.
+//!
+//! [`breaking`] tells of each bank the least cut that breaks it. [`outcome_of`] tells in sums what a
+//! scenario comes to, and a [`Tally`] counts in how many scenarios each bank falls.
 #![tactic(auto)]
 
+mod broken;
 mod document;
 pub mod laws;
 mod read;
 mod scenario;
 mod shape;
 mod shock;
+mod sums;
+mod tally;
 
+pub use broken::{Broken, breaking, breaking_within, joined};
 pub use read::read_scenarios;
 pub use scenario::{Loss, Losses, Scenario};
 pub use shock::{shock_again, shocked};
+pub use sums::{Outcome, outcome_of};
+pub use tally::{Falls, Tally};
 
 /// The most scenarios of a document.
 pub const MAX_SCENARIOS: usize = 100;

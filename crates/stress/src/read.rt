@@ -1,6 +1,6 @@
 ghost use Rattle.net_check.specs.declared.fault.Fault.{Fault};
 ghost use Rattle.net_check.specs.declared.fault.FaultKind.{FaultKind};
-ghost use Rattle.std.specs.Prelude.{◌≡◌, [], Ok, Err, IfOk, IsErrOf};
+ghost use Rattle.std.specs.Prelude.{◌≡◌, ◌≤◌, [], Ok, Err, IfOk, IsErrOf, length};
 ghost use Rattle.std.specs.List.{All};
 ghost use Rattle.stress.specs.Reading.{fault_in, head_in, loss_in, named_cut};
 ghost use Rattle.stress.specs.Reading.{read_all as read_all_of, read_losses as read_losses_of};
@@ -31,6 +31,7 @@ pub fn read_scenarios(alloc: Global, net: &Network, bytes: &[u8]) -> Result<Vec<
         → scenarios_of net.now bytes.now ≡ Err f }
     ensures lawful { IfOk result (λ all. All (IsScenarioOf net.now) all.items) }
     ensures in_limit { IfOk result (λ all. All HasLossesInLimit all.items) }
+    ensures few { IfOk result (λ all. length all.items ≤ MAX_SCENARIOS) }
 {
     if bytes.len() as u64 > FileKind::Scenarios.limit() {
         return Err(ReadNet::Refused(fault(0, FaultKind::FileSize)));

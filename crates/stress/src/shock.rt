@@ -41,7 +41,7 @@ pub fn shock_again(net: &Network, scenario: &Scenario, left: &mut Network)
 }
 
 // Leaves each bank of a copy what a cut leaves of its cash in the network.
-fn cut_cash(net: &Network, cut: u32, left: &mut Network)
+pub(crate) fn cut_cash(net: &Network, cut: u32, left: &mut Network)
     requires cut { cut ≤ MAX_CUT }
     requires alike { IsOfOtherCash net.now left.old }
     ensures network { IsNetwork net.now }

@@ -2,8 +2,8 @@ ghost use Rattle.std.specs.Prelude.{◌≡◌, length};
 
 use cascade::{Health, Standing};
 use clear_report::{
-    bounds_text, check_text, compress_text, cost_text, default_text, line_heads, pay_text,
-    rescue_text, scenario_block, scenario_text, summary_text,
+    bounds_text, check_text, compress_text, cost_bounds_text, cost_text, default_text, line_heads,
+    pay_text, rescue_text, scenario_block, scenario_text, summary_text,
 };
 use clr_net::{BankId, Mem, Name, Network};
 use costs::CostStanding;
@@ -28,7 +28,7 @@ fn has_lines(text: &[u8], lines: &[&str]) -> bool {
 }
 
 // Whether a text was made, and is these lines.
-fn is(text: Result<Vec<u8>, Mem>, lines: &[&str]) -> bool {
+pub(crate) fn is(text: Result<Vec<u8>, Mem>, lines: &[&str]) -> bool {
     match text {
         Ok(text) => has_lines(text.as_slice(), lines),
         Err(Mem) => false,
@@ -225,6 +225,48 @@ const POOR: CostStanding = CostStanding {
 // Whether its payments where default costs, and how its banks then stand, are these lines.
 fn ring_with_costs(alloc: Global, net: &Network, lines: &[&str]) -> bool {
     net.banks() == 2 && net.debts() == 2 && is(cost_text(alloc, net, &[0, 0], &[POOR, POOR]), lines)
+}
+
+// How a bank stands that has 6, and pays 5 of it.
+const FINE: CostStanding = CostStanding {
+    estate: 6,
+    lost: 0,
+    outside_paid: 0,
+    paid: 5,
+    equity: 1,
+    health: Health::Sound,
+};
+
+// Whether both ends of what it may pay where default costs are these lines.
+fn ring_cost_bounds(alloc: Global, net: &Network, lines: &[&str]) -> bool {
+    let sunk = CostStanding {
+        health: Health::Fundamental,
+        ..POOR
+    };
+    net.banks() == 2
+        && net.debts() == 2
+        && is(
+            cost_bounds_text(alloc, net, &[0, 1], &[5, 4], &[POOR, sunk], &[FINE, POOR]),
+            lines,
+        )
+}
+
+#[test]
+fn both_ends_of_a_ring_are_told(rt: HostRuntime) -> Result<(), Fail> {
+    let alloc = rt.alloc();
+    let net = ring(alloc)?;
+    let lines = [
+        "debtor,creditor,class,claim,least,greatest",
+        "A,B,1,5,0,5",
+        "B,A,1,5,1,4",
+        "",
+        "bank,lost_at_least,equity_at_least,state_at_least,\
+         lost_at_greatest,equity_at_greatest,state_at_greatest",
+        "A,1,0,contagion,0,1,sound",
+        "B,1,0,fundamental,1,0,contagion",
+    ];
+    assert!(rt; ring_cost_bounds(alloc, &net, &lines));
+    Ok(())
 }
 
 #[test]

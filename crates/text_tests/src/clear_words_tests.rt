@@ -19,7 +19,7 @@ const FILES: [&str; 4] = ["b", "d", "", ""];
 // The numbers of a job where none is told.
 const PLAIN: [u64; 6] = [4, 1, 0, 0, 0, 0];
 
-const JOBS: [Row; 17] = [
+const JOBS: [Row; 22] = [
     // the tasks, with what they require and allow
     (
         &["check", "--banks", "b", "--debts", "d"],
@@ -112,6 +112,41 @@ const JOBS: [Row; 17] = [
         &[4, 1, 0, 0, 0, 1000],
         Show::Payments,
     ),
+    (
+        &["breaking", "--banks=b", "--debts=d"],
+        Task::Breaking,
+        &FILES,
+        &PLAIN,
+        Show::Payments,
+    ),
+    (
+        &["impact", "--banks=b", "--debts=d"],
+        Task::Impact,
+        &FILES,
+        &PLAIN,
+        Show::Payments,
+    ),
+    (
+        &["rescues", "--banks=b", "--debts=d"],
+        Task::Rescues,
+        &FILES,
+        &PLAIN,
+        Show::Payments,
+    ),
+    (
+        &["outcomes", "--banks=b", "--debts=d", "--scenarios", "s"],
+        Task::Outcomes,
+        &["b", "d", "s", ""],
+        &PLAIN,
+        Show::Payments,
+    ),
+    (
+        &["cost-bounds", "--banks=b", "--debts=d", "--keep", "0"],
+        Task::CostBounds,
+        &FILES,
+        &PLAIN,
+        Show::Payments,
+    ),
     // all that a task takes
     (
         &[
@@ -200,7 +235,7 @@ fn reads_the_jobs(rt: HostRuntime) {
     }
 }
 
-const REFUSED: [&[&str]; 32] = [
+const REFUSED: [&[&str]; 38] = [
     // no task, another one, or a word too many
     &[],
     &["--banks", "b", "--debts", "d"],
@@ -220,6 +255,12 @@ const REFUSED: [&[&str]; 32] = [
     &["stress", "--banks=b", "--debts=d"],
     &["replay", "--banks=b", "--debts=d", "--scenarios=s"],
     &["gen", "--seed=1", "--size=1"],
+    &["breaking", "--banks=b", "--debts=d", "--workers=2"],
+    &["impact", "--banks=b", "--debts=d", "--bank=a"],
+    &["rescues", "--banks=b", "--debts=d", "--bank=a"],
+    &["outcomes", "--banks=b", "--debts=d"],
+    &["cost-bounds", "--banks=b", "--debts=d"],
+    &["cost_bounds", "--banks=b", "--debts=d", "--keep=5"],
     // values of another kind, or out of their range
     &["clear", "--banks=b", "--debts="],
     &["clear", "--banks=b", "--debts", "-"],

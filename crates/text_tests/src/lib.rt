@@ -9,4 +9,8 @@ mod clear_report_tests;
 #[cfg(test)]
 mod clear_words_tests;
 #[cfg(test)]
+mod outcome_text_tests;
+#[cfg(test)]
 mod raise_journal_tests;
+#[cfg(test)]
+mod table_tests;

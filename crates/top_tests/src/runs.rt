@@ -1,5 +1,7 @@
 mod fetches;
+mod fifteen_banks;
 mod hostile;
+mod many;
 mod networks;
 mod records;
 mod sinks;

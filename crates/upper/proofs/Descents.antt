@@ -10,85 +10,96 @@ use Rattle.clr_net.specs.Net.{Net, units_owed}
 use Rattle.clr_net.proofs.Lists.{same_from_sum, zeros_at}
 use Rattle.clr_net.proofs.RowsAndColumns.{claim_of_at}
 use Rattle.clear_core.specs.Buffers.{AreInLimit}
-use Rattle.clear_core.specs.Clearing.{pay, estate, Clears, least}
+use Rattle.clear_core.specs.Clearing.{NeverFalls, pay_by, estate, least}
 use Rattle.clear_core.specs.Rounds.{rounds_of}
 use Rattle.clear_core.proofs.Least.{least_clears}
-use Rattle.clear_core.proofs.Pay.{length-pay}
+use Rattle.clear_core.proofs.Pay.{length-pay_by}
 use Rattle.clear_core.proofs.Rows.{claim_in_limit}
 use Rattle.cascade.specs.Standings.{due}
 use Rattle.cascade.proofs.Equities.{equities_are_one}
 use Rattle.clr_net.specs.Claims.{all_claims}
-use Rattle.upper.specs.Bounds.{falling, greatest, wave, waves, FallsShort, HoldsBefore, IsGreatest, IsWave, EquitiesAreFixed, WavesTellHealth}
+use Rattle.upper.specs.Bounds.{greatest, wave, waves, IsGreatest, IsWave, EquitiesAreFixed, WavesTellHealth}
+use Rattle.upper.specs.Greatest.{falling_by, greatest_by}
+use Rattle.upper.specs.Waves.{FallsShortIn, HoldsBeforeIn, IsWaveIn, wave_in, waves_in}
 use Rattle.upper.specs.Descent.{IsWaveTo, AreWavesTo, AreMarked}
 use Rattle.upper.proofs.Tops.{falling_falls, falling_back, falling_settled, greatest_rounds}
-use Rattle.upper.proofs.Waves.{wave_is, wave_known, wave_tells}
+use Rattle.upper.proofs.Waves.{wave_is, wave_in_known, wave_tells}
 
--- the payments after n rounds, each of which took a unit off at least
-pub record IsDown (net : Net) (n : ℕ) (P : List ℕ) : Type 0 where
+-- the payments after n rounds by f, which never falls; each round took a unit off at least
+pub record IsDown (net : Net) (f : ℕ → ℕ → ℕ) (n : ℕ) (P : List ℕ) : Type 0 where
+  pub never : NeverFalls f
   pub as_many : length P ≡ length net.debts
-  pub at : P ≡ falling net n
+  pub at : P ≡ falling_by net f n
   pub units : sum P + n ≤ units_owed net
 
--- before the first round
-pub down_first : (net : Net) (P : List ℕ) → P ≡ all_claims net → IsDown net 0 P
-unfolding rounds_of
-down_first net P e = record {
-  as_many = ap length e ∙ length-map net.debts (λ d. d.claim);
-  at = e;
-  units = omega (arith, ap sum e, sum-map (λ d. d.claim) net.debts);
-}
+module _ (net : Net) (f : ℕ → ℕ → ℕ) where
+  -- before the first round
+  pub down_first : (P : List ℕ) → NeverFalls f → P ≡ all_claims net → IsDown net f 0 P
+  unfolding rounds_of
+  down_first P never e = record {
+    never = never;
+    as_many = ap length e ∙ length-map net.debts (λ d. d.claim);
+    at = e;
+    units = omega (arith, ap sum e, sum-map (λ d. d.claim) net.debts);
+  }
 
--- a round only takes off
-pub down_falls : (net : Net) (n : ℕ) (P : List ℕ) → IsDown net n P → IsAtMost (pay net P) P
-down_falls net n P d = subst (λ R. IsAtMost (pay net R) R) (sym d.at) (falling_falls net n)
+  -- a round only takes off
+  pub down_falls : (n : ℕ) (P : List ℕ) → IsDown net f n P → IsAtMost (pay_by net f P) P
+  down_falls n P d =
+      subst (λ R. IsAtMost (pay_by net f R) R) (sym d.at) (falling_falls net f d.never n)
 
--- so payments stay within the claims
-pub down_in_limit : (net : Net) (n : ℕ) (P : List ℕ) → IsNetwork net → IsDown net n P → AreInLimit P
-unfolding rounds_of
-down_in_limit net n P network d k = omega (
-  arith,
-  ap (λ (R : List ℕ). get_or R k 0) d.at,
-  subst (λ m. IsAtMost (falling net m) (falling net 0)) (add_nothing n) (falling_back net 0 n) k,
-  claim_of_at net k,
-  claim_in_limit net k network,
-)
-  where
-    add_nothing : (n : ℕ) → n + 0 ≡ n
-    add_nothing n = omega arith
+  -- so payments stay within the claims
+  pub down_in_limit : (n : ℕ) (P : List ℕ) → IsNetwork net → IsDown net f n P → AreInLimit P
+  unfolding rounds_of
+  down_in_limit n P network d k = omega (
+    arith,
+    ap (λ (R : List ℕ). get_or R k 0) d.at,
+    subst (λ m. IsAtMost (falling_by net f m) (falling_by net f 0)) (add_nothing n)
+        (falling_back net f d.never 0 n) k,
+    claim_of_at net k,
+    claim_in_limit net k network,
+  )
+    where
+      add_nothing : (n : ℕ) → n + 0 ≡ n
+      add_nothing n = omega arith
 
--- and one that changes something takes off a unit
-pub down_less : (net : Net) (n : ℕ) (P Q : List ℕ) → IsDown net n P → Q ≡ pay net P → P ≢ Q
-    → sum Q < sum P
-down_less net n P Q d e ne = ⊎_elim
-    (λ (l : sum Q < sum P). l)
-    (λ (g : sum P ≤ sum Q).
-    let as_many = ap length e ∙ length-pay net P ∙ sym d.as_many in
-    let lower : IsAtMost Q P = subst (λ R. IsAtMost R P) (sym e) (down_falls net n P d) in
-    absurd (ne (sym (same_from_sum Q P as_many lower g))))
-    (cases_lt (sum Q) (sum P))
+  -- and one that changes something takes off a unit
+  pub down_less : (n : ℕ) (P Q : List ℕ) → IsDown net f n P → Q ≡ pay_by net f P → P ≢ Q
+      → sum Q < sum P
+  down_less n P Q d e ne = ⊎_elim
+      (λ (l : sum Q < sum P). l)
+      (λ (g : sum P ≤ sum Q).
+      let as_many = ap length e ∙ length-pay_by net f P ∙ sym d.as_many in
+      let lower : IsAtMost Q P = subst (λ R. IsAtMost R P) (sym e) (down_falls n P d) in
+      absurd (ne (sym (same_from_sum Q P as_many lower g))))
+      (cases_lt (sum Q) (sum P))
 
--- n rounds and one are n + 1
-pub down_more : (net : Net) (n : ℕ) (P Q : List ℕ) → IsDown net n P → Q ≡ pay net P → P ≢ Q
-    → IsDown net (n + 1) Q
-unfolding rounds_of
-down_more net n P Q d e ne = record {
-  as_many = ap length e ∙ length-pay net P;
-  at = let more : suc n ≡ n + 1 = omega arith in e ∙ ap (pay net) d.at ∙ ap (falling net) more;
-  units = omega (arith, down_less net n P Q d e ne, d.units);
-}
+  -- n rounds and one are n + 1
+  pub down_more : (n : ℕ) (P Q : List ℕ) → IsDown net f n P → Q ≡ pay_by net f P → P ≢ Q
+      → IsDown net f (n + 1) Q
+  unfolding rounds_of
+  down_more n P Q d e ne = record {
+    never = d.never;
+    as_many = ap length e ∙ length-pay_by net f P;
+    at = let more : suc n ≡ n + 1 = omega arith in
+        e ∙ ap (pay_by net f) d.at ∙ ap (falling_by net f) more;
+    units = omega (arith, down_less n P Q d e ne, d.units);
+  }
 
--- payments that a round does not change are those of every later round
-pub down_stays : (net : Net) (n : ℕ) (P : List ℕ) → IsDown net n P → Clears net P → (m : ℕ) → n ≤ m
-    → falling net m ≡ P
-down_stays net n P d c m g = falling_settled net n m (subst (Clears net) d.at c) g ∙ sym d.at
+  -- payments that a round does not change are those of every later round
+  pub down_stays : (n : ℕ) (P : List ℕ) → IsDown net f n P → pay_by net f P ≡ P → (m : ℕ) → n ≤ m
+      → falling_by net f m ≡ P
+  down_stays n P d c m g =
+      falling_settled net f d.never n m (subst (λ R. pay_by net f R ≡ R) d.at c) g ∙ sym d.at
 
--- and so the greatest
-pub down_ends : (net : Net) (n : ℕ) (P : List ℕ) → IsDown net n P → Clears net P → P ≡ greatest net
-down_ends net n P d c = sym (down_stays net n P d c (units_owed net) (omega (arith, d.units)))
+  -- and so the greatest
+  pub down_ends : (n : ℕ) (P : List ℕ) → IsDown net f n P → pay_by net f P ≡ P
+      → P ≡ greatest_by net f
+  down_ends n P d c = sym (down_stays n P d c (units_owed net) (omega (arith, d.units)))
 
 -- before the first round no wave is known
-pub waves_none : (net : Net) → AreWavesTo net 0 (replicate (length net.banks) 0)
-waves_none net = record {
+pub waves_none : (net : Net) (R : ℕ → List ℕ) → AreWavesTo net R 0 (replicate (length net.banks) 0)
+waves_none net R = record {
   as_many = length-replicate (length net.banks) 0;
   each = λ i l. record {
     falls = λ m e. absurd (omega (arith, zeros_at (length net.banks) i));
@@ -97,28 +108,28 @@ waves_none net = record {
 }
 
 -- one round more is looked at
-wave_to_more : (net : Net) (n i v w : ℕ) → IsWaveTo net n i v
-    → (v ≡ 0 → FallsShort net i n → w ≡ n + 1) → (due net i ≤ estate net (falling net n) i → w ≡ v)
+wave_to_more : (net : Net) (R : ℕ → List ℕ) (n i v w : ℕ) → IsWaveTo net R n i v
+    → (v ≡ 0 → FallsShortIn net R i n → w ≡ n + 1) → (due net i ≤ estate net (R n) i → w ≡ v)
     → (v ≢ 0 → w ≡ v)
-    → IsWaveTo net (n + 1) i w
-wave_to_more net n i v w old short not_short had = ⊎_elim
+    → IsWaveTo net R (n + 1) i w
+wave_to_more net R n i v w old short not_short had = ⊎_elim
     (λ (e : v ≡ 0). ⊎_elim
-    (λ (l : FallsShort net i n). let at : w ≡ n + 1 = short e l in record {
+    (λ (l : FallsShortIn net R i n). let at : w ≡ n + 1 = short e l in record {
       falls = λ m f. let same : n ≡ m = omega arith in
-          subst (λ m. (m < n + 1) × FallsShort net i m × HoldsBefore net i m) same
+          subst (λ m. (m < n + 1) × FallsShortIn net R i m × HoldsBeforeIn net R i m) same
           (omega arith, l, old.never e);
       never = λ f. absurd (omega arith);
     })
-    (λ (g : due net i ≤ estate net (falling net n) i). let at : w ≡ v = not_short g in record {
+    (λ (g : due net i ≤ estate net (R n) i). let at : w ≡ v = not_short g in record {
       falls = λ m f. absurd (omega arith);
       never = λ f m l. ⊎_elim
           (λ (b : m < n). old.never e m b)
           (λ (h : n ≤ m).
           let same : n ≡ m = omega arith in
-          subst (λ m. due net i ≤ estate net (falling net m) i) same g)
+          subst (λ m. due net i ≤ estate net (R m) i) same g)
           (cases_lt m n);
     })
-    (cases_lt (estate net (falling net n) i) (due net i)))
+    (cases_lt (estate net (R n) i) (due net i)))
     (λ (ne : v ≢ 0). let at : w ≡ v = had ne in record {
       falls = λ m f.
           let before = old.falls m (sym at ∙ f) in
@@ -128,35 +139,38 @@ wave_to_more net n i v w old short not_short had = ⊎_elim
     (cases_eq v 0)
 
 -- so it is with all banks
-pub waves_more : (net : Net) (n : ℕ) (P before after : List ℕ) → P ≡ falling net n
-    → AreWavesTo net n before
-    → AreMarked net P (n + 1) before after → AreWavesTo net (n + 1) after
-waves_more net n P before after at old marked = record {
+pub waves_more : (net : Net) (R : ℕ → List ℕ) (n : ℕ) (P before after : List ℕ) → P ≡ R n
+    → AreWavesTo net R n before
+    → AreMarked net P (n + 1) before after → AreWavesTo net R (n + 1) after
+waves_more net R n P before after at old marked = record {
   as_many = marked.as_many ∙ old.as_many;
-  each = λ i l. wave_to_more net n i (get_or before i 0) (get_or after i 0) (old.each i l)
+  each = λ i l. wave_to_more net R n i (get_or before i 0) (get_or after i 0) (old.each i l)
       (λ none short. marked.short i l none
-      (omega (arith, short, ap (λ (R : List ℕ). estate net R i) at)))
-      (λ enough. marked.enough i (omega (arith, enough, ap (λ (R : List ℕ). estate net R i) at)))
+      (omega (arith, short, ap (λ (P : List ℕ). estate net P i) at)))
+      (λ enough. marked.enough i (omega (arith, enough, ap (λ (P : List ℕ). estate net P i) at)))
       (marked.had i);
 }
 
 -- once nothing changes, the waves are known
-pub waves_end : (net : Net) (n : ℕ) (P ws : List ℕ) → IsDown net n P → Clears net P
-    → AreWavesTo net (n + 1) ws → ws ≡ waves net
-waves_end net n P ws d c known =
-    fill_by_all (wave net) ws (length net.banks) 0 known.as_many
-    (λ i l. wave_known net i (get_or ws i 0) (whole i (get_or ws i 0) (known.each i l)))
+pub waves_end : (net : Net) (f : ℕ → ℕ → ℕ) (n : ℕ) (P ws : List ℕ) → IsDown net f n P
+    → pay_by net f P ≡ P → AreWavesTo net (falling_by net f) (n + 1) ws
+    → ws ≡ waves_in net (falling_by net f)
+waves_end net f n P ws d c known =
+    fill_by_all (wave_in net (falling_by net f)) ws (length net.banks) 0 known.as_many
+    (λ i l. wave_in_known net f d.never i (get_or ws i 0)
+    (whole i (get_or ws i 0) (known.each i l)))
   where
-    whole : (i w : ℕ) → IsWaveTo net (n + 1) i w → IsWave net i w
+    whole : (i w : ℕ) → IsWaveTo net (falling_by net f) (n + 1) i w
+        → IsWaveIn net (falling_by net f) i w
     whole i w to = record {
-      falls = λ m f. ((to.falls m f).1, (to.falls m f).2);
-      never = λ f m. ⊎_elim
-          (λ (l : m < n + 1). to.never f m l)
+      falls = λ m e. ((to.falls m e).1, (to.falls m e).2);
+      never = λ e m. ⊎_elim
+          (λ (l : m < n + 1). to.never e m l)
           (λ (g : n + 1 ≤ m). omega (
             arith,
-            to.never f n (omega arith),
-            ap (λ (R : List ℕ). estate net R i) (down_stays net n P d c m (omega arith)),
-            ap (λ (R : List ℕ). estate net R i) (down_stays net n P d c n (omega arith)),
+            to.never e n (omega arith),
+            ap (λ (R : List ℕ). estate net R i) (down_stays net f n P d c m (omega arith)),
+            ap (λ (R : List ℕ). estate net R i) (down_stays net f n P d c n (omega arith)),
           ))
           (cases_lt m (n + 1));
     }

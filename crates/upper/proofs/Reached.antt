@@ -7,11 +7,12 @@ use Rattle.clr_net.specs.declared.debt.BankId.{BankId}
 use Rattle.clr_net.specs.Limits.{IsNetwork}
 use Rattle.clr_net.specs.Net.{Net, creditor_of, debtor_of, debt_numbers}
 use Rattle.clr_net.proofs.Lists.{zeros_at}
-use Rattle.clear_core.specs.Clearing.{pay, part, receipts, estate, Clears}
+use Rattle.clear_core.specs.Clearing.{NeverFalls, pay_by, part_by, receipts, estate}
 use Rattle.cascade.specs.Standings.{due}
-use Rattle.clear_core.proofs.Pay.{pay_at}
+use Rattle.clear_core.proofs.Pay.{pay_by_at}
 use Rattle.clr_net.specs.Claims.{all_claims}
-use Rattle.upper.specs.Bounds.{greatest, waves}
+use Rattle.upper.specs.Greatest.{falling_by, greatest_by}
+use Rattle.upper.specs.Waves.{waves_in}
 use Rattle.upper.specs.Descent.{AreCurrent, HaveEnough, AreMarked, AreNoted, AreWavesTo}
 use Rattle.upper.specs.Falls.{bank_at, AreHit}
 use Rattle.upper.proofs.Descents.{IsDown, down_first, down_more, down_ends, waves_none, waves_more, waves_end}
@@ -41,23 +42,24 @@ receipts_same net P Q f g i noted e =
     (λ x passes. noted.told x (ap (λ i. get_or g i 0) (eqb-true (creditor_of net x) i passes) ∙ e))
 
 -- and so is what it pays
-pay_same : (net : Net) (P Q f g : List ℕ) (x : ℕ) → AreNoted net P Q f g → x < length net.debts
-    → get_or g (debtor_of net x) 0 ≡ 0
-    → get_or (pay net Q) x 0 ≡ get_or (pay net P) x 0
-pay_same net P Q f g x noted l e =
-    pay_at net Q x l
-    ∙ ap (part net x) (receipts_same net P Q f g (debtor_of net x) noted e)
-    ∙ sym (pay_at net P x l)
+pay_same : (net : Net) (s : ℕ → ℕ → ℕ) (P Q f g : List ℕ) (x : ℕ) → AreNoted net P Q f g
+    → x < length net.debts → get_or g (debtor_of net x) 0 ≡ 0
+    → get_or (pay_by net s Q) x 0 ≡ get_or (pay_by net s P) x 0
+pay_same net s P Q f g x noted l e =
+    pay_by_at net s Q x l
+    ∙ ap (part_by net s x) (receipts_same net P Q f g (debtor_of net x) noted e)
+    ∙ sym (pay_by_at net s P x l)
 
--- after n rounds
-pub record IsReached (net : Net) (n : ℕ) (P Q last falls ws : List ℕ) : Type 0 where
-  pub down : IsDown net n P
-  pub waves : AreWavesTo net n ws
-  pub same : Q ≡ P
-  pub banks : length last ≡ length net.banks
-  pub spared : falls ≡ replicate (length net.banks) 0
-  pub current : AreCurrent net last P P
-  pub enough : HaveEnough net last P ws
+-- after n rounds, where banks divide by s
+pub record IsReached (net : Net) (s : ℕ → ℕ → ℕ) (n : ℕ) (P Q last falls ws : List ℕ) : Type 0
+  where
+    pub down : IsDown net s n P
+    pub waves : AreWavesTo net (falling_by net s) n ws
+    pub same : Q ≡ P
+    pub banks : length last ≡ length net.banks
+    pub spared : falls ≡ replicate (length net.banks) 0
+    pub current : AreCurrent net s last P P
+    pub enough : HaveEnough net last P ws
 
 -- where each bank has yet to divide, none pays already what it will
 one_each : (net : Net) (last : List ℕ) (i : ℕ) → last ≡ replicate (length net.banks) 1
@@ -65,9 +67,9 @@ one_each : (net : Net) (last : List ℕ) (i : ℕ) → last ≡ replicate (lengt
 one_each net last i ones l = ap (λ (f : List ℕ). get_or f i 0) ones
     ∙ get_or-replicate (length net.banks) i 1 0 l
 
-pub all_current : (net : Net) (last P Q : List ℕ) → IsNetwork net
-    → last ≡ replicate (length net.banks) 1 → AreCurrent net last P Q
-all_current net last P Q network ones x l e =
+pub all_current : (net : Net) (s : ℕ → ℕ → ℕ) (last P Q : List ℕ) → IsNetwork net
+    → last ≡ replicate (length net.banks) 1 → AreCurrent net s last P Q
+all_current net s last P Q network ones x l e =
     absurd (omega (
       arith,
       one_each net last (debtor_of net x) ones
@@ -81,25 +83,26 @@ pub all_enough : (net : Net) (last P ws : List ℕ) → last ≡ replicate (leng
 all_enough net last P ws ones i l e = absurd (omega (arith, one_each net last i ones l, e))
 
 -- before the first round, so it is
-pub reached_first : (net : Net) (P next last falls ws : List ℕ) → IsNetwork net → P ≡ all_claims net
-    → next ≡ P
+pub reached_first : (net : Net) (s : ℕ → ℕ → ℕ) (P next last falls ws : List ℕ) → IsNetwork net
+    → NeverFalls s → P ≡ all_claims net → next ≡ P
     → last ≡ replicate (length net.banks) 1 → falls ≡ replicate (length net.banks) 0
     → ws ≡ replicate (length net.banks) 0
-    → IsReached net 0 P next last falls ws
-reached_first net P next last falls ws network claims same ones zeros none = record {
-  down = down_first net P claims;
-  waves = subst (AreWavesTo net 0) (sym none) (waves_none net);
+    → IsReached net s 0 P next last falls ws
+reached_first net s P next last falls ws network never claims same ones zeros none = record {
+  down = down_first net s P never claims;
+  waves = subst (AreWavesTo net (falling_by net s) 0) (sym none)
+      (waves_none net (falling_by net s));
   same = same;
   banks = ap length ones ∙ length-replicate (length net.banks) 1;
   spared = zeros;
-  current = all_current net last P P network ones;
+  current = all_current net s last P P network ones;
   enough = all_enough net last P ws ones;
 }
 
 -- a round in which some bank's receipts fell
-module _ (net : Net) (n : ℕ) (P Q next last f g ws marked : List ℕ) (banks : List BankId)
-    (old : IsReached net n P next last f ws)
-    (marks : AreMarked net P (n + 1) ws marked) (paid : Q ≡ pay net P)
+module _ (net : Net) (s : ℕ → ℕ → ℕ) (n : ℕ) (P Q next last f g ws marked : List ℕ)
+    (banks : List BankId) (old : IsReached net s n P next last f ws)
+    (marks : AreMarked net P (n + 1) ws marked) (paid : Q ≡ pay_by net s P)
     (noted : AreNoted net P Q f g) (hit : AreHit g banks) where
   -- took off a unit
   pub reached_less : length banks ≢ 0 → sum Q < sum P
@@ -116,16 +119,16 @@ module _ (net : Net) (n : ℕ) (P Q next last f g ws marked : List ℕ) (banks :
   -- and leads on
   pub reached_more : length banks ≢ 0 → (R zeros : List ℕ) → R ≡ Q
       → zeros ≡ replicate (length last) 0
-      → IsReached net (n + 1) Q R g zeros marked
+      → IsReached net s (n + 1) Q R g zeros marked
   reached_more some R zeros same wiped = record {
-    down = down_more net n P Q old.down paid
+    down = down_more net s n P Q old.down paid
         (λ same. absurd (omega (arith, reached_less some, ap sum same)));
-    waves = waves_more net n P ws marked old.down.at old.waves marks;
+    waves = waves_more net (falling_by net s) n P ws marked old.down.at old.waves marks;
     same = same;
     banks = noted.banks ∙ ap length old.spared ∙ length-replicate (length net.banks) 0;
     spared = wiped ∙ ap (λ k. replicate k 0) old.banks;
     current = λ x l e. ap (λ (R : List ℕ). get_or R x 0) paid
-        ∙ sym (pay_same net P Q f g x noted l e);
+        ∙ sym (pay_same net s P Q f g x noted l e);
     enough = λ i l e none. omega (
       arith,
       receipts_same net P Q f g i noted e,
@@ -144,14 +147,15 @@ module _ (net : Net) (n : ℕ) (P Q next last f g ws marked : List ℕ) (banks :
           (cases_lt (estate net P i) (due net i))
 
   -- where no bank's fell, nothing changed, and all is known
-  pub reached_ends : length banks ≡ 0 → (Q ≡ greatest net) × (marked ≡ waves net)
+  pub reached_ends : length banks ≡ 0
+      → (Q ≡ greatest_by net s) × (marked ≡ waves_in net (falling_by net s))
   reached_ends none =
       let same : Q ≡ P = ext_get_or 0 Q P noted.payments
       (λ x l. noted.told x (spared (creditor_of net x))) in
-      let clears : Clears net P = sym paid ∙ same in (
-        same ∙ down_ends net n P old.down clears,
-        waves_end net n P marked old.down clears
-            (waves_more net n P ws marked old.down.at old.waves marks),
+      let clears : pay_by net s P ≡ P = sym paid ∙ same in (
+        same ∙ down_ends net s n P old.down clears,
+        waves_end net s n P marked old.down clears
+            (waves_more net (falling_by net s) n P ws marked old.down.at old.waves marks),
       )
     where
       spared : (i : ℕ) → get_or g i 0 ≡ 0

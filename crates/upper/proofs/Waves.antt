@@ -1,6 +1,6 @@
 -- In which round a bank falls: in the first by its own fundamentals, and in none where it is sound
 -- at last.
-use Rattle.std.proofs.Common.{◌≡◌, ◌↔◌, ℕ, zero, suc, ◌+◌, ◌<◌, ◌≤◌, Option, Some, None, find, get_or, ⊎_elim, refl, subst, arith}
+use Rattle.std.proofs.Common.{◌≡◌, ◌↔◌, ℕ, zero, suc, ◌+◌, ◌<◌, ◌≤◌, Option, Some, None, find, List, get_or, ⊎_elim, refl, subst, arith}
 use Rattle.std.specs.Option.{option_map_or}
 use Rattle.std.specs.List.{range_with_len}
 use Rattle.std.proofs.Math.Dec.{ltb}
@@ -9,9 +9,10 @@ use Rattle.clr_net.specs.Limits.{IsNetwork}
 use Rattle.clr_net.specs.Net.{Net, units_owed, column, claim_of}
 use Rattle.clr_net.proofs.Ranges.{Found, found}
 use Rattle.clr_net.proofs.RowsAndColumns.{claim_of_at}
-use Rattle.clear_core.specs.Clearing.{estate, least}
+use Rattle.clear_core.specs.Clearing.{estate, spend, NeverFalls, pay, least}
 use Rattle.clear_core.specs.Rounds.{rounds_of}
 use Rattle.clear_core.proofs.Least.{least_clears}
+use Rattle.clear_core.proofs.Pay.{spend_mono}
 use Rattle.cascade.specs.declared.standing.Health.TheVariants.{Sound, Fundamental}
 use Rattle.cascade.specs.Standings.{due, worth, health_of}
 use Rattle.cascade.proofs.Sums.{sum_by_same}
@@ -19,59 +20,77 @@ use Rattle.cascade.proofs.Limits.{estate_le_worth}
 use Rattle.cascade.proofs.PayingOut.{paid_is}
 use Rattle.cascade.proofs.Healths.{sound_enough, enough_sound, fundamental_below, below_fundamental}
 use Rattle.clr_net.specs.Claims.{all_claims}
-use Rattle.upper.specs.Bounds.{falling, greatest, FallsShort, HoldsBefore, wave, IsWave, TellsHealth}
-use Rattle.upper.proofs.Tops.{falling_settled, greatest_clears, estate_le_falling}
+use Rattle.upper.specs.Bounds.{falling, greatest, wave, IsWave, TellsHealth}
+use Rattle.upper.specs.Greatest.{falling_by}
+use Rattle.upper.specs.Waves.{FallsShortIn, HoldsBeforeIn, IsWaveIn, wave_in}
+use Rattle.upper.proofs.Tops.{rounds_come_to, greatest_clears, estate_le_falling}
 
--- what is found among the rounds, counted from 1, is the wave
-wave_found : (net : Net) (i : ℕ) (r : Option ℕ)
-    → Found (λ n. ltb (estate net (falling net n) i) (due net i)) (units_owed net + 1) r
-    → IsWave net i (option_map_or (λ n. n + 1) r 0)
-wave_found net i None f = record {
-  falls = λ n e. absurd (omega arith);
-  never = λ e n. ⊎_elim
-      (λ (l : n < units_owed net).
-      ltb-false (estate net (falling net n) i) (due net i) (f n (omega arith)))
-      (λ (g : units_owed net ≤ n).
-      rw (falling_settled net (units_owed net) n (greatest_clears net) g)
-      (ltb-false (estate net (greatest net) i) (due net i) (f (units_owed net) (omega arith))))
-      (cases_lt n (units_owed net));
-}
-wave_found net i (Some j) f = record {
-  falls = λ n e. let same : j ≡ n = omega arith in
-      subst (λ n. FallsShort net i n × HoldsBefore net i n) same (
-        ltb-true (estate net (falling net j) i) (due net i) f.1,
-        λ m l. ltb-false (estate net (falling net m) i) (due net i) (f.2 m l),
-      );
-  never = λ e. absurd (omega arith);
-}
+-- where R n are the payments after n rounds
+module _ (net : Net) (R : ℕ → List ℕ) where
+  -- what is found among as many as units are owed and one more, counted from 1, is the wave, where
+  -- nothing changes after them
+  wave_found : ((n : ℕ) → units_owed net ≤ n → R n ≡ R (units_owed net)) → (i : ℕ) (r : Option ℕ)
+      → Found (λ n. ltb (estate net (R n) i) (due net i)) (units_owed net + 1) r
+      → IsWaveIn net R i (option_map_or (λ n. n + 1) r 0)
+  wave_found settled i None f = record {
+    falls = λ n e. absurd (omega arith);
+    never = λ e n. ⊎_elim
+        (λ (l : n < units_owed net).
+        ltb-false (estate net (R n) i) (due net i) (f n (omega arith)))
+        (λ (g : units_owed net ≤ n).
+        rw (settled n g)
+        (ltb-false (estate net (R (units_owed net)) i) (due net i) (f (units_owed net) (omega arith))))
+        (cases_lt n (units_owed net));
+  }
+  wave_found settled i (Some j) f = record {
+    falls = λ n e. let same : j ≡ n = omega arith in
+        subst (λ n. FallsShortIn net R i n × HoldsBeforeIn net R i n) same (
+          ltb-true (estate net (R j) i) (due net i) f.1,
+          λ m l. ltb-false (estate net (R m) i) (due net i) (f.2 m l),
+        );
+    never = λ e. absurd (omega arith);
+  }
 
--- so `wave` computes it
+  -- there is only one wave
+  wave_only : (i v w : ℕ) → IsWaveIn net R i v → IsWaveIn net R i w → v ≡ w
+  wave_only i zero zero a b = refl
+  wave_only i zero (suc w) a b =
+      absurd (omega (arith, (b.falls w (omega arith)).0, a.never refl w))
+  wave_only i (suc v) zero a b =
+      absurd (omega (arith, (a.falls v (omega arith)).0, b.never refl v))
+  wave_only i (suc v) (suc w) a b =
+      let here = a.falls v (omega arith) in
+      let there = b.falls w (omega arith) in
+      ⊎_elim
+      (λ (l : v < w). absurd (omega (arith, here.0, there.1 v l)))
+      (λ (g : w ≤ v). ⊎_elim
+      (λ (l : w < v). absurd (omega (arith, there.0, here.1 w l)))
+      (λ (h : v ≤ w). omega arith)
+      (cases_lt w v))
+      (cases_lt v w)
+
+module _ (net : Net) (f : ℕ → ℕ → ℕ) (never : NeverFalls f) where
+  -- so `wave_in` computes it of the rounds by f
+  wave_in_is : (i : ℕ) → IsWaveIn net (falling_by net f) i (wave_in net (falling_by net f) i)
+  wave_in_is i =
+      let p = λ (n : ℕ). ltb (estate net (falling_by net f n) i) (due net i) in
+      wave_found net (falling_by net f) (rounds_come_to net f never) i
+      (find p (range_with_len 0 (units_owed net + 1))) (found p (units_owed net + 1))
+
+  -- what is the wave is what `wave_in` computes
+  pub wave_in_known : (i w : ℕ) → IsWaveIn net (falling_by net f) i w
+      → w ≡ wave_in net (falling_by net f) i
+  wave_in_known i w is =
+      wave_only net (falling_by net f) i w (wave_in net (falling_by net f) i) is (wave_in_is i)
+
+-- so where banks divide all that they have, less what they owe outside
 pub wave_is : (net : Net) (i : ℕ) → IsWave net i (wave net i)
-wave_is net i =
-    let p = λ (n : ℕ). ltb (estate net (falling net n) i) (due net i) in
-    wave_found net i (find p (range_with_len 0 (units_owed net + 1))) (found p (units_owed net + 1))
+unfolding pay
+wave_is net i = wave_in_is net (spend net) (spend_mono net) i
 
--- and there is only one
-pub wave_only : (net : Net) (i v w : ℕ) → IsWave net i v → IsWave net i w → v ≡ w
-wave_only net i zero zero a b = refl
-wave_only net i zero (suc w) a b =
-    absurd (omega (arith, (b.falls w (omega arith)).0, a.never refl w))
-wave_only net i (suc v) zero a b =
-    absurd (omega (arith, (a.falls v (omega arith)).0, b.never refl v))
-wave_only net i (suc v) (suc w) a b =
-    let here = a.falls v (omega arith) in
-    let there = b.falls w (omega arith) in
-    ⊎_elim
-    (λ (l : v < w). absurd (omega (arith, here.0, there.1 v l)))
-    (λ (g : w ≤ v). ⊎_elim
-    (λ (l : w < v). absurd (omega (arith, there.0, here.1 w l)))
-    (λ (h : v ≤ w). omega arith)
-    (cases_lt w v))
-    (cases_lt v w)
-
--- what is the wave is what `wave` computes
 pub wave_known : (net : Net) (i w : ℕ) → IsWave net i w → w ≡ wave net i
-wave_known net i w is = wave_only net i w (wave net i) is (wave_is net i)
+unfolding pay
+wave_known net i w is = wave_in_known net (spend net) (spend_mono net) i w is
 
 -- with all debts paid in full a bank has all that it is worth
 estate_of_claims : (net : Net) (i : ℕ) → estate net (all_claims net) i ≡ worth net i
@@ -94,7 +113,7 @@ module _ (net : Net) (network : IsNetwork net) (i w : ℕ) (is : IsWave net i w)
             by_wave w is (omega (arith, top, l)),
       )
     where
-      by_wave : (w : ℕ) → IsWave net i w → FallsShort net i 0 → w ≡ 1
+      by_wave : (w : ℕ) → IsWave net i w → FallsShortIn net (falling net) i 0 → w ≡ 1
       by_wave zero is l = absurd (omega (arith, is.never refl 0, l))
       by_wave (suc zero) is l = refl
       by_wave (suc (suc v)) is l =

@@ -1,55 +1,41 @@
 -- The greatest payments that clear a network, and the round in which each bank falls on the way
 -- down to them.
-use Rattle.std.specs.Prelude.{◌≡◌, ◌≢◌, ◌↔◌, ℕ, ◌+◌, ◌<◌, ◌≤◌, ◌==◌, ◌&&◌, nat_lt, Bool, true, List, length, map, map, find, slice_index}
-use Rattle.std.specs.List.{range_with_len}
-use Rattle.std.specs.Option.{option_map_or}
-use Rattle.clr_net.specs.Amounts.{IsAtMost}
+use Rattle.std.specs.Prelude.{◌≡◌, ◌≢◌, ◌↔◌, ℕ, ◌<◌, ◌==◌, ◌&&◌, Bool, true, List, length, map, slice_index}
 use Rattle.clr_net.specs.Claims.{all_claims}
 use Rattle.clr_net.specs.Net.{Net, units_owed}
-use Rattle.clear_core.specs.Clearing.{pay, estate, Clears, least}
+use Rattle.clear_core.specs.Clearing.{pay, Clears, least}
 use Rattle.clear_core.specs.Rounds.{rounds_of}
 use Rattle.cascade.specs.declared.standing.Health.{Health}
 use Rattle.cascade.specs.declared.standing.Health.TheVariants as health
-use Rattle.cascade.specs.Standings.{bank_numbers, due, equity, health_of, is_default, outside_paid}
+use Rattle.cascade.specs.Standings.{bank_numbers, equity, health_of, is_default, outside_paid}
+use Rattle.upper.specs.Greatest.{IsGreatestOf}
+use Rattle.upper.specs.Waves.{IsWaveIn, wave_in, waves_in}
 
 -- the greatest payments that clear the network: no payments that clear are anywhere above them
-pub record IsGreatest (net : Net) (P : List ℕ) : Type 0 where
-  pub clears : Clears net P
-  pub greatest : (Q : List ℕ) → Clears net Q → IsAtMost Q P
+abbrev pub IsGreatest : Net → List ℕ → Type 0
+IsGreatest net = IsGreatestOf (pay net)
 
 -- the payments after n rounds from all debts paid in full, in each of which all banks pay at once
 abbrev pub falling : Net → ℕ → List ℕ
-falling net n = rounds_of (pay net) (all_claims net) n
+falling net = rounds_of (pay net) (all_claims net)
 
 -- the payments after as many rounds as units are owed: the greatest that clear, as the law
 -- `greatest_is_greatest` says
 abbrev pub greatest : Net → List ℕ
 greatest net = falling net (units_owed net)
 
--- after n rounds the bank i has less than all that it owes
-abbrev pub FallsShort : Net → ℕ → ℕ → Type 0
-FallsShort net i n = estate net (falling net n) i < due net i
+-- the wave of the bank i is w: the first of these rounds, counted from 1, that it enters with less
+-- than all that it owes, and 0 where there is no such round
+abbrev pub IsWave : Net → ℕ → ℕ → Type 0
+IsWave net = IsWaveIn net (falling net)
 
--- and up to then it never had
-abbrev pub HoldsBefore : Net → ℕ → ℕ → Type 0
-HoldsBefore net i n = (m : ℕ) → m < n → due net i ≤ estate net (falling net m) i
-
--- the wave of the bank i is w: the first round, counted from 1, that it enters with less than all
--- that it owes, and 0 where there is no such round
-pub record IsWave (net : Net) (i w : ℕ) : Type 0 where
-  pub falls : (n : ℕ) → w ≡ n + 1 → FallsShort net i n × HoldsBefore net i n
-  pub never : w ≡ 0 → (n : ℕ) → due net i ≤ estate net (falling net n) i
-
--- that round, sought among as many as units are owed and one more: after these nothing changes
+-- that round
 abbrev pub wave : Net → ℕ → ℕ
-wave net i = option_map_or (λ n. n + 1)
-    (find (λ n. nat_lt (estate net (falling net n) i) (due net i))
-    (range_with_len 0 (units_owed net + 1)))
-    0
+wave net = wave_in net (falling net)
 
 -- the waves of all banks, in file order
 abbrev pub waves : Net → List ℕ
-waves net = map (wave net) (bank_numbers net)
+waves net = waves_in net (falling net)
 
 -- a bank that stands so under the least payments, and whose wave is w, is in gridlock: it is in
 -- default there, and never falls short on the way to the greatest

@@ -1,26 +1,28 @@
 -- What is known between two rounds on the way down to the greatest payments.
 use Rattle.std.specs.Prelude.{◌≡◌, ◌≢◌, ℕ, ◌+◌, ◌<◌, ◌≤◌, List, length, slice_index, sum}
 use Rattle.clr_net.specs.Net.{Net, creditor_of, debtor_of}
-use Rattle.clear_core.specs.Clearing.{pay, estate}
+use Rattle.clear_core.specs.Clearing.{estate}
+use Rattle.clear_least.specs.Paying.{pay_by}
 use Rattle.cascade.specs.Standings.{due}
-use Rattle.upper.specs.Bounds.{FallsShort, HoldsBefore}
+use Rattle.upper.specs.Waves.{FallsShortIn, HoldsBeforeIn}
 
--- w is the first of the first n rounds that the bank i enters with less than all that it owes, and
--- 0 where there is none among them
-pub record IsWaveTo (net : Net) (n i w : ℕ) : Type 0 where
-  pub falls : (m : ℕ) → w ≡ m + 1 → (m < n) × FallsShort net i m × HoldsBefore net i m
-  pub never : w ≡ 0 → HoldsBefore net i n
+-- where R n are the payments after n rounds, w is the first of the first n rounds that the bank i
+-- enters with less than all that it owes, and 0 where there is none among them
+pub record IsWaveTo (net : Net) (R : ℕ → List ℕ) (n i w : ℕ) : Type 0 where
+  pub falls : (m : ℕ) → w ≡ m + 1 → (m < n) × FallsShortIn net R i m × HoldsBeforeIn net R i m
+  pub never : w ≡ 0 → HoldsBeforeIn net R i n
 
 -- so it is with the waves of all banks
-pub record AreWavesTo (net : Net) (n : ℕ) (waves : List ℕ) : Type 0 where
+pub record AreWavesTo (net : Net) (R : ℕ → List ℕ) (n : ℕ) (waves : List ℕ) : Type 0 where
   pub as_many : length waves ≡ length net.banks
-  pub each : (i : ℕ) → i < length net.banks → IsWaveTo net n i (slice_index waves i)
+  pub each : (i : ℕ) → i < length net.banks → IsWaveTo net R n i (slice_index waves i)
 
 -- a bank whose receipts did not fall in the last round pays on its debts, by the list Q, what all
--- banks would pay at once after the payments P: it need not divide anew
-abbrev pub AreCurrent : Net → List ℕ → List ℕ → List ℕ → Type 0
-AreCurrent net falls P Q = (x : ℕ) → x < length net.debts → slice_index falls (debtor_of net x) ≡ 0
-    → slice_index Q x ≡ slice_index (pay net P) x
+-- banks would pay at once by f after the payments P: it need not divide anew
+abbrev pub AreCurrent : Net → (ℕ → ℕ → ℕ) → List ℕ → List ℕ → List ℕ → Type 0
+AreCurrent net f falls P Q = (x : ℕ) → x < length net.debts
+    → slice_index falls (debtor_of net x) ≡ 0
+    → slice_index Q x ≡ slice_index (pay_by net f P) x
 
 -- and, if it has no wave, it has all that it owes
 abbrev pub HaveEnough : Net → List ℕ → List ℕ → List ℕ → Type 0

@@ -1,3 +1,5 @@
+pub mod Greatest
+pub mod Waves
 pub mod Bounds
 pub mod Falls
 pub mod Descent

@@ -1,15 +1,19 @@
 ghost use Rattle.clear_core.specs.Buffers.{HasRoom};
+ghost use Rattle.clear_least.specs.Paying.{NeverFalls};
+ghost use Rattle.clr_net.specs.Claims.{all_claims};
 ghost use Rattle.clr_net.specs.Limits.{IsNetwork};
 ghost use Rattle.std.specs.Prelude.{◌≡◌, IfOk, OnOk, length, replicate};
-ghost use Rattle.clr_net.specs.Claims.{all_claims};
 ghost use Rattle.upper.specs.Bounds.{EquitiesAreFixed, IsGreatest, WavesTellHealth};
 ghost use Rattle.upper.specs.Bounds.{greatest, waves as waves_of};
+ghost use Rattle.upper.specs.Greatest.{IsGreatestBy, falling_by, greatest_by as greatest_payments};
+ghost use Rattle.upper.specs.Waves.{waves_in};
 
 use crate::bounds::Upper;
+use crate::divider::Divider;
 use crate::falls::Falls;
 use crate::round::{pay_round, take_over};
 use crate::short::mark_short;
-use clear_core::Scratch;
+use clear_least::{Spending, WithoutCosts};
 use clr_net::{Amounts, DebtId, Mem, Network};
 use std::alloc::Global;
 use std::mem;
@@ -30,91 +34,114 @@ pub fn upper(alloc: Global, net: &Network) -> Result<Upper, Mem>
     ensures healths { IfOk result (λ found. WavesTellHealth net.now found.waves) }
     ensures equities { OnOk result (EquitiesAreFixed net.now) }
 {
-    let debts = net.debts() as usize;
-    let mut paid = Amounts::zeros(alloc, debts)?;
+    descend_by(alloc, net, &WithoutCosts)
+}
+
+/// The greatest payments that clear where each bank divides what `spending` says, one for each
+/// debt, in file order, in units. No bank may divide less as its receipts grow.
+///
+/// `Mem` is want of memory alone. Takes memory, and costs, as [`upper`] does.
+pub fn greatest_by<S: Spending>(alloc: Global, net: &Network, spending: &S) -> Result<Amounts, Mem>
+    requires never_falls { NeverFalls (S.spends spending.now net.now) }
+    ensures payments { IfOk result (λ paid. paid
+        ≡ greatest_payments net.now (S.spends spending.now net.now)) }
+    ensures greatest { IfOk result (IsGreatestBy net.now (S.spends spending.now net.now)) }
+{
+    Ok(descend_by(alloc, net, spending)?.greatest)
+}
+
+// The greatest payments, and the waves of the rounds that come to them.
+fn descend_by<S: Spending>(alloc: Global, net: &Network, spending: &S) -> Result<Upper, Mem>
+    requires never_falls { NeverFalls (S.spends spending.now net.now) }
+    ensures network { OnOk result (IsNetwork net.now) }
+    ensures greatest { IfOk result (λ found. found.greatest
+        ≡ greatest_payments net.now (S.spends spending.now net.now)) }
+    ensures waves { IfOk result (λ found. found.waves
+        ≡ waves_in net.now (falling_by net.now (S.spends spending.now net.now))) }
+{
+    let mut greatest = Amounts::zeros(alloc, net.debts() as usize)?;
     let mut waves = Amounts::zeros(alloc, net.banks() as usize)?;
-    descend_in_room(alloc, net, paid.as_mut_slice(), waves.as_mut_slice())?;
-    Ok(Upper {
-        greatest: paid,
-        waves,
-    })
+    descend_in_room(
+        alloc,
+        net,
+        spending,
+        greatest.as_mut_slice(),
+        waves.as_mut_slice(),
+    )?;
+    Ok(Upper { greatest, waves })
 }
 
 // Takes the room that the rounds need beside the two lists that are written, and makes them. With
 // that room behind references the next step has little to drop.
-fn descend_in_room(
+fn descend_in_room<S: Spending>(
     alloc: Global,
     net: &Network,
+    spending: &S,
     paid: &mut [u64],
     waves: &mut [u64],
 ) -> Result<(), Mem>
+    requires never_falls { NeverFalls (S.spends spending.now net.now) }
     requires paid { length paid.old ≡ length net.now.debts }
     requires waves { waves.old ≡ replicate (length net.now.banks) 0 }
-    ensures paid { OnOk result (paid.new ≡ greatest net.now) }
-    ensures waves { OnOk result (waves.new ≡ waves_of net.now) }
+    ensures paid { OnOk result (paid.new
+        ≡ greatest_payments net.now (S.spends spending.now net.now)) }
+    ensures waves { OnOk result (waves.new
+        ≡ waves_in net.now (falling_by net.now (S.spends spending.now net.now))) }
 {
     let mut next = Amounts::zeros(alloc, net.debts() as usize)?;
-    let mut scratch = Scratch::of(alloc, net)?;
-    descend_noting(alloc, net, paid, next.as_mut_slice(), &mut scratch, waves)
-}
-
-// Takes the room for what each bank loses in a round, and makes the rounds.
-fn descend_noting(
-    alloc: Global,
-    net: &Network,
-    paid: &mut [u64],
-    next: &mut [u64],
-    scratch: &mut Scratch,
-    waves: &mut [u64],
-) -> Result<(), Mem>
-    requires network { IsNetwork net.now }
-    requires paid { length paid.old ≡ length net.now.debts }
-    requires next { length next.old ≡ length net.now.debts }
-    requires room { HasRoom net.now scratch.old }
-    requires waves { waves.old ≡ replicate (length net.now.banks) 0 }
-    ensures paid { OnOk result (paid.new ≡ greatest net.now) }
-    ensures waves { OnOk result (waves.new ≡ waves_of net.now) }
-{
-    // In the first round every bank divides.
-    let mut last = Falls::of_all(alloc, net)?;
-    let mut falls = Falls::none(alloc, net)?;
-    descend(net, paid, next, scratch, &mut last, &mut falls, waves);
+    let mut room = Room {
+        divider: Divider::of(alloc, net)?,
+        // In the first round every bank divides.
+        last: Falls::of_all(alloc, net)?,
+        falls: Falls::none(alloc, net)?,
+    };
+    descend(net, spending, paid, waves, next.as_mut_slice(), &mut room);
     Ok(())
 }
 
+// What the rounds need beside lists of payments.
+#[derive(Drop)]
+struct Room {
+    divider: Divider,
+    // By how much receipts fell in the last round, and in this one.
+    last: Falls,
+    falls: Falls,
+}
+
 // Makes rounds from all debts paid in full, up to the first that changes nothing.
-fn descend(
+fn descend<S: Spending>(
     net: &Network,
+    spending: &S,
     paid: &mut [u64],
-    next: &mut [u64],
-    scratch: &mut Scratch,
-    last: &mut Falls,
-    falls: &mut Falls,
     waves: &mut [u64],
+    next: &mut [u64],
+    room: &mut Room,
 )
     requires network { IsNetwork net.now }
+    requires never_falls { NeverFalls (S.spends spending.now net.now) }
     requires paid { length paid.old ≡ length net.now.debts }
-    requires next { length next.old ≡ length net.now.debts }
-    requires room { HasRoom net.now scratch.old }
-    requires last { last.old ≡ replicate (length net.now.banks) 1 }
-    requires falls { falls.old ≡ replicate (length net.now.banks) 0 }
     requires waves { waves.old ≡ replicate (length net.now.banks) 0 }
-    ensures paid { paid.new ≡ greatest net.now }
-    ensures waves { waves.new ≡ waves_of net.now }
+    requires next { length next.old ≡ length net.now.debts }
+    requires divider { HasRoom net.now room.old.divider }
+    requires last { room.old.last ≡ replicate (length net.now.banks) 1 }
+    requires falls { room.old.falls ≡ replicate (length net.now.banks) 0 }
+    ensures paid { paid.new ≡ greatest_payments net.now (S.spends spending.now net.now) }
+    ensures waves { waves.new
+        ≡ waves_in net.now (falling_by net.now (S.spends spending.now net.now)) }
 {
     pay_all(net, paid);
     next.copy_from_slice(paid);
     let mut round = 0;
     loop {
         round += 1;
-        mark_short(net, last, paid, round, waves);
-        pay_round(net, last, paid, next, scratch);
-        take_over(net, last, next, paid, falls);
-        if falls.banks().is_empty() {
+        mark_short(net, &room.last, paid, round, waves);
+        pay_round(net, spending, &room.last, paid, next, &mut room.divider);
+        take_over(net, &room.last, next, paid, &mut room.falls);
+        if room.falls.banks().is_empty() {
             return;
         }
-        mem::swap(last, falls);
-        falls.clear();
+        mem::swap(&mut room.last, &mut room.falls);
+        room.falls.clear();
     }
 }
 

@@ -5,7 +5,9 @@
 //! clear by paying nothing, and may clear by paying all. [`upper`] comes from above. It begins with
 //! all debts paid in full, and in each round all banks pay at once what their rules then give
 //! (Eisenberg and Noe 2001), until a round changes nothing. A bank's *wave* is the first round,
-//! counted from 1, that it enters with less than all that it owes.
+//! counted from 1, that it enters with less than all that it owes. [`greatest_by`] makes the same
+//! rounds where banks divide something else than all that they have, as a `Spending` of
+//! `clear_least` says.
 //!
 //! A round costs what it changes: only the banks whose receipts fell in the last one divide anew,
 //! and they alone are gone over. Each fall of a payment is a unit at least, so there are at most as
@@ -14,10 +16,11 @@
 
 mod bounds;
 mod descent;
+mod divider;
 mod falls;
 pub mod laws;
 mod round;
 mod short;
 
 pub use bounds::Upper;
-pub use descent::upper;
+pub use descent::{greatest_by, upper};

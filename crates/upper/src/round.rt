@@ -1,5 +1,5 @@
 ghost use Rattle.clear_core.specs.Buffers.{AreInLimit, HasRoom};
-ghost use Rattle.clear_core.specs.Clearing.{pay};
+ghost use Rattle.clear_least.specs.Paying.{pay_by};
 ghost use Rattle.clr_net.specs.Amounts.{IsAtMost};
 ghost use Rattle.clr_net.specs.Limits.{IsNetwork};
 ghost use Rattle.clr_net.specs.Net.{debtor_of};
@@ -7,33 +7,63 @@ ghost use Rattle.clr_net.specs.declared.TheConstants.{MAX_OWED};
 ghost use Rattle.std.specs.Prelude.{◌≡◌, ◌≢◌, ◌+◌, ◌<◌, ◌≤◌, ℕ, length, slice_index, sum};
 ghost use Rattle.upper.specs.Descent.{AreCurrent, AreNoted};
 
+use crate::divider::Divider;
 use crate::falls::Falls;
-use clear_core::Scratch;
+use clear_core::receipts_of;
+use clear_least::Spending;
 use clr_net::{BankId, Network};
 
-// All banks pay at once what their rules give from what they have received by `paid`; what each
-// pays is written into `next`. Only the banks whose receipts fell in the last round divide anew:
-// what the others pay stands there already.
-pub(crate) fn pay_round(
+// All banks pay at once what their rules give of what they divide of their receipts by `paid`; what
+// each pays is written into `next`. Only the banks whose receipts fell in the last round divide
+// anew: what the others pay stands there already.
+pub(crate) fn pay_round<S: Spending>(
     net: &Network,
+    spending: &S,
     last: &Falls,
     paid: &[u64],
     next: &mut [u64],
-    scratch: &mut Scratch,
+    divider: &mut Divider,
 )
     requires network { IsNetwork net.now }
     requires banks { length last.now ≡ length net.now.banks }
     requires paid { length paid.now ≡ length net.now.debts }
     requires paid_in_limit { AreInLimit paid.now }
     requires next { length next.old ≡ length net.now.debts }
-    requires current { AreCurrent net.now last.now paid.now next.old }
-    requires room { HasRoom net.now scratch.old }
-    ensures next { next.new ≡ pay net.now paid.now }
-    ensures room { scratch.new ≡ scratch.old }
+    requires current { AreCurrent net.now (S.spends spending.now net.now) last.now paid.now
+        next.old }
+    requires room { HasRoom net.now divider.old }
+    ensures next { next.new ≡ pay_by net.now (S.spends spending.now net.now) paid.now }
+    ensures room { divider.new ≡ divider.old }
 {
     for bank in last.banks() {
-        scratch.pay_row(net, *bank, paid, next);
+        pay_bank(net, spending, *bank, paid, next, divider);
     }
+}
+
+// A bank pays on the debts of its row what its rule gives of what it divides of its receipts.
+fn pay_bank<S: Spending>(
+    net: &Network,
+    spending: &S,
+    bank: BankId,
+    paid: &[u64],
+    next: &mut [u64],
+    divider: &mut Divider,
+)
+    requires network { IsNetwork net.now }
+    requires bank { bank.0 < length net.now.banks }
+    requires paid { length paid.now ≡ length net.now.debts }
+    requires paid_in_limit { AreInLimit paid.now }
+    requires next { length next.old ≡ length net.now.debts }
+    requires room { HasRoom net.now divider.old }
+    ensures in_row { (x : ℕ) → x < length net.now.debts → debtor_of net.now x ≡ bank.0
+        → slice_index next.new x
+        ≡ slice_index (pay_by net.now (S.spends spending.now net.now) paid.now) x }
+    ensures others { (x : ℕ) → debtor_of net.now x ≢ bank.0
+        → slice_index next.new x ≡ slice_index next.old x }
+    ensures room { divider.new ≡ divider.old }
+{
+    let receipts = receipts_of(net, bank, paid);
+    divider.pay_row(net, bank, spending.spend(net, bank, receipts), next);
 }
 
 // Brings `paid` down to `next`, and notes by how much the receipts of each bank fall by that. What

@@ -60,7 +60,8 @@ bank, in the order of the files:
 
 payments    debtor, creditor, class, claim, paid (of `bounds`: least, greatest)
 standings   bank, estate, outside_paid, paid, owed, equity, state
-            (of `costs`: bank, estate, lost, outside_paid, paid, equity, state)
+            (of `costs`: bank, estate, lost, outside_paid, paid, equity, state; of
+            `cost_bounds`: bank, and lost, equity, state at the least and at the greatest)
 waves       bank, wave, gridlock, equity
 journal     stamp, debtor, creditor, class, to: a place for each raise of a payment, in order
 banks       name, cash, rule, outside
@@ -86,10 +87,32 @@ number  scenario       estate  outside_paid  paid  owed  equity  defaults  cash
      1  half               84             0    41    82      43         2    43
      2  Oak loses all      85             0    60    82      25         2    25
 
-`map_stress` and `map_outcomes` run many networks and any number of scenarios side by side, on
-this machine or by an executor of others; their results come one after another, whole or in
-sums. `bounds()` has the least and the greatest payments and the waves of default, `costs(keep)` what is lost where
-estates are sold in haste, and `compress()` cancels cycles of debts.
+`outcomes(years)` has them in sums. `map_stress` and `map_outcomes` run many networks and any number
+of scenarios side by side, on this machine or by an executor of others; their results come one
+after another, whole or in sums. `bounds()` has the least and the greatest payments and the waves
+of default, `costs(keep)` what is lost where estates are sold in haste, `cost_bounds(keep)` the
+least and the greatest payments then, and `compress()` cancels cycles of debts.
+
+What would break, hurt and save whom
+------------------------------------
+>>> print(net.breaking().cuts)
+bank   cut  state
+Ash      0  fundamental
+Elm      0  contagion
+Oak   1000  contagion
+Yew   1001  sound
+>>> print(net.impact().banks)
+bank  cash  own  others  falls
+Ash     20    0      20      0
+Elm      5    0       5      0
+Oak     60   60       0      0
+Yew      0    0       0      0
+>>> net.rescues().saved
+<Table of 1: bank, saves>
+
+A cut is per mille of all cash; 1001 is a bank that none breaks. `impact` lets each bank in turn
+lose all its cash. `rescues` finds the least cash that saves each bank in default, and whom that
+saves besides.
 
 Evidence
 --------
@@ -144,26 +167,36 @@ from .program import find_program
 from .records import Bank as Bank
 from .records import BankCounts as BankCounts
 from .records import Bound as Bound
+from .records import BreakingCut as BreakingCut
+from .records import CostBound as CostBound
 from .records import CostStanding as CostStanding
 from .records import Debt as Debt
+from .records import Harm as Harm
 from .records import Payment as Payment
 from .records import Raise as Raise
 from .records import Rank as Rank
+from .records import Ruin as Ruin
+from .records import Saved as Saved
+from .records import Saving as Saving
 from .records import ScenarioSums as ScenarioSums
 from .records import Standing as Standing
 from .records import Wave as Wave
 from .results import Bounds as Bounds
+from .results import Breaking as Breaking
 from .results import Check as Check
 from .results import Clearing as Clearing
 from .results import Compression as Compression
 from .results import Converted as Converted
+from .results import CostBounds as CostBounds
 from .results import Costs as Costs
 from .results import Defaults as Defaults
 from .results import Generated as Generated
+from .results import Impact as Impact
 from .results import Journal as Journal
 from .results import Outcome as Outcome
 from .results import Outcomes as Outcomes
 from .results import Rescue as Rescue
+from .results import Rescues as Rescues
 from .results import Result as Result
 from .results import Stress as Stress
 from .results import Verdict as Verdict

@@ -7,30 +7,28 @@ begun is called off.
 from __future__ import annotations
 
 import contextlib
+import functools
 import multiprocessing
-import operator
 import os
 import signal
 from collections import deque
 from concurrent.futures import Executor, ProcessPoolExecutor
-from typing import IO, Any, Callable, Deque, Dict, Iterable, Iterator, List, NamedTuple, Optional, Tuple, TypeVar, Union
+from typing import Any, Callable, Deque, Iterable, Iterator, List, NamedTuple, Optional, Tuple, TypeVar, Union
 
 from . import tabular
 from .errors import RefusedError
 from .format import MAX_SCENARIOS
-from .network import Network, ScenariosLike, as_scenarios, effort, is_file, read_file, toml_bytes
+from .network import Network, ScenariosLike, as_scenarios, as_third, effort, is_file, read_file
 from .records import BankCounts, ScenarioSums
 from .results import Outcome, Outcomes
 from .scenarios import Scenarios
 from .table import Table
-from .texts import outcomes_in, without_payments
+from .texts import outcomes_in
 
 P = TypeVar("P")
 
 RECORDS = 50_000
 """About how many records the outcomes of one run have, at least those of one scenario."""
-MOST_SUMMED = 25
-"""How many scenarios are summed up in a run."""
 
 
 class Part(NamedTuple):
@@ -39,17 +37,13 @@ class Part(NamedTuple):
     scenarios: Union[Scenarios, bytes]
     before: int
     last: bool
-    workers: int
-    sweeps: int
 
 
 class Sums(NamedTuple):
-    """Scenarios of one run in sums, and for each bank in how many of them it defaults, and in how many by its own doing."""
+    """Scenarios of one run in sums, and the counts of the banks over them."""
 
-    scenarios: List[ScenarioSums]
-    names: List[str]
-    defaults: List[int]
-    fundamental: List[int]
+    scenarios: Table[ScenarioSums]
+    banks: Table[BankCounts]
 
 
 def map_stress(
@@ -77,24 +71,18 @@ def map_stress(
     [(1, 0), (2, 1), (1, 0), (2, 0)]
     """
     known = scenarios_of(scenarios)
-    tasks = (
-        (net, part)
-        for net in networks
-        for part in parts_of(known, most_in_a_run(net), workers, sweeps)
-    )
-    return outcomes_of(in_turn(stressed, tasks, jobs, executor))
+    tasks = ((net, part) for net in networks for part in parts_of(known, most_in_a_run(net)))
+    return outcomes_of(in_turn(functools.partial(stressed, workers=workers, sweeps=sweeps), tasks, jobs, executor))
 
 
 def map_outcomes(
     networks: Iterable[Network],
     scenarios: ScenariosLike,
     jobs: Optional[int] = None,
-    workers: int = 1,
-    sweeps: int = 1,
     executor: Optional[Executor] = None,
 ) -> Iterator[Outcomes]:
     """What the same scenarios leave of each network in sums: an `Outcomes` for each network, in order, as they come. The
-    words are those of `map_stress`. Of each scenario its seven sums are kept, and no payment.
+    words are those of `map_stress`. The program prints no payment, and each run has as many threads as it takes.
 
     >>> nets = [Network({"A": cash, "B": 0}, {("A", "B"): 10}) for cash in (10, 20)]
     >>> first, second = map_outcomes(nets, Scenarios.cuts([0, 100]))
@@ -106,7 +94,7 @@ def map_outcomes(
     BankCounts(bank='A', defaults=0, fundamental=0)
     """
     known = scenarios_of(scenarios)
-    tasks = ((net, part) for net in networks for part in parts_of(known, MOST_SUMMED, workers, sweeps))
+    tasks = ((net, part) for net in networks for part in parts_of(known, MAX_SCENARIOS))
     return summed_up(in_turn(summed, tasks, jobs, executor))
 
 
@@ -115,13 +103,13 @@ def scenarios_of(scenarios: ScenariosLike) -> Union[Scenarios, bytes]:
     return read_file(scenarios) if is_file(scenarios) else as_scenarios(scenarios)
 
 
-def parts_of(scenarios: Union[Scenarios, bytes], most: int, workers: int, sweeps: int) -> Iterator[Part]:
+def parts_of(scenarios: Union[Scenarios, bytes], most: int) -> Iterator[Part]:
     """The scenarios in runs of at most so many; one run where there is none, as it reads the network."""
     if isinstance(scenarios, bytes):
-        yield Part(scenarios, 0, True, workers, sweeps)
+        yield Part(scenarios, 0, True)
         return
     for at in range(0, max(1, len(scenarios)), most):
-        yield Part(scenarios[at : at + most], at, at + most >= len(scenarios), workers, sweeps)
+        yield Part(scenarios[at : at + most], at, at + most >= len(scenarios))
 
 
 def most_in_a_run(net: Network) -> int:
@@ -194,9 +182,9 @@ def summed_up(done: Iterator[Tuple[Network, Part, Sums]]) -> Iterator[Outcomes]:
 
 def together(parts: List[Sums], net: Network) -> Outcomes:
     """The sums of several runs of one network, with the text that says them."""
-    counts = [list(map(sum, zip(*(getattr(part, word) for part in parts)))) for word in ("defaults", "fundamental")]
+    counts = [list(map(sum, zip(*(part.banks.column(word) for part in parts)))) for word in ("defaults", "fundamental")]
     scenarios = Table.of(ScenarioSums, [one for part in parts for one in part.scenarios])
-    banks = Table(BankCounts, [parts[0].names, *counts])
+    banks = Table(BankCounts, [parts[0].banks.column("bank"), *counts])
     return Outcomes(scenarios, banks).told(text_of_table(scenarios) + "\n" + text_of_table(banks), net)
 
 
@@ -209,38 +197,29 @@ def text_of_table(table: Table[Any]) -> str:
 
 
 @contextlib.contextmanager
-def stream_of(net: Network, part: Part) -> Iterator[IO[bytes]]:
-    """What `stress` prints for the scenarios of a run, as it comes. A fault counts scenarios on from those before it."""
-    is_text = isinstance(part.scenarios, bytes)
-    document = part.scenarios if isinstance(part.scenarios, bytes) else toml_bytes(part.scenarios)
-    third, known = ("scenarios", "toml", document), None if is_text else part.scenarios
+def counted_on(part: Part) -> Iterator[None]:
+    """A fault of the scenarios of a run counts them on from those before it."""
     try:
-        with net._stream("stress", *effort(part.workers, part.sweeps), third=third, known=known) as stream:
-            yield stream
+        yield
     except RefusedError as fault:
         row = fault.row + part.before if fault.file == "scenarios" and fault.row else fault.row
         raise RefusedError(fault.file, row, fault.kind, fault.number, fault.record) from fault
 
 
-def stressed(net: Network, part: Part) -> List[Outcome]:
-    """The outcomes of a run, numbered on from those before it. Parsed where it runs."""
-    with stream_of(net, part) as stream:
+def known_of(part: Part) -> Optional[Scenarios]:
+    """The scenarios of a run, where they are not a file."""
+    return None if isinstance(part.scenarios, bytes) else part.scenarios
+
+
+def stressed(net: Network, part: Part, workers: int, sweeps: int) -> List[Outcome]:
+    """The outcomes of a run, numbered on from those before it. Parsed where it runs, as they come."""
+    third, known = as_third(part.scenarios), known_of(part)
+    with counted_on(part), net._stream("stress", *effort(workers, sweeps), third=third, known=known) as stream:
         return list(outcomes_in(stream, part.before))
 
 
 def summed(net: Network, part: Part) -> Sums:
-    """The sums of a run, of which no more than one scenario is held."""
-    scenarios: List[ScenarioSums] = []
-    names: List[str] = []
-    counts: Dict[str, List[int]] = {}
-    with stream_of(net, part) as stream:
-        for outcome in outcomes_in(without_payments(stream)):
-            states, sums = outcome.standings.column("state"), outcome.total
-            own = [state == "fundamental" for state in states]
-            line = (sums.cash, sums.paid, sums.outside_paid, sums.equity, sums.defaults, sum(own))
-            scenarios.append(ScenarioSums(outcome.name, *line))
-            names = outcome.standings.column("bank")
-            for word, falls in (("defaults", [state != "sound" for state in states]), ("fundamental", own)):
-                counts[word] = list(map(operator.add, counts.get(word, [0] * len(names)), falls))
-    names = names or net.banks.column("name")
-    return Sums(scenarios, names, *(counts.get(word, [0] * len(names)) for word in ("defaults", "fundamental")))
+    """The sums of a run."""
+    with counted_on(part):
+        left = net._ask(Outcomes, "outcomes", third=as_third(part.scenarios), known=known_of(part))
+    return Sums(left.scenarios, left.banks)

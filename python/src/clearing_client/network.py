@@ -17,14 +17,19 @@ from .program import Done, fault_of, run, started
 from .records import Bank, Debt, Raise
 from .results import (
     Bounds,
+    Breaking,
     Check,
     Clearing,
     Compression,
+    CostBounds,
     Costs,
     Defaults,
     Generated,
+    Impact,
     Journal,
+    Outcomes,
     Rescue,
+    Rescues,
     Result,
     Stress,
     Verdict,
@@ -227,13 +232,20 @@ class Network:
         >>> [one.defaults for one in left.scenarios]
         [[], ['A', 'B']]
         """
-        chosen: Union[Scenarios, bytes] = read_file(scenarios) if is_file(scenarios) else as_scenarios(scenarios)
-        return self._stress(chosen, workers, sweeps)
+        third, known = third_of(scenarios)
+        return self._ask(Stress, "stress", *effort(workers, sweeps), third=third, known=known)
 
-    def _stress(self, scenarios: Union[Scenarios, bytes], workers: int, sweeps: int) -> Stress:
-        document = scenarios if isinstance(scenarios, bytes) else toml_bytes(scenarios)
-        known = None if isinstance(scenarios, bytes) else scenarios
-        return self._ask(Stress, "stress", *effort(workers, sweeps), third=("scenarios", "toml", document), known=known)
+    def outcomes(self, scenarios: ScenariosLike) -> Outcomes:
+        """What each scenario leaves in sums, given as for `stress`: the cash that is left, what is paid and paid outside, what
+        banks keep, and how many default; and in how many scenarios each bank does. At most 100; `map_outcomes` takes more.
+
+        >>> net = Network({"A": 7, "B": 1, "C": 0}, {("A", "B"): 7, ("B", "C"): 8})
+        >>> left = net.outcomes([Scenario("as it is"), Scenario("A loses 1", losses={"A": 1})])
+        >>> left.scenarios.column("defaults"), left.banks[1]
+        ([0, 2], BankCounts(bank='B', defaults=1, fundamental=0))
+        """
+        third, known = third_of(scenarios)
+        return self._ask(Outcomes, "outcomes", third=third, known=known)
 
     def bounds(self, workers: int = 4, sweeps: int = 1) -> Bounds:
         """The least and the greatest payments that clear; for each bank the round in which it first falls short on the way
@@ -273,6 +285,49 @@ class Network:
         (4, 3)
         """
         return self._ask(Costs, "costs", "--keep", keep)
+
+    def cost_bounds(self, keep: int) -> CostBounds:
+        """The least and the greatest payments that clear where an estate in default is worth only `keep` thousandths, 0 to
+        1,000, and what each bank loses and keeps, and its state, at both. The greatest are those of Rogers and Veraart (2013).
+
+        >>> ring = Network({"A": 30, "B": 30}, {("A", "B"): 100, ("B", "A"): 100}, rule="order")
+        >>> both = ring.cost_bounds(500)
+        >>> both.payments[0].least, both.payments[0].greatest
+        (29, 100)
+        >>> both.standings[0].state_at_least, both.standings[0].state_at_greatest
+        ('contagion', 'sound')
+        """
+        return self._ask(CostBounds, "cost-bounds", "--keep", keep)
+
+    def breaking(self) -> Breaking:
+        """For each bank the least cut of all cash, 0 to 1,000 per mille, at which it is not sound, and its state then; 1,001 and
+        `sound` where there is none.
+
+        >>> net = Network({"A": 7, "B": 1, "C": 0}, {("A", "B"): 7, ("B", "C"): 8})
+        >>> [tuple(one) for one in net.breaking().cuts]
+        [('A', 143, 'fundamental'), ('B', 143, 'contagion'), ('C', 1001, 'sound')]
+        """
+        return self._ask(Breaking, "breaking")
+
+    def impact(self) -> Impact:
+        """For each bank what the loss of all its cash costs itself and others, and which banks fall by it.
+
+        >>> done = Network({"A": 7, "B": 1, "C": 0}, {("A", "B"): 7, ("B", "C"): 8}).impact()
+        >>> done.banks[0]
+        Ruin(bank='A', cash=7, own=0, others=7, falls=1)
+        >>> [pair.of for pair in done.pairs if pair.falls and pair.bank == "A"]
+        ['A', 'B']
+        """
+        return self._ask(Impact, "impact")
+
+    def rescues(self) -> Rescues:
+        """For each bank in default the least cash to add so that it pays all it owes, and whom that saves besides.
+
+        >>> done = Network({"A": 7, "B": 1, "C": 0}, {("A", "B"): 10, ("B", "C"): 9}).rescues()
+        >>> [tuple(one) for one in done.banks], [tuple(one) for one in done.saved]
+        ([('A', 3, 1, 1, 0), ('B', 1, 1, 0, 1)], [('A', 'B')])
+        """
+        return self._ask(Rescues, "rescues")
 
     def compress(self) -> Compression:
         """The debts that are left when cycles of debts of one class are cancelled.
@@ -414,6 +469,17 @@ def read_file(name: Any, most: Optional[int] = LARGEST) -> bytes:
 def as_scenarios(scenarios: Any) -> Scenarios:
     """Scenarios of an iterable of them."""
     return scenarios if isinstance(scenarios, Scenarios) else Scenarios(scenarios)
+
+
+def third_of(scenarios: ScenariosLike) -> Tuple[Third, Optional[Scenarios]]:
+    """The file of some scenarios, and these where they are not given as a file."""
+    chosen: Union[Scenarios, bytes] = read_file(scenarios) if is_file(scenarios) else as_scenarios(scenarios)
+    return as_third(chosen), chosen if isinstance(chosen, Scenarios) else None
+
+
+def as_third(scenarios: Union[Scenarios, bytes]) -> Third:
+    """Scenarios, or a file of them as it is, as a file of a run."""
+    return "scenarios", "toml", scenarios if isinstance(scenarios, bytes) else toml_bytes(scenarios)
 
 
 def toml_bytes(scenarios: Scenarios) -> bytes:

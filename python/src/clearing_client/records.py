@@ -68,6 +68,68 @@ class CostStanding(NamedTuple):
     state: str
 
 
+class CostBound(NamedTuple):
+    """A bank by the least and by the greatest payments with costs of default: what of its estate is lost, what it keeps, and
+    its state, at each."""
+
+    bank: str
+    lost_at_least: int
+    equity_at_least: int
+    state_at_least: str
+    lost_at_greatest: int
+    equity_at_greatest: int
+    state_at_greatest: str
+
+
+class BreakingCut(NamedTuple):
+    """The least cut of all cash, 0 to 1,000 per mille, at which a bank is not sound, and its state then; 1,001 and `sound`
+    where there is none."""
+
+    bank: str
+    cut: int
+    state: str
+
+
+class Ruin(NamedTuple):
+    """What the loss of all cash of a bank costs: its cash, what it then keeps less itself, what all others keep less
+    together, and how many others that were sound are so no more. What a bank keeps is its equity and what it pays outside;
+    own and others come to the cash."""
+
+    bank: str
+    cash: int
+    own: int
+    others: int
+    falls: int
+
+
+class Harm(NamedTuple):
+    """What a bank (`of`) keeps less where another, or the same one, loses all its cash, and whether it was sound and is so no
+    more."""
+
+    bank: str
+    of: str
+    lost: int
+    falls: bool
+
+
+class Saving(NamedTuple):
+    """A bank in default: the least cash to add so that it pays all it owes, what it still lacks with a unit less, and with
+    that sum the number of other banks that are saved too, and of those that are in default still."""
+
+    bank: str
+    added: int
+    short: int
+    also_saved: int
+    still_short: int
+
+
+class Saved(NamedTuple):
+    """A bank in default, and another that is saved with the least sum that saves the first."""
+
+    bank: str
+    saves: str
+
+
 class Wave(NamedTuple):
     """A bank on the way down from all debts paid in full: the round in which it first has less than it owes (0: never),
     whether it defaults only because nobody begins to pay (gridlock), and what it keeps."""

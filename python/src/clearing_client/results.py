@@ -14,18 +14,24 @@ from .records import (
     Bank,
     BankCounts,
     Bound,
+    BreakingCut,
     CheckTotals,
     CompressionTotals,
+    CostBound,
     CostStanding,
     CostTotals,
     Debt,
     GeneratedTotals,
+    Harm,
     JournalTotals,
     Judgement,
     Payment,
     Raise,
     Rank,
     RescueTotals,
+    Ruin,
+    Saved,
+    Saving,
     ScenarioPayment,
     ScenarioStanding,
     ScenarioSums,
@@ -109,9 +115,7 @@ class Flows(Result):
     def to_matrix(self, column: Optional[str] = None) -> Any:
         """A numpy matrix of int64, banks by banks in the order of `names()`: what the bank of the row pays the bank of
         the column, all classes together. `column` takes another amount, such as `claim`."""
-        numpy = package("numpy", "to_matrix")
-        size = len(self.names())
-        return numpy.array(self.to_lists(column), dtype="int64").reshape(size, size)
+        return matrix_of(self.to_lists(column))
 
 
 def graph_of(nodes: Dict[str, Dict[str, Any]], flows: Table[Any]) -> Any:
@@ -125,12 +129,19 @@ def graph_of(nodes: Dict[str, Dict[str, Any]], flows: Table[Any]) -> Any:
 
 
 def rows_of(names: List[str], flows: Table[Any], column: str) -> List[List[int]]:
-    """The sums of a column over the debts from a bank to another."""
+    """The sums of a column over the records from a bank to another, which are the first two of its columns."""
     place = {name: at for at, name in enumerate(names)}
     rows = [[0] * len(names) for _ in names]
-    for debtor, creditor, amount in zip(flows.column("debtor"), flows.column("creditor"), flows.column(column)):
-        rows[place[debtor]][place[creditor]] += amount
+    first, second = flows.columns[:2]
+    for one, other, amount in zip(flows.column(first), flows.column(second), flows.column(column)):
+        rows[place[one]][place[other]] += amount
     return rows
+
+
+def matrix_of(rows: List[List[int]]) -> Any:
+    """Rows as a numpy matrix of int64."""
+    numpy = package("numpy", "to_matrix")
+    return numpy.array(rows, dtype="int64").reshape(len(rows), len(rows))
 
 
 def one(record: Type[R], value: R) -> Table[R]:
@@ -272,7 +283,7 @@ class Stress(Result):
 
 @dataclass(frozen=True)
 class Outcomes(Result):
-    """Scenarios in sums: a record for each scenario, in order, and for each bank in how many of them it defaults."""
+    """`outcomes`: scenarios in sums, a record for each in order, and for each bank in how many of them it defaults."""
 
     scenarios: Table[ScenarioSums]
     banks: Table[BankCounts]
@@ -423,3 +434,73 @@ class Costs(Flows):
 
     def standings_of_banks(self) -> Table[CostStanding]:
         return self.standings
+
+
+@dataclass(frozen=True)
+class CostBounds(Flows):
+    """`cost-bounds`: the least and the greatest payments that clear where an estate in default is worth only a part, and how
+    each bank stands at both."""
+
+    payments: Table[Bound]
+    standings: Table[CostBound]
+
+    def tables(self) -> Dict[str, Table[Any]]:
+        return {"payments": self.payments, "standings": self.standings}
+
+    def flows(self) -> Table[Bound]:
+        return self.payments
+
+    def standings_of_banks(self) -> Table[CostBound]:
+        return self.standings
+
+
+@dataclass(frozen=True)
+class Breaking(Result):
+    """`breaking`: for each bank the least cut of all cash at which it is not sound, and its state then."""
+
+    cuts: Table[BreakingCut]
+
+    def tables(self) -> Dict[str, Table[Any]]:
+        return {"cuts": self.cuts}
+
+
+@dataclass(frozen=True)
+class Impact(Result):
+    """`impact`: for each bank what the loss of all its cash costs, and for each two banks of which the second loses by it, or
+    falls, how much and whether."""
+
+    banks: Table[Ruin]
+    pairs: Table[Harm]
+
+    def tables(self) -> Dict[str, Table[Any]]:
+        return {"banks": self.banks, "pairs": self.pairs}
+
+    def to_networkx(self) -> Any:
+        """A networkx `DiGraph`: a node for each bank, with its record, and an edge for each pair from the bank that loses its
+        cash to the one that keeps less, with `lost` and `falls`. An edge may lead from a bank to itself."""
+        graph = package("networkx", "to_networkx").DiGraph()
+        for record in self.banks:
+            graph.add_node(record.bank, **dict(zip(self.banks.columns[1:], record[1:])))
+        for pair in self.pairs:
+            graph.add_edge(pair.bank, pair.of, lost=pair.lost, falls=pair.falls)
+        return graph
+
+    def to_lists(self) -> List[List[int]]:
+        """The matrix of `to_matrix` as a list of rows, without numpy."""
+        return rows_of(self.banks.column("bank"), self.pairs, "lost")
+
+    def to_matrix(self) -> Any:
+        """A numpy matrix of int64, banks by banks in file order: what the bank of the column keeps less where the bank of the
+        row loses all its cash. Each row comes to that cash."""
+        return matrix_of(self.to_lists())
+
+
+@dataclass(frozen=True)
+class Rescues(Result):
+    """`rescues`: what it takes to save each bank in default, in file order, and whom that saves besides."""
+
+    banks: Table[Saving]
+    saved: Table[Saved]
+
+    def tables(self) -> Dict[str, Table[Any]]:
+        return {"banks": self.banks, "saved": self.saved}

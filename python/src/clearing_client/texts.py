@@ -15,14 +15,20 @@ from .records import (
     Bank,
     BankCounts,
     Bound,
+    BreakingCut,
     CheckTotals,
+    CostBound,
     CostStanding,
     CostTotals,
     Debt,
     GeneratedTotals,
+    Harm,
     Payment,
     Raise,
     Rank,
+    Ruin,
+    Saved,
+    Saving,
     ScenarioSums,
     Standing,
     Totals,
@@ -30,17 +36,21 @@ from .records import (
 )
 from .results import (
     Bounds,
+    Breaking,
     Check,
     Clearing,
     Compression,
     Converted,
+    CostBounds,
     Costs,
     Defaults,
     Generated,
+    Impact,
     Journal,
     Outcome,
     Outcomes,
     Rescue,
+    Rescues,
     Result,
     Stress,
     Verdict,
@@ -70,6 +80,10 @@ WAVES = header_of(Wave)
 RANKS = header_of(Rank)
 JOURNAL = header_of(Raise)
 SUMS = header_of(ScenarioSums)
+COST_BOUNDS = header_of(CostBound)
+CUTS = header_of(BreakingCut)
+RUINS = header_of(Ruin)
+SAVINGS = header_of(Saving)
 
 
 def lines_of(text: str) -> List[str]:
@@ -109,7 +123,7 @@ def read_column(name: str, kind: object, column: Sequence[str], at: int) -> List
         return numbers_of(column, at)
     if kind is bool:
         return [YES_NO[field] for field in one_of(list(YES_NO), column, at)]
-    if name == "state":
+    if name.startswith("state"):
         return one_of(STATES, column, at)
     return list(map(sys.intern, column))
 
@@ -230,11 +244,26 @@ def read_outcome(lines: Lines, number: int) -> Outcome:
     return Outcome(number, name, payments, left.standings, left.total)
 
 
-def read_outcomes(lines: Lines) -> Outcomes:
-    """Scenarios in sums, and the counts of the banks."""
-    scenarios = lines.table(ScenarioSums)
+def read_two(kind: Callable[[Table[Any], Table[Any]], Result], first: Type[Any], second: Type[Any]) -> Callable[[Lines], Result]:
+    """What reads a result of two tables of these records, with an empty line between."""
+
+    def read(lines: Lines) -> Result:
+        table = lines.table(first)
+        lines.take("")
+        return kind(table, lines.table(second))
+
+    return read
+
+
+def read_rescues(lines: Lines) -> Rescues:
+    """What saves each bank in default, and whom that saves besides, of whom there are as many as the first table says."""
+    banks = lines.table(Saving)
     lines.take("")
-    return Outcomes(scenarios, lines.table(BankCounts))
+    saved = lines.table(Saved)
+    told = [name for name, count in zip(banks.column("bank"), banks.column("also_saved")) for _ in range(count)]
+    if saved.column("bank") != told:
+        raise TextError(0, f"{len(saved)} pairs in place of those that the first table counts, {len(told)} in all")
+    return Rescues(banks, saved)
 
 
 def read_banks(lines: Lines) -> Table[Bank]:
@@ -257,10 +286,12 @@ def read_counts(lines: Lines) -> Result:
     return check
 
 
-def read_bounds(lines: Lines) -> Bounds:
-    """The least and greatest payments, and the waves."""
+def read_bounds(lines: Lines) -> Result:
+    """The least and greatest payments, and the waves, or how banks stand at both with costs of default."""
     payments = lines.table(Bound)
     lines.take("")
+    if lines.next == COST_BOUNDS:
+        return CostBounds(payments, lines.table(CostBound))
     return Bounds(payments, lines.table(Wave))
 
 
@@ -298,7 +329,10 @@ def read_verdict(lines: Lines) -> Verdict:
 READERS: Dict[str, Callable[[Lines], Result]] = {
     PAYMENTS: read_clearing,
     JOURNAL: read_journal,
-    SUMS: read_outcomes,
+    SUMS: read_two(Outcomes, ScenarioSums, BankCounts),
+    CUTS: lambda lines: Breaking(lines.table(BreakingCut)),
+    RUINS: read_two(Impact, Ruin, Harm),
+    SAVINGS: read_rescues,
     STANDINGS_1: read_standings,
     STANDINGS_2: read_standings,
     BOUNDS: read_bounds,
@@ -376,14 +410,3 @@ def whole_outcome(lines: Lines, number: int) -> Outcome:
     outcome = read_outcome(lines, number)
     lines.end()
     return outcome
-
-
-def without_payments(stream: Iterable[bytes]) -> Iterator[bytes]:
-    """What `stress` prints without the lines of payments, which are passed over unread as they come."""
-    first = f"{PAYMENTS}\n".encode()
-    ends = [f"{header}\n".encode() for header in (STANDINGS_1, STANDINGS_2)]
-    passing = False
-    for line in stream:
-        if not passing or line in ends:
-            yield line
-            passing = line == first

@@ -22,7 +22,7 @@ part_disks() {
         echo "disks: left out, since no disk can be mounted"
         return
     fi
-    for words in "check $large" "clear $large --show both --workers 1" "central $large" "defaults $large" "compress $large" "costs $large --keep 1"; do
+    for words in "check $large" "clear $large --show both --workers 1" "central $large" "defaults $large" "compress $large" "costs $large --keep 1" "cost-bounds $large --keep 1"; do
         run $words
         mv out.csv whole.csv
         size=$((($(wc -c <whole.csv) + 1023) / 1024))

@@ -13,6 +13,8 @@ part_files() {
         try "no file" 3 "$said" rescue --bank B --banks "$name" --debts debts.csv
         try "no file" 3 "$said" rescue --bank X --banks banks.csv --debts "$name"
         try "no file" 3 "$said" costs --keep 1 --banks banks.csv --debts "$name"
+        try "no file" 3 "$said" cost-bounds --keep 1 --banks banks.csv --debts "$name"
+        try "no file" 3 "$said" outcomes $files --scenarios "$name"
         try "no file" 3 "$said" stress $files --scenarios "$name"
         try "no file" 3 "$said" replay $files --journal "$name"
         try "no file" 3 "$said" replay --banks "$name" --debts "$name" --journal "$name"

@@ -51,7 +51,7 @@ limited() { # the statuses, the limit's letter, its value, the words
 part_limits() {
     each_task close_streams
     for words in "check $large" "clear $large --workers 4" "clear $large --show both --workers 1" "central $large" "bounds $large --workers 2" \
-        "compress $large" "costs $large --keep 500" "gen --seed 7 --size 1000 --tries 20000"; do
+        "compress $large" "costs $large --keep 500" "cost-bounds $large --keep 500" "gen --seed 7 --size 1000 --tries 20000"; do
         run $words
         mv out.csv whole.csv
         # The signal of a file that grows past its limit ends it, where the caller has not said otherwise; what is there is a front.

@@ -33,11 +33,17 @@ part_memory() {
     cap bounds $large --workers 4
     cap compress $large
     cap costs $large --keep 900
+    cap cost-bounds $large --keep 900
+    cap breaking $files
+    cap impact $files
+    cap rescues $files
     cap rescue $files --bank B --workers 8
     cap gen --seed 1 --size 1000 --tries 20000
     for _ in 1 2 3 4 5 6 7 8 9; do printf '[[scenario]]\nname = "half"\ncut = 500\n'; done >many.toml
     cap stress $files --scenarios many.toml --workers 2
     cap stress $large --scenarios many.toml --workers 2
+    cap outcomes $files --scenarios many.toml
+    cap outcomes $large --scenarios many.toml
     # A stack of some 80 KB is needed.
     run clear $large --workers 4
     mv out.csv whole.csv

@@ -60,7 +60,7 @@ part_outputs() {
     refuse_message 2 check
     refuse_message 3 check --banks nothing.csv --debts debts.csv
     refuse_message 4 check --banks banks.csv --debts banks.csv
-    for words in "check $large" "clear $large" "central $large" "compress $large" "costs $large --keep 500"; do
+    for words in "check $large" "clear $large" "central $large" "compress $large" "costs $large --keep 500" "cost-bounds $large --keep 500"; do
         run $words
         mv out.csv whole.csv
         for signal in "$default" "trap"; do

@@ -54,6 +54,8 @@ part_sizes() {
     bank() { printf 'name,cash,rule,outside\n%s\n' "$1" >one.csv; }
     bank "A,1000000000000,order,100000000000"
     try "the greatest numbers" 0 "" costs --banks one.csv --debts no-debts.csv --keep 999
+    try "the greatest numbers" 0 "" cost-bounds --banks one.csv --debts no-debts.csv --keep 999
+    for task in breaking impact rescues; do try "the greatest numbers" 0 "" $task --banks one.csv --debts no-debts.csv; done
     try "the greatest numbers" 0 "" defaults --banks one.csv --debts no-debts.csv
     bank "A,1000000000001,order,1"
     try "cash past its limit" 4 "clearing: banks row 1: limit (6)" check --banks one.csv --debts no-debts.csv

@@ -27,12 +27,18 @@ part_words() {
     try "an option twice" 2 "" check $files --banks banks.csv
     try "an option of another task" 2 "" check $files --workers 1
     try "an option of another task" 2 "" central $files --workers 1
+    for task in breaking impact rescues "outcomes --scenarios scenarios.toml" "cost-bounds --keep 1"; do
+        try "an option of another task" 2 "" $task $files --workers 1
+    done
+    try "an option of another task" 2 "" impact $files --bank A
     try "an option of another task" 2 "" gen $files --seed 1 --size 1 --tries 0
     try "an option is missing" 2 "" check --banks banks.csv
     try "an option is missing" 2 "" stress $files
     try "an option is missing" 2 "" replay $files
     try "an option is missing" 2 "" rescue $files
     try "an option is missing" 2 "" costs $files
+    try "an option is missing" 2 "" cost-bounds $files
+    try "an option is missing" 2 "" outcomes $files
     try "an option is missing" 2 "" gen --seed 1 --size 1
     try "an unknown option" 2 "" check $files --colour
     try "an unknown option" 2 "" check $files --bank=A
@@ -51,6 +57,8 @@ part_words() {
     try "keep" 0 "" costs $files --keep 0
     try "keep" 0 "" costs $files --keep 1000
     try "keep" 2 "" costs $files --keep 1001
+    try "keep" 0 "" cost-bounds $files --keep 1000
+    try "keep" 2 "" cost-bounds $files --keep 1001
     try "show" 2 "" clear $files --show all
     try "show" 2 "" clear $files --show Both
     try "seed" 0 "" gen --seed 18446744073709551615 --size 1 --tries 20000

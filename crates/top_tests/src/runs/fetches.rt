@@ -98,7 +98,7 @@ fn fetches<R: Threads + Sync + Abort>(
 // it.
 type Fetched<'a> = (&'a str, &'a str, &'a [(u64, &'a str, &'a str)]);
 
-const FETCHED: [Fetched<'static>; 6] = [
+const FETCHED: [Fetched<'static>; 7] = [
     (
         CLEAR,
         "b.csv d.csv ",
@@ -106,6 +106,15 @@ const FETCHED: [Fetched<'static>; 6] = [
     ),
     (
         STRESS,
+        "b.csv d.csv s.toml ",
+        &[
+            (1, "b.csv", "b.csv "),
+            (2, "d.csv", "b.csv d.csv "),
+            (3, "s.toml", "b.csv d.csv s.toml "),
+        ],
+    ),
+    (
+        "outcomes --banks b.csv --debts d.csv --scenarios s.toml",
         "b.csv d.csv s.toml ",
         &[
             (1, "b.csv", "b.csv "),

@@ -22,7 +22,7 @@ const JOURNAL: &str = "stamp,debtor,creditor,class,to\n1,A,B,1,7\n2,B,C,1,8\n";
 const STRESS: &str = "stress --banks b.csv --debts d.csv --scenarios s.toml";
 
 // Each task once, and some also where the text is written in part.
-const RECORDED: [Recorded<'static>; 15] = [
+const RECORDED: [Recorded<'static>; 20] = [
     (CLEAR_BY_ONE, "", 1000, Some((2, 1, 2, 2))),
     (CLEAR_BY_ONE, "", 5, Some((2, 1, 2, 2))),
     (
@@ -60,6 +60,21 @@ const RECORDED: [Recorded<'static>; 15] = [
     ("compress --banks b.csv --debts d.csv", "", 1000, None),
     (
         "costs --banks b.csv --debts d.csv --keep 500",
+        "",
+        1000,
+        None,
+    ),
+    ("breaking --banks b.csv --debts d.csv", "", 1000, None),
+    ("impact --banks b.csv --debts d.csv", "", 1000, None),
+    ("rescues --banks b.csv --debts d.csv", "", 1000, None),
+    (
+        "outcomes --banks b.csv --debts d.csv --scenarios s.toml",
+        THREE_SCENARIOS,
+        1000,
+        None,
+    ),
+    (
+        "cost-bounds --banks b.csv --debts d.csv --keep 500",
         "",
         1000,
         None,

@@ -9,7 +9,7 @@ from clearing_client import texts
 from clearing_client.errors import TextError
 from clearing_client.format import MAX_BYTES, MAX_SCENARIOS
 from clearing_client.records import Standing
-from clearing_client.results import Check, Defaults
+from clearing_client.results import Check, Defaults, Outcomes
 
 from .. import files
 from ..exports.workbook import content_of
@@ -55,9 +55,9 @@ def scenario_text(cut, losses):
     return "".join(lines).encode()
 
 
-def scenario_groups(texts):
-    """The numbers of scenarios, in groups that a file of scenarios may have, for all processors."""
-    for group in groups_of(range(len(texts)), MAX_SCENARIOS):
+def scenario_groups(numbers, texts):
+    """The numbers of some scenarios, in groups that a file of scenarios may have, for all processors."""
+    for group in groups_of(numbers, MAX_SCENARIOS):
         part, size = [], 0
         for number in group:
             if part and size + len(texts[number]) > MAX_BYTES["scenarios"]:
@@ -68,22 +68,43 @@ def scenario_groups(texts):
         yield part
 
 
-def stress(asking, folder, words, texts, take, what):
-    """What `take` makes of the table of standings of each scenario, in their order."""
-    groups = list(scenario_groups(texts))
+def by_groups(asking, folder, words, texts, groups, read):
+    """What `read` makes of the words of a run on each group of scenarios, which stand in a file for so long, and of their number."""
 
     def work(group):
         handle, name = tempfile.mkstemp(suffix=".toml", dir=folder)
         with open(handle, "wb") as file:
             file.writelines(texts[number] for number in group)
-        output = asking.answer(["stress", *words, "--scenarios", name, "--workers", "1"])
+        made = read([*words, "--scenarios", name], len(group))
         os.unlink(name)
-        made = [take(standings) for standings in tables_of(output)]
-        if len(made) != len(group):
+        return made
+
+    return asking.all(work, groups, "group of scenarios")
+
+
+def stress(asking, folder, words, texts, take):
+    """What `take` makes of the table of standings of each scenario, in their order."""
+
+    def read(line, count):
+        made = [take(standings) for standings in tables_of(asking.answer(["stress", *line, "--workers", "1"]))]
+        if len(made) != count:
             raise Failed(f"{program()} did not print a table for each scenario")
         return made
 
-    return [made for part in asking.all(work, groups, what) for made in part]
+    groups = list(scenario_groups(range(len(texts)), texts))
+    return [made for part in by_groups(asking, folder, words, texts, groups, read) for made in part]
+
+
+def outcomes(asking, folder, words, texts, groups):
+    """The sums of each group of scenarios."""
+
+    def read(line, count):
+        made = answer_of(asking, ["outcomes", *line], Outcomes)
+        if len(made.scenarios) != count:
+            raise Failed(f"{program()} did not print a line for each scenario")
+        return made
+
+    return by_groups(asking, folder, words, texts, groups, read)
 
 
 def tables_of(output):

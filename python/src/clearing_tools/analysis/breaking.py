@@ -10,8 +10,8 @@ Out:  CSV on standard output, or in --output FILE: `bank,cut,state`, a line for 
                        is the ending: .svg, .png or .pdf. It wants matplotlib.
 
 A smaller shock hurts nobody (stress::laws::milder_shock_hurts_nobody). So each bank has one such number, and it is sound exactly below
-it (stress::laws::sound_exactly_below_the_breaking_cut). It is found by `clearing stress`, a hundred scenarios a run, each round of which
-parts what is left for each bank. Answers that do not agree with the law are an error, which is told.
+it (stress::laws::sound_exactly_below_the_breaking_cut). The cuts are those of `clearing breaking`. A loss is found by `clearing
+stress`, a hundred scenarios a run, each round of which parts what is left for each bank; answers against the law are an error then.
 
 The environment variable CLEARING names the program, the repository's where it is not set.
 
@@ -23,6 +23,7 @@ Example:
     tools/breaking.py --banks banks.csv --debts debts.csv --picture breaking.svg >breaking.csv
 """
 from clearing_client.format import MAX_CUT, MAX_SCENARIOS
+from clearing_client.results import Breaking
 
 from .. import cli
 from ..drawing import style
@@ -62,24 +63,44 @@ class Ranges:
                 )
 
 
-def find(asking, folder, files, banks, most, text_of, is_drawn=False, states_of=lambda standings: standings.column("state"), count=None):
+def find(asking, folder, files, banks, most, text_of, states_of=lambda standings: standings.column("state"), count=None):
     """The ranges, closed, where `text_of` makes the scenario of a shock, `states_of` gives the states of the banks that are asked for, and
-    about so many shocks are tried in a round. For a picture also those from which on a bank is in default by its own fundamentals, which a
-    smaller shock does not make it either."""
-    ranges, deep = Ranges(banks, most), Ranges(banks, most)
-    while points := sorted({*ranges.points(count or MAX_SCENARIOS * processors()), *(deep.points(MAX_SCENARIOS) if is_drawn else [])}):
+    about so many shocks are tried in a round."""
+    ranges = Ranges(banks, most)
+    while points := ranges.points(count or MAX_SCENARIOS * processors()):
         texts = [text_of(shock) for shock in points]
-        for shock, states in zip(points, ask.stress(asking, folder, files, texts, states_of, "group of scenarios")):
+        for shock, states in zip(points, ask.stress(asking, folder, files, texts, states_of)):
             ranges.take(shock, states)
-            if is_drawn:
-                deep.take(shock, [state if state == "fundamental" else "sound" for state in states])
-    return ranges, deep
+    return ranges
 
 
-def draw(pyplot, ranges, deep, most, words):
+def losses_of(asking, files, network, bank):
+    """For each bank the least loss of one of them at which it is not sound, and its state then."""
+    text_of = lambda loss: ask.scenario_text(0, [(network.names[bank], loss)])  # noqa: E731
+    with work_folder() as folder:
+        ranges = find(asking, folder, files, len(network.names), network.cash[bank], text_of)
+    return ranges.high, ranges.state
+
+
+def depths_of(network, most, hit):
+    """The least shocks from which on banks are in default by their own fundamentals: their cash and all that is owed to them does not cover
+    what they owe. The banks that are hit lose so many parts of their cash, of the most that there are, rounded down."""
+    spare = [cash - outside for cash, outside in zip(network.cash, network.outside)]
+    place_of = {name: place for place, name in enumerate(network.names)}
+    for debtor, creditor, _, claim in network.debts:
+        spare[place_of[debtor]] -= claim
+        spare[place_of[creditor]] += claim
+    for place, units in enumerate(spare):
+        cash = network.cash[place]
+        if units < 0:
+            yield 0
+        elif place in hit and units < cash:
+            yield -(-(units + 1) * most // cash)
+
+
+def draw(pyplot, cuts, depths, most, words):
     """How many banks are in default at each shock, by how they stand at it; the axis ends soon behind the last change."""
-    falls = sorted(shock for shock in ranges.high if shock <= most)
-    depths = sorted(shock for shock in deep.high if shock <= most)
+    falls, depths = sorted(shock for shock in cuts if shock <= most), sorted(depths)
     figure, axes = pyplot.subplots(figsize=(9, 4.6), layout="constrained")
     last = max(falls + depths, default=most)
     right = min(max(last * 1.06, 1), 1.01 * max(most, 1))
@@ -90,7 +111,7 @@ def draw(pyplot, ranges, deep, most, words):
         axes.fill_between(steps, below, above, step="post", color=style.LIGHT[cause], label=f"{cause} at it", linewidth=0)
     axes.step(steps, fallen, where="post", color="#1a1a1a", linewidth=0.8)
     already = sum(shock == 0 for shock in falls)
-    axes.set_title(f"{len(falls)} of {len(ranges.high)} banks are in default at some point, {already} of them as things are", fontsize=11, loc="left", pad=26)
+    axes.set_title(f"{len(falls)} of {len(cuts)} banks are in default at some point, {already} of them as things are", fontsize=11, loc="left", pad=26)
     axes.set_xlim(0, right)
     axes.set_ylim(0, max(1, len(falls)) * 1.08)
     axes.yaxis.get_major_locator().set_params(integer=True)
@@ -113,18 +134,17 @@ def main():
     cli.keep_inputs([asked.banks, asked.debts], [asked.output, asked.picture])
     pyplot = style.pyplot_of() if asked.picture else None
     asking, files = Asking(), cli.words_of(asked)
-    network = ask.network_of(asking, files)
+    network = ask.network_of(asking, files) if pyplot or asked.loss is not None else None
     if asked.loss is None:
         most, kind, words = MAX_CUT, "cut", "cut of all cash, per mille"
-        text_of = lambda cut: ask.scenario_text(cut, [])
+        names, shocks, states = map(ask.answer_of(asking, ["breaking", *files], Breaking).cuts.column, ("bank", "cut", "state"))
+        hit = range(len(names))
     elif asked.loss in network.names:
-        most, kind = network.cash[network.names.index(asked.loss)], "loss"
-        words = f"loss of {style.in_short(asked.loss)}, in units"
-        text_of = lambda loss: ask.scenario_text(0, [(asked.loss, loss)])
+        bank = network.names.index(asked.loss)
+        most, kind, words = network.cash[bank], "loss", f"loss of {style.in_short(asked.loss)}, in units"
+        names, hit, (shocks, states) = network.names, [bank], losses_of(asking, files, network, bank)
     else:
         raise Failed(f"no bank has the name {asked.loss!r}", 4)
-    with work_folder() as folder:
-        ranges, deep = find(asking, folder, files, len(network.names), most, text_of, bool(pyplot))
     if pyplot:
-        style.save(draw(pyplot, ranges, deep, most, words), asked.picture, folders=False)
-    ask.write(("bank", kind, "state"), zip(network.names, ranges.high, ranges.state), asked.output)
+        style.save(draw(pyplot, shocks, depths_of(network, most, hit), most, words), asked.picture, folders=False)
+    ask.write(("bank", kind, "state"), zip(names, shocks, states), asked.output)

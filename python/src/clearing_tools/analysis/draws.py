@@ -18,8 +18,8 @@ Out:  CSV on standard output, or in --output FILE, three tables with empty lines
       --picture FILE   histograms of defaults and of units unpaid. The kind of picture is the ending: .svg, .png or .pdf. It wants
                        matplotlib.
 
-Each draw is a scenario of `clearing stress`, a hundred of them a run, so that each answer is that of the least payments of the network that
-the scenario leaves (clear_top, the row of `stress`). What the draws say of chance is worth what the numbers given are worth.
+Each draw is a scenario of `clearing outcomes`, a hundred of them a run, so that each answer is that of the least payments of the network
+that the scenario leaves (clear_top, the row of `outcomes`). What the draws say of chance is worth what the numbers given are worth.
 
 The environment variable CLEARING names the program, the repository's where it is not set.
 
@@ -51,7 +51,6 @@ CUT = "cut"
 MOST_BYTES = 64_000_000
 QUANTILES = {"q1": 1, "q5": 5, "q25": 25, "median": 50, "q75": 75, "q95": 95, "q99": 99}
 
-Answer = namedtuple("Answer", "fundamental contagion unpaid outside_unpaid")  # the banks by their places, and units
 Draw = namedtuple("Draw", "cut losses")  # losses by the banks' places
 
 
@@ -177,23 +176,25 @@ def draw_of(network, places, names, numbers, relative):
 # The answers.
 
 
-def answer_of(outside):
-    """What makes an answer of a table, where banks owe so much outside in all."""
-
-    def take(standings):
-        short = ask.in_default(standings).items()
-        causes = (tuple(place for place, state in short if state == cause) for cause in ("fundamental", "contagion"))
-        sums = {name: sum(standings.column(name)) for name in ("owed", "paid", "outside_paid")}
-        return Answer(*causes, sums["owed"] - sums["paid"], outside - sums["outside_paid"])
-
-    return take
-
-
-def lost_of(network, draw):
-    """The cash that a draw takes away in all."""
-    losses = dict(draw.losses)
-    left = (max(0, cash - cash * draw.cut // 1000 - losses.get(place, 0)) for place, cash in enumerate(network.cash))
-    return sum(network.cash) - sum(left)
+def answers_of(asking, files, network, draws):
+    """The sums of each draw by the draw, and for each bank in how many draws it defaults, and in how many by its own doing. What is drawn
+    twice is asked for once, so that the scenarios of a run are drawn equally often."""
+    often = Counter(draws)
+    different = list(often)
+    texts = [ask.scenario_text(draw.cut, [(network.names[place], loss) for place, loss in draw.losses]) for draw in different]
+    groups = []
+    for times in sorted(set(often.values())):
+        groups += ask.scenario_groups([at for at, draw in enumerate(different) if often[draw] == times], texts)
+    causes = [[0] * len(network.names) for _ in range(2)]
+    with work_folder() as folder:
+        made = ask.outcomes(asking, folder, files, texts, groups)
+    sums = {}
+    for group, left in zip(groups, made):
+        sums.update(zip((different[at] for at in group), left.scenarios))
+        times = often[different[group[0]]]
+        for counts, column in zip(causes, ("defaults", "fundamental")):
+            counts[:] = map(operator.add, counts, (times * count for count in left.banks.column(column)))
+    return sums, causes
 
 
 def quantile(numbers, percent):
@@ -260,20 +261,16 @@ def main():
     source = Moments(asked.moments, places) if asked.moments else Past(asked.past, places)
     chance = random.Random(asked.seed)
     draws = [draw_of(network, places, source.names, source.draw(chance), asked.relative) for _ in range(asked.draws)]
-    # What is drawn twice is asked for once.
-    different = list(dict.fromkeys(draws))
-    texts = [ask.scenario_text(draw.cut, [(network.names[place], loss) for place, loss in draw.losses]) for draw in different]
-    with work_folder() as folder:
-        made = ask.stress(asking, folder, both, texts, answer_of(sum(network.outside)), "group of scenarios")
-    answer = dict(zip(different, made))
-    answers = [answer[draw] for draw in draws]
-    defaults = [len(each.fundamental) + len(each.contagion) for each in answers]
+    sums, (short, fundamental) = answers_of(asking, both, network, draws)
+    answers = [sums[draw] for draw in draws]
+    owed = sum(claim for *_, claim in network.debts)
+    defaults = [each.defaults for each in answers]
     columns = {
         "defaults": defaults,
-        "fundamental": [len(each.fundamental) for each in answers],
-        "unpaid": [each.unpaid for each in answers],
-        "outside_unpaid": [each.outside_unpaid for each in answers],
-        "lost": [lost_of(network, draw) for draw in draws],
+        "fundamental": [each.fundamental for each in answers],
+        "unpaid": [owed - each.paid for each in answers],
+        "outside_unpaid": [sum(network.outside) - each.outside_paid for each in answers],
+        "lost": [sum(network.cash) - each.cash for each in answers],
     }
     if asked.each:
         lines = zip(range(1, len(draws) + 1), (draw.cut for draw in draws), columns["lost"], defaults, columns["fundamental"],
@@ -282,10 +279,9 @@ def main():
         ask.write(header, lines, asked.each)
     if pyplot:
         style.save(draw_picture(pyplot, defaults, columns["unpaid"], asked.seed), asked.picture, folders=False)
-    causes = [Counter(place for each in answers for place in each[cause]) for cause in (0, 1)]
     tables = {
         "sums": [("of", "least", *QUANTILES, "greatest", "mean"), *(summary(name, numbers) for name, numbers in columns.items())],
         "counts": [("defaults", "draws"), *sorted(Counter(defaults).items())],
-        "banks": [("bank", "fundamental", "contagion"), *((name, causes[0][place], causes[1][place]) for place, name in enumerate(network.names))],
+        "banks": [("bank", "fundamental", "contagion"), *zip(network.names, fundamental, map(operator.sub, short, fundamental))],
     }
     ask.write_tables(tables, asked.output)

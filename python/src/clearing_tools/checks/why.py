@@ -36,6 +36,11 @@ TASKS = {
     "rescue": (FILES + ["bank"], WORKERS),
     "compress": (FILES, []),
     "costs": (FILES + ["keep"], []),
+    "breaking": (FILES, []),
+    "impact": (FILES, []),
+    "rescues": (FILES, []),
+    "outcomes": (FILES + ["scenarios"], []),
+    "cost-bounds": (FILES + ["keep"], []),
 }
 SHOWN = ["payments", "journal", "both"]
 # The value of each option: the name of a file or a bank, one of some words, or a number from one to another.

@@ -16,10 +16,10 @@ from clearing_client.table import Table
 
 from .. import runner, texts
 from ..analysis import asking as ask
-from ..analysis import breaking, impact
-from ..analysis.rescues import numbered_files
+from ..analysis import breaking
 from ..checks.why import faults_of
 from ..evidence import shock
+from ..files import csv_text
 from ..fullnames import FullNames
 from . import state as states
 from .state import Base, State
@@ -205,7 +205,7 @@ class Desk:
         losses = [(self.base.banks[place].name, amount) for place, amount in state.losses]
         with Place(self.runs) as place:
             files = self.files(place, state._replace(cut="0", losses=()))
-            ranges, _ = breaking.find(
+            ranges = breaking.find(
                 self.runs, str(place.path), files, 1, breaking.MAX_CUT, lambda cut: ask.scenario_text(cut, losses),
                 states_of=lambda standings: [standings.column("state")[bank]], count=STEPS,
             )
@@ -216,15 +216,15 @@ class Desk:
         name = self.base.banks[bank].name
         with Place(self.runs) as place:
             files = self.files(place, state)
-            network = ask.network_of(self.runs, files)
-            take = impact.row_against(ask.defaults_of(self.runs, files))
-            text = ask.scenario_text(0, [(name, network.cash[bank])])
-            row = ask.stress(self.runs, str(place.path), files, [text], take, "scenario")[0]
-        if sum(row.lost.values()) != network.cash[bank]:
+            cash = ask.network_of(self.runs, files).cash[bank]
+            before = ask.defaults_of(self.runs, files)
+            after, = ask.stress(self.runs, str(place.path), files, [ask.scenario_text(0, [(name, cash)])], lambda standings: standings)
+        lost = [old - new for old, new in zip(kept_of(before), kept_of(after))]
+        if sum(lost) != cash:
             raise runner.Failed(f"what the ruin of {name!r} costs is not its cash")
-        own = row.lost.get(bank, 0)
-        fallen = [other for other in sorted(row.fallen) if other != bank]
-        return {"cash": network.cash[bank], "own": own, "others": sum(row.lost.values()) - own, "fallen": fallen}
+        short = ask.in_default(before)
+        fallen = [other for other in ask.in_default(after) if other not in short and other != bank]
+        return {"cash": cash, "own": lost[bank], "others": cash - lost[bank], "fallen": fallen}
 
 
 STEPS = 16  # cuts in one run on the way to the one that breaks a bank
@@ -241,6 +241,26 @@ def outcome_of(runs: Runs, words: Sequence[str], kind: Any) -> Any:
         return runs.asked(words, kind)
     except (errors.ClearingError, runner.Failed) as fault:
         return fault
+
+
+def kept_of(standings: Any) -> List[int]:
+    """What each bank keeps: its equity and what it pays outside."""
+    return [equity + outside for equity, outside in zip(standings.column("equity"), standings.column("outside_paid"))]
+
+
+def numbered_files(network: Any, folder: str) -> List[str]:
+    """The two files with numbers for names, as words of the program."""
+    place_of = {name: place for place, name in enumerate(network.names)}
+    banks: List[Tuple[Any, ...]] = [("name", "cash", "rule", "outside")]
+    banks += zip((f"B{place}" for place in place_of.values()), network.cash, network.rules, network.outside)
+    debts: List[Tuple[Any, ...]] = [("debtor", "creditor", "class", "claim")]
+    debts += [(f"B{place_of[one]}", f"B{place_of[other]}", rank, claim) for one, other, rank, claim in network.debts]
+    words = []
+    for option, records in (("banks", banks), ("debts", debts)):
+        name = pathlib.Path(folder) / f"numbered-{option}.csv"
+        name.write_text(csv_text(records), encoding="utf-8")
+        words += [f"--{option}", str(name)]
+    return words
 
 
 def rescue_of(runs: Runs, network: Any, folder: str, bank: int) -> int:

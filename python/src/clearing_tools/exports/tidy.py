@@ -6,8 +6,8 @@ Out: for each table of the text the file NAME-TABLE.csv, where NAME is that of O
      workbook with a sheet for each table. On standard output the names of the files, one a line.
 
 A file has a header, then a record for each debt, bank, raise or scenario, and no line of sums, so that what reads tables adds
-up to what is there. The tables are payments, standings, journal, waves, ranks, banks and debts. The sums that the program
-printed, and what it printed once, such as `rounds`, are the table `totals`: one record, and for `stress` one for each
+up to what is there. The tables are payments, standings, journal, waves, ranks, banks, debts, scenarios, cuts, pairs and saved. The
+sums that the program printed, and what it printed once, such as `rounds`, are the table `totals`: one record, and for `stress` one for each
 scenario. What `stress` prints has the columns `number`, the scenario's from 1, and `scenario`, its name.
 
 With --unit, amounts are units times it, as decimal numbers; classes, stamps, ranks and counts stay.
@@ -38,7 +38,8 @@ from ..texts import parsed
 from .workbook import book_of, is_book
 
 AMOUNTS = set(
-    "claim paid least greatest estate outside_paid owed equity lost cash outside to added short cancelled had allowed".split()
+    """claim paid least greatest estate outside_paid owed equity lost cash outside to added short cancelled had allowed own others
+    lost_at_least equity_at_least lost_at_greatest equity_at_greatest""".split()
 )
 # A journal and what is printed beside it are no longer, and no header is.
 MOST_BYTES, MOST_LINE = 2_000_000_000, 1_000_000

@@ -6,7 +6,6 @@ In:   --banks, --debts   the two files of the network
       --labels           a file `code,name`: the full names of banks, shown behind the names of the files
       --title            the title of the page
       --unit, --currency what a unit of account is worth, such as --unit 1000 --currency EUR: amounts are in the currency then
-      --rescues          for how many banks in default the least rescue is asked, those of the largest shortfall first (100)
       --keep             a folder for what the program printed, under the names that the evidence has; a new one, or an empty one
       --d3               the library d3 in one file; Debian's package node-d3 has it, and it is found there
 Out:  --out              the report: a summary of five sentences, key figures, the network drawn with a player of the journal, a table of
@@ -31,7 +30,7 @@ import time
 from collections import namedtuple
 
 from clearing_client.format import MAX_BYTES
-from clearing_client.results import Bounds, Check, Rescue, Verdict as Judged
+from clearing_client.results import Bounds, Check, Rescues, Verdict as Judged
 
 from .. import cli, files, labels, texts
 from ..drawing.stress_map import read_stress
@@ -41,8 +40,8 @@ from ..money import Money, add_money
 from ..runner import Failed, command, work_folder
 from . import page
 from .page import Evidence, Matter, Scenario, Verdict
-from .program import Job, Program, as_given, line_of, said_by, sum_of
-from .rankings import SHOWN, rankings_of
+from .program import Program, as_given, line_of, said_by, sum_of
+from .rankings import rankings_of
 
 D3 = ["/usr/share/nodejs/d3/dist/d3.min.js", "/usr/share/javascript/d3/d3.min.js"]
 MOST_FRAMES = 2000
@@ -73,27 +72,6 @@ def read_journal(path, place):
 def lines_apart(text):
     """The lines of a text: a name may have any character that is no control, so that only LF, CR LF and CR end a line."""
     return (line + "\n" for line in text.replace("\r\n", "\n").replace("\r", "\n").split("\n"))
-
-
-def least_rescues(program, files, banks, most):
-    """What the least rescue of each bank in default adds, by its name, the largest shortfalls first; the whole results of the cheapest;
-    and the commands run."""
-    short = sorted((bank for bank in banks if bank.state != "sound"), key=lambda bank: -texts.shortfall_of(bank))
-    asked = [(at, bank.name) for at, bank in enumerate(short[:most]) if not bank.name.startswith("-")]
-    commands = program.run(*(Job(f"rescue-{at + 1}.csv", ["rescue", *files, "--bank", name]) for at, name in asked))
-    added = {name: added_by(program, command, name) for (_, name), command in zip(asked, commands)}
-    cheapest = sorted(zip(added, commands), key=lambda pair: added[pair[0]])[:SHOWN]
-    return added, [program.result("rescue", Rescue, command.output) for _, command in cheapest], commands
-
-
-def added_by(program, command, name):
-    """The sum of a rescue, which stands in the first line of what the task printed."""
-    with open(command.output, encoding="utf-8") as file:
-        line = file.readline().removesuffix("\n")
-    number = line.removeprefix(f"rescue,{name},")
-    if number == line or not (number.isascii() and number.isdigit()):
-        raise Failed(f"{program.name} did not print what `clearing rescue` does")
-    return int(number)
 
 
 def frames_of(raises):
@@ -149,17 +127,15 @@ def check_same(before, after):
         raise Failed(f"{labels.listed(changed)} changed while the report was made; nothing is written")
 
 
-def evidence_of(program, inputs, rescues, verdict):
+def evidence_of(program, inputs, verdict):
     """What another person needs to do it again: inputs, program, commands, each with its checksum."""
     executable = program.executable()
-    written = [("written for it", path.name, f"{path.stat().st_size:,}", sum_of(path)) for path in program.written]
-    files = [(what, as_given(name), f"{size:,}", digest) for what, name, size, digest in inputs] + written
+    files = [(what, as_given(name), f"{size:,}", digest) for what, name, size, digest in inputs]
     return Evidence(
         files=[*files, ("program", executable.name, f"{executable.stat().st_size:,}", sum_of(executable))],
         commit=evidence.commit_of() or "not known: no repository",
         toolchain=said_by("rt", "version") or "not known: the command rt is not on the path",
         commands=[(command.words, command.status, sum_of(command.output)) for command in program.commands],
-        rescues=[(command.words, command.status, sum_of(command.output)) for command in rescues],
         verdict=verdict,
         made=time.strftime("%Y-%m-%d %H:%M UTC", time.gmtime(int(os.environ.get("SOURCE_DATE_EPOCH", time.time())))),
         words=line_of(["tools/report.py", *sys.argv[1:]]),
@@ -218,8 +194,8 @@ def gather(asked, folder):
     place = {(debt.debtor, debt.creditor, str(debt.class_)): at for at, debt in enumerate(debts)}
     frames = frames_of(read_journal(journal, place)) if verdict.lawful else None
     scenarios = scenarios_of(program, files, asked, outside)
-    rescued, rescues, commands = least_rescues(program, files, banks, asked.rescues)
-    rankings = rankings_of(program, files, banks, cash, defaults, rescues)
+    rescues = program.result("rescues", Rescues, program.ask("rescues.csv", "rescues", *files))
+    rankings = rankings_of(program, files, rescues)
     check_same(inputs, inputs_of(asked))
     return Matter(
         title=asked.title or f"Clearing of {labels.count(len(banks), 'bank')}",
@@ -231,11 +207,11 @@ def gather(asked, folder):
         debts=debts,
         waves={wave.bank: wave.wave for wave in bounds.waves},
         more=sum(bounds.payments.column("greatest")) - sum(bounds.payments.column("least")),
-        rescued=rescued,
+        rescued={bank.bank: bank.added for bank in rescues.banks},
         rankings=rankings,
         scenarios=scenarios,
         frames=frames,
-        evidence=evidence_of(program, inputs, commands, verdict),
+        evidence=evidence_of(program, inputs, verdict),
     )
 
 
@@ -269,16 +245,10 @@ def words():
     add_labels(parser)
     parser.add_argument("--title", metavar="TEXT", help="the title of the page")
     add_money(parser)
-    parser.add_argument(
-        "--rescues", metavar="N", type=int, default=100, help="for how many banks the least rescue is asked (100)"
-    )
     parser.add_argument("--keep", metavar="FOLDER", help="a new or empty folder for what the program printed")
     parser.add_argument("--d3", metavar="FILE", help="the library d3 in one file")
     parser.add_argument("--out", metavar="FILE", required=True, help="the page to write")
-    asked = parser.parse_args()
-    if asked.rescues < 0:
-        parser.error("--rescues is not below 0")
-    return asked
+    return parser.parse_args()
 
 
 def is_taken(folder):

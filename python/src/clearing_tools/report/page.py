@@ -19,7 +19,7 @@ from .summary import summary
 FOLDER = pathlib.Path(__file__).resolve().parent
 
 Verdict = namedtuple("Verdict", "lawful line words")
-Evidence = namedtuple("Evidence", "files commit toolchain commands rescues verdict made words")
+Evidence = namedtuple("Evidence", "files commit toolchain commands verdict made words")
 # A scenario: its name, its banks in file order, and the cash that it leaves.
 Scenario = namedtuple("Scenario", "name banks cash")
 Answers = namedtuple("Answers", "title money banks full cash rules debts waves more rescued rankings scenarios frames evidence")

@@ -1,4 +1,4 @@
-"""The program, as the report asks it: tasks side by side, with what each printed kept in a file of its own."""
+"""The program, as the report asks it: tasks one after another, with what each printed kept in a file of its own."""
 import hashlib
 import os
 import pathlib
@@ -8,8 +8,6 @@ from collections import namedtuple
 from .. import labels, runner, texts
 from ..runner import ROOT, Failed
 
-# A task to run: the file for what it prints, its words, a file for its standard input, and the statuses with which it may end.
-Job = namedtuple("Job", "output words given may_end", defaults=(None, (0,)))
 # A command as it was run: its words, its status, the file of what it printed, and what it said on standard error.
 Command = namedtuple("Command", "words status output message")
 
@@ -31,34 +29,22 @@ class Program:
     def __init__(self, folder):
         self.name = runner.program()
         self.folder = pathlib.Path(folder)
-        self.asking, self.commands, self.written = runner.Asking(), [], []
+        self.asking, self.commands = runner.Asking(), []
 
-    def run(self, *jobs):
-        """Runs tasks side by side; what each prints is kept in a file."""
-        done = []
-        for job, (status, output, message) in zip(jobs, self.asking.all(self.answer, jobs, "run")):
-            # Written here, so that at an interrupt nothing is written any more.
-            path = self.folder / job.output
-            path.write_bytes(output)
-            redirect = f" < {job.given.name}" if job.given else ""
-            line = line_of(["clearing", *job.words])
-            done.append(Command(f"{line}{redirect} > {job.output}", status, path, message))
-        return done
-
-    def answer(self, job):
-        """The status, output and message of a task."""
-        command = [self.name, *job.words]
-        if job.given:
-            command = ["sh", "-c", 'exec "$@" <"$0"', str(job.given), *command]
-        status, output, message = self.asking.run(command)
-        message = message.decode(errors="replace").strip()
-        if status not in job.may_end:
-            raise Failed(f"`{line_of(['clearing', *job.words])}` ended with {status}: {message}")
-        return status, output, message
-
-    def ask(self, output, *words, **more):
-        self.commands += self.run(Job(output, words, **more))
-        return self.commands[-1].output
+    def ask(self, output, *words, given=None, may_end=(0,)):
+        """Runs a task on a file for its standard input, where one is given. What it prints is kept in a file, which is named."""
+        command = [self.name, *words]
+        if given:
+            command = ["sh", "-c", 'exec "$@" <"$0"', str(given), *command]
+        status, printed, message = self.asking.run(command)
+        message, line = message.decode(errors="replace").strip(), line_of(["clearing", *words])
+        if status not in may_end:
+            raise Failed(f"`{line}` ended with {status}: {message}")
+        path = self.folder / output
+        path.write_bytes(printed)
+        redirect = f" < {given.name}" if given else ""
+        self.commands.append(Command(f"{line}{redirect} > {output}", status, path, message))
+        return path
 
     def read(self, task, work, path, *more):
         """What is read of a text that a task printed."""

@@ -48,16 +48,14 @@ def why(matter):
 def saved(matter):
     """What the cheapest rescue costs, and which saves most others."""
     cheap = matter.rankings.cheap
-    if all(bank.state == "sound" for bank in matter.banks):
-        return "No bank needs to be saved."
     if not cheap:
-        return "What would save the banks in default was not asked."
-    first, best = cheap[0], max(cheap, key=lambda each: each.also)
+        return "No bank needs to be saved."
+    first, best = cheap[0], max(cheap, key=lambda each: each.also_saved)
     said = f"The cheapest to save is {matter.called(first.bank)}: with {matter.money.in_short(first.added)} more it pays all that it owes"
-    if first.also:
-        said += f", and so {count(first.also, 'other does', 'others do')}"
-    if best.also > first.also:
-        said += f"; {matter.money.in_short(best.added)} for {matter.called(best.bank)} would save {count(best.also, 'other', 'others')} too"
+    if first.also_saved:
+        said += f", and so {count(first.also_saved, 'other does', 'others do')}"
+    if best.also_saved > first.also_saved:
+        said += f"; {matter.money.in_short(best.added)} for {matter.called(best.bank)} would save {count(best.also_saved, 'other', 'others')} too"
     return said + "."
 
 

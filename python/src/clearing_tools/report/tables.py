@@ -86,10 +86,10 @@ def columns_of(matter):
         return Cell(percent(given, due), share=bar_of(given, due)) if due else Cell("")
 
     def rescue(bank):
-        return matter.rescued.get(bank.name) if bank.state != "sound" else None
+        return matter.rescued.get(bank.name)
 
     def rescue_cell(bank):
-        return Cell("" if bank.state == "sound" else "not asked" if rescue(bank) is None else scale.number(rescue(bank)))
+        return Cell("" if rescue(bank) is None else scale.number(rescue(bank)))
 
     columns = [
         Column("State", "", True, state, lambda bank: STATES.index(bank.state), f"{defaults:,} in default"),

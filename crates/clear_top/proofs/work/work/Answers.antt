@@ -1,15 +1,17 @@
 -- What is reported of a run is what its task comes to, of the network in the input.
-use Rattle.std.proofs.Common.{◌≡◌, ◌⊎◌, inl, inr, All, IfOk, Result, sym, subst}
+use Rattle.std.proofs.Common.{◌≡◌, ◌≤◌, ◌⊎◌, inl, inr, All, IfOk, Result, length, sym, subst}
+use Rattle.clear_report.specs.Outcomes.{outcomes_text}
 use Rattle.clear_words.specs.declared.job.Job.{Job}
 use Rattle.clear_words.specs.declared.task.Task.{Task}
 use Rattle.clear_words.specs.declared.task.Task.TheVariants as task
 use Rattle.clear_top.specs.Ending.{IsUsable}
-use Rattle.clear_top.specs.Meaning.{ComesTo, Settles, plan_of, shown_of}
+use Rattle.clear_top.specs.Meaning.{ComesTo, IsPlain, Settles, plan_of, shown_of}
 use Rattle.clear_top.specs.Outcome.{Outcome}
 use Rattle.clear_top.specs.Reading.{Input}
 use Rattle.clear_top.specs.Sources.{source_of}
 use Rattle.clear_top.specs.declared.source.Source.TheVariants as source
 use Rattle.stress.specs.Shocks.{IsScenarioOf}
+use Rattle.stress.specs.declared.TheConstants.{MAX_SCENARIOS}
 use Rattle.clear_top.proofs.work.work.Goals as goal
 
 -- the scenarios are of the network in the input
@@ -17,7 +19,20 @@ pub report_scenarios-requires-clause-scenarios : goal.report_scenarios-requires-
 report_scenarios-requires-clause-scenarios g c κs within =
     subst (All (IsScenarioOf c.input-in-Stress.inside.net)) (sym c.as_slice.ensures.value)
     (subst (IsUsable source.FilesAndScenarios) (sym c.input-in-Stress.view_is)
-    (subst (λ t. IsUsable (source_of t) c.args.input) c.in-Stress.is c.requires.usable))
+    (subst (λ t. IsUsable (source_of t) c.args.input) c.in-Stress.is c.requires.usable)).0
+
+pub report_outcomes-requires-clause-scenarios : goal.report_outcomes-requires-clause-scenarios
+report_outcomes-requires-clause-scenarios g c κs within =
+    subst (All (IsScenarioOf c.input-in-Outcomes.inside.net)) (sym c.as_slice-in-Outcomes.ensures.value)
+    (subst (IsUsable source.FilesAndScenarios) (sym c.input-in-Outcomes.view_is)
+    (subst (λ t. IsUsable (source_of t) c.args.input) c.in-Outcomes.is c.requires.usable)).0
+
+-- of which there are not too many
+pub report_outcomes-requires-clause-few : goal.report_outcomes-requires-clause-few
+report_outcomes-requires-clause-few g c κs within =
+    subst (λ ss. length ss ≤ MAX_SCENARIOS) (sym c.as_slice-in-Outcomes.ensures.value)
+    (subst (IsUsable source.FilesAndScenarios) (sym c.input-in-Outcomes.view_is)
+    (subst (λ t. IsUsable (source_of t) c.args.input) c.in-Outcomes.is c.requires.usable)).1
 
 -- a task that clears on one board comes to what is reported of it
 by_report : {E : Type 0} (job : Job) (on : Input) (r : Result Outcome E) (t : Task)
@@ -39,3 +54,27 @@ returns-in-Costs g c =
     let job = c.args.job.now in
     subst (λ t. IfOk r (ComesTo t job c.args.input)) (sym c.in-Costs.is)
     (subst (λ i. IfOk r (ComesTo task.Costs job i)) c.input-in-Costs.view_is c.clear_with_costs.ensures)
+
+pub returns-in-CostBounds : goal.returns-in-CostBounds
+returns-in-CostBounds g c =
+    let r = c.bound_with_costs.result in
+    let job = c.args.job.now in
+    subst (λ t. IfOk r (ComesTo t job c.args.input)) (sym c.in-CostBounds.is)
+    (subst (λ i. IfOk r (ComesTo task.CostBounds job i)) c.input-in-CostBounds.view_is c.bound_with_costs.ensures)
+
+pub returns-in-Breaking : goal.returns-in-Breaking
+returns-in-Breaking g c =
+    let r = c.report_breaking.result in
+    let job = c.args.job.now in
+    subst (λ t. IfOk r (ComesTo t job c.args.input)) (sym c.in-Breaking.is)
+    (subst (λ i. IfOk r (ComesTo task.Breaking job i)) c.input-in-Breaking.view_is c.report_breaking.ensures)
+
+-- the scenarios are those of the input
+pub returns-in-Outcomes : goal.returns-in-Outcomes
+returns-in-Outcomes g c =
+    let r = c.report_outcomes.result in
+    let job = c.args.job.now in
+    subst (λ t. IfOk r (ComesTo t job c.args.input)) (sym c.in-Outcomes.is)
+    (subst (λ i. IfOk r (ComesTo task.Outcomes job i)) c.input-in-Outcomes.view_is
+    (subst (λ ss. IfOk r (IsPlain (outcomes_text c.input-in-Outcomes.inside.net ss))) c.as_slice-in-Outcomes.ensures.value
+    c.report_outcomes.ensures))

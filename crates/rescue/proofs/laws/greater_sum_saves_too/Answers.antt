@@ -1,4 +1,4 @@
-use Rattle.rescue.proofs.Saving.{more_saves}
+use Rattle.rescue.proofs.LeastSum.{more_saves}
 use Rattle.rescue.proofs.laws.greater_sum_saves_too.Goals as goal
 
 pub returns : goal.returns

@@ -1,4 +1,4 @@
-use Rattle.rescue.proofs.Saving.{rescue_is}
+use Rattle.rescue.proofs.LeastSum.{rescue_is}
 use Rattle.rescue.proofs.laws.there_is_a_least_sum.Goals as goal
 
 pub returns : goal.returns

@@ -3,10 +3,11 @@ use Rattle.upper.proofs.Reached.{IsReached}
 use Rattle.upper.proofs.descent.descend.Given as goal
 
 abbrev pub invariant-loop-round : goal.invariant-loop-round
-invariant-loop-round l = record {
-  reached : IsReached l.net l.round l.paid l.next l.last l.falls l.waves;
-  room : l.scratch ≡ l.fn.scratch;
+invariant-loop-round g l = record {
+  reached : IsReached l.net (g.S.Spending.spends l.spending l.net) l.round l.paid l.next
+      l.room.last l.room.falls l.waves;
+  room : l.room.divider ≡ l.fn.room.divider;
 }
 
 abbrev pub decreases-loop-round : goal.decreases-loop-round
-decreases-loop-round l = sum l.paid
+decreases-loop-round g l = sum l.paid

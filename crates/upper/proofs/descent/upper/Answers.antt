@@ -1,20 +1,44 @@
-use Rattle.std.proofs.Common.{arith}
-use Rattle.std.proofs.lemmas.Grind.{common_steps}
+use Rattle.std.proofs.Common.{◌≡◌, Result, Ok, Err, OnOk, IfOk}
+use Rattle.std.proofs.lemmas.Result.{IfOk-weaker, on_ok_weaker}
+use Rattle.clr_net.specs.Limits.{IsNetwork}
+use Rattle.clr_net.specs.Net.{Net}
+use Rattle.clear_core.specs.Clearing.{pay}
+use Rattle.clear_core.proofs.Pay.{spend_mono}
+use Rattle.upper.specs.Bounds.{greatest, waves, IsGreatest, WavesTellHealth}
+use Rattle.upper.specs.declared.bounds.Upper.{Upper}
 use Rattle.upper.proofs.Descents.{is_greatest, waves_tell, equities_are_fixed}
 use Rattle.upper.proofs.descent.upper.Goals as goal
 
-pub returns-clause-greatest : goal.returns-clause-greatest
-returns-clause-greatest c = grind (arith, common_steps)
+pub descend_by-requires : goal.descend_by-requires
+descend_by-requires c = record { never_falls = spend_mono c.args.net.now }
 
-pub returns-clause-waves : goal.returns-clause-waves
-returns-clause-waves c = grind (arith, common_steps)
+pub returns-clause-greatest : goal.returns-clause-greatest
+unfolding pay
+returns-clause-greatest c = c.descend_by.ensures.greatest
 
 pub returns-clause-is_greatest : goal.returns-clause-is_greatest
-returns-clause-is_greatest c = is_greatest c.args.net.now _ (returns-clause-greatest c)
+returns-clause-is_greatest c =
+    let net = c.args.net.now in
+    IfOk-weaker c.descend_by.result (λ found. found.greatest ≡ greatest net)
+    (λ found. IsGreatest net found.greatest) (λ found. is_greatest net found.greatest)
+    (returns-clause-greatest c)
+
+pub returns-clause-waves : goal.returns-clause-waves
+unfolding pay
+returns-clause-waves c = c.descend_by.ensures.waves
+
+-- what waves tell is told of a network
+told : {E : Type 0} (net : Net) (r : Result Upper E) → OnOk r (IsNetwork net)
+    → IfOk r (λ found. found.waves ≡ waves net)
+    → IfOk r (λ found. WavesTellHealth net found.waves)
+told net (Ok found) network are = waves_tell net found.waves network are
+told net (Err mem) network are = are
 
 pub returns-clause-healths : goal.returns-clause-healths
-returns-clause-healths c = waves_tell c.args.net.now _ c.debts-debts.ensures.network
-    (returns-clause-waves c)
+returns-clause-healths c =
+    told c.args.net.now c.descend_by.result c.descend_by.ensures.network (returns-clause-waves c)
 
 pub returns-clause-equities : goal.returns-clause-equities
-returns-clause-equities c = equities_are_fixed c.args.net.now c.debts-debts.ensures.network
+returns-clause-equities c =
+    on_ok_weaker c.descend_by.result (equities_are_fixed c.args.net.now)
+    c.descend_by.ensures.network

@@ -1,0 +1,5 @@
+pub mod Between
+pub mod Tabled
+pub mod Counting
+pub mod Broken
+pub mod Defaulting

@@ -1,0 +1,74 @@
+-- Texts that are put together from the pieces of places.
+use Rattle.std.proofs.Common.{◌≡◌, ℕ, ◌+◌, List, [], ◌∷◌, ◌++◌, Vec, Global, get_or, length, map, sym, ap, ◌∙◌, arith}
+use Rattle.std.specs.List.{flat_map}
+use Rattle.std.proofs.lemmas.Grind.{flat_map-append}
+use Rattle.std.proofs.lemmas.List.{append-nil}
+use Rattle.std.proofs.lemmas.List.Folds.{flat_map-map}
+use Rattle.clr_net.specs.Net.{Net}
+use Rattle.cascade.specs.Standings.{bank_numbers}
+use Rattle.clear_report.specs.Pieces.{ArePieces}
+use Rattle.clear_report.specs.Words.{empty_line, one_above_other}
+use Rattle.clear_report.specs.declared.piece.Piece.{Piece}
+use Rattle.clear_many.specs.Texts.{text_of}
+use Rattle.shares.specs.Made.{AreInOrder}
+use Rattle.shares.proofs.InOrder.{read_list, read_off}
+
+-- the piece of the bank i
+abbrev pub IsPieceOf : (ℕ → List ℕ) → (ℕ → List ℕ) → ℕ → Piece → Type 0
+IsPieceOf line_of lines_of i p = (p.upper.items ≡ line_of i) × (p.lower.items ≡ lines_of i)
+
+-- the pieces of all banks
+pub pieces_of_all : (net : Net) (line_of lines_of : ℕ → List ℕ) (pieces : List Piece) → length pieces ≡ length net.banks
+    → AreInOrder (IsPieceOf line_of lines_of) 0 pieces → ArePieces line_of lines_of (bank_numbers net) pieces
+pieces_of_all net line_of lines_of pieces as_many are = record {
+  upper = read_off (IsPieceOf line_of lines_of) (λ p. p.upper.items) line_of 0 (length net.banks) pieces (λ k p is. is.0) as_many are;
+  lower = read_off (IsPieceOf line_of lines_of) (λ p. p.lower.items) lines_of 0 (length net.banks) pieces (λ k p is. is.1) as_many are;
+}
+
+-- those of some banks, each in the place of its number among them
+pub pieces_of_some : (banks : List ℕ) (line_of lines_of : ℕ → List ℕ) (pieces : List Piece) → length pieces ≡ length banks
+    → AreInOrder (λ k. IsPieceOf line_of lines_of (get_or banks k 0)) 0 pieces → ArePieces line_of lines_of banks pieces
+pieces_of_some banks line_of lines_of pieces as_many are =
+    let none = λ (k : ℕ). let e : 0 + k ≡ k = omega arith in e in
+    record {
+      upper = read_list (λ k. IsPieceOf line_of lines_of (get_or banks k 0)) (λ p. p.upper.items) line_of 0 banks 0 pieces
+          (λ k p is. is.0 ∙ ap (λ j. line_of (get_or banks j 0)) (none k)) as_many are;
+      lower = read_list (λ k. IsPieceOf line_of lines_of (get_or banks k 0)) (λ p. p.lower.items) lines_of 0 banks 0 pieces
+          (λ k p is. is.1 ∙ ap (λ j. lines_of (get_or banks j 0)) (none k)) as_many are;
+    }
+
+-- texts that are the same one by one are the same one after another
+pub all_of : {X Y : Type 0} (read : X → List ℕ) (text_of : Y → List ℕ) (xs : List X) (ys : List Y)
+    → map read xs ≡ map text_of ys → flat_map read xs ≡ flat_map text_of ys
+all_of read text_of xs ys same =
+    sym (flat_map-map (λ (t : List ℕ). t) read xs)
+    ∙ ap (flat_map (λ (t : List ℕ). t)) same
+    ∙ flat_map-map (λ (t : List ℕ). t) text_of ys
+
+-- one piece more
+pub text_pushed : (pieces all : List (Vec ℕ Global)) (piece : Vec ℕ Global) → all ≡ pieces ++ piece ∷ []
+    → text_of all ≡ text_of pieces ++ piece.items
+text_pushed pieces all piece grown =
+    ap text_of grown
+    ∙ flat_map-append (λ (p : Vec ℕ Global). p.items) pieces (piece ∷ [])
+    ∙ ap (λ t. text_of pieces ++ t) (append-nil piece.items)
+
+-- and some more
+pub text_appended : (front back all : List (Vec ℕ Global)) → all ≡ front ++ back → text_of all ≡ text_of front ++ text_of back
+text_appended front back all grown =
+    ap text_of grown ∙ flat_map-append (λ (p : Vec ℕ Global). p.items) front back
+
+-- a header, lines, an empty line and a text below them
+pub laid_out : (none one more two all lines : List (Vec ℕ Global)) (header between below : Vec ℕ Global) (head text : List ℕ)
+    → none ≡ [] → one ≡ none ++ header ∷ [] → more ≡ one ++ lines → two ≡ more ++ between ∷ [] → all ≡ two ++ below ∷ []
+    → header.items ≡ head → between.items ≡ empty_line → below.items ≡ text
+    → text_of all ≡ one_above_other (head ++ text_of lines) text
+laid_out none one more two all lines header between below head text nothing begun lined spaced ended h e t =
+    text_pushed two all below ended
+    ∙ ap (λ (x : List ℕ). x ++ below.items) (text_pushed more two between spaced)
+    ∙ ap (λ (x : List ℕ). (x ++ between.items) ++ below.items) (text_appended one lines more lined)
+    ∙ ap (λ (x : List ℕ). ((x ++ text_of lines) ++ between.items) ++ below.items)
+    (text_pushed none one header begun ∙ ap (λ (ps : List (Vec ℕ Global)). text_of ps ++ header.items) nothing)
+    ∙ ap (λ (x : List ℕ). ((x ++ text_of lines) ++ between.items) ++ below.items) h
+    ∙ ap (λ (x : List ℕ). ((head ++ text_of lines) ++ x) ++ below.items) e
+    ∙ ap (λ (x : List ℕ). ((head ++ text_of lines) ++ empty_line) ++ x) t

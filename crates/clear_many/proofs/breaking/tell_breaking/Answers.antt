@@ -1,0 +1,14 @@
+use Rattle.std.proofs.Common.{◌≡◌, ◌+◌, IfOk, length, ap, ◌∙◌, subst}
+use Rattle.clear_report.specs.Breaking.{breaking_text}
+use Rattle.stress.specs.declared.TheConstants.{MAX_CUT}
+use Rattle.clear_many.proofs.Broken.{as_many_broken, told_by_all_cuts}
+use Rattle.clear_many.proofs.breaking.tell_breaking.Goals as goal
+
+pub breaking_text-requires : goal.breaking_text-requires
+breaking_text-requires g c =
+    ap length (c.as_slice.ensures.value ∙ c.in_ok-all.ensures) ∙ as_many_broken c.args.net.now 0 (MAX_CUT + 1)
+
+pub returns : goal.returns
+returns g c =
+    subst (λ all. IfOk c.breaking_text.result (λ text. text.items ≡ breaking_text c.args.net.now all))
+    (c.as_slice.ensures.value ∙ told_by_all_cuts c.args.net.now c.in_ok-all.all c.in_ok-all.ensures) c.breaking_text.ensures

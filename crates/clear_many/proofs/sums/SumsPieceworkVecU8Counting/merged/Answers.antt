@@ -1,0 +1,23 @@
+-- Both shares are counted together.
+use Rattle.std.proofs.Common.{◌≤◌, arith}
+use Rattle.clear_many.proofs.Counting.{both_counted, counted_within}
+use Rattle.clear_many.proofs.sums.SumsPieceworkVecU8Counting.merged.Goals as goal
+
+pub add-requires-clause-fits : goal.add-requires-clause-fits
+add-requires-clause-fits c =
+    let of = c.requires.neighbours in
+    counted_within c.args.self.now.net.now c.args.self.now.scenarios.now of.0 of.1 c.args.front.tally c.requires.can.1 of.3.2
+
+pub add-requires-clause-others_fit : goal.add-requires-clause-others_fit
+add-requires-clause-others_fit c =
+    let of = c.requires.neighbours in
+    counted_within c.args.self.now.net.now c.args.self.now.scenarios.now of.1 of.2 c.args.back.tally c.requires.can.1 of.4.2
+
+pub returns : goal.returns
+returns c = λ low middle high front back.
+    let within : low ≤ high = omega (arith, front.0, back.0) in (
+      within,
+      front.1,
+      both_counted c.args.self.now.net.now c.args.self.now.scenarios.now low middle high c.args.front.tally c.args.back.tally c.add.new.self
+          front.0 back.0 front.2 back.2 c.add.ensures,
+    )

@@ -1,0 +1,120 @@
+//! What it takes to save each bank in default, a share of them to each thread.
+ghost use Rattle.cascade.specs.MoreCash.{is_sound_at_least};
+ghost use Rattle.cascade.specs.Standings.{is_sound, standings as standings_of};
+ghost use Rattle.clear_core.specs.Clearing.{least as least_of};
+ghost use Rattle.clear_report.specs.Savings.{banks_in_default, saves_lines, saving_line};
+ghost use Rattle.clear_report.specs.Savings.{savings_text};
+ghost use Rattle.clear_many.specs.Texts.{text_of};
+ghost use Rattle.std.specs.Prelude.{◌≡◌, ◌<◌, All, IfOk, length, map, not, slice_index};
+
+use crate::stand::least_stand;
+use crate::tables::laid_below;
+use cascade::{Health, Standing};
+use clear_report::{Piece, saving_piece, savings_begun};
+use clr_net::{BankId, Mem, Network};
+use rescue::saving_of;
+use shares::{Made, Piecework, THREADS, in_shares};
+use std::alloc::Global;
+use std::thread::Threads;
+
+/// The text of what it takes to save each bank in default, and of whom else that saves, in pieces.
+/// `Mem` for want of memory alone.
+///
+/// Costs for each bank in default what `saving_of` does.
+pub fn tell_rescues<R: Threads + Sync>(
+    rt: &R,
+    alloc: Global,
+    net: &Network,
+) -> Result<Vec<Vec<u8>>, Mem>
+    ensures { IfOk result (λ all. text_of all.items ≡ savings_text net.now) }
+{
+    let stand = least_stand(alloc, net)?;
+    let banks = in_default(alloc, net, stand.standings.as_slice())?;
+    let savings = Savings {
+        alloc,
+        net,
+        least: stand.paid.as_slice(),
+        before: stand.standings.as_slice(),
+        banks: banks.as_slice(),
+    };
+    let Made { pieces, desk: _ } = in_shares(rt, alloc, &savings, banks.len(), THREADS)?;
+    let begun = savings_begun(alloc, pieces.as_slice())?;
+    laid_below(alloc, begun, pieces)
+}
+
+// The banks that are not sound, in file order.
+fn in_default(alloc: Global, net: &Network, standings: &[Standing]) -> Result<Vec<BankId>, Mem>
+    requires { standings.now ≡ standings_of net.now (least_of net.now) }
+    ensures banks { IfOk result (λ all. map (λ b. b.0) all.items ≡ banks_in_default net.now) }
+    ensures known { IfOk result (λ all. All (λ b. b.0 < length net.now.banks) all.items) }
+{
+    let mut all = Vec::new(alloc);
+    for number in 0..net.banks() {
+        if is_short(net, standings, BankId(number)) {
+            all.push(BankId(number))?;
+        }
+    }
+    Ok(all)
+}
+
+// Whether a bank is not sound.
+fn is_short(net: &Network, standings: &[Standing], bank: BankId) -> bool
+    requires bank { bank.0 < length net.now.banks }
+    requires standings { standings.now ≡ standings_of net.now (least_of net.now) }
+    ensures { result ≡ not (is_sound_at_least net.now bank.0) }
+{
+    let place = bank.0 as usize;
+    is_default(standings[place].health)
+}
+
+// Whether a bank that stands so is in default.
+fn is_default(health: Health) -> bool
+    ensures { result ≡ not (is_sound health) }
+{
+    health != Health::Sound
+}
+
+// The desk at which banks are saved: nothing stands on it.
+#[derive(Drop)]
+struct BareDesk;
+
+// These banks of a network, each of which is to be saved, with the least payments and how all banks
+// stand under them.
+#[derive(Drop)]
+struct Savings<'a> {
+    alloc: Global,
+    net: &'a Network,
+    least: &'a [u64],
+    before: &'a [Standing],
+    banks: &'a [BankId],
+}
+
+impl<'a> Piecework<Piece, BareDesk> for Savings<'a> {
+    ghost can = { λ w. (w.least.now ≡ least_of w.net.now)
+        × (w.before.now ≡ standings_of w.net.now (least_of w.net.now))
+        × (map (λ b. b.0) w.banks.now ≡ banks_in_default w.net.now)
+        × All (λ b. b.0 < length w.net.now.banks) w.banks.now };
+
+    ghost size = { λ w. length w.banks.now };
+
+    ghost is_piece = { λ w k p.
+        (p.upper.items ≡ saving_line w.net.now (slice_index (banks_in_default w.net.now) k))
+        × (p.lower.items ≡ saves_lines w.net.now (slice_index (banks_in_default w.net.now) k)) };
+
+    ghost has_done = { λ w low high desk. Unit {0} };
+
+    fn desk(&self) -> Result<BareDesk, Mem> {
+        Ok(BareDesk)
+    }
+
+    fn piece(&self, desk: BareDesk, place: usize) -> Result<(Piece, BareDesk), Mem> {
+        let bank = self.banks[place];
+        let saving = saving_of(self.alloc, self.net, self.least, self.before, bank)?;
+        let piece = saving_piece(self.alloc, self.net, bank, &saving)?;
+        Ok((piece, desk))
+    }
+
+    fn merged(&self, front: BareDesk, _back: BareDesk) -> BareDesk {
+        front
+    }
+}

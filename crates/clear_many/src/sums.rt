@@ -1,0 +1,133 @@
+//! Scenarios in sums, a share of them to each thread.
+ghost use Rattle.cascade.specs.Standings.{standings as standings_of};
+ghost use Rattle.clear_core.specs.Clearing.{least};
+ghost use Rattle.clear_report.specs.Outcomes.{falls_text as falls_text_of, outcomes_header as header};
+ghost use Rattle.clear_report.specs.Outcomes.{outcome_line as outcome_line_of, outcomes_text, scenario_sums};
+ghost use Rattle.clear_report.specs.Words.{one_above_other};
+ghost use Rattle.clear_many.specs.Between.{between};
+ghost use Rattle.clear_many.specs.Texts.{text_of};
+ghost use Rattle.std.specs.Prelude.{◌≡◌, ◌++◌, ◌≤◌, All, IfOk, OnOk, length, slice_index_or};
+ghost use Rattle.stress.specs.Outcomes.{AreWithin, added, sums as sums_of, tally as tally_of, tally_of_one};
+ghost use Rattle.stress.specs.Shocks.{IsOfOtherCash, IsScenarioOf};
+ghost use Rattle.stress.specs.declared.TheConstants.{MAX_SCENARIOS};
+ghost use Rattle.stress.specs.declared.scenario.Scenario.{Scenario};
+
+use crate::stand::least_stand;
+use clear_report::{falls_text, outcome_line, outcomes_header};
+use clr_net::{Mem, Name, Network};
+use shares::{Made, Piecework, THREADS, in_shares};
+use std::alloc::Global;
+use std::thread::Threads;
+use stress::{Falls, Scenario, Tally, outcome_of, shock_again};
+
+/// The text of what each scenario comes to in sums, and of how often each bank falls in them, in
+/// pieces. `Mem` for want of memory alone.
+///
+/// Costs a clearing from nothing paid for each scenario. Each thread has one copy of the network,
+/// and keeps of a scenario its line alone.
+pub fn tell_outcomes<R: Threads + Sync>(
+    rt: &R,
+    alloc: Global,
+    net: &Network,
+    scenarios: &[Scenario],
+) -> Result<Vec<Vec<u8>>, Mem>
+    requires scenarios { All (IsScenarioOf net.now) scenarios.now }
+    requires few { length scenarios.now ≤ MAX_SCENARIOS }
+    ensures { IfOk result (λ all. text_of all.items ≡ outcomes_text net.now scenarios.now) }
+{
+    let sums = Sums {
+        alloc,
+        net,
+        scenarios,
+    };
+    let Made { pieces, desk } = in_shares(rt, alloc, &sums, scenarios.len(), THREADS)?;
+    summed_up(alloc, net, pieces, desk.tally.as_slice())
+}
+
+// The text of these lines, and of how often each bank falls, in pieces.
+fn summed_up(
+    alloc: Global,
+    net: &Network,
+    lines: Vec<Vec<u8>>,
+    falls: &[Falls],
+) -> Result<Vec<Vec<u8>>, Mem>
+    requires { length falls.now ≡ length net.now.banks }
+    ensures { IfOk result (λ all. text_of all.items ≡ one_above_other
+        (header ++ text_of lines.items) (falls_text_of net.now falls.now)) }
+{
+    let mut lines = lines;
+    let mut all = Vec::with_capacity(alloc, lines.len())?;
+    all.push(outcomes_header(alloc)?)?;
+    all.append(&mut lines)?;
+    all.push(vec![in alloc; b'\n']?)?;
+    all.push(falls_text(alloc, net, falls)?)?;
+    Ok(all)
+}
+
+// The scenarios of a network.
+#[derive(Drop)]
+struct Sums<'a> {
+    alloc: Global,
+    net: &'a Network,
+    scenarios: &'a [Scenario],
+}
+
+// The desk at which scenarios are summed up: a copy of the network, and how often each bank falls
+// in those that are done.
+#[derive(Drop)]
+struct Counting {
+    copy: Network,
+    tally: Tally,
+}
+
+impl<'a> Piecework<Vec<u8>, Counting> for Sums<'a> {
+    ghost can = { λ w. All (IsScenarioOf w.net.now) w.scenarios.now
+        × (length w.scenarios.now ≤ MAX_SCENARIOS) };
+
+    ghost size = { λ w. length w.scenarios.now };
+
+    ghost is_piece = { λ w k text. (d : Scenario)
+        → text.items ≡ scenario_sums w.net.now (slice_index_or w.scenarios.now k d) };
+
+    ghost has_done = { λ w low high desk. (low ≤ high) × IsOfOtherCash w.net.now desk.copy
+        × (desk.tally ≡ tally_of w.net.now (between w.scenarios.now low high)) };
+
+    fn desk(&self) -> Result<Counting, Mem> {
+        Ok(Counting {
+            copy: self.net.copy(self.alloc)?,
+            tally: Tally::empty(self.alloc, self.net)?,
+        })
+    }
+
+    fn piece(&self, desk: Counting, place: usize) -> Result<(Vec<u8>, Counting), Mem> {
+        let Counting {
+            mut copy,
+            mut tally,
+        } = desk;
+        let scenario = &self.scenarios[place];
+        shock_again(self.net, scenario, &mut copy);
+        let text = counted(self.alloc, &copy, &scenario.name, &mut tally)?;
+        Ok((text, Counting { copy, tally }))
+    }
+
+    fn merged(&self, front: Counting, back: Counting) -> Counting {
+        let mut both = front;
+        both.tally.add(&back.tally);
+        both
+    }
+}
+
+// The line of a scenario of this name, which left this network. How its banks stand is counted.
+fn counted(alloc: Global, left: &Network, name: &Name, tally: &mut Tally) -> Result<Vec<u8>, Mem>
+    requires over { length tally.old ≡ length left.now.banks }
+    requires fits { AreWithin MAX_SCENARIOS tally.old }
+    ensures text { IfOk result (λ text.
+        text.items ≡ outcome_line_of name.now (sums_of left.now (least left.now))) }
+    ensures tally { OnOk result (tally.new
+        ≡ added tally.old (tally_of_one (standings_of left.now (least left.now)))) }
+{
+    let stand = least_stand(alloc, left)?;
+    let standings = stand.standings.as_slice();
+    tally.note(standings);
+    outcome_line(alloc, name, &outcome_of(left, standings))
+}

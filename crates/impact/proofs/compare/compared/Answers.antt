@@ -1,0 +1,43 @@
+use Rattle.std.proofs.Common.{◌<◌, length, ap, arith}
+use Rattle.std.specs.Option.{option_map_or}
+use Rattle.std.proofs.lemmas.List.Elements.{All-same}
+use Rattle.clr_net.specs.declared.bank.Bank.{Bank}
+use Rattle.impact.specs.declared.hurt.Hurt.{Hurt}
+use Rattle.impact.specs.Impact.{hurt_by}
+use Rattle.impact.proofs.Hurts.{hurt_are_banks}
+use Rattle.impact.proofs.Others.{own_and_others_are_cash}
+use Rattle.impact.proofs.compare.compared.Goals as goal
+
+pub overflow_sub-result : goal.overflow_sub-result
+overflow_sub-result c = omega (
+  arith,
+  ap (λ (h : Hurt). h.lost) c.hurt_of-own.ensures,
+  ap (λ o. option_map_or (λ (b : Bank). b.cash) o 0) c.bank.ensures,
+  own_and_others_are_cash c.args.net.now c.args.ruined.0 c.banks.ensures.network c.requires.ruined,
+)
+
+pub returns-clause-impact : goal.returns-clause-impact
+returns-clause-impact c =
+    let net = c.args.net.now in
+    let j = c.args.ruined.0 in
+    record {
+      own = ap (λ (h : Hurt). h.lost) c.hurt_of-own.ensures;
+      others = omega (
+        arith,
+        ap (λ (h : Hurt). h.lost) c.hurt_of-own.ensures,
+        ap (λ o. option_map_or (λ (b : Bank). b.cash) o 0) c.bank.ensures,
+        own_and_others_are_cash net j c.banks.ensures.network c.requires.ruined,
+      );
+      falls = c.fallen.ensures;
+      hurts = c.in_ok-hurts.ensures;
+      known = All-same (λ (h : Hurt). h.bank.0 < length net.banks) _ (hurt_by net j)
+          c.in_ok-hurts.ensures (hurt_are_banks net j);
+    }
+
+pub returns-clause-cash : goal.returns-clause-cash
+returns-clause-cash c = omega (
+  arith,
+  ap (λ (h : Hurt). h.lost) c.hurt_of-own.ensures,
+  ap (λ o. option_map_or (λ (b : Bank). b.cash) o 0) c.bank.ensures,
+  own_and_others_are_cash c.args.net.now c.args.ruined.0 c.banks.ensures.network c.requires.ruined,
+)

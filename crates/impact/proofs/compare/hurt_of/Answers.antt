@@ -1,0 +1,45 @@
+use Rattle.clear_core.specs.Clearing.{least}
+use Rattle.cascade.specs.Ruin.{hit}
+use Rattle.impact.proofs.Hurts.{keeps_less, kept_within, no_more, place_after, place_before}
+use Rattle.impact.proofs.Hurts.{stands, stood, told}
+use Rattle.impact.proofs.compare.hurt_of.Goals as goal
+
+pub bounds-before-place : goal.bounds-before-place
+bounds-before-place c =
+    place_before c.args.net.now c.args.ruined.0 c.args.bank.0 c.args.before.now c.args.after.now
+    c.requires.before c.requires.after c.requires.bank
+
+pub bounds-after-place : goal.bounds-after-place
+bounds-after-place c =
+    place_after c.args.net.now c.args.ruined.0 c.args.bank.0 c.args.before.now c.args.after.now
+    c.requires.before c.requires.after c.requires.bank
+
+pub kept-requires : goal.kept-requires
+kept-requires c =
+    let net = c.args.net.now in
+    kept_within net (least net) c.args.bank.0 _
+    (stood net c.args.ruined.0 c.args.bank.0 c.args.before.now c.args.after.now
+    c.requires.before c.requires.after c.requires.bank _)
+
+pub kept-requires-2 : goal.kept-requires-2
+kept-requires-2 c =
+    let net = c.args.net.now in
+    let left = hit net c.args.ruined.0 in
+    kept_within left (least left) c.args.bank.0 _
+    (stands net c.args.ruined.0 c.args.bank.0 c.args.before.now c.args.after.now
+    c.requires.before c.requires.after c.requires.bank _)
+
+pub overflow_sub-result : goal.overflow_sub-result
+overflow_sub-result c =
+    no_more c.args.net.now c.args.ruined.0 c.args.bank.0 c.args.before.now c.args.after.now
+    c.requires.before c.requires.after c.requires.bank c.requires.network c.requires.ruined _ _
+    c.kept.result c.kept-2.result c.kept.ensures c.kept-2.ensures
+
+pub returns : goal.returns
+returns c =
+    let net = c.args.net.now in
+    let less = keeps_less net c.args.ruined.0 c.args.bank.0 c.args.before.now c.args.after.now
+    c.requires.before c.requires.after c.requires.bank _ _ c.kept.result c.kept-2.result
+    c.kept.ensures c.kept-2.ensures in
+    told net c.args.ruined.0 c.args.bank.0 c.args.before.now c.args.after.now
+    c.requires.before c.requires.after c.requires.bank _ _ _ _ less c.falls.ensures

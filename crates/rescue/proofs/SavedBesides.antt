@@ -1,0 +1,132 @@
+-- Whom it saves besides, that a bank is given the least sum that saves it.
+use Rattle.std.proofs.Common.{◌≡◌, ℕ, ◌+◌, ◌<◌, ◌==◌, ◌&&◌, not, Bool, true, false, cond, List, [], ◌∷◌, ◌++◌, length, map, filter, count_by, get_or, refl, sym, ap, ◌∙◌, subst, arith}
+use Rattle.std.specs.List.{range_with_len}
+use Rattle.std.proofs.Math.Path.{ap₂}
+use Rattle.std.proofs.lemmas.List.{append-nil, map-id}
+use Rattle.std.proofs.lemmas.List.Elements.{filter-append}
+use Rattle.std.proofs.lemmas.List.{map-append}
+use Rattle.std.proofs.lemmas.List.FromFn.{get_or-map-range_with_len, length-map-range_with_len, map-range_with_len_more}
+use Rattle.std.proofs.lemmas.List.Sums.{sum_by-cons}
+use Rattle.clr_net.specs.declared.debt.BankId.{BankId}
+use Rattle.clr_net.specs.Limits.{IsNetwork}
+use Rattle.clr_net.specs.Net.{Net, cash_of}
+use Rattle.clear_core.specs.Clearing.{least}
+use Rattle.cascade.specs.MoreCash.{NobodyLoses, is_sound_at_least}
+use Rattle.cascade.specs.declared.standing.Standing.{Standing}
+use Rattle.cascade.specs.Standings.{bank_numbers, is_sound, standing, standings}
+use Rattle.cascade.proofs.CashAt.{cash_at, length-with_cash}
+use Rattle.cascade.proofs.MoreCash.{nobody_loses}
+use Rattle.rescue.specs.Rescue.{added, rescue}
+use Rattle.rescue.specs.Saved.{is_saved_with, left_in_default, rescued}
+use Rattle.rescue.proofs.MoreCash.{added_nothing, more_by_more}
+
+-- cash that is added hurts nobody
+pub added_hurts_nobody : (net : Net) (i a : ℕ) → IsNetwork net → NobodyLoses net (added net i a)
+added_hurts_nobody net i a network =
+    subst (λ (n : Net). NobodyLoses n (added net i a)) (added_nothing net i)
+    (nobody_loses net (cash_at net.banks i (cash_of net i + 0))
+    (cash_at net.banks i (cash_of net i + a)) (more_by_more net i 0 a (omega arith)) network)
+
+-- the network has as many banks once the bank i is saved
+pub as_many_rescued : (net : Net) (i : ℕ) → length (rescued net i).banks ≡ length net.banks
+as_many_rescued net i = length-with_cash net i (cash_of net i + rescue net i)
+
+-- those that pass, counted before or after a change of each
+count_mapped : {X Y : Type 0} (p : Y → Bool) (f : X → Y) (xs : List X)
+    → count_by p (map f xs) ≡ count_by (λ x. p (f x)) xs
+count_mapped p f [] = refl
+count_mapped p f (x ∷ xs) = omega (
+  arith,
+  sum_by-cons (λ y. cond (p y) 1 0) (f x) (map f xs),
+  sum_by-cons (λ x. cond (p (f x)) 1 0) x xs,
+  count_mapped p f xs,
+)
+
+-- of banks that stand so once the bank i is saved
+module _ (net : Net) (i : ℕ) (after : List Standing)
+    (is : after ≡ standings (rescued net i) (least (rescued net i))) where
+  -- there are as many as banks
+  pub as_many_after : length after ≡ length net.banks
+  as_many_after =
+      ap length is
+      ∙ length-map-range_with_len (standing (rescued net i) (least (rescued net i))) 0
+      (length (rescued net i).banks)
+      ∙ as_many_rescued net i
+
+  -- so many are not sound
+  pub counted_after : count_by (λ s. not (is_sound s.health)) after ≡ left_in_default net i
+  counted_after =
+      let more = rescued net i in
+      ap (count_by (λ (s : Standing). not (is_sound s.health))) is
+      ∙ count_mapped (λ (s : Standing). not (is_sound s.health)) (standing more (least more)) (bank_numbers more)
+      ∙ ap (λ n. count_by (λ k. not (is_sound_at_least more k)) (range_with_len 0 n))
+      (as_many_rescued net i)
+
+-- of a bank k, where all banks stand so before and so after
+module _ (net : Net) (i k : ℕ) (before after : List Standing)
+    (was : before ≡ standings net (least net))
+    (is : after ≡ standings (rescued net i) (least (rescued net i))) (bank : k < length net.banks) where
+  -- it has its place before
+  pub place_before : k < length before
+  place_before = omega (
+    arith,
+    ap length was,
+    length-map-range_with_len (standing net (least net)) 0 (length net.banks),
+  )
+
+  -- and after
+  pub place_after : k < length after
+  place_after = omega (arith, as_many_after net i after is)
+
+  -- so the two tell whether it is saved
+  pub saving_told : (d e : Standing) (other cured : Bool) → other ≡ not (k == i)
+      → cured ≡ (not (is_sound (get_or before k d).health) && is_sound (get_or after k e).health)
+      → (other && cured) ≡ is_saved_with net i k
+  saving_told d e other cured o t =
+      let more = rescued net i in
+      let stood : get_or before k d ≡ standing net (least net) k =
+      ap (λ (all : List Standing). get_or all k d) was
+      ∙ get_or-map-range_with_len (standing net (least net)) 0 (length net.banks) k k d bank
+      (omega arith) in
+      let stands : get_or after k e ≡ standing more (least more) k =
+      ap (λ (all : List Standing). get_or all k e) is
+      ∙ get_or-map-range_with_len (standing more (least more)) 0 (length more.banks) k k e
+      (omega (arith, as_many_rescued net i)) (omega arith) in
+      ap₂ (λ (a b : Bool). a && b) o
+      (t ∙ ap₂ (λ (s u : Standing). not (is_sound s.health) && is_sound u.health) stood stands)
+
+-- one number more
+range_more : (n : ℕ) → range_with_len 0 (n + 1) ≡ range_with_len 0 n ++ n ∷ []
+range_more n =
+    sym (map-id (range_with_len 0 (n + 1)))
+    ∙ map-range_with_len_more (λ (x : ℕ). x) 0 n n (omega arith)
+    ∙ ap (λ xs. xs ++ n ∷ []) (map-id (range_with_len 0 n))
+
+-- the banks that pass, with the bank n, which does or does not
+module _ (p : ℕ → Bool) (n : ℕ) where
+  -- one number more
+  passing_push : filter p (range_with_len 0 (n + 1))
+      ≡ filter p (range_with_len 0 n) ++ cond (p n) (n ∷ []) []
+  passing_push =
+      ap (filter p) (range_more n) ∙ filter-append p (range_with_len 0 n) (n ∷ [])
+
+  -- it does
+  pub passing_with : (all more : List BankId) (b : BankId)
+      → map (λ b. b.0) all ≡ filter p (range_with_len 0 n) → b.0 ≡ n → p n ≡ true
+      → more ≡ all ++ b ∷ [] → map (λ b. b.0) more ≡ filter p (range_with_len 0 (n + 1))
+  passing_with all more b so_far e passes m =
+      ap (map (λ (b : BankId). b.0)) m
+      ∙ map-append (λ (b : BankId). b.0) all (b ∷ [])
+      ∙ ap₂ (λ (xs : List ℕ) (k : ℕ). xs ++ k ∷ []) so_far e
+      ∙ ap (λ v. filter p (range_with_len 0 n) ++ cond v (n ∷ []) []) (sym passes)
+      ∙ sym passing_push
+
+  -- it does not
+  pub passing_without : (all : List BankId)
+      → map (λ b. b.0) all ≡ filter p (range_with_len 0 n) → p n ≡ false
+      → map (λ b. b.0) all ≡ filter p (range_with_len 0 (n + 1))
+  passing_without all so_far fails =
+      so_far
+      ∙ sym (append-nil (filter p (range_with_len 0 n)))
+      ∙ ap (λ v. filter p (range_with_len 0 n) ++ cond v (n ∷ []) []) (sym fails)
+      ∙ sym passing_push

@@ -1,0 +1,14 @@
+use Rattle.std.proofs.Common.{◌+◌, ◌-◌, ◌*◌}
+use Rattle.shares.proofs.halves.+halves.Given as goal
+
+abbrev pub decreases-in_halves : goal.decreases-in_halves
+decreases-in_halves g l = 4 * (l.high - l.low)
+
+abbrev pub decreases-both_halves : goal.decreases-both_halves
+decreases-both_halves g l = 4 * (l.high - l.low) - 1
+
+abbrev pub decreases-both_halves-front : goal.decreases-both_halves-front
+decreases-both_halves-front g l = 4 * (l.middle - l.low) + 1
+
+abbrev pub decreases-both_halves-back : goal.decreases-both_halves-back
+decreases-both_halves-back g l = 4 * (l.high - l.middle) + 1

@@ -1,0 +1,158 @@
+//! The least cut of all cash that breaks each bank.
+ghost use Rattle.cascade.specs.Standings.{bank_numbers, health_of};
+ghost use Rattle.clear_core.specs.Clearing.{Clears};
+ghost use Rattle.std.specs.Prelude.{◌≡◌, ◌+◌, ◌<◌, ◌≤◌, ◌==◌, ℕ, IfOk, length, if◌then◌else◌, map};
+ghost use Rattle.std.specs.Prelude.{slice_index_or};
+ghost use Rattle.stress.specs.Breaking.{breaking as breaking_of, breaking_within as within};
+ghost use Rattle.stress.specs.Breaking.{joined as joined_of, noted as noted_of};
+ghost use Rattle.stress.specs.declared.TheConstants.{MAX_CUT};
+
+use crate::MAX_CUT;
+use crate::shock::cut_cash;
+use cascade::{Health, due, worth};
+use clear_core::{Scratch, estate_of};
+use clear_least::least_again;
+use clr_net::{BankId, Mem, Network};
+use std::alloc::Global;
+
+/// The least cut that breaks a bank, per mille, and how the bank stands at it.
+#[derive(Clone, Copy, Debug, PartialEq, Eq)]
+pub struct Broken {
+    /// One more than the greatest cut where none breaks the bank.
+    pub cut: u32,
+    /// Sound where no cut breaks the bank.
+    pub health: Health,
+}
+
+/// The least cut of all cash that breaks each bank, and how the bank stands at it, in file order.
+///
+/// A bank is broken where it does not pay all that it owes, under the least payments that clear
+/// (Eisenberg and Noe 2001) once each bank has lost the cut. `Mem` for want of memory alone.
+///
+/// Goes down from the greatest cut, on one copy of the network. A smaller cut lowers no payment, so
+/// each clearing goes on from the payments of the one before; and it breaks no bank that was sound,
+/// so only the others pay anew and are looked at.
+pub fn breaking(alloc: Global, net: &Network) -> Result<Vec<Broken>, Mem>
+    ensures { IfOk result (λ all. all.items ≡ map (breaking_of net.now) (bank_numbers net.now)) }
+{
+    breaking_within(alloc, net, 0, MAX_CUT as u32 + 1)
+}
+
+/// What [`breaking`] tells, by the cuts from `low` up to below `high` alone: `low` of a bank that
+/// smaller cuts break too, and `high`, and sound, of one that none of these breaks.
+///
+/// So shares of the cuts may be gone through side by side, and put together by [`joined`]. `Mem` for
+/// want of memory alone.
+pub fn breaking_within(
+    alloc: Global,
+    net: &Network,
+    low: u32,
+    high: u32,
+) -> Result<Vec<Broken>, Mem>
+    requires range { low ≤ high }
+    requires high { high ≤ MAX_CUT + 1 }
+    ensures { IfOk result (λ all. all.items ≡ map (within low high net.now) (bank_numbers net.now)) }
+{
+    let none = Broken {
+        cut: high,
+        health: Health::Sound,
+    };
+    let banks = net.banks() as usize;
+    let mut all = vec![in alloc; none; banks]?;
+    let mut marks = vec![in alloc; true; banks]?;
+    let mut paid = vec![in alloc; 0; net.debts() as usize]?;
+    let mut scratch = Scratch::of(alloc, net)?;
+    let mut left = net.copy(alloc)?;
+    for step in 0..high - low {
+        let cut = high - step - 1;
+        cut_cash(net, cut, &mut left);
+        mark_broken(all.as_slice(), cut + 1, marks.as_mut_slice());
+        least_again(
+            &left,
+            paid.as_mut_slice(),
+            marks.as_mut_slice(),
+            &mut scratch,
+        );
+        note(&left, paid.as_slice(), cut, all.as_mut_slice());
+    }
+    Ok(all)
+}
+
+/// What [`breaking_within`] tells by the cuts of two shares, put together: by those below `middle`,
+/// and by those from it on. Takes no memory.
+pub fn joined(middle: u32, lower: Vec<Broken>, upper: &[Broken]) -> Vec<Broken>
+    requires { length lower.items ≡ length upper.now }
+    ensures { result.items ≡ joined_of middle lower.items upper.now }
+{
+    let mut all = lower;
+    for (place, known) in upper.iter().enumerate() {
+        all[place] = told_by(middle, all[place], *known);
+    }
+    all
+}
+
+// What is told of a bank by the cuts from `middle` on, where none below breaks it, and else by those.
+fn told_by(middle: u32, lower: Broken, upper: Broken) -> Broken
+    ensures { result ≡ (if lower.cut == middle then upper else lower) }
+{
+    if lower.cut == middle { upper } else { lower }
+}
+
+// Marks the banks that the last cut broke.
+fn mark_broken(all: &[Broken], last: u32, marks: &mut [bool])
+    requires { length marks.old ≡ length all.now }
+    ensures { marks.new ≡ map (λ known. known.cut == last) all.now }
+{
+    for (place, known) in all.iter().enumerate() {
+        marks[place] = known.cut == last;
+    }
+}
+
+// Notes which of the banks that the last cut broke are broken by this one too, which is one less,
+// and how they stand.
+fn note(left: &Network, paid: &[u64], cut: u32, all: &mut [Broken])
+    requires clears { Clears left.now paid.now }
+    requires banks { length all.old ≡ length left.now.banks }
+    requires cut { cut ≤ MAX_CUT }
+    ensures { (i : ℕ) (none : Broken) → i < length all.old → slice_index_or all.new i none
+        ≡ noted_of left.now paid.now cut i (slice_index_or all.old i none) }
+{
+    for number in 0..left.banks() {
+        let place = number as usize;
+        all[place] = noted(left, paid, cut, BankId(number), all[place]);
+    }
+}
+
+// What is known of a bank after one cut more.
+fn noted(left: &Network, paid: &[u64], cut: u32, bank: BankId, known: Broken) -> Broken
+    requires clears { Clears left.now paid.now }
+    requires bank { bank.0 < length left.now.banks }
+    requires cut { cut ≤ MAX_CUT }
+    ensures { result ≡ noted_of left.now paid.now cut bank.0 known }
+{
+    if known.cut != cut + 1 {
+        return known;
+    }
+    let health = health_under(left, paid, bank);
+    if health == Health::Sound {
+        return known;
+    }
+    Broken { cut, health }
+}
+
+// How a bank stands under payments that clear.
+fn health_under(net: &Network, paid: &[u64], bank: BankId) -> Health
+    requires clears { Clears net.now paid.now }
+    requires bank { bank.0 < length net.now.banks }
+    ensures { result ≡ health_of net.now paid.now bank.0 }
+{
+    prove!(bank.0 < net.banks());
+    let due = due(net, bank);
+    if due <= estate_of(net, bank, paid) {
+        Health::Sound
+    } else if worth(net, bank) < due {
+        Health::Fundamental
+    } else {
+        Health::Contagion
+    }
+}
