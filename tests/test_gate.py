@@ -1,5 +1,6 @@
 """The gate and the packages that its tests want: with an apt-get that works, fails, hangs or lacks one, and a toolchain that only
 tells its calls."""
+import importlib.util
 import os
 import pathlib
 import re
@@ -29,6 +30,7 @@ exit 1
 RT = """#!/bin/sh
 echo "rt $*" >>"$CALLS"
 mkdir -p crates/clear_main/out && : >crates/clear_main/out/clear_main
+printf "$STEPS"
 echo "5 passed, 0 failed"
 exit $RT
 """
@@ -67,7 +69,7 @@ class Machine(Case):
         """The status and the lines of a command of the repository, what was called, and the seconds it took."""
         self.calls.write_text("")
         environment = {"PATH": f"{self.folder}/commands:{os.environ['PATH']}", "CALLS": str(self.calls), "INSTALLED": str(self.installed),
-                       "APT": "works", "RT": "0", "PYTHONDONTWRITEBYTECODE": "1", **more}
+                       "APT": "works", "RT": "0", "STEPS": "", "PYTHONDONTWRITEBYTECODE": "1", **more}
         begun = time.monotonic()
         done = subprocess.run([str(self.root / words[0]), *words[1:]], env=environment, stdin=subprocess.DEVNULL, stdout=subprocess.PIPE,
                               stderr=subprocess.STDOUT, encoding="utf-8", cwd=self.folder)
@@ -129,10 +131,17 @@ class Gate(Machine):
     def setUp(self):
         super().setUp()
         (self.root / ".ci").mkdir()
-        (self.root / "tools").mkdir()
+        (self.root / "tools/dev").mkdir(parents=True)
+        (self.root / "crates.txt").write_text("# crates\nlow:\nhigh staticlib: low\n")
+        for name, size in (("low", 1000), ("high", 3000)):
+            for part in ("src", "must-fail"):
+                (self.root / "crates" / name / part).mkdir(parents=True)
+            (self.root / "crates" / name / "src/lib.rt").write_text("#[test]\n" * (size // 8))
+            (self.root / "crates" / name / "must-fail/one.edit").write_text("")
         beside = self.root / HERE.relative_to(ROOT)
         beside.mkdir(parents=True, exist_ok=True)
-        for source, target in ((ROOT / ".ci/run", ".ci"), (ROOT / "tools/test.sh", "tools"), (HERE / "run.py", beside)):
+        for source, target in ((ROOT / ".ci/run", ".ci"), (ROOT / "tools/test.sh", "tools"), (ROOT / "tools/dev/gate.py", "tools/dev"),
+                               (HERE / "run.py", beside)):
             shutil.copy(source, self.root / target)
         (beside / "test_some.py").write_text(TESTS)
         (self.root / "tests/skips.txt").write_text("test_some.Some.test_sun  it rains\n")
@@ -165,4 +174,33 @@ class Gate(Machine):
 
     def test_the_first_of_its_work_is_a_plain_line(self):
         lines = [line for line in (ROOT / ".ci/run").read_text(encoding="utf-8").splitlines() if not line.startswith("#")]
-        self.assertEqual(lines[:2], ['cd "$(dirname "$0")/.." || exit 1', "rt ci"])
+        self.assertEqual(lines[0], 'cd "$(dirname "$0")/.." || exit 1')
+        self.assertEqual(lines[2], "rt ci")
+
+    def test_it_says_what_it_is_at(self):
+        steps = r"rt: low proved\nrt: low: its tests are proved\nrt: low: trying its must-fail edits (1)\nlogic=proved\nrt: high proved\n"
+        status, lines = self.ran(".ci/run", STEPS=steps)
+        self.assertEqual((status, self.called), (0, ["rt ci"]))
+        told = [line for line in lines if line.startswith("gate: ")]
+        self.assertEqual(len(told), 4, lines)
+        self.assertEqual(told[0], "gate: 1 of 2 crates are proved; 0 minutes so far")
+        self.assertEqual(told[2], "gate: 1 of 2 crates are proved; edits of low; 0 minutes so far, about 0 more")
+        self.assertEqual(told[3], "gate: 2 of 2 crates are proved; edits of low; 0 minutes so far, about 0 more")
+        self.assertIn("logic=proved", lines)
+
+    def test_the_estimate_goes_by_the_work_that_is_left(self):
+        spec = importlib.util.spec_from_file_location("gate", self.root / "tools/dev/gate.py")
+        gate = importlib.util.module_from_spec(spec)
+        spec.loader.exec_module(gate)
+        work = gate.Work()
+        work.began -= 600
+        self.assertTrue(work.read("rt: low: trying its must-fail edits (1)"))
+        # There are 4,000 bytes of proofs and as many of tests, and two crates with an edit, of which one is being tried.
+        proofs, half = 4000 * (1 + gate.TESTS), (gate.BEGIN + gate.EDIT) / 2
+        self.assertTrue(work.told().endswith(f"10 minutes so far, about {10 * (proofs + 3 * half) / half:.0f} more"), work.told())
+        for line in ("rt: low is kept: an earlier run on this machine proved the same files over the same libraries", "rt: high proved",
+                     "rt: low: its tests are proved", "rt: high: its tests are proved"):
+            self.assertTrue(work.read(line), line)
+        left = 10 * 3 * half / (proofs + half)
+        self.assertEqual(work.told(), f"2 of 2 crates are proved; edits of low; 10 minutes so far, about {left:.0f} more")
+        self.assertFalse(work.read("rt: high NOT PROVED"))
