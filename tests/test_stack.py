@@ -11,6 +11,8 @@ from unittest import mock
 
 from common import PROGRAM, ROOT, TWELVE, Case, clearing, files_of, needs
 
+from clearing_tools.checks import why
+
 sys.path.insert(0, str(ROOT / "tests/system"))
 import model  # noqa: E402
 from networks import judge_compression  # noqa: E402
@@ -103,18 +105,25 @@ class Stack(Case):
         return [int(number.replace(",", "")) * 1024 for number in found.groups()]
 
     def tasks(self):
-        """A run of each task, with 8 workers where it has some."""
+        """A run of each task, with 8 workers where it has some, and whether it starts threads."""
         files = files_of(TWELVE)
         journal = self.file("journal.csv", clearing("clear", *files, "--show", "journal", "--workers", 1).stdout)
-        for words in [["check"], ["convert"], ["central"], ["compress"], ["costs", "--keep", 500], ["replay", "--journal", journal]]:
-            yield [words[0], *files, *words[1:]]
-        for words in [["clear"], ["defaults"], ["bounds"], ["rescue", "--bank", "Dunmore"], ["stress", "--scenarios", TWELVE / "scenarios.toml"]]:
-            yield [words[0], *files, *words[1:], "--workers", 8]
-        yield ["gen", "--seed", 1, "--size", 1000, "--tries", 20_000, "--workers", 64]
+        scenarios = ["--scenarios", TWELVE / "scenarios.toml"]
+        for words in [["check"], ["convert"], ["central"], ["compress"], ["costs", "--keep", 500], ["cost-bounds", "--keep", 500],
+                      ["replay", "--journal", journal]]:
+            yield [words[0], *files, *words[1:]], False
+        for words in [["breaking"], ["impact"], ["rescues"], ["outcomes", *scenarios]]:
+            yield [words[0], *files, *words[1:]], True
+        for words in [["clear"], ["defaults"], ["bounds"], ["rescue", "--bank", "Dunmore"], ["stress", *scenarios]]:
+            yield [words[0], *files, *words[1:], "--workers", 8], True
+        yield ["gen", "--seed", 1, "--size", 1000, "--tries", 20_000, "--workers", 64], True
+
+    def test_each_task_is_run(self):
+        self.assertEqual(sorted(words[0] for words, _ in self.tasks()), sorted(why.TASKS))
 
     def test_what_is_said_of_the_stack_is_enough(self):
         main, _, deepest = self.said()
-        for words in self.tasks():
+        for words, _ in self.tasks():
             told = clearing(*words)
             # Where the stack begins is drawn at each run.
             for _ in range(5):
@@ -129,8 +138,8 @@ class Stack(Case):
     def test_what_is_said_of_the_stack_of_a_thread_is_enough(self):
         least = self.folder / "small.so"
         subprocess.run(["cc", "-shared", "-fPIC", f"-DKILOBYTES={self.said()[1] // 1024}", "-o", least, ROOT / "tests/system/small.c", "-ldl"], check=True)
-        for words in self.tasks():
-            if "--workers" in words:
+        for words, starts_threads in self.tasks():
+            if starts_threads:
                 told = clearing(*words)
                 self.assertEqual(self.ended(*words, environment={"LD_PRELOAD": str(least)}), (0, told.stdout.decode(), ""), words)
 
