@@ -30,7 +30,7 @@ class Paper(unittest.TestCase):
         owed = [(0, 1, 1, 6), (0, 2, 1, 3), (1, 2, 1, 4), (1, 3, 1, 4), (2, 0, 1, 5), (2, 3, 2, 2)]
         net = Net(banks, [Debt(*debt) for debt in owed])
         paid = [0] * len(owed)
-        for number, row in enumerate(table_below("takes eight rounds")):
+        for number, row in enumerate(table_below("takes eight such rounds")):
             self.assertEqual([int(cell) for cell in row], [number, *paid, sum(paid)])
             paid = pay(net, paid)
         self.assertEqual((number, pay(net, paid)), (8, paid))
