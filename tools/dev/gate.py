@@ -17,7 +17,7 @@ import time
 
 ROOT = pathlib.Path(__file__).resolve().parents[2]
 # What a step takes, as bytes of sources that are proved in the same time: what edits of a crate begin with, an edit, a byte of tests.
-BEGIN, EDIT, TESTS = 40_000, 20_000, 3
+BEGIN, EDIT, TESTS = 30_000, 14_000, 3
 STEP = re.compile(r"rt: (\w+)(?: is kept: .*|(: its tests are)? proved|: trying its must-fail edits \((\d+)\))$")
 
 
