@@ -195,12 +195,12 @@ class Gate(Machine):
         work = gate.Work()
         work.began -= 600
         self.assertTrue(work.read("rt: low: trying its must-fail edits (1)"))
-        # There are 4,000 bytes of proofs and as many of tests, and two crates with an edit, of which one is being tried.
-        proofs, half = 4000 * (1 + gate.TESTS), (gate.BEGIN + gate.EDIT) / 2
-        self.assertTrue(work.told().endswith(f"10 minutes so far, about {10 * (proofs + 3 * half) / half:.0f} more"), work.told())
+        # There are 4,000 bytes of proofs and as many of tests, and two crates with an edit, of which that of the lower is being tried.
+        proofs, half, other = 4000 * (1 + gate.TESTS), (gate.EDIT + 1000 * gate.READ) / 2, gate.EDIT + 3000 * gate.READ
+        self.assertTrue(work.told().endswith(f"10 minutes so far, about {10 * (proofs + half + other) / half:.0f} more"), work.told())
         for line in ("rt: low is kept: an earlier run on this machine proved the same files over the same libraries", "rt: high proved",
                      "rt: low: its tests are proved", "rt: high: its tests are proved"):
             self.assertTrue(work.read(line), line)
-        left = 10 * 3 * half / (proofs + half)
+        left = 10 * (half + other) / (proofs + half)
         self.assertEqual(work.told(), f"2 of 2 crates are proved; edits of low; 10 minutes so far, about {left:.0f} more")
         self.assertFalse(work.read("rt: high NOT PROVED"))

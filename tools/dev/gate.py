@@ -16,8 +16,9 @@ import sys
 import time
 
 ROOT = pathlib.Path(__file__).resolve().parents[2]
-# What a step takes, as bytes of sources that are proved in the same time: what edits of a crate begin with, an edit, a byte of tests.
-BEGIN, EDIT, TESTS = 30_000, 14_000, 3
+# What a step takes, as bytes of sources that are proved in the same time: an edit of a small crate and for each byte of the crate, and
+# a byte of tests.
+EDIT, READ, TESTS = 9_000, 0.07, 3
 STEP = re.compile(r"rt: (\w+)(?: is kept: .*|(: its tests are)? proved|: trying its must-fail edits \((\d+)\))$")
 
 
@@ -43,7 +44,7 @@ class Work:
                 self.takes[name, "tests"] = TESTS * bytes_of(name, "src")
             edits = len(list((ROOT / "crates" / name / "must-fail").glob("*.edit")))
             if edits:
-                self.takes[name, "edits"] = BEGIN + EDIT * edits
+                self.takes[name, "edits"] = edits * (EDIT + READ * self.takes[name, "proof"])
         self.began, self.all = time.monotonic(), sum(self.takes.values())
 
     def read(self, line):
