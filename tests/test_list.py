@@ -1,4 +1,4 @@
-from common import ODD_NAMES, ROOT, Case, all_names, tool
+from common import ODD_NAMES, ROOT, Case, all_names
 
 TABLE = "bank,cash,outside,rule\nA,3,0,order\nB,4,1,equal\nC,5,0,webster\n"
 

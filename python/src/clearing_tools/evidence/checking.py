@@ -74,8 +74,8 @@ class Checking:
         self.check_room(files.intersection(rest))
         for name in rest:
             self.take(name, name in files)
-        for name, fault in sorted(self.unread.items()):
-            self.tell(f"{name}: {fault}", UNREAD)
+        for name, why in sorted(self.unread.items()):
+            self.tell(f"{name}: {why}", UNREAD)
 
     def take(self, name, is_copied):
         """Reads a file for its checksum, and copies it where that is said."""
