@@ -61,9 +61,9 @@ test("where default costs there are both ends", () => {
   assert.deepEqual(soundAtGreatest(costly), [1]);
   assert.deepEqual([sums(costly).defaults, sums(costly).lost, sums(costly).pays], [2, 4, 11]);
   assert.deepEqual([sums(atGreatest(costly)).defaults, sums(atGreatest(costly)).lost, sums(atGreatest(costly)).pays], [1, 0, 17]);
-  assert.equal(told(BASE, costly, NAMES), "All is as it is. At the greatest payments that clear one bank is sound: \u2068B\u2069.");
-  assert.equal(told(NOW, costly, NAMES), "One bank falls: \u2068B\u2069. One bank is saved: \u2068A\u2069. At the greatest payments that clear one bank is sound:"
-    + " \u2068B\u2069.");
+  assert.equal(told(BASE, costly, NAMES), "All is as it is. At the greatest payments that clear, one of those in default is sound: \u2068B\u2069.");
+  assert.equal(told(NOW, costly, NAMES), "One bank falls: \u2068B\u2069. One bank is saved: \u2068A\u2069. At the greatest payments that clear, one of those in default"
+    + " is sound: \u2068B\u2069.");
 });
 
 test("the rows are those that differ: fallen, saved, then the most", () => {

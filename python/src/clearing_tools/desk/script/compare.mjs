@@ -67,8 +67,10 @@ const sentence = (banks, names, one, several) => {
 export const told = (before, now, names) => {
   const parts = [sentence(fallen(before, now), names, "falls", "fall"), sentence(saved(before, now), names, "is saved", "are saved")];
   if (!parts.some(Boolean)) parts.push(rows(before, now).length ? "No bank falls and none is saved; payments change." : "All is as it is.");
-  const ends = sentence(soundAtGreatest(now), names, "is sound", "are sound");
-  return [...parts, ends && `At the greatest payments that clear ${ends[0].toLowerCase()}${ends.slice(1)}`].filter(Boolean).join(" ");
+  const sound = soundAtGreatest(now);
+  if (sound.length) parts.push(`At the greatest payments that clear, ${word(sound.length)} of those in default ${sound.length === 1 ? "is" : "are"} sound: `
+    + `${listed(sound.map((bank) => apart(names[bank])))}.`);
+  return parts.filter(Boolean).join(" ");
 };
 
 /** What was changed of the banks: the bank, the field, before and now. */
