@@ -221,7 +221,8 @@ class Analysis(Case):
                 self.assertLessEqual(loss, solver.cash[of] + 1)
                 if loss:
                     self.assertEqual(after(loss - 1), "sound")
-        self.refused("breaking.py", 4, "no bank has the name 'Z'", *words, "--loss", "Z")
+        self.refused("breaking.py", 4, "no bank has the name 'Z'\n", *words, "--loss", "Z")
+        self.refused("breaking.py", 4, "no bank has the name 'jura '; is it 'Jura'?\n", *example("twelve-banks"), "--loss", "jura ")
 
     def test_impacts(self):
         for name, words in self.networks():

@@ -2,7 +2,6 @@
 import itertools
 import random
 import sys
-import time
 from unittest import mock
 
 from common import ROOT, Case, clearing, tool
@@ -219,22 +218,33 @@ class Audit(Case):
         self.assertEqual((done.returncode, done.stdout.splitlines()[0]),
                          (7, "raise 1 is not lawful: 0 is paid, and its debtor may pay 4"))
 
-    def test_many_raises_take_seconds(self):
+    def test_a_division_is_taken_on_where_an_estate_changed(self):
+        """Many raises; bench/tools.py times a million."""
         # One unit goes round a ring of ten banks that owe 5,000 each: 50,000 raises, a twentieth of a million.
         banks = "name,cash,rule\n" + "".join(f"R{i},{int(i == 0)},webster\n" for i in range(10))
         debts = "debtor,creditor,class,claim\n" + "".join(f"R{i},R{(i + 1) % 10},1,5000\n" for i in range(10))
         made = self.made_files(banks, debts, "--workers", 1, "--sweeps", 1000)
-        begun = time.process_time()
-        lines, status = self.judged(made)
+        with mock.patch.object(audit.Division, "up_to", autospec=True, side_effect=audit.Division.up_to) as divided:
+            lines, status = self.judged(made)
         self.assertEqual((lines[0], status), ("50000 raises lawful", 0))
-        self.assertLess(time.process_time() - begun, 3)  # a minute for a million
+        self.assertLess(divided.call_count, 2.1 * 50_000)
 
-    def test_millions_of_units_take_no_time_of_their_own(self):
+    def test_few_of_millions_of_units_go_out_one_by_one(self):
         net = small_network(random.Random(5), banks=30, debts=600, claims=[16_000], cash=200_000, outside=100)
         raises = raises_of(net)
-        begun = time.process_time()
-        self.assertEqual(audit.follow(net, raises).kind, "lawful")
-        self.assertLess(time.process_time() - begun, 0.3)  # unit by unit two seconds
+        single = 0
+
+        def counted(division, turns=audit.Division.one_by_one):
+            nonlocal single
+            for turn in turns(division):
+                single += 1
+                yield turn
+
+        with mock.patch.object(audit.Division, "one_by_one", counted):
+            self.assertEqual(audit.follow(net, raises).kind, "lawful")
+        units = sum(max(to for _, x, to in raises if x == debt) for debt in {x for _, x, _ in raises})
+        self.assertGreater(units, 1_000_000)
+        self.assertLess(single, units / 10)
 
 
 def small_network(chance, banks, debts, claims, cash, outside):

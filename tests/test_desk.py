@@ -66,6 +66,26 @@ class Numbers(Desk):
         rows = standings("costs", *files_of(TWELVE), "--keep", "640")
         self.assertEqual([[str(view[key][at]) for key in ("estate", "lost", "outsidePaid", "paid", "equity", "state")] for at in range(12)],
                          [row[1:] for row in rows])
+        self.assertIsNone(desk.see("/state/0")["greatest"])
+
+    def test_where_default_costs_both_ends_are_those_of_the_program(self):
+        outside = self.net("A,30,order,9\nB,30,webster,0\nC,5,equal,20\n", "A,B,1,100\nB,A,1,100\nB,C,2,9\n", "name,cash,rule,outside")
+        for files, keep in ((files_of(ROOT / "examples/core"), 800), (files_of(ROOT / "examples/gridlock"), 500), (outside, 500), (outside, 0)):
+            view = self.desk(files).change(0, set="keep", value=str(keep))
+            rows, least = standings("cost-bounds", *files, "--keep", keep), standings("costs", *files, "--keep", keep)
+            keys = ("estate", "lost", "outsidePaid", "paid", "equity", "state")
+            self.assertEqual([[str(view[key][at]) for key in keys] for at in range(len(rows))], [row[1:] for row in least])
+            greatest = view["greatest"]
+            self.assertEqual([[str(greatest[key][at]) for key in ("lost", "equity", "state")] for at in range(len(rows))], [row[4:] for row in rows])
+            debts = [line.split(",") for line in clearing("cost-bounds", *files, "--keep", keep).stdout.decode().partition("\n\n")[0].split("\n")[1:]]
+            paid = [sum(int(debt[5]) for debt in debts if debt[0] == row[0]) for row in rows]
+            received = [sum(int(debt[5]) for debt in debts if debt[1] == row[0]) for row in rows]
+            self.assertEqual(greatest["paid"], paid)
+            self.assertEqual(greatest["estate"], [cash + got for cash, got in zip(view["left"], received)])
+            for at, state in enumerate(greatest["state"]):
+                lost, outside_paid = greatest["lost"][at], greatest["outsidePaid"][at]
+                self.assertEqual(greatest["estate"][at], lost + outside_paid + paid[at] + greatest["equity"][at])
+                self.assertTrue(0 <= outside_paid <= view["outside"][at] and (state != "sound" or outside_paid == view["outside"][at]))
 
     def test_changes_of_banks_and_debts_are_cleared_as_files_that_have_them(self):
         banks, debts = (TWELVE / "banks.csv").read_text().splitlines(), (TWELVE / "debts.csv").read_text().splitlines()

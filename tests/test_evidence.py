@@ -185,36 +185,21 @@ class Evidence(EvidenceCase):
         (folder / "more.txt").write_text("x")
         checked(3, "checksums: more.txt is not listed", "more.txt: none of these commands makes it here")
         # Where the checksums are made anew, the rest is found by what the files say.
-        altered("scenario-1/banks.csv", ",webster", ",order")
-        self.sums_anew(folder)
-        checked(5, "scenario 1: banks differ")
-        altered("scenario-1/journal.csv", "\nrounds", "\n9,South,Hub,1,1\nrounds")
-        self.sums_anew(folder)
-        checked(6, "scenario 1: raise ", "not so: each journal is lawful")
-        altered("as-is/journal.csv", "\n1,", "\n1,Nobody,")
-        self.sums_anew(folder)
-        checked(6, "as it is: audit.py: journal row 1: fields (2)")
-        altered("scenario-1/payments.csv", ",paid\n", ",paid \n")
-        self.sums_anew(folder)
-        checked(7, "scenario 1: lawful,", "payments differ: line 1")
-        altered("unit-less/defaults.csv", "sound", "contagion")
-        self.sums_anew(folder)
-        checked(7, "defaults differ")
-        altered("rescue/rescue.csv", "short,1", "short,2")
-        self.sums_anew(folder)
-        checked(7, "rescue of South with 20: not what the tables say")
-        altered("stress.csv", "scenario,half", "scenario,hall")
-        self.sums_anew(folder)
-        checked(7, "stress.csv: differs")
-        altered("as-is/journal.csv", "rounds,", "rounds,1")
-        self.sums_anew(folder)
-        checked(8, "commands run again: as-is/journal.csv differs", "checked: each journal is lawful")
-        altered("commands.tsv", "\t0\t", "\t1\t")
-        self.sums_anew(folder)
-        checked(3, "commands.tsv: not the commands")
-        altered("inputs/debts.csv", "debtor", "Debtor")
-        self.sums_anew(folder)
-        checked(3, "inputs: debts row 0: header (1)")
+        for name, old, new, status, *said in (
+            ("scenario-1/banks.csv", ",webster", ",order", 5, "scenario 1: banks differ"),
+            ("scenario-1/journal.csv", "\nrounds", "\n9,South,Hub,1,1\nrounds", 6, "scenario 1: raise ", "not so: each journal is lawful"),
+            ("as-is/journal.csv", "\n1,", "\n1,Nobody,", 6, "as it is: audit.py: journal row 1: fields (2)"),
+            ("scenario-1/payments.csv", ",paid\n", ",paid \n", 7, "scenario 1: lawful,", "payments differ: line 1"),
+            ("unit-less/defaults.csv", "sound", "contagion", 7, "defaults differ"),
+            ("rescue/rescue.csv", "short,1", "short,2", 7, "rescue of South with 20: not what the tables say"),
+            ("stress.csv", "scenario,half", "scenario,hall", 7, "stress.csv: differs"),
+            ("as-is/journal.csv", "rounds,", "rounds,1", 8, "commands run again: as-is/journal.csv differs", "checked: each journal is lawful"),
+            ("commands.tsv", "\t0\t", "\t1\t", 3, "commands.tsv: not the commands"),
+            ("inputs/debts.csv", "debtor", "Debtor", 3, "inputs: debts row 0: header (1)"),
+        ):
+            altered(name, old, new)
+            self.sums_anew(folder)
+            checked(status, *said)
         (folder / "scenario-1/payments.csv").unlink()
         checked(3, "checksums: scenario-1/payments.csv is not there", "scenario-1/payments.csv is not there")
         # What is no plain file is none: a link to the same bytes, and a pipe, which is not waited for.

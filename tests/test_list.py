@@ -1,4 +1,4 @@
-from common import ODD_NAMES, ROOT, Case, all_names, tool
+from common import ODD_NAMES, ROOT, Case, all_names
 
 TABLE = "bank,cash,outside,rule\nA,3,0,order\nB,4,1,equal\nC,5,0,webster\n"
 
@@ -62,28 +62,29 @@ class List(Case):
         self.assertIn(f"columns not looked at: 2; Deposits, Regel in {self.folder}/table.csv\n", told)
         self.check("name,cash,rule\nA,3,webster\nB,4,webster\n", "debtor,creditor,class,claim\nA,B,1,10\n")
 
-    def test_a_column_named_but_for_capitals_or_spaces_is_asked_for(self):
-        text, table = "Debtor;Creditor;Class;Amount\nA;B;2;10\n", "Bank;Cash;Outside;Rule\nA;3;1;order\nB;4;0;equal\n"
-        needed = ["--cash", "Cash", "--debtor", "Debtor", "--creditor", "Creditor", "--amount", "Amount"]
-        done = tool("from_list.py", *self.words(text, table), *needed)
-        self.assertEqual((done.returncode, done.stdout, done.stderr), (1, "", "".join(
-            f"from_list: {self.folder}/{name}.csv row 1 column {column}: "
-            f"its name is {column.lower()} but for capitals or spaces; say --{option} {column}, or rename it\n"
-            for name, column, option in [
-                ("list", "Class", "class-column"), ("table", "Outside", "outside"), ("table", "Rule", "rule-column")])))
-        self.assertFalse(self.banks.exists() or self.debts.exists())
-        said = ["--class-column", "Class", "--outside", "Outside", "--rule-column", "Rule"]
-        self.take(text, *needed, *said, table=table)
+    def test_capitals_and_spaces_in_the_names_of_columns_do_not_matter(self):
+        text, table = "Debtor;CREDITOR;Class;Amount \nA;B;2;10\n", "Bank;Cash;Outside;Rule\nA;3;1;order\nB;4;0;equal\n"
+        self.take(text, table=table)
         self.check("name,cash,rule,outside\nA,3,order,1\nB,4,equal,0\n", "debtor,creditor,class,claim\nA,B,2,10\n")
-        # One that is to be left out is not asked for.
-        self.take(text, *needed, *said[:2], "--drop", "Outside", "--drop", "Rule", table=table)
+        # Nor do they in a name that is given.
+        self.take(text, "--debtor", "debtor", "--class-column", "CLASS", "--cash", "cash", "--outside", "Outside", "--rule-column", "rule", table=table)
+        self.check("name,cash,rule,outside\nA,3,order,1\nB,4,equal,0\n", "debtor,creditor,class,claim\nA,B,2,10\n")
+        # One that is to be left out is not taken.
+        self.take(text, "--drop", "Outside", "--drop", "Rule", table=table)
         self.check("name,cash,rule\nA,3,webster\nB,4,webster\n", "debtor,creditor,class,claim\nA,B,2,10\n")
-        self.banks.unlink(), self.debts.unlink()
         text = "debtor,creditor,amount\nA,B,10\n"
+        for column in ("OUTSIDE", "outside\u00a0", "\u2003oUtside"):
+            self.take(text, table=TABLE.replace("outside", column))
+            self.assertEqual(self.banks.read_text().splitlines()[0], "name,cash,rule,outside")
+        self.banks.unlink(), self.debts.unlink()
+
+    def test_which_of_two_columns_alike_is_meant_is_asked_for(self):
+        text = "debtor,creditor,amount\nA,B,10\n"
+        self.refuse("list.csv row 1: no column debtor; it has Debtor, DEBTOR, creditor, amount; say --debtor NAME", "Debtor,DEBTOR,creditor,amount\nA,A,B,10\n")
         for column, seen, word in (("OUTSIDE", "OUTSIDE", "OUTSIDE"), ("outside\u00a0", "outside<U+00A0>", "$'outside\\xc2\\xa0'"),
                                    ("\u2003oUtside", "<U+2003>oUtside", "$'\\xe2\\x80\\x83oUtside'")):
             told = f"table.csv row 1 column {seen}: its name is outside but for capitals or spaces; say --outside {word}, or rename it"
-            self.refuse(told, text, table=TABLE.replace("outside", column))
+            self.refuse(told, text, table=f"bank,cash,outside,{column}\nA,3,1,2\nB,4,0,0\n")
         # One of both is meant, and which one is to be said.
         both = "bank,cash,Rule,rule\nA,3,adams,order\nB,4,adams,equal\n"
         told = "table.csv row 1 column Rule: its name is rule but for capitals or spaces; say --rule-column Rule"

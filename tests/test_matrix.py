@@ -1,3 +1,4 @@
+import random
 from fractions import Fraction
 
 from common import ODD_NAMES, ROOT, Case, all_names, tool
@@ -92,10 +93,18 @@ class Matrix(Case):
         told = "n.csv row 1: no column Outside; it has no other; say --outside NAME"
         self.refused("from_matrix.py", 1, told, matrix, "--outside", "Outside", *self.files)
 
-    def test_a_column_named_but_for_capitals_or_spaces_is_asked_for(self):
-        beside = self.file("m.csv", ",A,B,cash,Outside,RULE\nA,0,6,3,1,order\nB,2,0,4,0,equal\n")
+    def test_capitals_in_the_names_of_columns_do_not_matter(self):
+        beside = self.file("m.csv", ",A,B,Cash,Outside,RULE\nA,0,6,3,1,order\nB,2,0,4,0,equal\n")
         matrix = self.file("n.csv", ",A,B\nA,0,6\nB,2,0\n")
-        table = self.file("t.csv", "bank,cash,Outside,RULE\nA,3,1,order\nB,4,0,equal\n")
+        table = self.file("t.csv", "bank,CASH,Outside,RULE\nA,3,1,order\nB,4,0,equal\n")
+        for sheet in ([beside], [matrix, "--table", table]):
+            self.told("from_matrix.py", *sheet, *self.files)
+            self.check("name,cash,rule,outside\nA,3,order,1\nB,4,equal,0\n", "debtor,creditor,class,claim\nA,B,1,6\nB,A,1,2\n")
+
+    def test_which_of_two_columns_alike_is_meant_is_asked_for(self):
+        beside = self.file("m.csv", ",A,B,cash,Outside,outside,RULE,rule\nA,0,6,3,1,1,order,order\nB,2,0,4,0,0,equal,equal\n")
+        matrix = self.file("n.csv", ",A,B\nA,0,6\nB,2,0\n")
+        table = self.file("t.csv", "bank,cash,Outside,outside,RULE,rule\nA,3,1,1,order,order\nB,4,0,0,equal,equal\n")
         for sheet, name in [([beside], beside), ([matrix, "--table", table], table)]:
             done = tool("from_matrix.py", *sheet, *self.files)
             self.assertEqual((done.returncode, done.stdout, done.stderr), (1, "", "".join(
@@ -363,6 +372,20 @@ class Matrix(Case):
         for place, said in enumerate(table[1:13], 1):
             receipts = sum(int(row[place]) for row in rows[1:])
             self.assertEqual(int(rows[place][13]) + receipts, int(said[1]))
+
+    def test_a_matrix_of_a_thousand_banks_keeps_each_cent(self):
+        """Its time is measured by bench/tools.py."""
+        draw, names, cents = random.Random(1), [f"Bank {at}" for at in range(1000)], 0
+        lines = ["," + ",".join(names) + ",cash"]
+        for at, name in enumerate(names):
+            row = ["0.00"] * 1000
+            for other in draw.sample(range(1000), 19):
+                claim = draw.randrange(1, 900) if other != at else 0
+                row[other], cents = f"{claim / 100:.2f}", cents + claim
+            lines.append(f"{name}," + ",".join(row) + f",{draw.randrange(1000)}")
+        told = self.told("from_matrix.py", self.file("m.csv", "\n".join(lines) + "\n"), "--unit", "0.01", *self.files)
+        self.assertIn(f"in units of 0.01: {cents:,}\n", told)
+        self.assertEqual(sum(int(line.rpartition(",")[2]) for line in self.debts.read_text().splitlines()[1:]), cents)
 
     def test_payments_of_other_debts_are_refused(self):
         self.banks.write_text("name,cash,rule\nA,9,order\nB,0,order\n")

@@ -271,6 +271,9 @@ class Charts(Pictures):
         done = tool("stress_map.py", defaults, self.folder / "x.svg", python=python)
         self.assertEqual(done.returncode, 1)
         self.assertIn("no scenario", done.stderr)
+        done = tool("stress_map.py", self.file("o.csv", "scenario,cash,paid,outside_paid,equity,defaults,fundamental\na,1,1,0,1,0,0\n"), self.folder / "x.svg", python=python)
+        self.assertEqual(done.returncode, 1)
+        self.assertIn("this is what `clearing outcomes` prints", done.stderr)
 
 
 class WithoutMatplotlib(Pictures):

@@ -78,8 +78,8 @@ class TheFile(Report):
         for name in ("banks.csv", "debts.csv", "scenarios.toml"):
             shutil.copy(TWELVE / name, self.folder / name)
         kept = self.folder / "kept"
-        done = tool("report.py", "--banks", "banks.csv", "--debts", "debts.csv", "--scenarios", "scenarios.toml", "--out", "r.html",
-                    "--keep", "kept", cwd=self.folder, python=PYTHON)
+        done = tool("report.py", "--banks", "banks.csv", "--debts", "debts.csv", "--scenarios", "scenarios.toml", "--default-keeps", "800",
+                    "--out", "r.html", "--keep", "kept", cwd=self.folder, python=PYTHON)
         self.assertEqual((done.returncode, done.stderr), (0, "") if os.path.exists(D3) else (0, done.stderr))
         rows = [cells for _, cells in Reader((self.folder / "r.html").read_text(encoding="utf-8")).rows]
         inputs = {cells[1]: cells for cells in rows if len(cells) == 4 and re.fullmatch("[0-9a-f]{64}", cells[3])}
@@ -87,7 +87,7 @@ class TheFile(Report):
             content = (self.folder / name).read_bytes()
             self.assertEqual(inputs[name][2:], [f"{len(content):,}", hashlib.sha256(content).hexdigest()])
         commands = [cells for cells in rows if len(cells) == 3 and cells[0].startswith("clearing ")]
-        self.assertEqual(len(commands), 10 + 4)
+        self.assertEqual(len(commands), 11)
         for path in kept.glob("*.toml"):
             self.assertEqual(inputs[path.name][3], hashlib.sha256(path.read_bytes()).hexdigest())
             shutil.copy(path, self.folder / path.name)
@@ -209,8 +209,8 @@ class TheFile(Report):
         script = f'[ "$1" = "$TASK" ] || exec {shlex.quote(PROGRAM)} "$@"\nprintf "$SAID"\n'
         program = self.file("program", f"#!/bin/sh\n{script}")
         program.chmod(0o755)
-        words = [*map(str, files_of(TWELVE)), "--scenarios", str(TWELVE / "scenarios.toml"), "--out", str(self.folder / "r.html")]
-        for task in ("check", "clear", "defaults", "bounds", "replay", "stress", "rescues", "impact", "breaking"):
+        words = [*map(str, files_of(TWELVE)), "--scenarios", str(TWELVE / "scenarios.toml"), "--default-keeps", "500", "--out", str(self.folder / "r.html")]
+        for task in ("check", "clear", "defaults", "bounds", "replay", "stress", "rescues", "impact", "breaking", "cost-bounds"):
             for said in ("", "lawful\n", "\n\n\n", "a,b\n\nc\n\nd\n"):
                 # Of a file without scenarios nothing is printed.
                 if (task, said) == ("stress", ""):

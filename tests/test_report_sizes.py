@@ -16,7 +16,7 @@ class Sizes(InTheBrowser):
         self.file("debts.csv", "debtor,creditor,class,claim\n" + "".join(f"{a},{b},1,9\n" for a, b in zip(names, names[1:])))
         scenarios = self.file("s.toml", f'[[scenario]]\nname = "{"e" * 64}"\ncut = 1000\n')
         self.widths_of(files_of(TWELVE), "--scenarios", TWELVE / "scenarios.toml", "--title", "A" * 90)
-        self.widths_of(files_of(self.folder), "--scenarios", scenarios)
+        self.widths_of(files_of(self.folder), "--scenarios", scenarios, "--default-keeps", "700")
 
     def widths_of(self, *words):
         self.open(*words)
@@ -52,7 +52,7 @@ class Sizes(InTheBrowser):
 
     def test_no_cell_is_cut(self):
         for words in (self.large(), [*files_of(TWELVE), "--scenarios", TWELVE / "scenarios.toml", "--unit", "1000", "--currency", "EUR"]):
-            self.open(words)
+            self.open(words, "--default-keeps", "700")
             self.js("document.querySelectorAll('.scroll').forEach(e => { e.style.contentVisibility = 'visible'; })")
             self.js("document.querySelectorAll('details').forEach(e => { e.open = true; })")
             for font in ("DejaVu Sans", "Liberation Sans"):

@@ -145,6 +145,51 @@ class Tables(InTheBrowser):
         cheap = sorted(run("rescues.py"), key=lambda row: int(row[1]))[:5]
         self.assertEqual([[row[0], row[2]] for row in tables[2]], [[row[0], row[2]] for row in cheap])
 
+    def test_both_ends_where_default_costs_are_those_of_the_program(self):
+        for name, keep in (("core", 800), ("hub", 500), ("cycles", 0), ("gridlock", 900), ("chain", 1000)):
+            files = files_of(ROOT / "examples" / name)
+            self.open(files, "--default-keeps", keep)
+            ends, *banks = self.js("return [...document.querySelectorAll('#costs table')].map(t => [...t.tBodies[0].rows].map(r => [...r.cells].map(c => c.textContent.trim())))")
+            bounds, standings = (part.split("\n") for part in clearing("cost-bounds", *files, "--keep", keep).stdout.decode().removesuffix("\n").split("\n\n"))
+            debts, rows = [line.split(",") for line in bounds[1:]], [line.split(",") for line in standings[1:]]
+            given = [line.split(",") for line in files[1].read_text().splitlines()[1:]]
+            cash, outside = sum(int(row[1]) for row in given), sum(int(row[3]) for row in given if len(row) > 3)
+            due, plain = sum(int(debt[3]) for debt in debts) + outside, rows_of("defaults", files)
+            kept = sum(int(row[-2]) for row in plain)
+            columns = [[[row[-1] for row in plain], due - sum(int(row[-4]) for row in plain) - (cash - kept), 0, kept]]
+            for end, at in ((1, 4), (4, 5)):
+                lost, kept = (sum(int(row[place]) for row in rows) for place in (end, end + 1))
+                columns.append([[row[end + 2] for row in rows], due - sum(int(debt[at]) for debt in debts) - (cash - lost - kept), lost, kept])
+            expected = [[f"{n:,}" for n in (len(states) - states.count("sound"), states.count("fundamental"), states.count("contagion"), *amounts)]
+                        for states, *amounts in columns]
+            self.assertEqual([list(column) for column in zip(*(row[1:] for row in ends))], expected, name)
+            words = {"fundamental": "own fundamentals"}
+            fallen = {row[0]: [words.get(row[3], row[3]), words.get(row[6], row[6]), *(f"{int(row[at]):,}" for at in (1, 4, 5))]
+                      for row in rows if (row[3], row[6]) != ("sound", "sound")}
+            shown = {row[0]: row[1:] for row in (banks[0] if banks else [])}
+            self.assertEqual(len(shown), min(12, len(fallen)), name)
+            self.assertEqual({bank: fallen[bank] for bank in shown}, shown, name)
+            # Those at one end alone are shown in any case.
+            self.assertEqual([bank for bank, cells in fallen.items() if cells[1] == "sound" and bank not in shown][12:], [])
+            self.assertEqual(self.js("return document.querySelectorAll('nav a[href=\"#costs\"]').length"), 1)
+        self.open(files_of(TWELVE))
+        self.assertEqual(self.js("return document.querySelectorAll('#costs, a[href=\"#costs\"]').length"), 0)
+
+    def test_the_summary_tells_both_ends_where_default_costs(self):
+        def last(*words):
+            self.open(*words)
+            return self.js("return [...document.querySelectorAll('#summary li')].map(e => e.textContent)")[5:]
+
+        core, ring = files_of(ROOT / "examples/core"), files_of(ROOT / "examples/gridlock")
+        self.assertEqual(last(core, "--default-keeps", "800"), [
+            "Where a bank in default keeps 80% of its estate, 42 banks fall at the least payments that clear, and 41 at the greatest; 102,005 units is lost,"
+            " or 101,718 units."])
+        self.assertEqual(last(files_of(ROOT / "examples/chain"), "--default-keeps", "500", "--unit", "1000", "--currency", "EUR"), [
+            "Where a bank in default keeps 50% of its estate, 2 banks fall at the least as at the greatest payments that clear, and EUR 6,000 is lost."])
+        self.assertEqual(last(ring, "--default-keeps", "900"), [
+            "Where a bank in default keeps 90% of its estate, 3 banks fall at the least payments that clear, and none at the greatest; nothing is lost, or nothing."])
+        self.assertEqual(last(core), [])
+
     def test_the_summary_is_five_sentences_of_the_results(self):
         self.open(files_of(TWELVE), "--scenarios", TWELVE / "scenarios.toml", "--unit", "1000", "--currency", "EUR")
         said = self.js("return [...document.querySelectorAll('#summary li')].map(e => e.textContent)")

@@ -36,11 +36,14 @@ class Words(Case):
             told = f"t.csv row 1: no column {column}; it has assets, liabilities, cash, Deposits, Regel; say --{option} NAME"
             self.refused("from_totals.py", 1, told, table, f"--{option}", column, "--out", self.folder / "out")
 
-    def test_a_column_named_but_for_capitals_or_spaces_is_asked_for(self):
-        table = self.file("t.csv", "bank,assets,liabilities,cash,Outside,Rule\nA,5,7,1,1,order\nB,7,5,2,0,equal\n")
+    def test_capitals_in_the_names_of_columns_matter_between_two_of_them_alone(self):
+        table = self.file("t.csv", "Bank,ASSETS,Liabilities,Cash,Outside,Rule\nA,5,7,1,1,order\nB,7,5,2,0,equal\n")
+        self.told("from_totals.py", table, "--method", "sparse", "--out", self.folder / "out")
+        self.assertEqual((self.folder / "out/banks.csv").read_text(), "name,cash,rule,outside\nA,1,order,1\nB,2,equal,0\n")
+        table = self.file("t.csv", "bank,assets,liabilities,cash,outside,Outside,rule,Rule\nA,5,7,1,1,1,order,equal\nB,7,5,2,0,0,equal,order\n")
         for option, column in [("outside", "Outside"), ("rule-column", "Rule")]:
             told = f"column {column}: its name is {column.lower()} but for capitals or spaces; say --{option} {column}, or"
-            self.refused("from_totals.py", 1, told, table, "--out", self.folder / "out")
+            self.refused("from_totals.py", 1, told, table, "--out", self.folder / "other")
 
 
 @needs_modules("numpy")

@@ -8,7 +8,7 @@ const here = path.dirname(fileURLToPath(import.meta.url));
 const folder = process.env.DESK ?? path.join(here, "../../python/src/clearing_tools/desk/script");
 const load = (name) => import(pathToFileURL(path.join(folder, `${name}.mjs`)).href);
 const { apart, listed, many, money, number, signed, word } = await load("numbers");
-const { changedBanks, fallen, rows, saved, sums, told } = await load("compare");
+const { atGreatest, changedBanks, fallen, rows, saved, soundAtGreatest, sums, told } = await load("compare");
 const { Line } = await load("line");
 const { matches } = await load("find");
 const { newest } = await load("newest");
@@ -51,6 +51,19 @@ test("who falls and who is saved", () => {
   assert.deepEqual(fallen(BASE, NOW), [0]);
   assert.deepEqual(saved(BASE, NOW), [1]);
   assert.deepEqual(fallen(BASE, BASE), []);
+});
+
+test("where default costs there are both ends", () => {
+  const top = view(["sound", 10, 5, 5, 6], ["sound", 1, 9, 9, 1], ["sound", 3, 0, 0, 7], ["fundamental", 2, 8, 3, 0]);
+  const costly = { ...BASE, lost: [0, 3, 0, 1], greatest: { state: top.state, paid: top.paid, outsidePaid: top.outsidePaid, equity: top.equity, lost: top.lost } };
+  assert.equal(atGreatest(BASE), null);
+  assert.deepEqual(soundAtGreatest(BASE), []);
+  assert.deepEqual(soundAtGreatest(costly), [1]);
+  assert.deepEqual([sums(costly).defaults, sums(costly).lost, sums(costly).pays], [2, 4, 11]);
+  assert.deepEqual([sums(atGreatest(costly)).defaults, sums(atGreatest(costly)).lost, sums(atGreatest(costly)).pays], [1, 0, 17]);
+  assert.equal(told(BASE, costly, NAMES), "All is as it is. At the greatest payments that clear, one of those in default is sound: \u2068B\u2069.");
+  assert.equal(told(NOW, costly, NAMES), "One bank falls: \u2068B\u2069. One bank is saved: \u2068A\u2069. At the greatest payments that clear, one of those in default"
+    + " is sound: \u2068B\u2069.");
 });
 
 test("the rows are those that differ: fallen, saved, then the most", () => {

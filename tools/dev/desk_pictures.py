@@ -13,25 +13,14 @@ import argparse
 import base64
 import pathlib
 import re
-import shutil
 import subprocess
 import sys
 import time
 
+from screenshots import driver_of
+
 ROOT = pathlib.Path(__file__).resolve().parents[2]
 TWELVE = ROOT / "examples/twelve-banks"
-
-
-def driver_of():
-    """Chromium without a window."""
-    from selenium import webdriver
-    from selenium.webdriver.chrome.service import Service
-
-    options = webdriver.ChromeOptions()
-    options.binary_location = shutil.which("chromium")
-    for word in ("--headless=new", "--no-sandbox", "--disable-gpu", "--hide-scrollbars"):
-        options.add_argument(word)
-    return webdriver.Chrome(service=Service(shutil.which("chromedriver")), options=options)
 
 
 def until(driver, script):

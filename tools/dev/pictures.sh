@@ -57,6 +57,7 @@ shot() { # the page, the picture, its width and height, more words of Chromium
 
 for name in twelve-banks core; do
     more=
+    [ "$name" != core ] || more="--default-keeps 800"
     [ ! -f "examples/$name/scenarios.toml" ] || more="--scenarios examples/$name/scenarios.toml"
     CLEARING=$program "$python" tools/report.py --banks "examples/$name/banks.csv" --debts "examples/$name/debts.csv" $more \
         --title "The example $name" --unit 1000 --currency EUR --out "$work/$name.html"

@@ -1,8 +1,9 @@
 #!/usr/bin/env python3
-"""Takes pictures of a report: its first screen on a desk, in the dark and on a phone, the table of banks, and its first printed pages.
+"""Takes pictures of a report: its first screen on a desk, in the dark and on a phone, two of its parts, and its first printed pages.
 
-In:   PAGE     the report, as tools/report.py writes it
-Out:  PREFIX-desktop.png, PREFIX-dark.png, PREFIX-phone.png, PREFIX-banks.png and PREFIX-print.png, four sheets of A4 side by side
+In:   PAGE     the report, as tools/report.py --default-keeps N writes it
+Out:  PREFIX-desktop.png, PREFIX-dark.png, PREFIX-phone.png, PREFIX-banks.png, PREFIX-costs.png, both ends where default costs, and
+      PREFIX-print.png, four sheets of A4 side by side
 
 Wants Chromium with its driver, Selenium, PIL and pdftoppm: Debian's packages chromium-driver, python3-selenium, python3-pil and
 poppler-utils. Ends with 0, and with 1 where one of them is missing or a picture cannot be made.
@@ -90,6 +91,7 @@ def main():
             ("dark", shot(driver, DESK, "dark"), 1000),
             ("phone", shot(driver, PHONE), 390),
             ("banks", shot(driver, DESK, below="#banks"), 1000),
+            ("costs", shot(driver, DESK, below="#costs"), 1000),
             ("print", sheets(driver), 2000),
         ):
             pathlib.Path(f"{asked.prefix}-{name}.png").write_bytes(small(content, most))

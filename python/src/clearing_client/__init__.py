@@ -68,6 +68,12 @@ banks       name, cash, rule, outside
 debts       debtor, creditor, class, claim
 ranks       class, bank, rank
 totals      the sums, and what is said once: a record, and for `stress` one for each scenario
+cuts        of `breaking`: bank, cut, state
+scenarios   of `outcomes`: scenario, cash, paid, outside_paid, equity, defaults, fundamental
+banks       of `outcomes`: bank, defaults, fundamental; of `impact`: bank, cash, own, others, falls; of
+            `rescues`: bank, added, short, also_saved, still_short
+pairs       of `impact`: bank, of, lost, falls
+saved       of `rescues`: bank, saves
 
 What would help
 ---------------

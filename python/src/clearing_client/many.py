@@ -46,13 +46,13 @@ class Sums(NamedTuple):
     banks: Table[BankCounts]
 
 
+Networks = Iterable[Network]
+Jobs = Optional[int]
+Pool = Optional[Executor]
+
+
 def map_stress(
-    networks: Iterable[Network],
-    scenarios: ScenariosLike,
-    jobs: Optional[int] = None,
-    workers: int = 1,
-    sweeps: int = 1,
-    executor: Optional[Executor] = None,
+    networks: Networks, scenarios: ScenariosLike, jobs: Jobs = None, workers: int = 1, sweeps: int = 1, executor: Pool = None
 ) -> Iterator[Outcome]:
     """What the same scenarios leave of each network: an `Outcome` for each network and scenario, in the order of the
     networks, and for each of them in that of the scenarios, as they come. `network` and `number` say whose it is.
@@ -70,17 +70,11 @@ def map_stress(
     >>> [(one.number, one.total.defaults) for one in map_stress(nets, Scenarios.cuts([0, 100]))]
     [(1, 0), (2, 1), (1, 0), (2, 0)]
     """
-    known = scenarios_of(scenarios)
-    tasks = ((net, part) for net in networks for part in parts_of(known, most_in_a_run(net)))
-    return outcomes_of(in_turn(functools.partial(stressed, workers=workers, sweeps=sweeps), tasks, jobs, executor))
+    work = functools.partial(stressed, workers=workers, sweeps=sweeps)
+    return outcomes_of(in_turn(work, runs_of(networks, scenarios, most_in_a_run), jobs, executor))
 
 
-def map_outcomes(
-    networks: Iterable[Network],
-    scenarios: ScenariosLike,
-    jobs: Optional[int] = None,
-    executor: Optional[Executor] = None,
-) -> Iterator[Outcomes]:
+def map_outcomes(networks: Networks, scenarios: ScenariosLike, jobs: Jobs = None, executor: Pool = None) -> Iterator[Outcomes]:
     """What the same scenarios leave of each network in sums: an `Outcomes` for each network, in order, as they come. The
     words are those of `map_stress`. The program prints no payment, and each run has as many threads as it takes.
 
@@ -93,14 +87,13 @@ def map_outcomes(
     >>> second.banks[0]
     BankCounts(bank='A', defaults=0, fundamental=0)
     """
-    known = scenarios_of(scenarios)
-    tasks = ((net, part) for net in networks for part in parts_of(known, MAX_SCENARIOS))
-    return summed_up(in_turn(summed, tasks, jobs, executor))
+    return summed_up(in_turn(summed, runs_of(networks, scenarios, lambda _: MAX_SCENARIOS), jobs, executor))
 
 
-def scenarios_of(scenarios: ScenariosLike) -> Union[Scenarios, bytes]:
-    """The scenarios, or a file of them as it is."""
-    return read_file(scenarios) if is_file(scenarios) else as_scenarios(scenarios)
+def runs_of(networks: Networks, scenarios: ScenariosLike, most: Callable[[Network], int]) -> Iterator[Tuple[Network, Part]]:
+    """The runs, each a network and so many of the scenarios at most, or a file of them as it is. The scenarios are read at once."""
+    known: Union[Scenarios, bytes] = read_file(scenarios) if is_file(scenarios) else as_scenarios(scenarios)
+    return ((net, part) for net in networks for part in parts_of(known, most(net)))
 
 
 def parts_of(scenarios: Union[Scenarios, bytes], most: int) -> Iterator[Part]:
@@ -122,10 +115,7 @@ def most_in_a_run(net: Network) -> int:
 
 
 def in_turn(
-    work: Callable[[Network, Part], P],
-    tasks: Iterable[Tuple[Network, Part]],
-    jobs: Optional[int],
-    executor: Optional[Executor],
+    work: Callable[[Network, Part], P], tasks: Iterable[Tuple[Network, Part]], jobs: Jobs, executor: Pool
 ) -> Iterator[Tuple[Network, Part, P]]:
     """What the work makes of each task, in order. Besides those at work as many may wait to be taken."""
     at_a_time = jobs or getattr(executor, "_max_workers", None) or os.cpu_count() or 1

@@ -61,7 +61,10 @@ class Result:
     def tables(self) -> Dict[str, Table[Any]]:
         """The tables by name, none of them with a line of sums. `totals` has these, and what the text says once, such as
         `rounds`: one record, and for `stress` one for each scenario."""
-        raise NotImplementedError
+        fields = {name: getattr(self, name) for name in getattr(self, "__dataclass_fields__")}
+        found: Dict[str, Table[Any]] = {name: value for name, value in fields.items() if isinstance(value, Table)}
+        total = getattr(self, "total", None)
+        return found if total is None else {**found, "totals": one(type(total), total)}
 
     def to_pandas(self) -> Dict[str, Any]:
         """The tables by name, each a pandas `DataFrame`. A single one: `result.payments.to_pandas()`."""
@@ -79,11 +82,12 @@ class Flows(Result):
 
     def flows(self) -> Table[Any]:
         """The table of debts with their amounts."""
-        raise NotImplementedError
+        flows: Table[Any] = getattr(self, "payments")
+        return flows
 
     def standings_of_banks(self) -> Optional[Table[Any]]:
         """The table with a record for each bank, where the result has one."""
-        return None
+        return getattr(self, "standings", getattr(self, "waves", None))
 
     def names(self) -> List[str]:
         """The banks' names in the order of the banks file; as they first stand in a text without all banks."""
@@ -116,6 +120,17 @@ class Flows(Result):
         """A numpy matrix of int64, banks by banks in the order of `names()`: what the bank of the row pays the bank of
         the column, all classes together. `column` takes another amount, such as `claim`."""
         return matrix_of(self.to_lists(column))
+
+
+class Standings:
+    """A result that says how the banks stand."""
+
+    standings: Table[Any]
+
+    @property
+    def defaults(self) -> List[str]:
+        """The names of the banks in default, in file order."""
+        return [record.bank for record in self.standings if record.state != "sound"]
 
 
 def graph_of(nodes: Dict[str, Dict[str, Any]], flows: Table[Any]) -> Any:
@@ -157,9 +172,6 @@ class Check(Flows):
     debts: Table[Debt]
     total: CheckTotals
 
-    def tables(self) -> Dict[str, Table[Any]]:
-        return {"banks": self.banks, "debts": self.debts, "totals": one(CheckTotals, self.total)}
-
     def flows(self) -> Table[Debt]:
         return self.debts
 
@@ -172,9 +184,6 @@ class Converted(Result):
     """`convert`: the banks, with what they owe outside."""
 
     banks: Table[Bank]
-
-    def tables(self) -> Dict[str, Table[Any]]:
-        return {"banks": self.banks}
 
 
 @dataclass(frozen=True)
@@ -205,28 +214,17 @@ class Clearing(Flows):
     def tables(self) -> Dict[str, Table[Any]]:
         return {"payments": self.payments, **(self.journal.tables() if self.journal is not None else {})}
 
-    def flows(self) -> Table[Payment]:
-        return self.payments
-
 
 @dataclass(frozen=True)
-class Defaults(Result):
+class Defaults(Standings, Result):
     """`defaults`: how each bank stands after clearing, and the sums over all."""
 
     standings: Table[Standing]
     total: Totals
 
-    @property
-    def defaults(self) -> List[str]:
-        """The names of the banks in default, in file order."""
-        return [record.bank for record in self.standings if record.state != "sound"]
-
-    def tables(self) -> Dict[str, Table[Any]]:
-        return {"standings": self.standings, "totals": one(Totals, self.total)}
-
 
 @dataclass(frozen=True)
-class Outcome(Flows):
+class Outcome(Standings, Flows):
     """What one scenario leaves: its number from 1 and name, the payments, the standings, and their sums."""
 
     number: int
@@ -234,20 +232,6 @@ class Outcome(Flows):
     payments: Table[Payment]
     standings: Table[Standing]
     total: Totals
-
-    @property
-    def defaults(self) -> List[str]:
-        """The names of the banks in default, in file order."""
-        return [record.bank for record in self.standings if record.state != "sound"]
-
-    def tables(self) -> Dict[str, Table[Any]]:
-        return {"payments": self.payments, "standings": self.standings, "totals": one(Totals, self.total)}
-
-    def flows(self) -> Table[Payment]:
-        return self.payments
-
-    def standings_of_banks(self) -> Table[Standing]:
-        return self.standings
 
 
 @dataclass(frozen=True)
@@ -287,9 +271,6 @@ class Outcomes(Result):
 
     scenarios: Table[ScenarioSums]
     banks: Table[BankCounts]
-
-    def tables(self) -> Dict[str, Table[Any]]:
-        return {"scenarios": self.scenarios, "banks": self.banks}
 
 
 def stacked(record: Type[R], parts: List[Tuple[int, str, Table[Any]]]) -> Table[R]:
@@ -350,9 +331,6 @@ class Generated(Result):
 
     total: GeneratedTotals
 
-    def tables(self) -> Dict[str, Table[Any]]:
-        return {"totals": one(GeneratedTotals, self.total)}
-
 
 @dataclass(frozen=True)
 class Bounds(Flows):
@@ -360,15 +338,6 @@ class Bounds(Flows):
 
     payments: Table[Bound]
     waves: Table[Wave]
-
-    def tables(self) -> Dict[str, Table[Any]]:
-        return {"payments": self.payments, "waves": self.waves}
-
-    def flows(self) -> Table[Bound]:
-        return self.payments
-
-    def standings_of_banks(self) -> Table[Wave]:
-        return self.waves
 
 
 @dataclass(frozen=True)
@@ -386,12 +355,6 @@ class Rescue(Flows):
         """The bank, and the two sums."""
         return RescueTotals(self.bank, self.added, self.short)
 
-    def tables(self) -> Dict[str, Table[Any]]:
-        return {"payments": self.payments, "totals": one(RescueTotals, self.total)}
-
-    def flows(self) -> Table[Payment]:
-        return self.payments
-
 
 @dataclass(frozen=True)
 class Compression(Flows):
@@ -406,34 +369,17 @@ class Compression(Flows):
         """What was cancelled."""
         return CompressionTotals(self.cancelled)
 
-    def tables(self) -> Dict[str, Table[Any]]:
-        return {"debts": self.debts, "ranks": self.ranks, "totals": one(CompressionTotals, self.total)}
-
     def flows(self) -> Table[Debt]:
         return self.debts
 
 
 @dataclass(frozen=True)
-class Costs(Flows):
+class Costs(Standings, Flows):
     """`costs`: the payments and standings where an estate in default is worth only a part, and the sums."""
 
     payments: Table[Payment]
     standings: Table[CostStanding]
     total: CostTotals
-
-    @property
-    def defaults(self) -> List[str]:
-        """The names of the banks in default, in file order."""
-        return [record.bank for record in self.standings if record.state != "sound"]
-
-    def tables(self) -> Dict[str, Table[Any]]:
-        return {"payments": self.payments, "standings": self.standings, "totals": one(CostTotals, self.total)}
-
-    def flows(self) -> Table[Payment]:
-        return self.payments
-
-    def standings_of_banks(self) -> Table[CostStanding]:
-        return self.standings
 
 
 @dataclass(frozen=True)
@@ -444,24 +390,12 @@ class CostBounds(Flows):
     payments: Table[Bound]
     standings: Table[CostBound]
 
-    def tables(self) -> Dict[str, Table[Any]]:
-        return {"payments": self.payments, "standings": self.standings}
-
-    def flows(self) -> Table[Bound]:
-        return self.payments
-
-    def standings_of_banks(self) -> Table[CostBound]:
-        return self.standings
-
 
 @dataclass(frozen=True)
 class Breaking(Result):
     """`breaking`: for each bank the least cut of all cash at which it is not sound, and its state then."""
 
     cuts: Table[BreakingCut]
-
-    def tables(self) -> Dict[str, Table[Any]]:
-        return {"cuts": self.cuts}
 
 
 @dataclass(frozen=True)
@@ -471,9 +405,6 @@ class Impact(Result):
 
     banks: Table[Ruin]
     pairs: Table[Harm]
-
-    def tables(self) -> Dict[str, Table[Any]]:
-        return {"banks": self.banks, "pairs": self.pairs}
 
     def to_networkx(self) -> Any:
         """A networkx `DiGraph`: a node for each bank, with its record, and an edge for each pair from the bank that loses its
@@ -501,6 +432,3 @@ class Rescues(Result):
 
     banks: Table[Saving]
     saved: Table[Saved]
-
-    def tables(self) -> Dict[str, Table[Any]]:
-        return {"banks": self.banks, "saved": self.saved}

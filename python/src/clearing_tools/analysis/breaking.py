@@ -144,7 +144,8 @@ def main():
         most, kind, words = network.cash[bank], "loss", f"loss of {style.in_short(asked.loss)}, in units"
         names, hit, (shocks, states) = network.names, [bank], losses_of(asking, files, network, bank)
     else:
-        raise Failed(f"no bank has the name {asked.loss!r}", 4)
+        like = {name.strip().casefold(): name for name in network.names}.get(asked.loss.strip().casefold())
+        raise Failed(f"no bank has the name {asked.loss!r}" + (f"; is it {like!r}?" if like else ""), 4)
     if pyplot:
         style.save(draw(pyplot, shocks, depths_of(network, most, hit), most, words), asked.picture, folders=False)
     ask.write(("bank", kind, "state"), zip(names, shocks, states), asked.output)

@@ -74,7 +74,7 @@ def draw(pyplot, impact, ranking, most):
         image = axes.imshow(cells, cmap=colours, vmin=1e-12, vmax=1, aspect="auto", interpolation="nearest")
         dots = [(x, y) for y, record in enumerate(shown) for x, of in enumerate(columns) if (record.bank, of) in fallen]
         if dots:
-            axes.scatter(*zip(*dots), s=5, color="#1a1a1a")
+            axes.scatter(*zip(*dots), s=14, color="#1a1a1a", edgecolors="#ffffff", linewidths=0.7)
         figure.colorbar(image, ax=axes, label="share of the lost cash that this bank bears", format=lambda share, _: f"{100 * share:.0f}%")
     count = sum(1 for record in ranking if record.cash)
     left_out = f", the {len(shown)} that hurt others most" if len(shown) < count else ""

@@ -11,7 +11,7 @@ from clearing_client import errors
 from clearing_client import program as client
 from clearing_client import texts as parser
 from clearing_client.records import Payment
-from clearing_client.results import Bounds, Check, Costs, Rescue, Stress
+from clearing_client.results import Bounds, Check, CostBounds, Rescue, Stress
 from clearing_client.table import Table
 
 from .. import runner, texts
@@ -36,9 +36,17 @@ class Refused(Exception):
         self.said, self.meaning, self.field = said, meaning, field
 
 
+class End(NamedTuple):
+    """How the banks stand at the least or the greatest payments that clear, and what of their estates costs of default take; lists over
+    the banks, in file order."""
+
+    banks: List[texts.Bank]
+    lost: List[int]
+
+
 class Cleared(NamedTuple):
-    """A state as the program clears it. `keys` are those of the debts, `left` is what the shock leaves of the cash, `lost` what costs
-    of default take; lists are over the banks or the debts, in file order."""
+    """A state as the program clears it, at the least payments that clear. `keys` are those of the debts, `left` is what the shock leaves
+    of the cash, `lost` what costs of default take; lists are over the banks or the debts, in file order."""
 
     keys: List[int]
     payments: Table[Payment]
@@ -47,6 +55,7 @@ class Cleared(NamedTuple):
     lost: List[int]
     waves: List[int]
     more: int  # by which the greatest payments that clear are above the least
+    greatest: Optional[End] = None  # the other end, where default costs
 
 
 class Runs(runner.Asking):
@@ -165,7 +174,7 @@ class Desk:
                 after = [f"--banks={place.put('left.csv', states.left_csv(self.base, state, left))}", f"--debts={debts_file}"]
                 jobs.append((["bounds", *after], Bounds))
                 if state.keep != states.AS_IT_IS.keep:
-                    jobs.append((["costs", *after, f"--keep={state.keep}"], Costs))
+                    jobs.append((["cost-bounds", *after, f"--keep={state.keep}"], CostBounds))
             answers = self.runs.all(lambda job: outcome_of(self.runs, *job), jobs, "run")
         # The program's word on the shock comes first, then that on the rest.
         for answer in answers:
@@ -275,13 +284,13 @@ def refusal(fault: errors.ClearingError, state: State, change: Mapping[str, Any]
         said = f"{fault.file} row {fault.row}: {fault.kind} ({fault.number})"
         return Refused(said, fault.meaning, states.field_of(change, fault.file, fault.kind))
     if isinstance(fault, errors.UsageError):
-        words = ["costs", "--banks=b", "--debts=d", f"--keep={state.keep}"]
+        words = ["cost-bounds", "--banks=b", "--debts=d", f"--keep={state.keep}"]
         said = "; ".join(what for _, what in faults_of(words)) or str(fault)
         return Refused(said, "", states.field_of(change, "", ""))
     return runner.Failed(str(fault))
 
 
-def joined(keys: List[int], outside: List[int], left: List[int], stress: Stress, bounds: Bounds, costs: Optional[Costs] = None) -> Cleared:
+def joined(keys: List[int], outside: List[int], left: List[int], stress: Stress, bounds: Bounds, costs: Optional[CostBounds] = None) -> Cleared:
     """What the program's answers are together. What the shock leaves of the cash must be so by the program's own standings."""
     after = stress.scenarios[0]
     check_left(after, left)
@@ -294,12 +303,26 @@ def joined(keys: List[int], outside: List[int], left: List[int], stress: Stress,
             for one, due, stuck in zip(after.standings, outside, bounds.waves.column("gridlock"))
         ]
         return Cleared(keys, after.payments, banks, left, [0] * len(banks), waves, more)
-    owed = after.standings.column("owed")
-    banks = [
-        texts.Bank(one.bank, one.estate, due, one.outside_paid, one.paid, claims, one.equity, one.state)
-        for one, due, claims in zip(costs.standings, outside, owed)
-    ]
-    return Cleared(keys, costs.payments, banks, left, costs.standings.column("lost"), waves, 0)
+    least, greatest = (end_at(costs, which, left, after.standings.column("owed"), outside) for which in ("least", "greatest"))
+    payments = Table(Payment, [costs.payments.column(word) for word in ("debtor", "creditor", "class", "claim", "least")])
+    return Cleared(keys, payments, least.banks, left, least.lost, waves, 0, greatest)
+
+
+def end_at(costs: CostBounds, which: str, left: Sequence[int], owed: Sequence[int], outside: Sequence[int]) -> End:
+    """One end where default costs. A bank's estate is its cash and its receipts; what of it is not lost, kept or paid to banks is paid
+    outside."""
+    names = costs.standings.column("bank")
+    paid, received = dict.fromkeys(names, 0), dict.fromkeys(names, 0)
+    for debtor, creditor, units in zip(*(costs.payments.column(word) for word in ("debtor", "creditor", which))):
+        paid[debtor] += units
+        received[creditor] += units
+    lost, equity, state = (costs.standings.column(f"{word}_at_{which}") for word in ("lost", "equity", "state"))
+    banks = []
+    for at, name in enumerate(names):
+        estate = left[at] + received[name]
+        outside_paid = estate - lost[at] - equity[at] - paid[name]
+        banks.append(texts.Bank(name, estate, outside[at], outside_paid, paid[name], owed[at], equity[at], state[at]))
+    return End(banks, lost)
 
 
 def check_left(after: Any, left: Sequence[int]) -> None:

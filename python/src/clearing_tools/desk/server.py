@@ -7,8 +7,8 @@ In:   --banks, --debts   the two files of the network; they are read, and never 
       --idle             ends after so many minutes without a request (60)
 Out:  on standard output a line with the link to the page, which this machine alone can open
 
-In the page all cash is cut, the cash, the rule and the debts of banks are changed, a scenario is chosen, and what default keeps is set;
-at each change the program clears the network again. The page adds and subtracts what the program says, and computes nothing else. Files,
+In the page all cash is cut, the cash, the rule and the debts of banks are changed, a scenario is chosen, and what default keeps is set,
+which shows both ends of what clears; at each change the program clears the network again. The page adds and subtracts what the program says, and computes nothing else. Files,
 the changes as a scenario, a report and a folder of evidence are downloads.
 
 The link has a token of 128 bits; who does not have it is refused. The server ends at an interrupt, and leaves nothing behind. It wants

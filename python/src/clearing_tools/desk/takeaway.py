@@ -36,7 +36,9 @@ def taken(desk: Desk, state: State, what: str) -> Tuple[bytes, str, str]:
         if what == "report":
             (place.path / "labels.csv").write_text(text_of(desk.full), encoding="utf-8")
             labels = ["--labels", "labels.csv"] if desk.full.full else []
-            made(desk, place, "report.gather", ["--banks", "banks.csv", "--debts", "debts.csv", *labels, "--title", "Tried at the desk", "--out", name])
+            costs = ["--default-keeps", state.keep] if state.keep != states.AS_IT_IS.keep else []
+            made(desk, place, "report.gather",
+                 ["--banks", "banks.csv", "--debts", "debts.csv", *labels, *costs, "--title", "Tried at the desk", "--out", name])
         if what == "evidence":
             made(desk, place, "evidence.evidence", ["make", "evidence", "--banks", "banks.csv", "--debts", "debts.csv"])
             return archive(place.path, "evidence"), name, kind

@@ -55,19 +55,27 @@ def state_view(base: Base, state: State, found: Cleared, full: FullNames) -> Dic
         "rule": [row[1] for row in rows],
         "outside": [int(row[2]) for row in rows],
         "left": found.left,
-        "estate": [bank.estate for bank in found.banks],
-        "lost": found.lost,
-        "paid": [bank.paid for bank in found.banks],
         "owed": [bank.owed for bank in found.banks],
-        "outsidePaid": [bank.outside_paid for bank in found.banks],
-        "equity": [bank.equity for bank in found.banks],
-        "state": [bank.state for bank in found.banks],
+        **end_view(found.banks, found.lost),
+        "greatest": end_view(*found.greatest) if found.greatest is not None else None,
         "wave": found.waves,
         "more": found.more,
         "debts": len(found.keys),
         "changedDebts": changed_debts(base, state),
         "isScenario": scenario is not None,
         "picture": picture_of(found, full),
+    }
+
+
+def end_view(banks: Sequence[texts.Bank], lost: Sequence[int]) -> Dict[str, Any]:
+    """How the banks stand at the payments of one end: a list over them for each thing."""
+    return {
+        "estate": [bank.estate for bank in banks],
+        "lost": list(lost),
+        "paid": [bank.paid for bank in banks],
+        "outsidePaid": [bank.outside_paid for bank in banks],
+        "equity": [bank.equity for bank in banks],
+        "state": [bank.state for bank in banks],
     }
 
 

@@ -17,6 +17,8 @@ understood or matplotlib is missing.
 """
 from collections import namedtuple
 
+from clearing_client.texts import SUMS
+
 from .. import cli, labels, runner, texts
 from ..fullnames import add_labels, read_labels
 from ..runner import Failed, command
@@ -35,6 +37,8 @@ def parts_in(name):
     """The parts of a file, one after another as it is read. An empty line stands between two; payments are passed over unread."""
     part, empty = None, False
     for at, line in enumerate(lines_in(name), 1):
+        if at == 1 and line == SUMS:
+            raise Failed(f"{name}: this is what `clearing outcomes` prints, scenarios in sums; a map is drawn of what `clearing stress` prints")
         if line.startswith("scenario,") and (at == 1 or empty):
             if part:
                 yield part

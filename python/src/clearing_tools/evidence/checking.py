@@ -1,21 +1,26 @@
 """Checks a folder of evidence: what `evidence.sh check` does.
 
-Each file of the folder is read once, into a copy that nobody else can write, and all that follows is told of the copy. A folder that
-is another at the end is not the one that was checked, and is refused."""
+Each file of the folder is read once, and all that follows is told of a copy that nobody else can write. The inputs are read first: they say
+which files belong to the folder, and only these are copied. A folder that is another at the end is not the one that was checked, and is
+refused."""
+import contextlib
 import os
 import pathlib
+import shutil
 import sys
 
 from .. import runner
 from ..runner import ROOT, Failed
 from . import audit, shock, source
 from .parts import (
-    BANKS, BUILT, FILE, JOURNAL, PROGRAM, README, SUMS, TABLES, UNREAD, VERSIONS, checksum_of, commands_of, commands_text, names_of,
-    parts_of, program_sum, read_inputs, read_rescue, rescue_holds, stress_of, sums_text, words_of,
+    BANKS, BUILT, FILE, JOURNAL, PROGRAM, README, SUMS, TABLES, TEXTS, UNREAD, VERSIONS, checksum_of, commands_of, commands_text, most_of,
+    names_of, parts_of, program_sum, read_inputs, read_rescue, rescue_holds, stress_of, sums_text, words_of,
 )
 
 # No folder of these commands has as many names.
 MOST_NAMES = 1000
+# What says which files belong to a folder, and what each has.
+FIRST = {*TEXTS, "inputs/banks.csv", "inputs/debts.csv", "inputs/scenarios.toml", "rescue/rescue.csv", "source/command.tsv"}
 
 
 def names_in(folder):
@@ -40,7 +45,7 @@ class Checking:
     def __init__(self, folder, copy):
         self.given, self.folder, self.failed = folder, pathlib.Path(copy), set()
         self.asking = runner.Asking()
-        self.rescue = None
+        self.rescue = self.fault = None
 
     def tell(self, line, failing=None):
         """A line, whose text is that of the tool or was made to be shown."""
@@ -50,22 +55,48 @@ class Checking:
         sys.stdout.flush()
 
     def copy(self):
-        """Reads the folder: the names that are in it, and the checksums of the files that may belong to it, which are copied."""
+        """Reads the folder: the names that are in it, the checksums of the files that may belong to it, and a copy of those that do."""
         try:
             self.there = names_in(self.given)
         except OSError as fault:
             raise Failed(f"{audit.shown(self.given)} cannot be read: {fault.strerror}", UNREAD) from fault
-        self.read_sums = {}
-        for name in sorted(self.there):
-            if FILE.fullmatch(name):
-                path = self.folder / name
-                path.parent.mkdir(exist_ok=True)
-                try:
-                    with open(path, "wb") as copy:
-                        self.read_sums[name] = checksum_of(os.path.join(self.given, name), copy)
-                except OSError as fault:
-                    path.unlink(missing_ok=True)
-                    self.tell(f"{name}: {fault.strerror}", UNREAD)
+        self.read_sums, self.unread = {}, {}
+        named = [name for name in self.there if FILE.fullmatch(name)]
+        for name in FIRST.intersection(named):
+            self.take(name, True)
+        try:
+            self.read_inputs()
+            files = self.files()
+        except Failed as fault:
+            # It is told when the inputs are looked at. No file belongs to inputs that are none.
+            self.fault, files = fault, set()
+        rest = [name for name in named if name not in FIRST]
+        self.check_room(files.intersection(rest))
+        for name in rest:
+            self.take(name, name in files)
+        for name, why in sorted(self.unread.items()):
+            self.tell(f"{name}: {why}", UNREAD)
+
+    def take(self, name, is_copied):
+        """Reads a file for its checksum, and copies it where that is said."""
+        path = self.folder / name
+        if is_copied:
+            path.parent.mkdir(exist_ok=True)
+        try:
+            with open(path, "wb") if is_copied else contextlib.nullcontext() as copy:
+                self.read_sums[name] = checksum_of(os.path.join(self.given, name), copy)
+        except OSError as fault:
+            path.unlink(missing_ok=True)
+            self.unread[name] = fault.strerror
+
+    def check_room(self, names):
+        """Fails where a copy of these files would take more than half of the room that there is."""
+        size, room = 0, shutil.disk_usage(self.folder).free // 2
+        for name in names:
+            with contextlib.suppress(OSError):
+                size += min(os.lstat(os.path.join(self.given, name)).st_size, most_of(name))
+        if size > room:
+            raise Failed(f"a copy of {audit.shown(self.given)} takes {size:,} bytes, and in temporary folders there is room for {room:,}", UNREAD)
 
     def stayed(self):
         """Whether the folder is at the end what was read of it."""
@@ -114,11 +145,16 @@ class Checking:
         if self.read("SHA256SUMS") != sums_text(listed):
             self.tell("SHA256SUMS: not as these commands write it", UNREAD)
 
-    def names(self):
-        """Whether the folder has the files that these commands make of these inputs, and nothing else."""
+    def files(self):
+        """The names of the files that these commands make of these inputs."""
         files = names_of(self.parts, self.commands, self.has("inputs/scenarios.toml"))
         if self.has("source/"):
             files |= {"source/command.tsv", "source/summary.csv", *source.names_of(self.read("source/command.tsv"))}
+        return files
+
+    def names(self):
+        """Whether the folder has the files that these commands make of these inputs, and nothing else."""
+        files = self.files()
         for name in sorted(files):
             self.must_be_there(name)
         for name in sorted(set(self.there) - files - {os.path.dirname(file) + "/" for file in files}):
@@ -136,6 +172,12 @@ class Checking:
     # The networks.
 
     def inputs(self):
+        """Tells of inputs that are none."""
+        if self.fault is not None:
+            raise self.fault
+
+    def read_inputs(self):
+        """The network, the scenarios and the rescue, and what these commands make of them."""
         scenarios = self.read("inputs/scenarios.toml") if self.has("inputs/scenarios.toml") else None
         self.rescue = self.read("rescue/rescue.csv") if self.has("rescue/") else None
         try:

@@ -54,11 +54,16 @@ def checksum(content):
     return hashlib.sha256(content).hexdigest()
 
 
+def most_of(name):
+    """How many bytes a file of an evidence has at most."""
+    is_sheet = os.path.basename(os.path.dirname(name)) == "source"
+    return MOST_OF_SHEETS if is_sheet else MOST.get(os.path.basename(name), MOST_OF_OTHERS)
+
+
 def checksum_of(name, copy=None):
     """The checksum of a plain file, read block by block, as far as its limit; what is read is written to a copy where one is open.
     Nothing but a plain file is opened, and no link is followed."""
-    is_sheet = os.path.basename(os.path.dirname(name)) == "source"
-    most = MOST_OF_SHEETS if is_sheet else MOST.get(os.path.basename(name), MOST_OF_OTHERS)
+    most = most_of(name)
     number = os.open(name, os.O_RDONLY | os.O_NOFOLLOW | os.O_NONBLOCK)
     with open(number, "rb", buffering=0) as file:
         if not stat.S_ISREG(os.fstat(number).st_mode):

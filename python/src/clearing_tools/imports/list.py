@@ -6,9 +6,9 @@ In:  LIST, a file of comma-separated records in UTF-8, or a workbook (.xlsx, .od
      names, such as borrower, lender and exposure. --table FILE (--table-sheet NAME) has the banks, with their names in
      its first column and the columns `cash`, and, where they are there, `outside`, what is owed to others, and `rule`
      (--cash, --outside, which may be repeated and adds up, and --rule-column give them other names). A column that an
-     option names must be there; one of these names but for capitals or spaces is asked for, and so is one of the table
-     that looks like what is owed outside, until --outside NAME or --no-outside. Columns that are not looked at are
-     named. A byte order mark, CR LF, semicolons or tabs between the fields, and UTF-16 are read as they are. A stray
+     option names must be there; capitals and spaces in these names matter only between two columns. A column of the
+     table that looks like what is owed outside is asked for, until --outside NAME or --no-outside. Columns that are not
+     looked at are named. A byte order mark, CR LF, semicolons or tabs between the fields, and UTF-16 are read as they are. A stray
      quote is refused with its row.
 Out: --banks FILE and --debts FILE, which `clearing` reads: the banks of the table in its order, and the debts in the
      order of the list, none where the amount is 0. Both are written or none, and never over a file that is read.
@@ -107,7 +107,7 @@ class List:
         """The list and the table have their columns, and those that are named."""
         words, faults = self.words, self.faults
         for option in ("debtor", "creditor", "amount"):
-            tables.need_column(faults, self.list, option, getattr(words, option))
+            tables.need_usual(faults, words, self.list, option)
         self.class_of, self.rate = self.pair("class-of", words.class_of), self.pair("rate", words.rate)
         if not self.class_of:
             tables.find_column(faults, words, self.list, "class-column")
@@ -117,7 +117,7 @@ class List:
             self.where.setdefault(column, []).append(value)
         for column in words.ignore:
             tables.need_column(faults, self.list, "ignore", column)
-        tables.need_column(faults, self.table, "cash", words.cash)
+        tables.need_usual(faults, words, self.table, "cash")
         passed = tables.find_outside(faults, words, self.table)
         tables.find_column(faults, words, self.table, "rule-column")
         if words.label_column:

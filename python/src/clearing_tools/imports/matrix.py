@@ -9,9 +9,9 @@ In:  MATRIX, a file of comma-separated records in UTF-8, or a workbook (.xlsx, .
      and `rule`. They stand beside the matrix, or in a file of their own with the names in its first column (--table
      FILE, --table-sheet NAME), where balance sheets are kept so. A bank of that file that is in no line of the matrix
      is a bank too, and a bank that has a row or a column alone owes or is owed nothing. --cash, --outside (repeated,
-     they add up) and --rule-column give the columns other names, which then must be there; a column of one of these
-     names but for capitals or spaces is asked for, and so is one that looks like what is owed outside, until --outside
-     NAME or --no-outside. Other columns of the table are not looked at, and named. A byte order mark, CR LF, semicolons
+     they add up) and --rule-column give the columns other names, which then must be there; capitals and spaces matter
+     only between two columns. A column that looks like what is owed outside is asked for, until --outside NAME or
+     --no-outside. Other columns of the table are not looked at, and named. A byte order mark, CR LF, semicolons
      or tabs between the fields, and UTF-16 are read as they are. A stray quote is refused with its row.
 Out: --banks FILE and --debts FILE, which `clearing` reads: banks in the order of the rows, debts row by row in the
      order of the banks, all of one class, none where the amount is 0. Both are written or none, and never over a
@@ -66,12 +66,14 @@ class Matrix:
         self.is_one = self.table is self.matrix
         faults.end_if_any()
         banks = self.matrix.rows if self.is_one else ()
+        tables.take_alike(words, self.table, "cash", banks)
         passed = tables.find_outside(faults, words, self.table, banks)
         tables.find_column(faults, words, self.table, "rule-column", banks)
         self.amounts = [words.cash, *words.outside] if words.outside else [words.cash]
         if words.label_column:
             tables.need_column(faults, self.table, "label-column", words.label_column, banks)
-        self.extra = {*self.amounts, words.rule_column, words.label_column, *passed} if self.is_one else set()
+        asked = [column for usual in ("outside", "rule") for column in tables.alike(self.table, usual, banks)]
+        self.extra = {*self.amounts, words.rule_column, words.label_column, *passed, *asked} if self.is_one else set()
         self.others = [c for c in self.table.header if c not in {*self.amounts, words.rule_column, words.label_column}] if not self.is_one else passed
 
     def totals(self):

@@ -137,40 +137,65 @@ def need_column(faults, table, option, column, banks=()):
     faults.add(table, 0, None, f"no column {column}; it has {there or 'no other'}{hint}")
 
 
+def alike(table, name, banks=(), drop=()):
+    """The columns of a name, or of that name but for capitals or spaces where it is no bank's; without those to be dropped."""
+    plain = name.strip().casefold()
+    named = [column for column in table.header if column.strip().casefold() == plain and column not in drop]
+    return [column for column in named if column == name or column not in banks]
+
+
+def ask_alike(faults, table, option, usual, columns):
+    """Asks which of several columns is meant that have the usual name but for capitals or spaces."""
+    for column in columns:
+        if column != usual:
+            faults.add(table, 0, column, f"its name is {usual} but for capitals or spaces; say --{option} {quoted(column)}, or rename it")
+
+
+def take_alike(words, table, option, banks=()):
+    """The name of a column, as it usually is or an option gives it. Where one column alone has it but for capitals or spaces, that is taken
+    for it."""
+    word = option.replace("-", "_")
+    found = alike(table, getattr(words, word), banks)
+    if len(found) == 1:
+        setattr(words, word, found[0])
+    return getattr(words, word)
+
+
+def need_usual(faults, words, table, option, banks=()):
+    """Refuses a table without a column of a name, whatever its capitals or spaces."""
+    need_column(faults, table, option, take_alike(words, table, option, banks), banks)
+
+
 def find_column(faults, words, table, option, banks=()):
-    """Finds a column that may be missing. One that an option names must be there, else it is of the usual name, or none. One of the
-    usual name but for capitals or spaces is asked for."""
+    """Finds a column that may be missing. One that an option names must be there, else it is the only one of the usual name, whatever its
+    capitals or spaces, or none. Which of several it is is asked for."""
     word, usual = option.replace("-", "_"), option.split("-")[0]
-    column = getattr(words, word)
-    if column is not None:
-        need_column(faults, table, option, column, banks)
+    if getattr(words, word) is not None:
+        need_usual(faults, words, table, option, banks)
         return
-    for column in table.header:
-        if column == usual and column not in words.drop:
-            setattr(words, word, usual)
-        elif column.strip().casefold() == usual and column not in banks and column not in words.drop:
-            what = f"its name is {usual} but for capitals or spaces; say --{option} {quoted(column)}, or rename it"
-            faults.add(table, 0, column, what)
-            setattr(words, word, column)
+    found = alike(table, usual, banks, words.drop)
+    if found:
+        setattr(words, word, found[0])
+    if len(found) > 1:
+        ask_alike(faults, table, option, usual, found)
 
 
 def find_outside(faults, words, table, banks=()):
-    """Finds the columns of what is owed outside: those that are named, else `outside`, or none. One that looks like it is asked
-    for. Gives the columns that --no-outside passes over."""
+    """Finds the columns of what is owed outside: those that are named, else the only one of the name `outside`, whatever its capitals or
+    spaces, or none. One that looks like it is asked for. Gives the columns that --no-outside passes over."""
     if words.outside:
         for column in words.outside:
             need_column(faults, table, "outside", column, banks)
         return []
-    words.outside = ["outside"] if "outside" in table and "outside" not in words.drop and not words.no_outside else []
+    found = alike(table, "outside", banks, words.drop)
+    words.outside = [] if words.no_outside else found[:1]
+    if len(found) > 1 and not words.no_outside:
+        ask_alike(faults, table, "outside", "outside", found)
     like = [] if words.outside else [column for column in table.header if is_outside(table, column, words, banks)]
     if words.no_outside:
-        return [*like, *(["outside"] if "outside" in table else [])]
+        return [*like, *found]
     for column in like:
-        if column.strip().casefold() == "outside":
-            what = f"its name is outside but for capitals or spaces; say --outside {quoted(column)}, or rename it"
-        else:
-            what = f"it may be what is owed outside; say --outside {quoted(column)}, or --no-outside"
-        faults.add(table, 0, column, what)
+        faults.add(table, 0, column, f"it may be what is owed outside; say --outside {quoted(column)}, or --no-outside")
     return like
 
 

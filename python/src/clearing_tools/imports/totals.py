@@ -4,8 +4,8 @@ In:  TOTALS, a file of comma-separated records in UTF-8, or a workbook (.xlsx, .
      sheets), with the names of the banks in its first column and the columns `assets` and `liabilities`, what other
      banks of the file owe the bank and what it owes them, `cash`, and, where they are there, `outside`, what is owed to
      others, and `rule`. --assets, --liabilities, --cash, --outside and --rule-column give them other names, which then
-     must be there; a column of one of these names but for capitals or spaces is asked for, and so is one that looks like
-     what is owed outside, until --outside NAME or --no-outside. No bank has more of assets and liabilities than all
+     must be there; capitals and spaces matter only between two columns. A column that looks like what is owed outside is
+     asked for, until --outside NAME or --no-outside. No bank has more of assets and liabilities than all
      others can owe it and be owed by it. Where the sums of the two differ, a bank `rest of the world` (--rest NAME) stands
      for those who are not in the file, and is told; it has the cash that it owes. --no-rest refuses such sums.
      --known FILE (debtor, creditor, amount) has claims that are known and stay, a claim of 0 too; the others are made.
@@ -214,7 +214,7 @@ def read_totals(words, faults, summary):
     """The banks, and what each owes and is owed, in amounts."""
     table = Table(words.totals, words, faults, sheet=words.sheet)
     for option in ("assets", "liabilities", "cash"):
-        tables.need_column(faults, table, option, getattr(words, option))
+        tables.need_usual(faults, words, table, option)
     passed = tables.find_outside(faults, words, table)
     tables.find_column(faults, words, table, "rule-column")
     faults.end_if_any()

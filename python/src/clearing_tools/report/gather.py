@@ -6,9 +6,10 @@ In:   --banks, --debts   the two files of the network
       --labels           a file `code,name`: the full names of banks, shown behind the names of the files
       --title            the title of the page
       --unit, --currency what a unit of account is worth, such as --unit 1000 --currency EUR: amounts are in the currency then
+      --default-keeps    what a bank in default keeps of its estate, 0 to 1000 per mille: both ends where default costs are there too
       --keep             a folder for what the program printed, under the names that the evidence has; a new one, or an empty one
       --d3               the library d3 in one file; Debian's package node-d3 has it, and it is found there
-Out:  --out              the report: a summary of five sentences, key figures, the network drawn with a player of the journal, a table of
+Out:  --out              the report: a summary of five sentences (six where default costs), key figures, the network drawn with a player of the journal, a table of
                          banks, rankings, the scenarios, a part of the page for each bank, what the model leaves out, and the evidence:
                          commands, statuses and checksums
 
@@ -29,7 +30,7 @@ import sys
 import time
 from collections import namedtuple
 
-from clearing_client.format import MAX_BYTES
+from clearing_client.format import MAX_BYTES, MAX_KEEP
 from clearing_client.results import Bounds, Check, Rescues, Verdict as Judged
 
 from .. import cli, files, labels, texts
@@ -39,6 +40,7 @@ from ..fullnames import add_labels, read_labels
 from ..money import Money, add_money
 from ..runner import Failed, command, work_folder
 from . import page
+from .costs import costs_of
 from .page import Evidence, Matter, Scenario, Verdict
 from .program import Program, as_given, line_of, said_by, sum_of
 from .rankings import rankings_of
@@ -196,6 +198,7 @@ def gather(asked, folder):
     scenarios = scenarios_of(program, files, asked, outside)
     rescues = program.result("rescues", Rescues, program.ask("rescues.csv", "rescues", *files))
     rankings = rankings_of(program, files, rescues)
+    costs = costs_of(program, files, asked.default_keeps, banks, sum(cash.values()))
     check_same(inputs, inputs_of(asked))
     return Matter(
         title=asked.title or f"Clearing of {labels.count(len(banks), 'bank')}",
@@ -209,6 +212,7 @@ def gather(asked, folder):
         more=sum(bounds.payments.column("greatest")) - sum(bounds.payments.column("least")),
         rescued={bank.bank: bank.added for bank in rescues.banks},
         rankings=rankings,
+        costs=costs,
         scenarios=scenarios,
         frames=frames,
         evidence=evidence_of(program, inputs, verdict),
@@ -245,6 +249,9 @@ def words():
     add_labels(parser)
     parser.add_argument("--title", metavar="TEXT", help="the title of the page")
     add_money(parser)
+    parser.add_argument(
+        "--default-keeps", metavar="N", type=cli.number_in(0, MAX_KEEP), help="what a bank in default keeps of its estate, per mille"
+    )
     parser.add_argument("--keep", metavar="FOLDER", help="a new or empty folder for what the program printed")
     parser.add_argument("--d3", metavar="FILE", help="the library d3 in one file")
     parser.add_argument("--out", metavar="FILE", required=True, help="the page to write")

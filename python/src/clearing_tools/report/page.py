@@ -13,7 +13,7 @@ from ..drawing import style as drawing
 from ..drawing.style import DARK, LIGHT
 from ..runner import Failed
 from ..texts import STATES, due_of, flows_of, shortfall_of
-from . import tables
+from . import costs, tables
 from .summary import summary
 
 FOLDER = pathlib.Path(__file__).resolve().parent
@@ -22,7 +22,7 @@ Verdict = namedtuple("Verdict", "lawful line words")
 Evidence = namedtuple("Evidence", "files commit toolchain commands verdict made words")
 # A scenario: its name, its banks in file order, and the cash that it leaves.
 Scenario = namedtuple("Scenario", "name banks cash")
-Answers = namedtuple("Answers", "title money banks full cash rules debts waves more rescued rankings scenarios frames evidence")
+Answers = namedtuple("Answers", "title money banks full cash rules debts waves more rescued rankings costs scenarios frames evidence")
 # Parts of the page, in its order: the key of each and its name.
 PARTS = {
     "summary": "Summary",
@@ -30,6 +30,7 @@ PARTS = {
     "network": "The network",
     "banks": "The banks",
     "rankings": "Rankings",
+    "costs": "Where default costs",
     "scenarios": "Scenarios",
     "each": "Bank by bank",
     "model": "What this model says",
@@ -227,7 +228,7 @@ def page_of(matter, library, environment):
     title, below = labels.headline(matter.banks, matter.money)
     return environment.get_template("page.html").render(
         matter=matter,
-        parts={key: words for key, words in PARTS.items() if key != "scenarios" or matter.scenarios is not None},
+        parts={key: words for key, words in PARTS.items() if key not in ("costs", "scenarios") or getattr(matter, key) is not None},
         policy=policy_of(style, scripts),
         style=Markup(style),
         scripts=list(map(Markup, scripts)),
@@ -252,6 +253,10 @@ def page_of(matter, library, environment):
         defaults=sum(bank.state != "sound" for bank in matter.banks),
         each=tables.parts_of_banks(matter),
         cases=tables.cases_of(matter) if matter.scenarios else [],
+        fallen=costs.shown_of(matter.costs) if matter.costs else [],
+        most_fallen=costs.MOST_SHOWN,
+        share_of=costs.share_of,
+        of_scale=f", {matter.scale.words}" if matter.scale.words else "",
         maps=maps,
         in_maps=in_maps,
         bar=tables.bar_of,

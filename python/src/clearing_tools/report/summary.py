@@ -1,11 +1,14 @@
-"""A report in five sentences: how many banks fall, why, what would save them, what the worst scenario does, and who falls next."""
+"""A report in five sentences: how many banks fall, why, what would save them, what the worst scenario does, and who falls next; and a sixth
+where default costs."""
 from ..labels import apart, count, listed, percent
 from ..texts import due_of, shortfall_of
+from . import costs
 
 
 def summary(matter):
-    """The five sentences, each made from the results."""
-    return [falls(matter), why(matter), saved(matter), worst(matter), following(matter)]
+    """The sentences, each made from the results."""
+    said = [falls(matter), why(matter), saved(matter), worst(matter), following(matter)]
+    return [*said, costs.sentence(matter)] if matter.costs else said
 
 
 def names(matter, banks):

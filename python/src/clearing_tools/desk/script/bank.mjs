@@ -1,5 +1,6 @@
 // The part of one bank: how it stands, what can be changed of it, whom it owes and who owes it, why it is in default, and what is asked of it.
 import { see } from "./ask.mjs";
+import { atGreatest, paysOf } from "./compare.mjs";
 import { money, number } from "./numbers.mjs";
 import { by, keepingFocus, make, tableOf } from "./parts.mjs";
 import { bankButton, unpaidOf } from "./tables.mjs";
@@ -34,6 +35,16 @@ const facts = (view, bank) => {
     ["owed outside", view.outside[bank]], ["paid outside", view.outsidePaid[bank]], ["unpaid", unpaidOf(view, bank)], ["lost in default", view.lost[bank]],
     ["kept", view.equity[bank]]].filter(([title, value]) => value || !["owed outside", "paid outside", "lost in default"].includes(title));
   return make("dl", { id: "facts" }, ...lines.flatMap(([title, value]) => [make("dt", {}, title), make("dd", {}, number(value))]));
+};
+
+/** How it stands at the greatest payments that clear, where default costs. */
+const otherEnd = (view, bank) => {
+  const end = atGreatest(view);
+  if (!end) return null;
+  const isSame = ["state", "paid", "outsidePaid", "lost", "equity"].every((key) => end[key][bank] === view[key][bank]);
+  const said = isSame ? "it stands the same" : `it is ${end.state[bank] === "sound" ? "sound" : `in default, ${end.state[bank]}`}: it pays `
+    + `${number(paysOf(end, bank))}, ${number(end.lost[bank])} is lost, and it keeps ${number(end.equity[bank])}`;
+  return make("p", { id: "other-end" }, `This is at the least payments that clear. At the greatest ${said}.`);
 };
 
 const owesTable = (context, bank, owes) => make("div", { class: "scroll" }, make("table", { id: "owes" }, ...tableOf("What it owes banks",
@@ -97,7 +108,7 @@ export const showBank = async (context, focus = false) => {
   if (trouble) { context.trouble(trouble); return; }
   const isOpen = by("add-debt")?.open ?? false;
   keepingFocus(() => by("bank").replaceChildren(make("h3", { id: "bank-name", tabindex: -1 }, context.name(bank)), make("p", { id: "bank-state" }, STATES[view.state[bank]] + "."),
-    accounts(context, view, bank), facts(view, bank), reason(context, value.why), asking(context, bank), owesTable(context, bank, value.owes),
+    accounts(context, view, bank), facts(view, bank), otherEnd(view, bank) ?? "", reason(context, value.why), asking(context, bank), owesTable(context, bank, value.owes),
     adding(context, bank), owedTable(context, value.owed)));
   by("add-debt").open = isOpen;
   if (!focus) return;

@@ -31,6 +31,12 @@ export const sums = (view) => {
   };
 };
 
+/** How the banks stand at the greatest payments that clear where default costs; nothing where it does not. */
+export const atGreatest = (view) => (view.greatest ? { ...view, ...view.greatest, greatest: null } : null);
+
+/** The banks that are in default at the least payments that clear, and sound at the greatest. */
+export const soundAtGreatest = (view) => (view.greatest ? saved(view, atGreatest(view)) : []);
+
 /** A row for each bank that is another than before, those that fall first, then those saved, then by how much is paid more or less. */
 export const rows = (before, now) => {
   const rank = (bank) => (isSound(before.state[bank]) === isSound(now.state[bank]) ? 2 : isSound(now.state[bank]) ? 1 : 0);
@@ -60,9 +66,11 @@ const sentence = (banks, names, one, several) => {
 /** What is told of a state against another, for everyone and for screen readers. */
 export const told = (before, now, names) => {
   const parts = [sentence(fallen(before, now), names, "falls", "fall"), sentence(saved(before, now), names, "is saved", "are saved")];
-  const said = parts.filter(Boolean).join(" ");
-  if (said) return said;
-  return rows(before, now).length ? "No bank falls and none is saved; payments change." : "All is as it is.";
+  if (!parts.some(Boolean)) parts.push(rows(before, now).length ? "No bank falls and none is saved; payments change." : "All is as it is.");
+  const sound = soundAtGreatest(now);
+  if (sound.length) parts.push(`At the greatest payments that clear, ${word(sound.length)} of those in default ${sound.length === 1 ? "is" : "are"} sound: `
+    + `${listed(sound.map((bank) => apart(names[bank])))}.`);
+  return parts.filter(Boolean).join(" ");
 };
 
 /** What was changed of the banks: the bank, the field, before and now. */

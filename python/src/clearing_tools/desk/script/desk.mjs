@@ -63,7 +63,8 @@ const showControls = (view) => {
   if (location.hash !== `#state-${view.id}`) history.replaceState(null, "", `#state-${view.id}`);
   for (const what of TAKES) by(`take-${what}`).href = `/take/${view.id}/${what}`;
   by("take-scenario-line").hidden = !view.isScenario;
-  for (const note of document.querySelectorAll(".take-note")) note.textContent = view.keep === context.base.keep ? "" : ", without costs of default";
+  by("note-report").textContent = view.greatest ? ", with both ends where default costs in a part of their own" : "";
+  by("note-evidence").textContent = view.greatest ? ", without costs of default" : "";
 };
 
 /** Asks for a change. A fault is shown at its field, and the last good state stays. */

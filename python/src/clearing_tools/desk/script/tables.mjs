@@ -1,5 +1,5 @@
 // The figures, the table of differences, and the list of what was changed.
-import { changedBanks, owesOf, rows, sums } from "./compare.mjs";
+import { atGreatest, changedBanks, owesOf, rows, sums } from "./compare.mjs";
 import { money, number, signed } from "./numbers.mjs";
 import { by, make, tableOf } from "./parts.mjs";
 
@@ -13,13 +13,15 @@ const FIGURES = [
   ["lost", "Lost in default", "of the estates of banks in default", money],
 ];
 
-/** The figures, each with what it was. */
+/** The figures, each with what it was, and with the other end where default costs. */
 export const showSums = (base, now) => {
-  const was = sums(base), is = sums(now);
+  const was = sums(base), is = sums(now), greatest = atGreatest(now), other = greatest && sums(greatest);
+  by("ends").hidden = !greatest;
   by("sums").replaceChildren(...FIGURES.map(([key, title, words, text]) => make("div", {},
     make("dt", {}, title),
     make("dd", {}, make("span", { class: "value", id: `sum-${key}` }, text(is[key])), " ",
-      make("span", { class: "more" }, `${words}; ${is[key] === was[key] ? "as it is" : `${signed(is[key] - was[key])} against ${number(was[key])}`}.`)))));
+      make("span", { class: "more" }, `${words}; ${is[key] === was[key] ? "as it is" : `${signed(is[key] - was[key])} against ${number(was[key])}`}.`),
+      other && key !== "cash" ? make("span", { class: "more", id: `greatest-${key}` }, ` At the greatest: ${text(other[key])}.`) : null))));
 };
 
 const stateWord = (state) => (state === "sound" ? "sound" : `in default, ${state}`);
