@@ -202,7 +202,7 @@ class Tables(InTheBrowser):
             "The next to fall is Jura, where 89.1% of all cash is lost; then Fjord, at 94.1%."])
         self.open(files_of(ROOT / "examples/gridlock"))
         said = self.js("return [...document.querySelectorAll('#summary li')].map(e => e.textContent)")
-        self.assertEqual(said[1], "A, B and C could pay, but nobody begins, and greater payments, by 300 units in all, would clear too.")
+        self.assertEqual(said[1], "A, B and C fall at the least payments alone, and greater payments, by 300 units in all, would clear too.")
         self.open(["--banks", self.file("b.csv", "name,cash,rule\nA,3,order\n"), "--debts", self.file("d.csv", "debtor,creditor,class,claim\n")])
         said = self.js("return [...document.querySelectorAll('#summary li')].map(e => e.textContent)")
         self.assertEqual(said, ["None of 1 bank is in default: it pays all it owes, 0 units in all.", "The least is left at A, 3 units.",

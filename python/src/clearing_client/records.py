@@ -132,7 +132,7 @@ class Saved(NamedTuple):
 
 class Wave(NamedTuple):
     """A bank on the way down from all debts paid in full: the round in which it first has less than it owes (0: never),
-    whether it defaults only because nobody begins to pay (gridlock), and what it keeps."""
+    whether it defaults at the least payments alone (gridlock), and what it keeps."""
 
     bank: str
     wave: int

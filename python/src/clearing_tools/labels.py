@@ -12,7 +12,7 @@ STATE_WORDS = {
     "sound": "sound: pays all it owes",
     "fundamental": "in default by its own fundamentals",
     "contagion": "in default by contagion",
-    "gridlock": "in default by gridlock: nobody begins",
+    "gridlock": "in default by gridlock: at the least alone",
 }
 
 RULE_WORDS = {

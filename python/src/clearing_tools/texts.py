@@ -15,7 +15,7 @@ from .files import text_of
 from .runner import Failed
 
 DEFAULTS_HEADERS = (texts.STANDINGS_1, texts.STANDINGS_2)
-# The states, the worst last. Gridlock is contagion where nobody begins: `clearing bounds` names such banks.
+# The states, the worst last. Gridlock is contagion at the least payments alone: `clearing bounds` names such banks.
 STATES = (*form.STATES, "gridlock")
 
 

@@ -121,7 +121,7 @@ def unpaid_to(found: Cleared) -> Dict[str, List[Tuple[str, int, int]]]:
 
 def why(found: Cleared, bank: int) -> Optional[Dict[str, Any]]:
     """The unpaid claims from a bank in default back to one that is so by its own fundamentals, a step each: debtor, creditor, claim, paid.
-    Where there is none such, the ring in which nobody begins. None for a bank that is sound."""
+    Where there is none such, the ring in which each waits for the one before. None for a bank that is sound."""
     start = found.banks[bank].name
     state_of = {each.name: each.state for each in found.banks}
     place = {each.name: at for at, each in enumerate(found.banks)}

@@ -135,7 +135,7 @@ def key_figures(matter):
         ("In default", f"{len(banks) - of['sound']:,}", "banks cannot pay all that they owe."),
         ("by own fundamentals", f"{of['fundamental']:,}", "could not pay even if all their debtors paid in full."),
         ("by contagion", f"{of['contagion'] + of['gridlock']:,}", "could pay if all their debtors paid in full."),
-        ("of these in gridlock", f"{of['gridlock']:,}", f"default only because nobody begins. {clears}"),
+        ("of these in gridlock", f"{of['gridlock']:,}", f"default at the least payments alone. {clears}"),
     ]
 
 

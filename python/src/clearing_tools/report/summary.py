@@ -40,8 +40,8 @@ def why(matter):
         one = len(of["contagion"]) == 1
         parts.append(f"{names(matter, of['contagion'])} {'falls' if one else 'fall'} because those who owe to {'it' if one else 'them'} do not")
     if of["gridlock"]:
-        begins = f"{names(matter, of['gridlock'])} could pay, but nobody begins"
-        parts.append(begins + (f", and greater payments, by {matter.money.in_short(matter.more)} in all, would clear too" if matter.more else ""))
+        fall = "falls" if len(of["gridlock"]) == 1 else "fall"
+        parts.append(f"{names(matter, of['gridlock'])} {fall} at the least payments alone" + (f", and greater payments, by {matter.money.in_short(matter.more)} in all, would clear too" if matter.more else ""))
     if parts:
         return "; ".join(parts) + "."
     keeps = min((bank for bank in matter.banks), key=lambda bank: bank.equity, default=None)

@@ -9,7 +9,7 @@ const STATES = {
   sound: "sound: it pays all it owes",
   fundamental: "in default by its own fundamentals: it could not pay even if all its debtors paid in full",
   contagion: "in default by contagion: it could pay if all its debtors paid in full",
-  gridlock: "in default by gridlock: nobody begins to pay",
+  gridlock: "in default by gridlock: at the least payments alone",
 };
 
 const fault = (id) => make("p", { class: "fault", id: `${id}-fault`, hidden: true });
@@ -76,7 +76,7 @@ const reason = (context, why) => {
   if (!why) return make("p", { id: "why", hidden: true });
   const words = { fundamental: "It is in default by itself: nothing that its debtors left unpaid would have saved it.",
     path: "What it lacks was not paid to it. Back along unpaid claims to a bank that is in default by itself:",
-    ring: "Nobody begins: the unpaid claims lead back to it.", none: "No unpaid claim explains it." }[why.kind];
+    ring: "The unpaid claims lead back to it.", none: "No unpaid claim explains it." }[why.kind];
   return make("div", { id: "why" }, make("h4", {}, "Why"), make("p", {}, words), make("ol", { class: "path" },
     ...why.steps.map(([debtor, creditor, claim, paid]) => make("li", {}, bankButton(context, debtor), ` leaves ${number(claim - paid)} of ${number(claim)} unpaid to `,
       bankButton(context, creditor)))));
