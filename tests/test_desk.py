@@ -129,10 +129,17 @@ class Numbers(Desk):
         impact = {line.split(",")[0]: line.split(",")[1:] for line in self.made("impact.py", *files_of(TWELVE)).splitlines()}
         fallen = self.file("fallen.csv")
         self.made("impact.py", *files_of(TWELVE), "--ranking", self.file("r.csv"), "--defaults", fallen)
+        saves = self.file("saves.csv")
+        self.made("rescues.py", *files_of(TWELVE), "--output", self.file("o.csv"), "--saved", saves)
+        saved = {}
+        for line in saves.read_text().splitlines()[1:]:
+            saved.setdefault(line.split(",")[0], []).append(line.split(",")[1])
+        self.assertTrue(saved)
         names = desk.see("/network")["names"]
         for at, name in enumerate(names):
             rescue = clearing("rescue", *files_of(TWELVE), "--bank", name).stdout.decode().split("\n")[0].split(",")[2]
-            self.assertEqual(desk.see(f"/ask/0/{at}/rescue"), {"added": int(rescue)}, name)
+            found = desk.see(f"/ask/0/{at}/rescue")
+            self.assertEqual((found["added"], [names[other] for other in found["saved"]]), (int(rescue), saved.get(name, [])), name)
             found = desk.see(f"/ask/0/{at}/breaking")
             self.assertEqual(f"{1001 if found['cut'] is None else found['cut']},{found['state']}", breaking[name])
             ruin = desk.see(f"/ask/0/{at}/ruin")
@@ -140,10 +147,23 @@ class Numbers(Desk):
             by = [line.split(",")[1] for line in fallen.read_text().splitlines() if line.startswith(f"{name},") and line.split(",")[1] != name]
             self.assertEqual([names[other] for other in ruin["fallen"]], by)
 
+    def test_a_breaking_cut_comes_on_top_of_what_a_scenario_takes(self):
+        desk = self.desk(None, "--scenarios", SCENARIOS)
+        at = desk.change(0, set="scenario", value=3)["id"]
+        losses = "".join(f'[[scenario.loss]]\nbank = "{desk.see("/network")["names"][bank]}"\namount = {amount}\n' for bank, amount in desk.see(f"/state/{at}")["losses"])
+        self.assertTrue(losses)
+        for bank in (0, 5, 9):
+            found = desk.see(f"/ask/{at}/{bank}/breaking")
+            states = []
+            for cut in (found["cut"] - 1, found["cut"]):
+                shock = self.file("s.toml", f'[[scenario]]\nname = "s"\ncut = {cut}\n{losses}')
+                states.append(standings("stress", *files_of(TWELVE), "--scenarios", shock)[bank][-1])
+            self.assertEqual(states, ["sound", found["state"]])
+
     def test_a_bank_of_any_name_is_asked_for(self):
         files = self.net("-A,1,order\n=B,0,order\n", "-A,=B,1,5\n")
         desk = self.desk(files)
-        self.assertEqual(desk.see("/ask/0/0/rescue"), {"added": 4})
+        self.assertEqual(desk.see("/ask/0/0/rescue"), {"added": 4, "saved": []})
         self.assertEqual(desk.see("/ask/0/1/ruin")["others"], 0)
 
     def test_a_default_is_explained_back_to_its_beginning(self):
@@ -506,7 +526,7 @@ class Attacks(Desk):
 
     def test_it_ends_and_leaves_nothing(self):
         told = self.file("told", "")
-        program = self.file("program", f'#!/bin/sh\ncase $1 in rescue) echo $$ >>{told}; exec sleep 60;; esac\nexec {shlex.quote(PROGRAM)} "$@"\n')
+        program = self.file("program", f'#!/bin/sh\ncase $1 in rescues) echo $$ >>{told}; exec sleep 60;; esac\nexec {shlex.quote(PROGRAM)} "$@"\n')
         program.chmod(0o755)
         for number in (signal.SIGINT, signal.SIGTERM):
             desk = self.desk(program=program)

@@ -263,7 +263,7 @@ class Doing(InTheBrowser):
         self.until(lambda: "Isar" in self.text("bank-name"))
         self.until(lambda: "by itself" in self.text("why"))
         self.assertEqual(self.js("return document.activeElement.id"), "bank-name")
-        for what, words in (("rescue", "400,000 units more of cash save it."), ("breaking", "It is in default without a cut."),
+        for what, words in (("rescue", "400,000 units more of cash save it, and Birk too."), ("breaking", "It is in default without a cut."),
                             ("ruin", "Where it loses all its cash, 1,000,000 units, it keeps 0 less and others 1,000,000 less")):
             self.click(f"ask-{what}")
             self.until(lambda: words in self.text(f"answer-{what}"))

@@ -11,7 +11,7 @@ from clearing_client import errors
 from clearing_client import program as client
 from clearing_client import texts as parser
 from clearing_client.records import Payment
-from clearing_client.results import Bounds, Check, CostBounds, Rescue, Stress
+from clearing_client.results import Bounds, Breaking, Check, CostBounds, Impact, Rescues, Stress
 from clearing_client.table import Table
 
 from .. import runner, texts
@@ -19,7 +19,6 @@ from ..analysis import asking as ask
 from ..analysis import breaking
 from ..checks.why import faults_of
 from ..evidence import shock
-from ..files import csv_text
 from ..fullnames import FullNames
 from . import state as states
 from .state import Base, State
@@ -203,37 +202,38 @@ class Desk:
 
     # What the program says of one bank.
 
-    def rescue(self, state: State, bank: int) -> Dict[str, Any]:
-        """The least cash that makes a bank pay all it owes. The banks have numbers for names, so that any can be named."""
+    def asked(self, state: State, task: str, kind: Any) -> Any:
+        """What a task says of a state."""
         with Place(self.runs) as place:
-            network = ask.network_of(self.runs, self.files(place, state))
-            return {"added": rescue_of(self.runs, network, str(place.path), bank)}
+            return ask.answer_of(self.runs, [task, *self.files(place, state)], kind)
+
+    def rescue(self, state: State, bank: int) -> Dict[str, Any]:
+        """The least cash that makes a bank pay all it owes, and the other banks that it saves."""
+        found, name, place = self.asked(state, "rescues", Rescues), self.base.banks[bank].name, states.names_of(self.base)
+        added = dict(zip(found.banks.column("bank"), found.banks.column("added")))
+        return {"added": added.get(name, 0), "saved": [place[pair.saves] for pair in found.saved if pair.bank == name]}
 
     def breaking(self, state: State, bank: int) -> Dict[str, Any]:
         """The least cut of all cash at which a bank is not sound, and how it stands then. All else is as the state has it."""
+        whole = state._replace(cut="0", losses=())
+        if not state.losses:
+            _, cut, how = self.asked(whole, "breaking", Breaking).cuts[bank]
+            return {"cut": cut if cut <= breaking.MAX_CUT else None, "state": how}
+        # What a scenario takes is taken after the cut, which the task does not know.
         losses = [(self.base.banks[place].name, amount) for place, amount in state.losses]
         with Place(self.runs) as place:
-            files = self.files(place, state._replace(cut="0", losses=()))
             ranges = breaking.find(
-                self.runs, str(place.path), files, 1, breaking.MAX_CUT, lambda cut: ask.scenario_text(cut, losses),
+                self.runs, str(place.path), self.files(place, whole), 1, breaking.MAX_CUT, lambda cut: ask.scenario_text(cut, losses),
                 states_of=lambda standings: [standings.column("state")[bank]], count=STEPS,
             )
         return {"cut": ranges.high[0] if ranges.high[0] <= breaking.MAX_CUT else None, "state": ranges.state[0]}
 
     def ruin(self, state: State, bank: int) -> Dict[str, Any]:
         """What the banks keep less where a bank loses all its cash, and who falls by it."""
-        name = self.base.banks[bank].name
-        with Place(self.runs) as place:
-            files = self.files(place, state)
-            cash = ask.network_of(self.runs, files).cash[bank]
-            before = ask.defaults_of(self.runs, files)
-            after, = ask.stress(self.runs, str(place.path), files, [ask.scenario_text(0, [(name, cash)])], lambda standings: standings)
-        lost = [old - new for old, new in zip(kept_of(before), kept_of(after))]
-        if sum(lost) != cash:
-            raise runner.Failed(f"what the ruin of {name!r} costs is not its cash")
-        short = ask.in_default(before)
-        fallen = [other for other in ask.in_default(after) if other not in short and other != bank]
-        return {"cash": cash, "own": lost[bank], "others": cash - lost[bank], "fallen": fallen}
+        found, place = self.asked(state, "impact", Impact), states.names_of(self.base)
+        name, cash, own, others, _ = found.banks[bank]
+        fallen = [place[pair.of] for pair in found.pairs if pair.bank == name and pair.falls and pair.of != name]
+        return {"cash": cash, "own": own, "others": others, "fallen": fallen}
 
 
 STEPS = 16  # cuts in one run on the way to the one that breaks a bank
@@ -250,32 +250,6 @@ def outcome_of(runs: Runs, words: Sequence[str], kind: Any) -> Any:
         return runs.asked(words, kind)
     except (errors.ClearingError, runner.Failed) as fault:
         return fault
-
-
-def kept_of(standings: Any) -> List[int]:
-    """What each bank keeps: its equity and what it pays outside."""
-    return [equity + outside for equity, outside in zip(standings.column("equity"), standings.column("outside_paid"))]
-
-
-def numbered_files(network: Any, folder: str) -> List[str]:
-    """The two files with numbers for names, as words of the program."""
-    place_of = {name: place for place, name in enumerate(network.names)}
-    banks: List[Tuple[Any, ...]] = [("name", "cash", "rule", "outside")]
-    banks += zip((f"B{place}" for place in place_of.values()), network.cash, network.rules, network.outside)
-    debts: List[Tuple[Any, ...]] = [("debtor", "creditor", "class", "claim")]
-    debts += [(f"B{place_of[one]}", f"B{place_of[other]}", rank, claim) for one, other, rank, claim in network.debts]
-    words = []
-    for option, records in (("banks", banks), ("debts", debts)):
-        name = pathlib.Path(folder) / f"numbered-{option}.csv"
-        name.write_text(csv_text(records), encoding="utf-8")
-        words += [f"--{option}", str(name)]
-    return words
-
-
-def rescue_of(runs: Runs, network: Any, folder: str, bank: int) -> int:
-    """The least sum that saves the bank of a place."""
-    words = numbered_files(network, folder)
-    return int(ask.answer_of(runs, ["rescue", *words, "--bank", f"B{bank}"], Rescue).added)
 
 
 def refusal(fault: errors.ClearingError, state: State, change: Mapping[str, Any]) -> Exception:

@@ -1,7 +1,7 @@
 // The part of one bank: how it stands, what can be changed of it, whom it owes and who owes it, why it is in default, and what is asked of it.
 import { see } from "./ask.mjs";
 import { atGreatest, paysOf } from "./compare.mjs";
-import { money, number } from "./numbers.mjs";
+import { listed, money, number } from "./numbers.mjs";
 import { by, keepingFocus, make, tableOf } from "./parts.mjs";
 import { bankButton, unpaidOf } from "./tables.mjs";
 
@@ -83,11 +83,12 @@ const reason = (context, why) => {
 };
 
 const ASKS = [
-  ["rescue", "Its rescue", (answer) => (answer.added ? `${money(answer.added)} more of cash save it.` : "It needs none.")],
+  ["rescue", "Its rescue", (answer, context) => (answer.added
+    ? `${money(answer.added)} more of cash save it${answer.saved.length ? `, and ${listed(answer.saved.map(context.name))} too` : ""}.` : "It needs none.")],
   ["breaking", "Its breaking cut", (answer) => (answer.cut === null ? "No cut of all cash breaks it."
     : answer.cut === 0 ? "It is in default without a cut." : `It falls at a cut of ${number(answer.cut)} per mille (${answer.state}), and at none below.`)],
   ["ruin", "The harm of its ruin", (answer, context) => `Where it loses all its cash, ${money(answer.cash)}, it keeps ${number(answer.own)} less and others ${number(answer.others)} less; `
-    + (answer.fallen.length ? `${number(answer.fallen.length)} more fall: ${answer.fallen.slice(0, 8).map(context.name).join(", ")}${answer.fallen.length > 8 ? " and others" : ""}.` : "no other bank falls.")],
+    + (answer.fallen.length ? `${number(answer.fallen.length)} more fall: ${listed(answer.fallen.map(context.name), 8)}.` : "no other bank falls.")],
 ];
 
 const asking = (context, bank) => make("div", { id: "asks" }, make("div", { class: "tools" }, ...ASKS.map(([what, words, say]) =>
