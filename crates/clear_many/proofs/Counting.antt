@@ -7,6 +7,7 @@ use Rattle.cascade.specs.Standings.{standings}
 use Rattle.clear_core.specs.Clearing.{least}
 use Rattle.clear_report.specs.Outcomes.{falls_text, outcome_line, outcomes_header, outcomes_text, scenario_sums}
 use Rattle.clear_report.specs.Words.{one_above_other}
+use Rattle.clear_report.proofs.Pieces.{all_of}
 use Rattle.shares.proofs.InOrder.{read_list}
 use Rattle.shares.specs.Made.{AreInOrder}
 use Rattle.stress.proofs.Outcomes.{as_many_falls, falls_within, one_scenario_more, tallies_add_up}
@@ -18,7 +19,6 @@ use Rattle.stress.specs.declared.tally.Falls.{Falls}
 use Rattle.clear_many.specs.Between.{between}
 use Rattle.clear_many.specs.Texts.{text_of}
 use Rattle.clear_many.proofs.Between.{between_all, between_joined, between_length, between_more, between_none}
-use Rattle.clear_many.proofs.Tabled.{all_of}
 
 -- the line of the scenario in the place k
 abbrev pub IsLineAt : Net → List Scenario → ℕ → Vec ℕ Global → Type 0

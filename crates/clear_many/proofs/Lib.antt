@@ -2,4 +2,3 @@ pub mod Between
 pub mod Tabled
 pub mod Counting
 pub mod Broken
-pub mod Defaulting

@@ -1,10 +1,9 @@
 -- Texts that are put together from the pieces of places.
-use Rattle.std.proofs.Common.{◌≡◌, ℕ, ◌+◌, List, [], ◌∷◌, ◌++◌, Vec, Global, get_or, length, map, sym, ap, ◌∙◌, arith}
-use Rattle.std.specs.List.{flat_map}
+use Rattle.std.proofs.Common.{◌≡◌, ℕ, ◌+◌, ◌<◌, List, [], ◌∷◌, ◌++◌, Vec, Global, get_or, length, map, sym, ap, ◌∙◌, arith}
 use Rattle.std.proofs.lemmas.Grind.{flat_map-append}
-use Rattle.std.proofs.lemmas.List.{append-nil}
-use Rattle.std.proofs.lemmas.List.Folds.{flat_map-map}
+use Rattle.std.proofs.lemmas.List.{append-nil, get_or-map}
 use Rattle.clr_net.specs.Net.{Net}
+use Rattle.clr_net.specs.declared.debt.BankId.{BankId}
 use Rattle.cascade.specs.Standings.{bank_numbers}
 use Rattle.clear_report.specs.Pieces.{ArePieces}
 use Rattle.clear_report.specs.Words.{empty_line, one_above_other}
@@ -37,14 +36,6 @@ pieces_of_some banks line_of lines_of pieces as_many are =
           (λ k p is. is.1 ∙ ap (λ j. lines_of (get_or banks j 0)) (none k)) as_many are;
     }
 
--- texts that are the same one by one are the same one after another
-pub all_of : {X Y : Type 0} (read : X → List ℕ) (text_of : Y → List ℕ) (xs : List X) (ys : List Y)
-    → map read xs ≡ map text_of ys → flat_map read xs ≡ flat_map text_of ys
-all_of read text_of xs ys same =
-    sym (flat_map-map (λ (t : List ℕ). t) read xs)
-    ∙ ap (flat_map (λ (t : List ℕ). t)) same
-    ∙ flat_map-map (λ (t : List ℕ). t) text_of ys
-
 -- one piece more
 pub text_pushed : (pieces all : List (Vec ℕ Global)) (piece : Vec ℕ Global) → all ≡ pieces ++ piece ∷ []
     → text_of all ≡ text_of pieces ++ piece.items
@@ -72,3 +63,9 @@ laid_out none one more two all lines header between below head text nothing begu
     ∙ ap (λ (x : List ℕ). ((x ++ text_of lines) ++ between.items) ++ below.items) h
     ∙ ap (λ (x : List ℕ). ((head ++ text_of lines) ++ x) ++ below.items) e
     ∙ ap (λ (x : List ℕ). ((head ++ text_of lines) ++ empty_line) ++ x) t
+
+-- the number of the bank in a place is that of its place among the numbers
+pub number_in_place : (banks : List BankId) (numbers : List ℕ) (k : ℕ) (d : BankId) → map (λ b. b.0) banks ≡ numbers
+    → k < length banks → (get_or banks k d).0 ≡ get_or numbers k 0
+number_in_place banks numbers k d are within =
+    sym (get_or-map (λ (b : BankId). b.0) banks k d 0 within) ∙ ap (λ (ns : List ℕ). get_or ns k 0) are

@@ -1,18 +1,17 @@
 //! What it takes to save each bank in default, a share of them to each thread.
-ghost use Rattle.cascade.specs.MoreCash.{is_sound_at_least};
-ghost use Rattle.cascade.specs.Standings.{is_sound, standings as standings_of};
+ghost use Rattle.cascade.specs.Standings.{standings as standings_of};
 ghost use Rattle.clear_core.specs.Clearing.{least as least_of};
-ghost use Rattle.clear_report.specs.Savings.{banks_in_default, saves_lines, saving_line};
-ghost use Rattle.clear_report.specs.Savings.{savings_text};
+ghost use Rattle.clear_report.specs.Savings.{saves_lines, saving_line, savings_text};
 ghost use Rattle.clear_many.specs.Texts.{text_of};
-ghost use Rattle.std.specs.Prelude.{◌≡◌, ◌<◌, All, IfOk, length, map, not, slice_index};
+ghost use Rattle.rescue.specs.Saved.{banks_in_default};
+ghost use Rattle.std.specs.Prelude.{◌≡◌, ◌<◌, All, IfOk, length, map, slice_index};
 
 use crate::stand::least_stand;
 use crate::tables::laid_below;
-use cascade::{Health, Standing};
+use cascade::Standing;
 use clear_report::{Piece, saving_piece, savings_begun};
 use clr_net::{BankId, Mem, Network};
-use rescue::saving_of;
+use rescue::{banks_in_default, saving_of};
 use shares::{Made, Piecework, THREADS, in_shares};
 use std::alloc::Global;
 use std::thread::Threads;
@@ -29,7 +28,7 @@ pub fn tell_rescues<R: Threads + Sync>(
     ensures { IfOk result (λ all. text_of all.items ≡ savings_text net.now) }
 {
     let stand = least_stand(alloc, net)?;
-    let banks = in_default(alloc, net, stand.standings.as_slice())?;
+    let banks = banks_in_default(alloc, net, stand.standings.as_slice())?;
     let savings = Savings {
         alloc,
         net,
@@ -40,38 +39,6 @@ pub fn tell_rescues<R: Threads + Sync>(
     let Made { pieces, desk: _ } = in_shares(rt, alloc, &savings, banks.len(), THREADS)?;
     let begun = savings_begun(alloc, pieces.as_slice())?;
     laid_below(alloc, begun, pieces)
-}
-
-// The banks that are not sound, in file order.
-fn in_default(alloc: Global, net: &Network, standings: &[Standing]) -> Result<Vec<BankId>, Mem>
-    requires { standings.now ≡ standings_of net.now (least_of net.now) }
-    ensures banks { IfOk result (λ all. map (λ b. b.0) all.items ≡ banks_in_default net.now) }
-    ensures known { IfOk result (λ all. All (λ b. b.0 < length net.now.banks) all.items) }
-{
-    let mut all = Vec::new(alloc);
-    for number in 0..net.banks() {
-        if is_short(net, standings, BankId(number)) {
-            all.push(BankId(number))?;
-        }
-    }
-    Ok(all)
-}
-
-// Whether a bank is not sound.
-fn is_short(net: &Network, standings: &[Standing], bank: BankId) -> bool
-    requires bank { bank.0 < length net.now.banks }
-    requires standings { standings.now ≡ standings_of net.now (least_of net.now) }
-    ensures { result ≡ not (is_sound_at_least net.now bank.0) }
-{
-    let place = bank.0 as usize;
-    is_default(standings[place].health)
-}
-
-// Whether a bank that stands so is in default.
-fn is_default(health: Health) -> bool
-    ensures { result ≡ not (is_sound health) }
-{
-    health != Health::Sound
 }
 
 // The desk at which banks are saved: nothing stands on it.

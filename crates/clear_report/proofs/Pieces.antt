@@ -1,15 +1,13 @@
 -- Texts of two tables, put together from the parts of each bank.
-use Rattle.std.proofs.Common.{◌≡◌, ℕ, List, ◌++◌, length, map, sym, ap, ◌∙◌, append_assoc}
+use Rattle.std.proofs.Common.{◌≡◌, ℕ, List, ◌++◌, length, map, refl, sym, ap, ◌∙◌, append_assoc}
 use Rattle.std.specs.List.{flat_map}
 use Rattle.std.proofs.Math.Path.{ap₂}
 use Rattle.std.proofs.lemmas.List.Folds.{flat_map-map}
 use Rattle.std.proofs.lemmas.List.{length-map}
 use Rattle.clr_net.specs.declared.debt.BankId.{BankId}
 use Rattle.clr_net.specs.Net.{Net, cash_of}
-use Rattle.cascade.specs.Ruin.{kept_less}
-use Rattle.impact.specs.Impact.{IsImpactOf, lost_by_others}
+use Rattle.impact.specs.Impact.{IsImpactOf}
 use Rattle.impact.specs.declared.hurt.Impact.{Impact}
-use Rattle.rescue.specs.Rescue.{rescue, short_of}
 use Rattle.rescue.specs.Saved.{IsSavingOf, saved_with}
 use Rattle.rescue.specs.declared.saved.Saving.{Saving}
 use Rattle.clear_report.specs.Impact.{hurt_line, hurt_lines, impact_line, impact_line_of}
@@ -18,13 +16,13 @@ use Rattle.clear_report.specs.Savings.{saves_line, saves_lines, saving_line, sav
 use Rattle.clear_report.specs.Words.{empty_line, one_above_other}
 use Rattle.clear_report.specs.declared.piece.Piece.{Piece}
 
--- what stands in the parts, one after another, is what stands for each bank
-all_of : (read : Piece → List ℕ) (text_of : ℕ → List ℕ) (banks : List ℕ) (pieces : List Piece)
-    → map read pieces ≡ map text_of banks → flat_map read pieces ≡ flat_map text_of banks
-all_of read text_of banks pieces e =
-    sym (flat_map-map (λ (t : List ℕ). t) read pieces)
-    ∙ ap (flat_map (λ (t : List ℕ). t)) e
-    ∙ flat_map-map (λ (t : List ℕ). t) text_of banks
+-- texts that are the same one by one are the same one after another
+pub all_of : {X Y : Type 0} (read : X → List ℕ) (text_of : Y → List ℕ) (xs : List X) (ys : List Y)
+    → map read xs ≡ map text_of ys → flat_map read xs ≡ flat_map text_of ys
+all_of read text_of xs ys same =
+    sym (flat_map-map (λ (t : List ℕ). t) read xs)
+    ∙ ap (flat_map (λ (t : List ℕ). t)) same
+    ∙ flat_map-map (λ (t : List ℕ). t) text_of ys
 
 -- so the parts put together are the two tables of all these banks
 pub stacked_is : (first second : List ℕ) (line_of lines_of : ℕ → List ℕ) (banks : List ℕ)
@@ -33,8 +31,8 @@ pub stacked_is : (first second : List ℕ) (line_of lines_of : ℕ → List ℕ)
     ≡ one_above_other (first ++ flat_map line_of banks) (second ++ flat_map lines_of banks)
 stacked_is first second line_of lines_of banks pieces are =
     ap₂ (λ (u l : List ℕ). ((first ++ u) ++ empty_line ++ second) ++ l)
-    (all_of (λ p. p.upper.items) line_of banks pieces are.upper)
-    (all_of (λ p. p.lower.items) lines_of banks pieces are.lower)
+    (all_of (λ p. p.upper.items) line_of pieces banks are.upper)
+    (all_of (λ p. p.lower.items) lines_of pieces banks are.lower)
     ∙ append_assoc ((first ++ flat_map line_of banks) ++ empty_line) second (flat_map lines_of banks)
 
 -- of a bank whose ruin comes to this
@@ -42,11 +40,7 @@ module _ (net : Net) (j : ℕ) (m : Impact) (is : IsImpactOf net j m) where
   -- its line
   pub impact_line_told : (cash : ℕ) → cash ≡ cash_of net j
       → impact_line_of net j cash m.own m.others m.falls ≡ impact_line net j
-  impact_line_told cash has =
-      ap (λ (n : ℕ). impact_line_of net j n m.own m.others m.falls) has
-      ∙ ap (λ (n : ℕ). impact_line_of net j (cash_of net j) n m.others m.falls) is.own
-      ∙ ap (λ (n : ℕ). impact_line_of net j (cash_of net j) (kept_less net j j) n m.falls) is.others
-      ∙ ap (impact_line_of net j (cash_of net j) (kept_less net j j) (lost_by_others net j)) is.falls
+  impact_line_told cash has = rw (has, is.own, is.others, is.falls) refl
 
   -- and the lines of those that it hurts
   pub hurt_lines_told : flat_map (hurt_line net j) m.hurts.items ≡ hurt_lines net j
@@ -61,15 +55,7 @@ module _ (net : Net) (i : ℕ) (s : Saving) (is : IsSavingOf net i s) where
   -- its line
   pub saving_line_told :
       saving_line_of net i s.added s.short (length s.saves.items) s.still_short ≡ saving_line net i
-  saving_line_told =
-      let few = length (saved_with net i) in
-      ap (λ (n : ℕ). saving_line_of net i n s.short (length s.saves.items) s.still_short) is.added
-      ∙ ap (λ (n : ℕ). saving_line_of net i (rescue net i) n (length s.saves.items) s.still_short)
-      is.short
-      ∙ ap (λ (n : ℕ). saving_line_of net i (rescue net i) (short_of net i (rescue net i)) n
-      s.still_short) saves_told
-      ∙ ap (λ (n : ℕ). saving_line_of net i (rescue net i) (short_of net i (rescue net i)) few n)
-      is.still_short
+  saving_line_told = rw (is.added, is.short, saves_told, is.still_short) refl
 
   -- and the lines of those that are saved with it
   pub saves_lines_told :

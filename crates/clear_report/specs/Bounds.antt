@@ -1,20 +1,18 @@
 -- The text of the least and the greatest payments that clear, as bytes.
-use Rattle.std.specs.Prelude.{ℕ, ◌==◌, ◌&&◌, Bool, List, [], ◌∷◌, ◌++◌, codes, slice_get, slice_index}
+use Rattle.std.specs.Prelude.{ℕ, ◌==◌, ◌&&◌, Bool, List, [], ◌∷◌, ◌++◌, codes, slice_index}
 use Rattle.std.specs.List.{flat_map}
-use Rattle.std.specs.Option.{option_map_or}
 use Rattle.std.specs.Fmt.{decimal}
 use Rattle.clr_net.specs.Lines.{line}
 use Rattle.clr_net.specs.Net.{Net, name_of, claim_of, debt_numbers}
+use Rattle.net_csv.specs.Reading.{debts_header}
 use Rattle.cascade.specs.Standings.{bank_numbers}
 use Rattle.cascade.specs.declared.standing.Standing.{Standing}
-use Rattle.clear_report.specs.Words.{is_default, one_above_other, yes_or_no}
+use Rattle.clear_report.specs.Words.{at_place, is_default, one_above_other, yes_or_no}
 use Rattle.clear_report.specs.Text.{debt_fields}
 
 -- the header of the debts
 abbrev pub bounds_header : List ℕ
-bounds_header = line (
-    codes "debtor" ∷ codes "creditor" ∷ codes "class" ∷ codes "claim"
-    ∷ codes "least" ∷ codes "greatest" ∷ [])
+bounds_header = line (debts_header ++ codes "least" ∷ codes "greatest" ∷ [])
 
 -- the line of the debt x, on which at least and at most so much is paid
 abbrev pub bounds_line : Net → List ℕ → List ℕ → ℕ → List ℕ
@@ -41,10 +39,9 @@ abbrev pub wave_line : List ℕ → ℕ → Standing → List ℕ
 wave_line name wave s = line (
     name ∷ decimal wave ∷ yes_or_no (is_gridlocked wave s) ∷ decimal s.equity ∷ [])
 
--- the line of the bank i among these waves and standings: no bytes past their end
+-- the line of the bank i among these waves and standings
 abbrev pub wave_line_of : Net → List ℕ → List Standing → ℕ → List ℕ
-wave_line_of net waves all i =
-    option_map_or (wave_line (name_of net i) (slice_index waves i)) (slice_get all i) []
+wave_line_of net waves all i = at_place (wave_line (name_of net i) (slice_index waves i)) all i
 
 -- the table of the debts, and below it one of the banks: the header, and a line for each bank, in
 -- file order

@@ -1,14 +1,13 @@
 -- The text of the least and the greatest payments that clear where default costs, as bytes.
-use Rattle.std.specs.Prelude.{ℕ, List, [], ◌∷◌, ◌++◌, codes, slice_get}
+use Rattle.std.specs.Prelude.{ℕ, List, [], ◌∷◌, ◌++◌, codes}
 use Rattle.std.specs.List.{flat_map}
-use Rattle.std.specs.Option.{option_map_or}
 use Rattle.std.specs.Fmt.{decimal}
 use Rattle.clr_net.specs.Lines.{line}
 use Rattle.clr_net.specs.Net.{Net, name_of}
 use Rattle.cascade.specs.Standings.{bank_numbers}
 use Rattle.costs.specs.declared.standing.CostStanding.{CostStanding}
 use Rattle.clear_report.specs.Bounds.{debts_table}
-use Rattle.clear_report.specs.Words.{one_above_other, state_word}
+use Rattle.clear_report.specs.Words.{at_place, one_above_other, state_word}
 
 -- the header of the banks
 abbrev pub ends_header : List ℕ
@@ -22,11 +21,10 @@ ends_line name low top = line (
     name ∷ decimal low.lost ∷ decimal low.equity ∷ state_word low.health
     ∷ decimal top.lost ∷ decimal top.equity ∷ state_word top.health ∷ [])
 
--- the line of the bank i among the standings under both: no bytes past the end of either
+-- the line of the bank i among the standings under both
 abbrev pub ends_line_of : Net → List CostStanding → List CostStanding → ℕ → List ℕ
-ends_line_of net lows tops i = option_map_or
-    (λ low. option_map_or (ends_line (name_of net i) low) (slice_get tops i) [])
-    (slice_get lows i) []
+ends_line_of net lows tops i =
+    at_place (λ low. at_place (ends_line (name_of net i) low) tops i) lows i
 
 -- the table of the debts, and below it one of the banks: the header, and a line for each bank, in
 -- file order

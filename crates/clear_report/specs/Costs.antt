@@ -1,13 +1,12 @@
 -- The text of payments where default costs, as bytes.
-use Rattle.std.specs.Prelude.{ℕ, List, [], ◌∷◌, ◌++◌, codes, sum_by, count_by, slice_get}
+use Rattle.std.specs.Prelude.{ℕ, List, [], ◌∷◌, ◌++◌, codes, sum_by, count_by}
 use Rattle.std.specs.List.{flat_map}
-use Rattle.std.specs.Option.{option_map_or}
 use Rattle.std.specs.Fmt.{decimal}
 use Rattle.clr_net.specs.Lines.{line}
 use Rattle.clr_net.specs.Net.{Net, name_of, all_cash}
 use Rattle.cascade.specs.Standings.{bank_numbers}
 use Rattle.costs.specs.declared.standing.CostStanding.{CostStanding}
-use Rattle.clear_report.specs.Words.{is_default, number_line, one_above_other, state_word}
+use Rattle.clear_report.specs.Words.{at_place, is_default, number_line, one_above_other, state_word}
 use Rattle.clear_report.specs.Text.{payments_text}
 
 -- the header of the banks
@@ -22,9 +21,9 @@ cost_line name s = line (
     name ∷ decimal s.estate ∷ decimal s.lost ∷ decimal s.outside_paid
     ∷ decimal s.paid ∷ decimal s.equity ∷ state_word s.health ∷ [])
 
--- the line of the bank i among these standings: no bytes past their end
+-- the line of the bank i among these standings
 abbrev pub cost_line_of : Net → List CostStanding → ℕ → List ℕ
-cost_line_of net all i = option_map_or (cost_line (name_of net i)) (slice_get all i) []
+cost_line_of net all i = at_place (cost_line (name_of net i)) all i
 
 -- how many banks are in default
 abbrev pub cost_defaults_in : List CostStanding → ℕ
@@ -37,11 +36,14 @@ cost_total_line all = line (
     ∷ decimal (sum_by (λ s. s.outside_paid) all) ∷ decimal (sum_by (λ s. s.paid) all)
     ∷ decimal (sum_by (λ s. s.equity) all) ∷ decimal (cost_defaults_in all) ∷ [])
 
--- the payments P, and below them the banks under these payments: the header, a line for each bank
--- in file order, the sums, and all opening cash
-abbrev pub costs_text : Net → List ℕ → List CostStanding → List ℕ
-costs_text net P all = one_above_other (payments_text net P) (
+-- the banks: the header, a line for each in file order, the sums, and all opening cash
+abbrev pub cost_table : Net → List CostStanding → List ℕ
+cost_table net all =
     costs_header
     ++ flat_map (cost_line_of net all) (bank_numbers net)
     ++ cost_total_line all
-    ++ number_line (codes "cash") (all_cash net))
+    ++ number_line (codes "cash") (all_cash net)
+
+-- the payments P, and below them the banks under these payments
+abbrev pub costs_text : Net → List ℕ → List CostStanding → List ℕ
+costs_text net P all = one_above_other (payments_text net P) (cost_table net all)

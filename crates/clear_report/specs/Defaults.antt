@@ -1,14 +1,13 @@
 -- The text of who defaults, as bytes.
 use Rattle.std.specs.Prelude.{ℕ, ◌==◌, not, Bool, List, [], ◌∷◌, ◌++◌, codes, sum_by, count_by}
-use Rattle.std.specs.Prelude.{slice_get, if◌then◌else◌}
+use Rattle.std.specs.Prelude.{if◌then◌else◌}
 use Rattle.std.specs.List.{flat_map, list_all}
-use Rattle.std.specs.Option.{option_map_or}
 use Rattle.std.specs.Fmt.{decimal}
 use Rattle.clr_net.specs.Lines.{line}
 use Rattle.clr_net.specs.Net.{Net, name_of, all_cash}
 use Rattle.cascade.specs.Standings.{bank_numbers}
 use Rattle.cascade.specs.declared.standing.Standing.{Standing}
-use Rattle.clear_report.specs.Words.{is_default, number_line, state_word}
+use Rattle.clear_report.specs.Words.{at_place, is_default, number_line, state_word}
 
 -- whether some bank owes something outside the network. Where none does, the text has no column of
 -- what is paid outside
@@ -31,10 +30,9 @@ standing_line outside name s = line (
     name ∷ decimal s.estate ∷ if_shown outside (decimal s.outside_paid)
     ++ decimal s.paid ∷ decimal s.owed ∷ decimal s.equity ∷ state_word s.health ∷ [])
 
--- the line of the bank i among these standings: no bytes past their end
+-- the line of the bank i among these standings
 abbrev pub bank_line : Net → Bool → List Standing → ℕ → List ℕ
-bank_line net outside all i =
-    option_map_or (standing_line outside (name_of net i)) (slice_get all i) []
+bank_line net outside all i = at_place (standing_line outside (name_of net i)) all i
 
 -- how many banks are in default
 abbrev pub defaults_in : List Standing → ℕ

@@ -1,7 +1,6 @@
 -- The text of scenarios in sums, as bytes.
-use Rattle.std.specs.Prelude.{ℕ, List, [], ◌∷◌, ◌++◌, codes, slice_get}
+use Rattle.std.specs.Prelude.{ℕ, List, [], ◌∷◌, ◌++◌, codes}
 use Rattle.std.specs.List.{flat_map}
-use Rattle.std.specs.Option.{option_map_or}
 use Rattle.std.specs.Fmt.{decimal}
 use Rattle.clr_net.specs.Lines.{line}
 use Rattle.clr_net.specs.Net.{Net, name_of}
@@ -10,7 +9,7 @@ use Rattle.stress.specs.Outcomes.{outcome, tally}
 use Rattle.stress.specs.declared.scenario.Scenario.{Scenario}
 use Rattle.stress.specs.declared.sums.Outcome.{Outcome}
 use Rattle.stress.specs.declared.tally.Falls.{Falls}
-use Rattle.clear_report.specs.Words.{one_above_other}
+use Rattle.clear_report.specs.Words.{at_place, one_above_other}
 
 -- the header of the scenarios
 abbrev pub outcomes_header : List ℕ
@@ -32,9 +31,9 @@ falls_header = line (codes "bank" ∷ codes "defaults" ∷ codes "fundamental" �
 abbrev pub falls_line : List ℕ → Falls → List ℕ
 falls_line name f = line (name ∷ decimal f.defaults ∷ decimal f.fundamental ∷ [])
 
--- the line of the bank i among these: no bytes past their end
+-- the line of the bank i among these
 abbrev pub falls_line_of : Net → List Falls → ℕ → List ℕ
-falls_line_of net all i = option_map_or (falls_line (name_of net i)) (slice_get all i) []
+falls_line_of net all i = at_place (falls_line (name_of net i)) all i
 
 -- how often the banks fall, in file order, one a bank: the header, and a line for each
 abbrev pub falls_text : Net → List Falls → List ℕ

@@ -1,18 +1,12 @@
 -- The text of what it takes to save each bank in default, and whom that saves, as bytes.
-use Rattle.std.specs.Prelude.{ℕ, not, List, [], ◌∷◌, ◌++◌, codes, filter, length}
+use Rattle.std.specs.Prelude.{ℕ, List, [], ◌∷◌, ◌++◌, codes, length}
 use Rattle.std.specs.List.{flat_map}
 use Rattle.std.specs.Fmt.{decimal}
 use Rattle.clr_net.specs.Lines.{line}
 use Rattle.clr_net.specs.Net.{Net, name_of}
-use Rattle.cascade.specs.MoreCash.{is_sound_at_least}
-use Rattle.cascade.specs.Standings.{bank_numbers}
 use Rattle.rescue.specs.Rescue.{rescue, short_of}
-use Rattle.rescue.specs.Saved.{left_in_default, saved_with}
+use Rattle.rescue.specs.Saved.{banks_in_default, left_in_default, saved_with}
 use Rattle.clear_report.specs.Words.{one_above_other}
-
--- the banks in default, in file order
-abbrev pub banks_in_default : Net → List ℕ
-banks_in_default net = filter (λ i. not (is_sound_at_least net i)) (bank_numbers net)
 
 -- the header of the banks in default
 abbrev pub savings_header : List ℕ

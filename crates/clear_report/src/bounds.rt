@@ -1,16 +1,13 @@
-ghost use Rattle.cascade.specs.Standings.{bank_numbers};
 ghost use Rattle.clear_report.specs.Bounds.{bounds_line, bounds_tables};
 ghost use Rattle.clear_report.specs.Bounds.{debts_table as debts_table_of, wave_line, wave_line_of};
-ghost use Rattle.clr_net.specs.Limits.{IsNetwork};
-ghost use Rattle.clr_net.specs.Net.{name_of};
-ghost use Rattle.std.specs.List.{flat_map};
-ghost use Rattle.std.specs.Prelude.{◌≡◌, ◌++◌, ◌<◌, length, IfOk, OnOk};
+ghost use Rattle.std.specs.Prelude.{◌≡◌, ◌++◌, length, IfOk, OnOk};
 
-use crate::line::{push_below, push_debt, push_name, yes_or_no};
+use crate::line::{Field, name, push_debt, push_line, yes_or_no};
 use crate::sums::is_default;
+use crate::table::{BankTable, DebtTable, push_banks, push_debts};
 use cascade::Standing;
 use clr_net::{BankId, DebtId, Mem, Network};
-use net_csv::line::{Line, push_field, push_number};
+use net_csv::line::Line;
 use std::alloc::Global;
 
 /// The text of the least and of the greatest payments that clear: a table of the debts, in file
@@ -37,8 +34,9 @@ pub fn bounds_text(
         ≡ bounds_tables net.now least.now greatest.now waves.now standings.now) }
 {
     let mut text = debts_table(alloc, net, least, greatest)?;
-    push_below(&mut text, b"bank,wave,gridlock,equity\n")?;
-    push_waves(&mut text, net, waves, standings)?;
+    push_line(&mut text, &[])?;
+    let banks = Waves { waves, standings };
+    push_banks(&mut text, b"bank,wave,gridlock,equity\n", net, &banks)?;
     Ok(text)
 }
 
@@ -53,72 +51,78 @@ pub fn debts_table(
     requires greatest { length greatest.now ≡ length net.now.debts }
     ensures { IfOk result (λ text. text.items ≡ debts_table_of net.now least.now greatest.now) }
 {
-    let mut text = Vec::from_slice(alloc, b"debtor,creditor,class,claim,least,greatest\n")?;
-    let mut line = Line::empty();
-    for x in 0..net.debts() {
-        push_bounds(&mut text, &mut line, net, least, greatest, DebtId(x))?;
-    }
+    let header = b"debtor,creditor,class,claim,least,greatest\n";
+    let mut text = Vec::new(alloc);
+    push_debts(&mut text, header, net, &DebtBounds { least, greatest })?;
     Ok(text)
 }
 
-// Appends the line of a debt.
-fn push_bounds(
-    text: &mut Vec<u8>,
-    line: &mut Line,
-    net: &Network,
-    least: &[u64],
-    greatest: &[u64],
-    id: DebtId,
-) -> Result<(), Mem>
-    requires network { IsNetwork net.now }
-    requires in_range { id.0 < length net.now.debts }
-    requires least { length least.now ≡ length net.now.debts }
-    requires greatest { length greatest.now ≡ length net.now.debts }
-    ensures { OnOk result (text.new.items
-        ≡ text.old.items ++ bounds_line net.now least.now greatest.now id.0) }
-{
-    let claim = net.debt(id).claim;
-    let place = id.0 as usize;
-    line.begin(greatest[place]);
-    line.add_number(least[place]);
-    line.add_number(claim);
-    push_debt(text, line, net, id)
+// The least and the greatest that is paid on each debt, in file order.
+#[derive(Drop)]
+struct DebtBounds<'a> {
+    least: &'a [u64],
+    greatest: &'a [u64],
 }
 
-// Appends a line for each bank, in file order.
-fn push_waves(
-    text: &mut Vec<u8>,
-    net: &Network,
-    waves: &[u64],
-    standings: &[Standing],
-) -> Result<(), Mem>
-    requires waves { length waves.now ≡ length net.now.banks }
-    requires standings { length standings.now ≡ length net.now.banks }
-    ensures { OnOk result (text.new.items ≡ text.old.items
-        ++ flat_map (wave_line_of net.now waves.now standings.now) (bank_numbers net.now)) }
-{
-    for number in 0..net.banks() {
-        let place = number as usize;
-        push_wave(text, net, BankId(number), waves[place], standings[place])?;
+impl<'a> DebtTable for DebtBounds<'a> {
+    ghost over = { λ t net. (length t.least.now ≡ length net.debts)
+        × (length t.greatest.now ≡ length net.debts) };
+
+    ghost line_of = { λ t net. bounds_line net t.least.now t.greatest.now };
+
+    fn push(
+        &self,
+        text: &mut Vec<u8>,
+        room: &mut Line,
+        net: &Network,
+        debt: DebtId,
+    ) -> Result<(), Mem> {
+        let claim = net.debt(debt).claim;
+        let place = debt.0 as usize;
+        room.begin(self.greatest[place]);
+        room.add_number(self.least[place]);
+        room.add_number(claim);
+        push_debt(text, room, net, debt)
     }
-    Ok(())
 }
 
-// Appends the line of a bank.
-fn push_wave(
-    text: &mut Vec<u8>,
-    net: &Network,
-    bank: BankId,
-    wave: u64,
-    standing: Standing,
-) -> Result<(), Mem>
-    requires { bank.0 < length net.now.banks }
-    ensures { OnOk result (text.new.items
-        ≡ text.old.items ++ wave_line (name_of net.now bank.0) wave standing) }
+// The round in which each bank falls short, and how each stands, in file order.
+#[derive(Drop)]
+struct Waves<'a> {
+    waves: &'a [u64],
+    standings: &'a [Standing],
+}
+
+impl<'a> BankTable for Waves<'a> {
+    ghost over = { λ t net. (length t.waves.now ≡ length net.banks)
+        × (length t.standings.now ≡ length net.banks) };
+
+    ghost line_of = { λ t net. wave_line_of net t.waves.now t.standings.now };
+
+    fn push(&self, text: &mut Vec<u8>, net: &Network, bank: BankId) -> Result<(), Mem> {
+        let place = bank.0 as usize;
+        push_wave(
+            text,
+            name(net, bank),
+            self.waves[place],
+            self.standings[place],
+        )
+    }
+}
+
+// Appends the line of a bank of this name.
+fn push_wave(text: &mut Vec<u8>, name: &[u8], wave: u64, standing: Standing) -> Result<(), Mem>
+    ensures { OnOk result
+        (text.new.items ≡ text.old.items ++ wave_line name.now wave standing) }
 {
     let is_gridlocked = is_default(standing.health) && wave == 0;
-    push_name(text, net, bank, b',')?;
-    push_number(text, wave, b',')?;
-    push_field(text, yes_or_no(is_gridlocked).as_bytes(), b',')?;
-    push_number(text, standing.equity, b'\n')
+    push_line(
+        text,
+        &[
+            Field::Word(name),
+            Field::Number(wave),
+            Field::Word(yes_or_no(is_gridlocked).as_bytes()),
+            Field::Number(standing.equity),
+        ],
+    )
 }

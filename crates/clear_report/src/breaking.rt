@@ -1,10 +1,9 @@
-ghost use Rattle.cascade.specs.Standings.{bank_numbers};
-ghost use Rattle.clear_report.specs.Breaking.{breaking_text as text_of, broken_line, broken_line_of};
-ghost use Rattle.std.specs.List.{flat_map};
-ghost use Rattle.std.specs.Prelude.{◌≡◌, ◌++◌, length, IfOk, OnOk};
+ghost use Rattle.clear_report.specs.Breaking.{breaking_text as text_of, broken_line};
+ghost use Rattle.std.specs.Prelude.{◌≡◌, length, IfOk};
 
-use crate::line::{name, push_row, state_word};
-use clr_net::{BankId, Mem, Network};
+use crate::line::{Field, push_line, state_word};
+use crate::table::{Each, Row, push_banks};
+use clr_net::{Mem, Network};
 use std::alloc::Global;
 use stress::Broken;
 
@@ -16,32 +15,22 @@ pub fn breaking_text(alloc: Global, net: &Network, all: &[Broken]) -> Result<Vec
     requires { length all.now ≡ length net.now.banks }
     ensures { IfOk result (λ text. text.items ≡ text_of net.now all.now) }
 {
-    let mut text = Vec::from_slice(alloc, b"bank,cut,state\n")?;
-    push_banks(&mut text, net, all)?;
+    let mut text = Vec::new(alloc);
+    push_banks(&mut text, b"bank,cut,state\n", net, &Each { all })?;
     Ok(text)
 }
 
-// Appends a line for each bank, in file order.
-fn push_banks(text: &mut Vec<u8>, net: &Network, all: &[Broken]) -> Result<(), Mem>
-    requires { length all.now ≡ length net.now.banks }
-    ensures { OnOk result (text.new.items ≡ text.old.items
-        ++ flat_map (broken_line_of net.now all.now) (bank_numbers net.now)) }
-{
-    for number in 0..net.banks() {
-        let name = name(net, BankId(number));
-        push_broken(text, name, all[number as usize])?;
-    }
-    Ok(())
-}
+impl Row for Broken {
+    ghost told = { λ b name. broken_line name b };
 
-// Appends the line of a bank.
-fn push_broken(text: &mut Vec<u8>, name: &[u8], broken: Broken) -> Result<(), Mem>
-    ensures { OnOk result (text.new.items ≡ text.old.items ++ broken_line name.now broken) }
-{
-    push_row(
-        text,
-        name,
-        &[broken.cut],
-        state_word(broken.health).as_bytes(),
-    )
+    fn push(self, text: &mut Vec<u8>, name: &[u8]) -> Result<(), Mem> {
+        push_line(
+            text,
+            &[
+                Field::Word(name),
+                Field::Number(u64::from(self.cut)),
+                Field::Word(state_word(self.health).as_bytes()),
+            ],
+        )
+    }
 }

@@ -1,7 +1,7 @@
 ghost use Rattle.clear_report.specs.Text.{checked_text, totals_text};
 ghost use Rattle.std.specs.Prelude.{◌≡◌, ◌++◌, IfOk, OnOk};
 
-use crate::line::{push_below, push_number_line};
+use crate::line::{Field, push_below, push_line};
 use clr_net::{Mem, Network};
 use std::alloc::Global;
 
@@ -30,8 +30,17 @@ pub fn check_text(alloc: Global, net: &Network, banks: &[u8], debts: &[u8]) -> R
 pub fn push_totals(text: &mut Vec<u8>, net: &Network) -> Result<(), Mem>
     ensures { OnOk result (text.new.items ≡ text.old.items ++ totals_text net.now) }
 {
-    push_number_line(text, "banks", net.banks())?;
-    push_number_line(text, "debts", net.debts())?;
-    push_number_line(text, "owed", net.owed())?;
-    push_number_line(text, "cash", net.cash_total())
+    push_line(
+        text,
+        &[Field::Word(b"banks"), Field::Number(u64::from(net.banks()))],
+    )?;
+    push_line(
+        text,
+        &[Field::Word(b"debts"), Field::Number(u64::from(net.debts()))],
+    )?;
+    push_line(text, &[Field::Word(b"owed"), Field::Number(net.owed())])?;
+    push_line(
+        text,
+        &[Field::Word(b"cash"), Field::Number(net.cash_total())],
+    )
 }

@@ -1,16 +1,15 @@
-ghost use Rattle.cascade.specs.Standings.{bank_numbers};
 ghost use Rattle.clear_report.specs.Compression.{claim_line, claims_text, class_lines};
-ghost use Rattle.clear_report.specs.Compression.{compressed_text, has_debt_of, rank_line};
-ghost use Rattle.clear_report.specs.Compression.{rank_line_of};
-ghost use Rattle.clr_net.specs.Limits.{IsNetwork};
-ghost use Rattle.clr_net.specs.Net.{name_of};
+ghost use Rattle.clear_report.specs.Compression.{compressed_text, has_debt_of, rank_line_of};
+ghost use Rattle.clear_report.specs.Compression.{ranks_text};
+ghost use Rattle.clear_report.specs.Words.{number_line};
 ghost use Rattle.clr_net.specs.declared.TheConstants.{MAX_CLASS};
 ghost use Rattle.std.specs.List.{flat_map, range_with_len};
-ghost use Rattle.std.specs.Prelude.{◌≡◌, ◌++◌, ◌*◌, ◌<◌, ◌≤◌, length, IfOk, OnOk};
+ghost use Rattle.std.specs.Prelude.{◌≡◌, ◌++◌, ◌*◌, ◌<◌, ◌≤◌, codes, length, IfOk, OnOk};
 
-use crate::line::{push_below, push_debt, push_name, push_number_line};
+use crate::line::{Field, name, push_below, push_debt, push_line};
+use crate::table::{BankTable, DebtTable, push_bank_rows, push_debts};
 use clr_net::{BankId, DebtId, MAX_CLASS, Mem, Network};
-use net_csv::line::{Line, push_number};
+use net_csv::line::Line;
 use std::alloc::Global;
 
 /// The text of claims that were compressed: the debts file with these claims, and below it, after
@@ -32,9 +31,23 @@ pub fn compress_text(
         ≡ compressed_text net.now claims.now ranks.now cancelled) }
 {
     let mut text = claims_file(alloc, net, claims)?;
-    push_below(&mut text, b"class,bank,rank\n")?;
+    let ranks = ranks_table(alloc, net, ranks, cancelled)?;
+    push_below(&mut text, ranks.as_slice())?;
+    Ok(text)
+}
+
+// The table of the ranks, and the line of the units cancelled.
+fn ranks_table(alloc: Global, net: &Network, ranks: &[u64], cancelled: u64) -> Result<Vec<u8>, Mem>
+    requires { length ranks.now ≡ MAX_CLASS * length net.now.banks }
+    ensures { IfOk result (λ text. text.items
+        ≡ ranks_text net.now ranks.now ++ number_line (codes "cancelled") cancelled) }
+{
+    let mut text = Vec::from_slice(alloc, b"class,bank,rank\n")?;
     push_ranks(&mut text, net, ranks)?;
-    push_number_line(&mut text, "cancelled", cancelled)?;
+    push_line(
+        &mut text,
+        &[Field::Word(b"cancelled"), Field::Number(cancelled)],
+    )?;
     Ok(text)
 }
 
@@ -43,29 +56,37 @@ fn claims_file(alloc: Global, net: &Network, claims: &[u64]) -> Result<Vec<u8>, 
     requires { length claims.now ≡ length net.now.debts }
     ensures { IfOk result (λ text. text.items ≡ claims_text net.now claims.now) }
 {
-    let mut text = Vec::from_slice(alloc, b"debtor,creditor,class,claim\n")?;
-    let mut line = Line::empty();
-    for x in 0..net.debts() {
-        push_claim(&mut text, &mut line, net, claims, DebtId(x))?;
-    }
+    let mut text = Vec::new(alloc);
+    push_debts(
+        &mut text,
+        b"debtor,creditor,class,claim\n",
+        net,
+        &Claims { claims },
+    )?;
     Ok(text)
 }
 
-// Appends the line of a debt.
-fn push_claim(
-    text: &mut Vec<u8>,
-    line: &mut Line,
-    net: &Network,
-    claims: &[u64],
-    id: DebtId,
-) -> Result<(), Mem>
-    requires network { IsNetwork net.now }
-    requires in_range { id.0 < length net.now.debts }
-    requires each_claim { length claims.now ≡ length net.now.debts }
-    ensures { OnOk result (text.new.items ≡ text.old.items ++ claim_line net.now claims.now id.0) }
-{
-    line.begin(claims[id.0 as usize]);
-    push_debt(text, line, net, id)
+// The claim of each debt, in file order.
+#[derive(Drop)]
+struct Claims<'a> {
+    claims: &'a [u64],
+}
+
+impl<'a> DebtTable for Claims<'a> {
+    ghost over = { λ t net. length t.claims.now ≡ length net.debts };
+
+    ghost line_of = { λ t net. claim_line net t.claims.now };
+
+    fn push(
+        &self,
+        text: &mut Vec<u8>,
+        room: &mut Line,
+        net: &Network,
+        debt: DebtId,
+    ) -> Result<(), Mem> {
+        room.begin(self.claims[debt.0 as usize]);
+        push_debt(text, room, net, debt)
+    }
 }
 
 // Appends the ranks, class by class.
@@ -89,7 +110,7 @@ fn push_class(text: &mut Vec<u8>, net: &Network, ranks: &[u64], class: u8) -> Re
         ≡ text.old.items ++ class_lines net.now ranks.now class) }
 {
     if has_debt(net, class) {
-        push_banks(text, net, ranks, class)
+        push_bank_rows(text, net, &Ranks { ranks, class })
     } else {
         Ok(())
     }
@@ -107,35 +128,29 @@ fn has_debt(net: &Network, class: u8) -> bool
     false
 }
 
-// Appends the ranks in a class, in file order of the banks.
-fn push_banks(text: &mut Vec<u8>, net: &Network, ranks: &[u64], class: u8) -> Result<(), Mem>
-    requires first { 1 ≤ class }
-    requires last { class ≤ MAX_CLASS }
-    requires ranks { length ranks.now ≡ MAX_CLASS * length net.now.banks }
-    ensures { OnOk result (text.new.items ≡ text.old.items
-        ++ flat_map (rank_line_of net.now ranks.now class) (bank_numbers net.now)) }
-{
-    let first = (class as usize - 1) * net.banks() as usize;
-    for number in 0..net.banks() {
-        let rank = ranks[first + number as usize];
-        push_rank(text, net, class, BankId(number), rank)?;
-    }
-    Ok(())
+// The ranks in a class, among those of all classes.
+#[derive(Drop)]
+struct Ranks<'a> {
+    ranks: &'a [u64],
+    class: u8,
 }
 
-// Appends the line of a bank in a class.
-fn push_rank(
-    text: &mut Vec<u8>,
-    net: &Network,
-    class: u8,
-    bank: BankId,
-    rank: u64,
-) -> Result<(), Mem>
-    requires { bank.0 < length net.now.banks }
-    ensures { OnOk result (text.new.items
-        ≡ text.old.items ++ rank_line class (name_of net.now bank.0) rank) }
-{
-    push_number(text, class, b',')?;
-    push_name(text, net, bank, b',')?;
-    push_number(text, rank, b'\n')
+impl<'a> BankTable for Ranks<'a> {
+    ghost over = { λ t net. (1 ≤ t.class) × (t.class ≤ MAX_CLASS)
+        × (length t.ranks.now ≡ MAX_CLASS * length net.banks) };
+
+    ghost line_of = { λ t net. rank_line_of net t.ranks.now t.class };
+
+    fn push(&self, text: &mut Vec<u8>, net: &Network, bank: BankId) -> Result<(), Mem> {
+        let first = (self.class as usize - 1) * net.banks() as usize;
+        let rank = self.ranks[first + bank.0 as usize];
+        push_line(
+            text,
+            &[
+                Field::Number(u64::from(self.class)),
+                Field::Word(name(net, bank)),
+                Field::Number(rank),
+            ],
+        )
+    }
 }

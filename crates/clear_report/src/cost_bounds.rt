@@ -1,17 +1,12 @@
-ghost use Rattle.cascade.specs.Standings.{bank_numbers};
 ghost use Rattle.clear_report.specs.CostBounds.{cost_bounds_text as text_of, ends_line};
 ghost use Rattle.clear_report.specs.CostBounds.{ends_line_of};
-ghost use Rattle.clear_report.specs.Words.{state_word as word_of_state};
-ghost use Rattle.clr_net.specs.Net.{name_of};
-ghost use Rattle.std.specs.Fmt.{decimal};
-ghost use Rattle.std.specs.List.{flat_map};
-ghost use Rattle.std.specs.Prelude.{◌≡◌, ◌∷◌, ◌++◌, [], ◌<◌, length, IfOk, OnOk};
+ghost use Rattle.std.specs.Prelude.{◌≡◌, ◌++◌, length, IfOk, OnOk};
 
 use crate::bounds::debts_table;
-use crate::line::{push_below, push_name, state_word};
+use crate::line::{Field, name, push_line, state_word};
+use crate::table::{BankTable, push_banks};
 use clr_net::{BankId, Mem, Network};
 use costs::CostStanding;
-use net_csv::line::{push_field, push_number};
 use std::alloc::Global;
 
 /// The text of the least and of the greatest payments that clear where default costs (Rogers and
@@ -37,60 +32,61 @@ pub fn cost_bounds_text(
     ensures { IfOk result (λ text. text.items
         ≡ text_of net.now least.now greatest.now at_least.now at_greatest.now) }
 {
+    let header = b"bank,lost_at_least,equity_at_least,state_at_least,\
+        lost_at_greatest,equity_at_greatest,state_at_greatest\n";
     let mut text = debts_table(alloc, net, least, greatest)?;
-    push_below(
-        &mut text,
-        b"bank,lost_at_least,equity_at_least,state_at_least,\
-        lost_at_greatest,equity_at_greatest,state_at_greatest\n",
-    )?;
-    push_banks(&mut text, net, at_least, at_greatest)?;
+    push_line(&mut text, &[])?;
+    let banks = Ends {
+        at_least,
+        at_greatest,
+    };
+    push_banks(&mut text, header, net, &banks)?;
     Ok(text)
 }
 
-// Appends a line for each bank, in file order.
-fn push_banks(
-    text: &mut Vec<u8>,
-    net: &Network,
-    at_least: &[CostStanding],
-    at_greatest: &[CostStanding],
-) -> Result<(), Mem>
-    requires at_least { length at_least.now ≡ length net.now.banks }
-    requires at_greatest { length at_greatest.now ≡ length net.now.banks }
-    ensures { OnOk result (text.new.items ≡ text.old.items
-        ++ flat_map (ends_line_of net.now at_least.now at_greatest.now) (bank_numbers net.now)) }
-{
-    for number in 0..net.banks() {
-        let place = number as usize;
-        let bank = BankId(number);
-        push_ends(text, net, bank, at_least[place], at_greatest[place])?;
-    }
-    Ok(())
+// How each bank stands under the least and under the greatest payments, in file order.
+#[derive(Drop)]
+struct Ends<'a> {
+    at_least: &'a [CostStanding],
+    at_greatest: &'a [CostStanding],
 }
 
-// Appends the line of a bank.
+impl<'a> BankTable for Ends<'a> {
+    ghost over = { λ t net. (length t.at_least.now ≡ length net.banks)
+        × (length t.at_greatest.now ≡ length net.banks) };
+
+    ghost line_of = { λ t net. ends_line_of net t.at_least.now t.at_greatest.now };
+
+    fn push(&self, text: &mut Vec<u8>, net: &Network, bank: BankId) -> Result<(), Mem> {
+        let place = bank.0 as usize;
+        push_ends(
+            text,
+            name(net, bank),
+            self.at_least[place],
+            self.at_greatest[place],
+        )
+    }
+}
+
+// Appends the line of a bank of this name.
 fn push_ends(
     text: &mut Vec<u8>,
-    net: &Network,
-    bank: BankId,
+    name: &[u8],
     low: CostStanding,
     top: CostStanding,
 ) -> Result<(), Mem>
-    requires { bank.0 < length net.now.banks }
-    ensures { OnOk result (text.new.items
-        ≡ text.old.items ++ ends_line (name_of net.now bank.0) low top) }
+    ensures { OnOk result (text.new.items ≡ text.old.items ++ ends_line name.now low top) }
 {
-    push_name(text, net, bank, b',')?;
-    push_end(text, low, b',')?;
-    push_end(text, top, b'\n')
-}
-
-// Appends what a bank loses, its equity and its state at one end, and the byte that ends them.
-fn push_end(text: &mut Vec<u8>, standing: CostStanding, end: u8) -> Result<(), Mem>
-    ensures { OnOk result (text.new.items ≡ text.old.items
-        ++ (decimal standing.lost ++ 44 ∷ decimal standing.equity
-        ++ 44 ∷ word_of_state standing.health ++ end ∷ [])) }
-{
-    push_number(text, standing.lost, b',')?;
-    push_number(text, standing.equity, b',')?;
-    push_field(text, state_word(standing.health).as_bytes(), end)
+    push_line(
+        text,
+        &[
+            Field::Word(name),
+            Field::Number(low.lost),
+            Field::Number(low.equity),
+            Field::Word(state_word(low.health).as_bytes()),
+            Field::Number(top.lost),
+            Field::Number(top.equity),
+            Field::Word(state_word(top.health).as_bytes()),
+        ],
+    )
 }

@@ -1,14 +1,13 @@
-ghost use Rattle.cascade.specs.Standings.{bank_numbers};
-ghost use Rattle.clear_report.specs.Defaults.{bank_line, defaults_text, standing_line, total_line};
-ghost use Rattle.clear_report.specs.Defaults.{defaults_header, owes_outside as owes_any_outside};
-ghost use Rattle.std.specs.List.{flat_map};
+ghost use Rattle.clear_report.specs.Defaults.{bank_line, defaults_header, defaults_text};
+ghost use Rattle.clear_report.specs.Defaults.{owes_outside as owes_any_outside, standing_line};
+ghost use Rattle.clear_report.specs.Defaults.{total_line};
 ghost use Rattle.std.specs.Prelude.{◌≡◌, ◌++◌, length, IfOk, OnOk};
 
-use crate::line::{name, push_number_line, push_row, state_word};
-use crate::sums::{Stands, defaults_of, totals_of};
+use crate::line::{Field, name, push_line, state_word};
+use crate::sums::{defaults_of, totals_of};
+use crate::table::{BankTable, push_banks};
 use cascade::Standing;
 use clr_net::{BankId, Mem, Network};
-use itoa::Buffer;
 use std::alloc::Global;
 
 /// The text of who defaults: a header, a line for each bank in file order, a line of the sums and
@@ -21,10 +20,17 @@ pub fn default_text(alloc: Global, net: &Network, standings: &[Standing]) -> Res
     ensures { IfOk result (λ text. text.items ≡ defaults_text net.now standings.now) }
 {
     let outside = owes_outside(net);
-    let mut text = Vec::from_slice(alloc, header(outside).as_bytes())?;
-    push_banks(&mut text, net, outside, standings)?;
+    let banks = Standings {
+        outside,
+        all: standings,
+    };
+    let mut text = Vec::new(alloc);
+    push_banks(&mut text, header(outside).as_bytes(), net, &banks)?;
     push_total(&mut text, outside, standings)?;
-    push_number_line(&mut text, "cash", net.cash_total())?;
+    push_line(
+        &mut text,
+        &[Field::Word(b"cash"), Field::Number(net.cash_total())],
+    )?;
     Ok(text)
 }
 
@@ -46,25 +52,25 @@ fn owes_outside(net: &Network) -> bool
     net.outside_total() != 0
 }
 
-// Appends a line for each bank, in file order.
-fn push_banks(
-    text: &mut Vec<u8>,
-    net: &Network,
+// How each bank stands, in file order, with what it pays outside the network or without.
+#[derive(Drop)]
+struct Standings<'a> {
     outside: bool,
-    standings: &[Standing],
-) -> Result<(), Mem>
-    requires { length standings.now ≡ length net.now.banks }
-    ensures { OnOk result (text.new.items ≡ text.old.items
-        ++ flat_map (bank_line net.now outside standings.now) (bank_numbers net.now)) }
-{
-    for number in 0..net.banks() {
-        let name = name(net, BankId(number));
-        push_standing(text, outside, name, standings[number as usize])?;
-    }
-    Ok(())
+    all: &'a [Standing],
 }
 
-// Appends the line of a bank.
+impl<'a> BankTable for Standings<'a> {
+    ghost over = { λ t net. length t.all.now ≡ length net.banks };
+
+    ghost line_of = { λ t net. bank_line net t.outside t.all.now };
+
+    fn push(&self, text: &mut Vec<u8>, net: &Network, bank: BankId) -> Result<(), Mem> {
+        let standing = self.all[bank.0 as usize];
+        push_standing(text, self.outside, name(net, bank), standing)
+    }
+}
+
+// Appends the line of a bank of this name.
 fn push_standing(
     text: &mut Vec<u8>,
     outside: bool,
@@ -75,11 +81,20 @@ fn push_standing(
         (text.new.items ≡ text.old.items ++ standing_line outside name.now standing) }
 {
     let s = standing;
-    let state = state_word(s.health).as_bytes();
+    let name = Field::Word(name);
+    let estate = Field::Number(s.estate);
+    let outside_paid = Field::Number(s.outside_paid);
+    let paid = Field::Number(s.paid);
+    let owed = Field::Number(s.owed);
+    let equity = Field::Number(s.equity);
+    let state = Field::Word(state_word(s.health).as_bytes());
     if outside {
-        push_row(text, name, &s.numbers(), state)
+        push_line(
+            text,
+            &[name, estate, outside_paid, paid, owed, equity, state],
+        )
     } else {
-        push_row(text, name, &[s.estate, s.paid, s.owed, s.equity], state)
+        push_line(text, &[name, estate, paid, owed, equity, state])
     }
 }
 
@@ -87,13 +102,20 @@ fn push_standing(
 fn push_total(text: &mut Vec<u8>, outside: bool, standings: &[Standing]) -> Result<(), Mem>
     ensures { OnOk result (text.new.items ≡ text.old.items ++ total_line outside standings.now) }
 {
-    let numbers = totals_of(standings);
-    let mut digits = Buffer::new();
-    let defaults = digits.format(defaults_of(standings)).as_bytes();
+    let total = Field::Word(b"total");
+    let [estate, outside_paid, paid, owed, equity] = totals_of(standings);
+    let estate = Field::Sum(estate);
+    let outside_paid = Field::Sum(outside_paid);
+    let paid = Field::Sum(paid);
+    let owed = Field::Sum(owed);
+    let equity = Field::Sum(equity);
+    let defaults = Field::Number(defaults_of(standings));
     if outside {
-        push_row(text, b"total", &numbers, defaults)
+        push_line(
+            text,
+            &[total, estate, outside_paid, paid, owed, equity, defaults],
+        )
     } else {
-        let [estate, _, paid, owed, equity] = numbers;
-        push_row(text, b"total", &[estate, paid, owed, equity], defaults)
+        push_line(text, &[total, estate, paid, owed, equity, defaults])
     }
 }

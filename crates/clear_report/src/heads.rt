@@ -1,11 +1,12 @@
-ghost use Rattle.clear_report.specs.Text.{AreHeadsOf, head_of, payments_text};
+ghost use Rattle.clear_report.specs.Text.{AreHeadsOf, head_of, payment_line, payments_text};
 ghost use Rattle.clr_net.specs.Limits.{IsNetwork};
-ghost use Rattle.std.specs.Fmt.{decimal};
-ghost use Rattle.std.specs.Prelude.{◌≡◌, ◌<◌, ◌++◌, ◌∷◌, [], IfOk, OnOk, length};
+ghost use Rattle.std.specs.Prelude.{◌≡◌, ◌<◌, ◌++◌, IfOk, OnOk, length};
 
-use crate::line::push_name;
+use crate::line::{Field, name, push_fields};
+use crate::payments::payments_head;
+use crate::table::{DebtTable, push_debts};
 use clr_net::{DebtId, Mem, Network};
-use net_csv::line::push_number;
+use net_csv::line::{Line, push_number};
 use std::alloc::Global;
 
 // About how many bytes the beginning of a line takes.
@@ -31,10 +32,15 @@ fn line_head(alloc: Global, net: &Network, id: DebtId) -> Result<Vec<u8>, Mem>
 {
     let debt = net.debt(id);
     let mut head = Vec::with_capacity(alloc, HEAD)?;
-    push_name(&mut head, net, debt.debtor, b',')?;
-    push_name(&mut head, net, debt.creditor, b',')?;
-    push_number(&mut head, debt.class, b',')?;
-    push_number(&mut head, debt.claim, b',')?;
+    push_fields(
+        &mut head,
+        &[
+            Field::Word(name(net, debt.debtor)),
+            Field::Word(name(net, debt.creditor)),
+            Field::Number(u64::from(debt.class)),
+            Field::Number(debt.claim),
+        ],
+    )?;
     Ok(head)
 }
 
@@ -49,19 +55,31 @@ pub fn push_paid(
     requires paid { length paid.now ≡ length net.now.debts }
     ensures { OnOk result (text.new.items ≡ text.old.items ++ payments_text net.now paid.now) }
 {
-    text.extend_from_slice(b"debtor,creditor,class,claim,paid\n")?;
-    for x in 0..net.debts() {
-        let place = x as usize;
-        push_line(text, heads[place].as_slice(), paid[place])?;
-    }
-    Ok(())
+    push_debts(text, payments_head(), net, &ByHeads { heads, paid })
 }
 
-// Appends a line by its beginning and what is paid.
-fn push_line(text: &mut Vec<u8>, head: &[u8], paid: u64) -> Result<(), Mem>
-    ensures { OnOk result
-        (text.new.items ≡ text.old.items ++ (head.now ++ (decimal paid ++ 10 ∷ []))) }
-{
-    text.extend_from_slice(head)?;
-    push_number(text, paid, b'\n')
+// The beginning of the line of each debt, and what is paid on it, in file order.
+#[derive(Drop)]
+struct ByHeads<'a> {
+    heads: &'a [Vec<u8>],
+    paid: &'a [u64],
+}
+
+impl<'a> DebtTable for ByHeads<'a> {
+    ghost over = { λ t net. AreHeadsOf net t.heads.now
+        × (length t.paid.now ≡ length net.debts) };
+
+    ghost line_of = { λ t net. payment_line net t.paid.now };
+
+    fn push(
+        &self,
+        text: &mut Vec<u8>,
+        _room: &mut Line,
+        _net: &Network,
+        debt: DebtId,
+    ) -> Result<(), Mem> {
+        let place = debt.0 as usize;
+        text.extend_from_slice(self.heads[place].as_slice())?;
+        push_number(text, self.paid[place], b'\n')
+    }
 }

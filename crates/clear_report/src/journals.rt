@@ -2,14 +2,12 @@ ghost use Rattle.clear_report.specs.Journals.{NamesBankOf, journal_and_rounds, l
 ghost use Rattle.raise_journal.specs.Texts.{rounds_line, verdict_line};
 ghost use Rattle.clr_net.specs.Lines.{line};
 ghost use Rattle.std.specs.Fmt.{decimal};
-ghost use Rattle.std.specs.Prelude.{◌≡◌, ◌<◌, ◌++◌, ◌∷◌, [], All, IfOk, OnOk, length};
+ghost use Rattle.std.specs.Prelude.{◌≡◌, ◌<◌, ◌++◌, ◌∷◌, All, IfOk, OnOk, length, map};
 
-use crate::line::{push_name, push_number_line, push_row};
+use crate::line::{Field, name, push_line};
 use crate::payments::push_payments_below;
 use clear_core::Raise;
 use clr_net::{Mem, Network};
-use itoa::Buffer;
-use net_csv::line::push_field;
 use raise_journal::{Verdict, print_journal};
 use std::alloc::Global;
 
@@ -24,7 +22,7 @@ pub fn journal_text(
     ensures { IfOk result (λ text. text.items ≡ journal_and_rounds net.now journal.now rounds) }
 {
     let mut text = print_journal(alloc, net, journal)?;
-    push_number_line(&mut text, "rounds", rounds)?;
+    push_line(&mut text, &[Field::Word(b"rounds"), Field::Number(rounds)])?;
     Ok(text)
 }
 
@@ -33,7 +31,7 @@ pub fn rounds_text(alloc: Global, rounds: u64) -> Result<Vec<u8>, Mem>
     ensures { IfOk result (λ text. text.items ≡ rounds_line rounds) }
 {
     let mut text = Vec::new(alloc);
-    push_number_line(&mut text, "rounds", rounds)?;
+    push_line(&mut text, &[Field::Word(b"rounds"), Field::Number(rounds)])?;
     Ok(text)
 }
 
@@ -49,19 +47,21 @@ pub fn verdict_text(
 {
     let mut text = Vec::new(alloc);
     match verdict {
-        Verdict::Lawful => push_number_line(&mut text, "lawful", raises)?,
+        Verdict::Lawful => push_line(&mut text, &[Field::Word(b"lawful"), Field::Number(raises)])?,
         Verdict::Unlawful {
             entry,
             had,
             allowed,
-        } => push_three(&mut text, b"unlawful", entry, had, allowed)?,
+        } => push_three(&mut text, b"unlawful", [entry, had, allowed])?,
         Verdict::Falls { entry, last, stamp } => push_three(
-            &mut text, b"falls", entry, last, stamp,
+            &mut text,
+            b"falls",
+            [entry, last, stamp],
         )?,
-        Verdict::Unfinished { bank } => {
-            push_field(&mut text, b"unfinished", b',')?;
-            push_name(&mut text, net, bank, b'\n')?;
-        }
+        Verdict::Unfinished { bank } => push_line(
+            &mut text,
+            &[Field::Word(b"unfinished"), Field::Word(name(net, bank))],
+        )?,
     }
     Ok(text)
 }
@@ -80,20 +80,18 @@ pub fn lawful_text(alloc: Global, net: &Network, raises: u64, paid: &[u64]) -> R
 }
 
 // Appends the line of a word and three numbers.
-fn push_three(
-    text: &mut Vec<u8>,
-    word: &[u8],
-    first: u64,
-    second: u64,
-    third: u64,
-) -> Result<(), Mem>
+fn push_three(text: &mut Vec<u8>, word: &[u8], numbers: [u64; 3]) -> Result<(), Mem>
     ensures { OnOk result (text.new.items ≡ text.old.items
-        ++ line (word.now ∷ decimal first ∷ decimal second ∷ decimal third ∷ [])) }
+        ++ line (word.now ∷ map decimal numbers)) }
 {
-    push_row(
+    let [first, second, third] = numbers;
+    push_line(
         text,
-        word,
-        &[first, second],
-        Buffer::new().format(third).as_bytes(),
+        &[
+            Field::Word(word),
+            Field::Number(first),
+            Field::Number(second),
+            Field::Number(third),
+        ],
     )
 }

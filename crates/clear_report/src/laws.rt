@@ -5,11 +5,12 @@ ghost use Rattle.clear_report.specs.Impact.{hurt_lines, hurts_header, impact_hea
 ghost use Rattle.clear_report.specs.Impact.{impact_line, impact_text};
 ghost use Rattle.clear_report.specs.Journals.{NamesBankOf};
 ghost use Rattle.clear_report.specs.Pieces.{ArePieces, stacked};
-ghost use Rattle.clear_report.specs.Savings.{banks_in_default, saves_header, saves_lines};
-ghost use Rattle.clear_report.specs.Savings.{saving_line, savings_header, savings_text};
+ghost use Rattle.clear_report.specs.Savings.{saves_header, saves_lines, saving_line};
+ghost use Rattle.clear_report.specs.Savings.{savings_header, savings_text};
 ghost use Rattle.clear_report.specs.declared.piece.Piece.{Piece};
 ghost use Rattle.clr_net.specs.Net.{Net};
 ghost use Rattle.raise_journal.specs.Verdicts.{judged};
+ghost use Rattle.rescue.specs.Saved.{banks_in_default};
 ghost use Rattle.std.specs.Prelude.{◌≡◌, List};
 
 /// The bank that the verdict on a journal names is a bank of the network, so that its line can be

@@ -25,6 +25,7 @@ mod savings;
 mod scenarios;
 mod summary;
 mod sums;
+mod table;
 mod with_costs;
 
 pub use bounds::bounds_text;

@@ -1,4 +1,5 @@
-// Lines, appended to a text piece by piece.
+// Lines of fields, appended to a text.
+ghost use Rattle.clear_report.specs.Fields.{bytes_of};
 ghost use Rattle.clear_report.specs.Text.{debt_fields};
 ghost use Rattle.clear_report.specs.Words.{empty_line, state_word as word_of_state, with_commas};
 ghost use Rattle.clear_report.specs.Words.{yes_or_no as word_of_test};
@@ -9,51 +10,61 @@ ghost use Rattle.std.specs.Prelude.{◌≡◌, ◌<◌, ◌≤◌, ◌++◌, ◌
 
 use cascade::Health;
 use clr_net::{BankId, DebtId, Mem, Network};
-use itoa::Integer;
 use net_csv::line::{Line, push_field, push_number};
 
-// Appends numbers, each in decimal digits with a comma after it.
-fn push_numbers<I: Integer>(text: &mut Vec<u8>, numbers: &[I]) -> Result<(), Mem>
-    ensures { OnOk result
-        (text.new.items ≡ text.old.items ++ with_commas (map I.text numbers.now)) }
+// A field of a line.
+#[derive(Clone, Copy)]
+pub enum Field<'a> {
+    // A word, or the name of a bank.
+    Word(&'a [u8]),
+    // A number, in decimal digits.
+    Number(u64),
+    // A sum over all banks, in decimal digits.
+    Sum(u128),
+}
+
+// Appends a field and the byte that ends it.
+fn push_ended(text: &mut Vec<u8>, field: Field, end: u8) -> Result<(), Mem>
+    ensures { OnOk result (text.new.items ≡ text.old.items ++ (bytes_of field.entry ++ end ∷ [])) }
 {
-    for number in numbers {
-        push_number(text, *number, b',')?;
+    match field {
+        Field::Word(word) => push_field(text, word, end),
+        Field::Number(number) => push_number(text, number, end),
+        Field::Sum(sum) => push_number(text, sum, end),
+    }
+}
+
+// Appends fields, each with a comma after it: the beginning of a line.
+pub fn push_fields(text: &mut Vec<u8>, fields: &[Field]) -> Result<(), Mem>
+    ensures { OnOk result
+        (text.new.items ≡ text.old.items ++ with_commas (map bytes_of fields.now)) }
+{
+    for field in fields {
+        push_ended(text, *field, b',')?;
     }
     Ok(())
 }
 
-// Appends the line of a field, some numbers and a last field.
-pub fn push_row<I: Integer>(
-    text: &mut Vec<u8>,
-    first: &[u8],
-    numbers: &[I],
-    last: &[u8],
-) -> Result<(), Mem>
+// Appends a line of fields: an empty line where there are none.
+pub fn push_line(text: &mut Vec<u8>, fields: &[Field]) -> Result<(), Mem>
+    ensures { OnOk result (text.new.items ≡ text.old.items ++ line (map bytes_of fields.now)) }
+{
+    match fields.split_last() {
+        None => {
+            text.push(b'\n')?;
+            Ok(())
+        }
+        Some((last, others)) => push_ending(text, others, *last),
+    }
+}
+
+// Appends a line of some fields and a last one.
+fn push_ending(text: &mut Vec<u8>, others: &[Field], last: Field) -> Result<(), Mem>
     ensures { OnOk result (text.new.items
-        ≡ text.old.items ++ line (first.now ∷ map I.text numbers.now ++ last.now ∷ [])) }
+        ≡ text.old.items ++ line (map bytes_of others.now ++ bytes_of last.entry ∷ [])) }
 {
-    push_field(text, first, b',')?;
-    push_numbers(text, numbers)?;
-    push_field(text, last, b'\n')
-}
-
-// Appends the line of a word and a number.
-pub fn push_number_line<I: Integer>(text: &mut Vec<u8>, word: &str, number: I) -> Result<(), Mem>
-    ensures { OnOk result
-        (text.new.items ≡ text.old.items ++ line (word.now ∷ I.text number ∷ [])) }
-{
-    push_field(text, word.as_bytes(), b',')?;
-    push_number(text, number, b'\n')
-}
-
-// Appends the name of a bank and the byte that ends it.
-pub fn push_name(text: &mut Vec<u8>, net: &Network, bank: BankId, end: u8) -> Result<(), Mem>
-    requires { bank.0 < length net.now.banks }
-    ensures { OnOk result
-        (text.new.items ≡ text.old.items ++ (name_of net.now bank.0 ++ end ∷ [])) }
-{
-    push_field(text, name(net, bank), end)
+    push_fields(text, others)?;
+    push_ended(text, last, b'\n')
 }
 
 // The name of a bank.
@@ -84,7 +95,7 @@ pub fn push_debt(text: &mut Vec<u8>, line: &mut Line, net: &Network, id: DebtId)
 pub fn push_below(text: &mut Vec<u8>, below: &[u8]) -> Result<(), Mem>
     ensures { OnOk result (text.new.items ≡ text.old.items ++ empty_line ++ below.now) }
 {
-    text.push(b'\n')?;
+    push_line(text, &[])?;
     text.extend_from_slice(below)?;
     Ok(())
 }

@@ -1,12 +1,11 @@
-ghost use Rattle.cascade.specs.Standings.{bank_numbers};
-ghost use Rattle.clear_report.specs.Outcomes.{falls_line, falls_line_of, falls_text as falls_text_of};
-ghost use Rattle.clear_report.specs.Outcomes.{outcome_line as outcome_line_of, outcomes_header as header_of};
-ghost use Rattle.std.specs.List.{flat_map};
-ghost use Rattle.std.specs.Prelude.{◌≡◌, ◌++◌, length, IfOk, OnOk};
+ghost use Rattle.clear_report.specs.Outcomes.{falls_line, falls_text as falls_text_of};
+ghost use Rattle.clear_report.specs.Outcomes.{outcome_line as outcome_line_of};
+ghost use Rattle.clear_report.specs.Outcomes.{outcomes_header as header_of};
+ghost use Rattle.std.specs.Prelude.{◌≡◌, length, IfOk};
 
-use crate::line::{name, push_row};
-use clr_net::{BankId, Mem, Name, Network};
-use itoa::Buffer;
+use crate::line::{Field, push_line};
+use crate::table::{Each, Row, push_banks};
+use clr_net::{Mem, Name, Network};
 use std::alloc::Global;
 use stress::{Falls, Outcome};
 
@@ -25,12 +24,17 @@ pub fn outcome_line(alloc: Global, name: &Name, outcome: &Outcome) -> Result<Vec
 {
     let mut text = Vec::new(alloc);
     let o = *outcome;
-    let mut digits = Buffer::new();
-    push_row(
+    push_line(
         &mut text,
-        name.bytes(),
-        &[o.cash, o.paid, o.outside_paid, o.equity, o.defaults],
-        digits.format(o.fundamental).as_bytes(),
+        &[
+            Field::Word(name.bytes()),
+            Field::Number(o.cash),
+            Field::Number(o.paid),
+            Field::Number(o.outside_paid),
+            Field::Number(o.equity),
+            Field::Number(o.defaults),
+            Field::Number(o.fundamental),
+        ],
     )?;
     Ok(text)
 }
@@ -43,33 +47,27 @@ pub fn falls_text(alloc: Global, net: &Network, all: &[Falls]) -> Result<Vec<u8>
     requires { length all.now ≡ length net.now.banks }
     ensures { IfOk result (λ text. text.items ≡ falls_text_of net.now all.now) }
 {
-    let mut text = Vec::from_slice(alloc, b"bank,defaults,fundamental\n")?;
-    push_banks(&mut text, net, all)?;
+    let mut text = Vec::new(alloc);
+    push_banks(
+        &mut text,
+        b"bank,defaults,fundamental\n",
+        net,
+        &Each { all },
+    )?;
     Ok(text)
 }
 
-// Appends a line for each bank, in file order.
-fn push_banks(text: &mut Vec<u8>, net: &Network, all: &[Falls]) -> Result<(), Mem>
-    requires { length all.now ≡ length net.now.banks }
-    ensures { OnOk result (text.new.items ≡ text.old.items
-        ++ flat_map (falls_line_of net.now all.now) (bank_numbers net.now)) }
-{
-    for number in 0..net.banks() {
-        let name = name(net, BankId(number));
-        push_falls(text, name, all[number as usize])?;
-    }
-    Ok(())
-}
+impl Row for Falls {
+    ghost told = { λ f name. falls_line name f };
 
-// Appends the line of a bank.
-fn push_falls(text: &mut Vec<u8>, name: &[u8], falls: Falls) -> Result<(), Mem>
-    ensures { OnOk result (text.new.items ≡ text.old.items ++ falls_line name.now falls) }
-{
-    let mut digits = Buffer::new();
-    push_row(
-        text,
-        name,
-        &[falls.defaults],
-        digits.format(falls.fundamental).as_bytes(),
-    )
+    fn push(self, text: &mut Vec<u8>, name: &[u8]) -> Result<(), Mem> {
+        push_line(
+            text,
+            &[
+                Field::Word(name),
+                Field::Number(u64::from(self.defaults)),
+                Field::Number(u64::from(self.fundamental)),
+            ],
+        )
+    }
 }

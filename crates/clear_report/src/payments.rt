@@ -1,9 +1,9 @@
-ghost use Rattle.clear_report.specs.Text.{payment_line, payments_text};
+ghost use Rattle.clear_report.specs.Text.{payment_line, payments_header, payments_text};
 ghost use Rattle.clear_report.specs.Words.{empty_line};
-ghost use Rattle.clr_net.specs.Limits.{IsNetwork};
 ghost use Rattle.std.specs.Prelude.{◌≡◌, ◌++◌, ◌^◌, ◌<◌, length, IfOk, OnOk};
 
-use crate::line::push_debt;
+use crate::line::{push_debt, push_line};
+use crate::table::{DebtTable, push_debts};
 use clr_net::{DebtId, Mem, Network};
 use net_csv::line::Line;
 use std::alloc::Global;
@@ -30,17 +30,19 @@ pub fn payments_room(net: &Network) -> usize
     (net.debts() as usize + 1) * LINE
 }
 
+// The header of payments.
+pub fn payments_head() -> &'static [u8]
+    ensures { result.now ≡ payments_header }
+{
+    b"debtor,creditor,class,claim,paid\n"
+}
+
 // Appends the text of some payments.
 pub fn push_payments(text: &mut Vec<u8>, net: &Network, paid: &[u64]) -> Result<(), Mem>
     requires { length paid.now ≡ length net.now.debts }
     ensures { OnOk result (text.new.items ≡ text.old.items ++ payments_text net.now paid.now) }
 {
-    text.extend_from_slice(b"debtor,creditor,class,claim,paid\n")?;
-    let mut line = Line::empty();
-    for x in 0..net.debts() {
-        push_payment(text, &mut line, net, paid, DebtId(x))?;
-    }
-    Ok(())
+    push_debts(text, payments_head(), net, &Payments { paid })
 }
 
 // Appends the text of some payments, with an empty line before it.
@@ -49,25 +51,31 @@ pub fn push_payments_below(text: &mut Vec<u8>, net: &Network, paid: &[u64]) -> R
     ensures { OnOk result (text.new.items
         ≡ text.old.items ++ empty_line ++ payments_text net.now paid.now) }
 {
-    text.push(b'\n')?;
+    push_line(text, &[])?;
     push_payments(text, net, paid)
 }
 
-// Appends the line of a debt.
-fn push_payment(
-    text: &mut Vec<u8>,
-    line: &mut Line,
-    net: &Network,
-    paid: &[u64],
-    id: DebtId,
-) -> Result<(), Mem>
-    requires network { IsNetwork net.now }
-    requires in_range { id.0 < length net.now.debts }
-    requires each_paid { length paid.now ≡ length net.now.debts }
-    ensures { OnOk result (text.new.items ≡ text.old.items ++ payment_line net.now paid.now id.0) }
-{
-    let claim = net.debt(id).claim;
-    line.begin(paid[id.0 as usize]);
-    line.add_number(claim);
-    push_debt(text, line, net, id)
+// What is paid on each debt, in file order.
+#[derive(Drop)]
+struct Payments<'a> {
+    paid: &'a [u64],
+}
+
+impl<'a> DebtTable for Payments<'a> {
+    ghost over = { λ t net. length t.paid.now ≡ length net.debts };
+
+    ghost line_of = { λ t net. payment_line net t.paid.now };
+
+    fn push(
+        &self,
+        text: &mut Vec<u8>,
+        room: &mut Line,
+        net: &Network,
+        debt: DebtId,
+    ) -> Result<(), Mem> {
+        let claim = net.debt(debt).claim;
+        room.begin(self.paid[debt.0 as usize]);
+        room.add_number(claim);
+        push_debt(text, room, net, debt)
+    }
 }

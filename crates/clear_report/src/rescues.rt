@@ -1,10 +1,9 @@
 ghost use Rattle.clear_report.specs.Rescues.{rescue_lines, rescued_text};
 ghost use Rattle.std.specs.Prelude.{◌≡◌, ◌++◌, ◌<◌, IfOk, OnOk, length};
 
-use crate::line::{push_name, push_number_line};
+use crate::line::{Field, name, push_line};
 use crate::payments::push_payments_below;
 use clr_net::{BankId, Mem, Network};
-use net_csv::line::{push_field, push_number};
 use rescue::Rescued;
 use std::alloc::Global;
 
@@ -37,8 +36,13 @@ fn push_rescue(text: &mut Vec<u8>, net: &Network, bank: BankId, found: &Rescued)
     ensures { OnOk result (text.new.items
         ≡ text.old.items ++ rescue_lines net.now bank.0 found.now.added found.now.short) }
 {
-    push_field(text, b"rescue", b',')?;
-    push_name(text, net, bank, b',')?;
-    push_number(text, found.added, b'\n')?;
-    push_number_line(text, "short", found.short)
+    push_line(
+        text,
+        &[
+            Field::Word(b"rescue"),
+            Field::Word(name(net, bank)),
+            Field::Number(found.added),
+        ],
+    )?;
+    push_line(text, &[Field::Word(b"short"), Field::Number(found.short)])
 }

@@ -6,11 +6,10 @@ ghost use Rattle.impact.specs.Impact.{IsImpactOf};
 ghost use Rattle.std.specs.List.{flat_map};
 ghost use Rattle.std.specs.Prelude.{◌≡◌, ◌++◌, ◌<◌, All, IfOk, OnOk, length};
 
-use crate::line::{push_name, yes_or_no};
+use crate::line::{Field, name, push_line, yes_or_no};
 use crate::piece::{Piece, begin};
 use clr_net::{BankId, Mem, Network};
 use impact::{Hurt, Impact};
-use net_csv::line::{push_field, push_number};
 use std::alloc::Global;
 
 /// The part of a bank in the text of who would hurt whom, where its ruin comes to this: its line
@@ -60,11 +59,16 @@ fn impact_row(
         impact.now.own impact.now.others impact.now.falls) }
 {
     let mut row = Vec::new(alloc);
-    push_name(&mut row, net, bank, b',')?;
-    push_number(&mut row, cash, b',')?;
-    push_number(&mut row, impact.own, b',')?;
-    push_number(&mut row, impact.others, b',')?;
-    push_number(&mut row, impact.falls, b'\n')?;
+    push_line(
+        &mut row,
+        &[
+            Field::Word(name(net, bank)),
+            Field::Number(cash),
+            Field::Number(impact.own),
+            Field::Number(impact.others),
+            Field::Number(u64::from(impact.falls)),
+        ],
+    )?;
     Ok(row)
 }
 
@@ -96,8 +100,13 @@ fn push_hurt(text: &mut Vec<u8>, net: &Network, bank: BankId, hurt: Hurt) -> Res
     ensures { OnOk result (text.new.items
         ≡ text.old.items ++ hurt_line net.now bank.0 hurt) }
 {
-    push_name(text, net, bank, b',')?;
-    push_name(text, net, hurt.bank, b',')?;
-    push_number(text, hurt.lost, b',')?;
-    push_field(text, yes_or_no(hurt.falls).as_bytes(), b'\n')
+    push_line(
+        text,
+        &[
+            Field::Word(name(net, bank)),
+            Field::Word(name(net, hurt.bank)),
+            Field::Number(hurt.lost),
+            Field::Word(yes_or_no(hurt.falls).as_bytes()),
+        ],
+    )
 }

@@ -5,10 +5,9 @@ ghost use Rattle.rescue.specs.Saved.{IsSavingOf};
 ghost use Rattle.std.specs.List.{flat_map};
 ghost use Rattle.std.specs.Prelude.{◌≡◌, ◌++◌, ◌<◌, All, IfOk, OnOk, length};
 
-use crate::line::push_name;
+use crate::line::{Field, name, push_line};
 use crate::piece::{Piece, begin};
 use clr_net::{BankId, Mem, Network};
-use net_csv::line::push_number;
 use rescue::Saving;
 use std::alloc::Global;
 
@@ -53,11 +52,16 @@ fn saving_row(alloc: Global, net: &Network, bank: BankId, saving: &Saving) -> Re
         saving.now.short (length saving.now.saves.items) saving.now.still_short) }
 {
     let mut row = Vec::new(alloc);
-    push_name(&mut row, net, bank, b',')?;
-    push_number(&mut row, saving.added, b',')?;
-    push_number(&mut row, saving.short, b',')?;
-    push_number(&mut row, saving.saves.len(), b',')?;
-    push_number(&mut row, saving.still_short, b'\n')?;
+    push_line(
+        &mut row,
+        &[
+            Field::Word(name(net, bank)),
+            Field::Number(saving.added),
+            Field::Number(saving.short),
+            Field::Number(saving.saves.len() as u64),
+            Field::Number(u64::from(saving.still_short)),
+        ],
+    )?;
     Ok(row)
 }
 
@@ -81,6 +85,8 @@ fn push_saved(text: &mut Vec<u8>, net: &Network, bank: BankId, other: BankId) ->
     requires other { other.0 < length net.now.banks }
     ensures { OnOk result (text.new.items ≡ text.old.items ++ saves_line net.now bank.0 other.0) }
 {
-    push_name(text, net, bank, b',')?;
-    push_name(text, net, other, b'\n')
+    push_line(
+        text,
+        &[Field::Word(name(net, bank)), Field::Word(name(net, other))],
+    )
 }

@@ -3,9 +3,9 @@ ghost use Rattle.clear_report.specs.Text.{AreHeadsOf, payments_text};
 ghost use Rattle.std.specs.Prelude.{◌≡◌, ◌++◌, ◌<◌, IfOk, OnOk, length};
 
 use crate::heads::push_paid;
+use crate::line::{Field, push_line};
 use crate::payments::payments_room;
 use clr_net::{Mem, Name, Network};
-use net_csv::line::push_field;
 use std::alloc::Global;
 
 /// The block of a scenario: a line of its name, then this text of the payments that it comes to, and
@@ -56,6 +56,5 @@ pub fn scenario_block(
 fn push_scenario(text: &mut Vec<u8>, name: &Name) -> Result<(), Mem>
     ensures { OnOk result (text.new.items ≡ text.old.items ++ scenario_line name.now) }
 {
-    push_field(text, b"scenario", b',')?;
-    push_field(text, name.bytes(), b'\n')
+    push_line(text, &[Field::Word(b"scenario"), Field::Word(name.bytes())])
 }

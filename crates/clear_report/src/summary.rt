@@ -2,7 +2,7 @@ ghost use Rattle.clear_report.specs.Summary.{summary_lines};
 ghost use Rattle.std.specs.Prelude.{◌≡◌, IfOk};
 
 use crate::check::push_totals;
-use crate::line::push_number_line;
+use crate::line::{Field, push_line};
 use crate::sums::{defaults_of, sum_of, totals_of};
 use cascade::Standing;
 use clr_net::{Mem, Network};
@@ -24,8 +24,14 @@ pub fn summary_text(
     let [.., equity] = totals_of(standings);
     let mut text = Vec::new(alloc);
     push_totals(&mut text, net)?;
-    push_number_line(&mut text, "paid", sum_of(paid))?;
-    push_number_line(&mut text, "defaults", defaults_of(standings))?;
-    push_number_line(&mut text, "equity", equity)?;
+    push_line(&mut text, &[Field::Word(b"paid"), Field::Sum(sum_of(paid))])?;
+    push_line(
+        &mut text,
+        &[
+            Field::Word(b"defaults"),
+            Field::Number(defaults_of(standings)),
+        ],
+    )?;
+    push_line(&mut text, &[Field::Word(b"equity"), Field::Sum(equity)])?;
     Ok(text)
 }

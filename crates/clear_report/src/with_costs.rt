@@ -1,14 +1,12 @@
-ghost use Rattle.cascade.specs.Standings.{bank_numbers};
-ghost use Rattle.clear_report.specs.Costs.{cost_line, cost_line_of, cost_total_line, costs_text};
-ghost use Rattle.std.specs.List.{flat_map};
+ghost use Rattle.clear_report.specs.Costs.{cost_line, cost_table, cost_total_line, costs_text};
 ghost use Rattle.std.specs.Prelude.{◌≡◌, ◌++◌, length, IfOk, OnOk};
 
-use crate::line::{name, push_below, push_number_line, push_row, state_word};
+use crate::line::{Field, push_below, push_line, state_word};
 use crate::payments::pay_text;
-use crate::sums::{Stands, defaults_of, totals_of};
-use clr_net::{BankId, Mem, Network};
+use crate::sums::{defaults_of, totals_of};
+use crate::table::{Each, Row, push_banks};
+use clr_net::{Mem, Network};
 use costs::CostStanding;
-use itoa::Buffer;
 use std::alloc::Global;
 
 /// The text of payments where default costs (Rogers and Veraart 2013): the payments, and below
@@ -28,42 +26,61 @@ pub fn cost_text(
     ensures { IfOk result (λ text. text.items ≡ costs_text net.now paid.now standings.now) }
 {
     let mut text = pay_text(alloc, net, paid)?;
-    push_below(
-        &mut text,
-        b"bank,estate,lost,outside_paid,paid,equity,state\n",
-    )?;
-    push_banks(&mut text, net, standings)?;
-    push_total(&mut text, standings)?;
-    push_number_line(&mut text, "cash", net.cash_total())?;
+    let banks = banks_table(alloc, net, standings)?;
+    push_below(&mut text, banks.as_slice())?;
     Ok(text)
 }
 
-// Appends a line for each bank, in file order.
-fn push_banks(text: &mut Vec<u8>, net: &Network, standings: &[CostStanding]) -> Result<(), Mem>
+// The table of the banks, the line of the sums, and that of all opening cash.
+fn banks_table(alloc: Global, net: &Network, standings: &[CostStanding]) -> Result<Vec<u8>, Mem>
     requires { length standings.now ≡ length net.now.banks }
-    ensures { OnOk result (text.new.items
-        ≡ text.old.items ++ flat_map (cost_line_of net.now standings.now) (bank_numbers net.now)) }
+    ensures { IfOk result (λ text. text.items ≡ cost_table net.now standings.now) }
 {
-    for number in 0..net.banks() {
-        let name = name(net, BankId(number));
-        push_standing(text, name, standings[number as usize])?;
-    }
-    Ok(())
+    let header = b"bank,estate,lost,outside_paid,paid,equity,state\n";
+    let mut text = Vec::new(alloc);
+    push_banks(&mut text, header, net, &Each { all: standings })?;
+    push_total(&mut text, standings)?;
+    push_line(
+        &mut text,
+        &[Field::Word(b"cash"), Field::Number(net.cash_total())],
+    )?;
+    Ok(text)
 }
 
-// Appends the line of a bank.
-fn push_standing(text: &mut Vec<u8>, name: &[u8], standing: CostStanding) -> Result<(), Mem>
-    ensures { OnOk result (text.new.items ≡ text.old.items ++ cost_line name.now standing) }
-{
-    let state = state_word(standing.health).as_bytes();
-    push_row(text, name, &standing.numbers(), state)
+impl Row for CostStanding {
+    ghost told = { λ s name. cost_line name s };
+
+    fn push(self, text: &mut Vec<u8>, name: &[u8]) -> Result<(), Mem> {
+        push_line(
+            text,
+            &[
+                Field::Word(name),
+                Field::Number(self.estate),
+                Field::Number(self.lost),
+                Field::Number(self.outside_paid),
+                Field::Number(self.paid),
+                Field::Number(self.equity),
+                Field::Word(state_word(self.health).as_bytes()),
+            ],
+        )
+    }
 }
 
 // Appends the line of the sums over all banks, and of how many are in default.
 fn push_total(text: &mut Vec<u8>, standings: &[CostStanding]) -> Result<(), Mem>
     ensures { OnOk result (text.new.items ≡ text.old.items ++ cost_total_line standings.now) }
 {
-    let mut digits = Buffer::new();
-    let defaults = digits.format(defaults_of(standings)).as_bytes();
-    push_row(text, b"total", &totals_of(standings), defaults)
+    let [estate, lost, outside_paid, paid, equity] = totals_of(standings);
+    push_line(
+        text,
+        &[
+            Field::Word(b"total"),
+            Field::Sum(estate),
+            Field::Sum(lost),
+            Field::Sum(outside_paid),
+            Field::Sum(paid),
+            Field::Sum(equity),
+            Field::Number(defaults_of(standings)),
+        ],
+    )
 }

@@ -3,9 +3,8 @@ use Rattle.std.proofs.Common.{◌≡◌, ℕ, ◌+◌, ◌<◌, ◌==◌, ◌&&�
 use Rattle.std.specs.List.{range_with_len}
 use Rattle.std.proofs.Math.Path.{ap₂}
 use Rattle.std.proofs.lemmas.List.{append-nil, map-id}
-use Rattle.std.proofs.lemmas.List.Elements.{filter-append}
 use Rattle.std.proofs.lemmas.List.{map-append}
-use Rattle.std.proofs.lemmas.List.FromFn.{get_or-map-range_with_len, length-map-range_with_len, map-range_with_len_more}
+use Rattle.std.proofs.lemmas.List.FromFn.{filter_of_map_range_with_len_more, get_or-map-range_with_len, length-map-range_with_len}
 use Rattle.std.proofs.lemmas.List.Sums.{sum_by-cons}
 use Rattle.clr_net.specs.declared.debt.BankId.{BankId}
 use Rattle.clr_net.specs.Limits.{IsNetwork}
@@ -42,16 +41,26 @@ count_mapped p f (x ∷ xs) = omega (
   count_mapped p f xs,
 )
 
+-- of banks that stand so under some payments
+module _ (net : Net) (P : List ℕ) (all : List Standing) (are : all ≡ standings net P) where
+  -- there are as many as banks
+  pub as_many_stand : length all ≡ length net.banks
+  as_many_stand = ap length are ∙ length-map-range_with_len (standing net P) 0 (length net.banks)
+
+  -- each stands in its place
+  pub stands_there : (k : ℕ) (d : Standing) → k < length net.banks
+      → get_or all k d ≡ standing net P k
+  stands_there k d bank =
+      ap (λ (ss : List Standing). get_or ss k d) are
+      ∙ get_or-map-range_with_len (standing net P) 0 (length net.banks) k k d bank (omega arith)
+
 -- of banks that stand so once the bank i is saved
 module _ (net : Net) (i : ℕ) (after : List Standing)
     (is : after ≡ standings (rescued net i) (least (rescued net i))) where
   -- there are as many as banks
   pub as_many_after : length after ≡ length net.banks
   as_many_after =
-      ap length is
-      ∙ length-map-range_with_len (standing (rescued net i) (least (rescued net i))) 0
-      (length (rescued net i).banks)
-      ∙ as_many_rescued net i
+      as_many_stand (rescued net i) (least (rescued net i)) after is ∙ as_many_rescued net i
 
   -- so many are not sound
   pub counted_after : count_by (λ s. not (is_sound s.health)) after ≡ left_in_default net i
@@ -62,45 +71,19 @@ module _ (net : Net) (i : ℕ) (after : List Standing)
       ∙ ap (λ n. count_by (λ k. not (is_sound_at_least more k)) (range_with_len 0 n))
       (as_many_rescued net i)
 
--- of a bank k, where all banks stand so before and so after
-module _ (net : Net) (i k : ℕ) (before after : List Standing)
-    (was : before ≡ standings net (least net))
-    (is : after ≡ standings (rescued net i) (least (rescued net i))) (bank : k < length net.banks) where
-  -- it has its place before
-  pub place_before : k < length before
-  place_before = omega (
-    arith,
-    ap length was,
-    length-map-range_with_len (standing net (least net)) 0 (length net.banks),
-  )
-
-  -- and after
-  pub place_after : k < length after
-  place_after = omega (arith, as_many_after net i after is)
-
-  -- so the two tell whether it is saved
-  pub saving_told : (d e : Standing) (other cured : Bool) → other ≡ not (k == i)
-      → cured ≡ (not (is_sound (get_or before k d).health) && is_sound (get_or after k e).health)
-      → (other && cured) ≡ is_saved_with net i k
-  saving_told d e other cured o t =
-      let more = rescued net i in
-      let stood : get_or before k d ≡ standing net (least net) k =
-      ap (λ (all : List Standing). get_or all k d) was
-      ∙ get_or-map-range_with_len (standing net (least net)) 0 (length net.banks) k k d bank
-      (omega arith) in
-      let stands : get_or after k e ≡ standing more (least more) k =
-      ap (λ (all : List Standing). get_or all k e) is
-      ∙ get_or-map-range_with_len (standing more (least more)) 0 (length more.banks) k k e
-      (omega (arith, as_many_rescued net i)) (omega arith) in
-      ap₂ (λ (a b : Bool). a && b) o
-      (t ∙ ap₂ (λ (s u : Standing). not (is_sound s.health) && is_sound u.health) stood stands)
-
--- one number more
-range_more : (n : ℕ) → range_with_len 0 (n + 1) ≡ range_with_len 0 n ++ n ∷ []
-range_more n =
-    sym (map-id (range_with_len 0 (n + 1)))
-    ∙ map-range_with_len_more (λ (x : ℕ). x) 0 n n (omega arith)
-    ∙ ap (λ xs. xs ++ n ∷ []) (map-id (range_with_len 0 n))
+-- it is told of a bank k whether it is saved, where all banks stand so before and so after
+pub saving_told : (net : Net) (i k : ℕ) (before after : List Standing)
+    → before ≡ standings net (least net)
+    → after ≡ standings (rescued net i) (least (rescued net i)) → k < length net.banks
+    → (d e : Standing) (other cured : Bool) → other ≡ not (k == i)
+    → cured ≡ (not (is_sound (get_or before k d).health) && is_sound (get_or after k e).health)
+    → (other && cured) ≡ is_saved_with net i k
+saving_told net i k before after was is bank d e other cured o t =
+    let more = rescued net i in
+    ap₂ (λ (a b : Bool). a && b) o
+    (t ∙ ap₂ (λ (s u : Standing). not (is_sound s.health) && is_sound u.health)
+    (stands_there net (least net) before was k d bank)
+    (stands_there more (least more) after is k e (omega (arith, as_many_rescued net i, bank))))
 
 -- the banks that pass, with the bank n, which does or does not
 module _ (p : ℕ → Bool) (n : ℕ) where
@@ -108,7 +91,9 @@ module _ (p : ℕ → Bool) (n : ℕ) where
   passing_push : filter p (range_with_len 0 (n + 1))
       ≡ filter p (range_with_len 0 n) ++ cond (p n) (n ∷ []) []
   passing_push =
-      ap (filter p) (range_more n) ∙ filter-append p (range_with_len 0 n) (n ∷ [])
+      ap (filter p) (sym (map-id (range_with_len 0 (n + 1))))
+      ∙ filter_of_map_range_with_len_more p (λ (k : ℕ). k) 0 n n (omega arith)
+      ∙ ap (λ xs. filter p xs ++ cond (p n) (n ∷ []) []) (map-id (range_with_len 0 n))
 
   -- it does
   pub passing_with : (all more : List BankId) (b : BankId)

@@ -6,6 +6,10 @@ use Rattle.cascade.specs.Standings.{bank_numbers}
 use Rattle.rescue.specs.Rescue.{added, rescue, short_of}
 use Rattle.rescue.specs.declared.saved.Saving.{Saving}
 
+-- the banks in default, in file order
+abbrev pub banks_in_default : Net → List ℕ
+banks_in_default net = filter (λ i. not (is_sound_at_least net i)) (bank_numbers net)
+
 -- the network once the bank i has been given the least sum that saves it
 abbrev pub rescued : Net → ℕ → Net
 rescued net i = added net i (rescue net i)

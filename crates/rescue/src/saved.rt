@@ -6,10 +6,11 @@ ghost use Rattle.clr_net.specs.Net.{cash_of};
 ghost use Rattle.clr_net.specs.declared.TheConstants.{MAX_BANKS, MAX_CASH};
 ghost use Rattle.rescue.specs.Rescue.{DifferInCash, added as added_net};
 ghost use Rattle.rescue.specs.Rescue.{rescue as rescue_of};
-ghost use Rattle.rescue.specs.Saved.{IsSavingOf, is_saved_with, rescued, saved_with};
-ghost use Rattle.std.specs.Prelude.{◌≡◌, ◌&&◌, ◌+◌, ◌-◌, ◌<◌, ◌≤◌, All, IfOk, OnOk, count_by};
-ghost use Rattle.std.specs.Prelude.{length, map, not};
+ghost use Rattle.rescue.specs.Saved.{IsSavingOf, is_saved_with, rescued};
+ghost use Rattle.std.specs.Prelude.{◌≡◌, ◌&&◌, ◌+◌, ◌-◌, ◌<◌, ◌≤◌, IfOk, OnOk, count_by, length};
+ghost use Rattle.std.specs.Prelude.{not};
 
+use crate::banks::{BankTest, passing};
 use crate::search::{Found, search};
 use cascade::{Health, Standing, defaults};
 use clear_least::least_from;
@@ -55,10 +56,15 @@ pub fn saving_of(
     let found = search(alloc, net, net.copy(alloc)?, bank, least)?;
     let sum = found.sum;
     let after = standings_saved(alloc, net, bank, found)?;
+    let saved = SavedWith {
+        before,
+        after: after.as_slice(),
+        bank,
+    };
     Ok(Saving {
         added: sum.added,
         short: sum.short,
-        saves: saved(alloc, net, before, after.as_slice(), bank)?,
+        saves: passing(alloc, net, &saved)?,
         still_short: in_default(after.as_slice()),
     })
 }
@@ -89,46 +95,25 @@ fn standings_saved(
     defaults(alloc, &more, paid.as_slice())
 }
 
-// Which other banks are saved, in file order.
-fn saved(
-    alloc: Global,
-    net: &Network,
-    before: &[Standing],
-    after: &[Standing],
+// Whether a bank is saved with this one, where all banks stand so before and after.
+#[derive(Drop)]
+struct SavedWith<'a> {
+    before: &'a [Standing],
+    after: &'a [Standing],
     bank: BankId,
-) -> Result<Vec<BankId>, Mem>
-    requires before { before.now ≡ standings net.now (least_of net.now) }
-    requires after { after.now
-        ≡ standings (rescued net.now bank.0) (least_of (rescued net.now bank.0)) }
-    ensures saves { IfOk result (λ all. map (λ b. b.0) all.items ≡ saved_with net.now bank.0) }
-    ensures known { IfOk result (λ all. All (λ b. b.0 < length net.now.banks) all.items) }
-{
-    let mut all = Vec::new(alloc);
-    for number in 0..net.banks() {
-        if is_saved(net, before, after, bank, BankId(number)) {
-            all.push(BankId(number))?;
-        }
-    }
-    Ok(all)
 }
 
-// Whether a bank is another one, is not sound before, and is after.
-fn is_saved(
-    net: &Network,
-    before: &[Standing],
-    after: &[Standing],
-    bank: BankId,
-    other: BankId,
-) -> bool
-    requires other { other.0 < length net.now.banks }
-    requires before { before.now ≡ standings net.now (least_of net.now) }
-    requires after { after.now
-        ≡ standings (rescued net.now bank.0) (least_of (rescued net.now bank.0)) }
-    ensures { result ≡ is_saved_with net.now bank.0 other.0 }
-{
-    let place = other.0 as usize;
-    let becomes_sound = is_cured(before[place].health, after[place].health);
-    other.0 != bank.0 && becomes_sound
+impl<'a> BankTest for SavedWith<'a> {
+    ghost can = { λ t net. (t.before.now ≡ standings net (least_of net))
+        × (t.after.now ≡ standings (rescued net t.bank.0) (least_of (rescued net t.bank.0))) };
+
+    ghost passes = { λ t net. is_saved_with net t.bank.0 };
+
+    fn test(&self, _net: &Network, other: BankId) -> bool {
+        let place = other.0 as usize;
+        let becomes_sound = is_cured(self.before[place].health, self.after[place].health);
+        other.0 != self.bank.0 && becomes_sound
+    }
 }
 
 // Whether a bank was in default, and is sound.

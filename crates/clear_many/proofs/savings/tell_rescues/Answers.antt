@@ -3,14 +3,15 @@ use Rattle.std.proofs.Common.{◌≡◌, ◌-◌, ◌++◌, ℕ, List, IfOk, len
 use Rattle.std.specs.List.{flat_map}
 use Rattle.std.proofs.lemmas.List.{length-map}
 use Rattle.clear_report.specs.Pieces.{begun}
-use Rattle.clear_report.specs.Savings.{banks_in_default, saves_header, saves_lines, saving_line, savings_header}
+use Rattle.clear_report.specs.Savings.{saves_header, saves_lines, saving_line, savings_header}
+use Rattle.rescue.specs.Saved.{banks_in_default}
 use Rattle.clear_report.proofs.Pieces.{stacked_is}
 use Rattle.clear_many.specs.Texts.{text_of}
 use Rattle.clear_many.proofs.Tabled.{pieces_of_some}
 use Rattle.clear_many.proofs.savings.tell_rescues.Goals as goal
 
-pub in_default-requires : goal.in_default-requires
-in_default-requires g c = c.as_slice.ensures.value ∙ c.in_ok-stand.ensures.standings
+pub banks_in_default-requires : goal.banks_in_default-requires
+banks_in_default-requires g c = c.as_slice.ensures.value ∙ c.in_ok-stand.ensures.standings
 
 pub returns : goal.returns
 returns g c =

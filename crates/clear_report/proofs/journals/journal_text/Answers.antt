@@ -4,5 +4,5 @@ use Rattle.clear_report.proofs.journals.journal_text.Goals as goal
 
 pub returns : goal.returns
 returns c =
-    c.in_ok-push_number_line.ensures
+    c.in_ok-push_line.ensures
     ∙ ap (λ (t : List ℕ). t ++ rounds_line c.args.rounds) c.in_ok-text.ensures.text

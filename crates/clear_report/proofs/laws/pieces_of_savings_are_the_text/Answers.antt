@@ -1,5 +1,5 @@
-use Rattle.clear_report.specs.Savings.{banks_in_default, saves_header, saves_lines}
-use Rattle.clear_report.specs.Savings.{saving_line, savings_header}
+use Rattle.rescue.specs.Saved.{banks_in_default}
+use Rattle.clear_report.specs.Savings.{saves_header, saves_lines, saving_line, savings_header}
 use Rattle.clear_report.proofs.Pieces.{stacked_is}
 use Rattle.clear_report.proofs.laws.pieces_of_savings_are_the_text.Goals as goal
 

@@ -18,8 +18,8 @@ returns-clause-saving c =
     record {
       added = c.in_ok-found.ensures.added;
       short = c.in_ok-found.ensures.short ∙ ap (short_of net i) c.in_ok-found.ensures.added;
-      saves = c.in_ok-saved.ensures.saves;
-      known = c.in_ok-saved.ensures.known;
+      saves = c.in_ok-passing.ensures.banks;
+      known = c.in_ok-passing.ensures.known;
       still_short = c.in_default.ensures
           ∙ counted_after net i c.as_slice-2.result.now
           (c.as_slice-2.ensures.value ∙ c.in_ok-after.ensures);

@@ -1,6 +1,7 @@
 use Rattle.std.proofs.Common.{ap, ◌∙◌}
-use Rattle.clear_report.specs.Savings.{banks_in_default, saves_lines, saving_line}
-use Rattle.clear_many.proofs.Defaulting.{number_in_place}
+use Rattle.clear_report.specs.Savings.{saves_lines, saving_line}
+use Rattle.rescue.specs.Saved.{banks_in_default}
+use Rattle.clear_many.proofs.Tabled.{number_in_place}
 use Rattle.clear_many.proofs.savings.SavingsPieceworkPieceBareDesk.piece.Goals as goal
 
 pub returns-clause-piece : goal.returns-clause-piece
