@@ -66,13 +66,16 @@ class Matrix:
         self.is_one = self.table is self.matrix
         faults.end_if_any()
         banks = self.matrix.rows if self.is_one else ()
+        usual = [*(() if words.outside else ["outside"]), *(() if words.rule_column else ["rule"])]
         tables.take_alike(words, self.table, "cash", banks)
         passed = tables.find_outside(faults, words, self.table, banks)
         tables.find_column(faults, words, self.table, "rule-column", banks)
         self.amounts = [words.cash, *words.outside] if words.outside else [words.cash]
         if words.label_column:
             tables.need_column(faults, self.table, "label-column", words.label_column, banks)
-        asked = [column for usual in ("outside", "rule") for column in tables.alike(self.table, usual, banks)]
+        # A bank may have such a name where an option names another column.
+        asked = [column for name in ("outside", "rule") for column in tables.alike(self.table, name, banks)
+                 if name in usual or column not in banks]
         self.extra = {*self.amounts, words.rule_column, words.label_column, *passed, *asked} if self.is_one else set()
         self.others = [c for c in self.table.header if c not in {*self.amounts, words.rule_column, words.label_column}] if not self.is_one else passed
 
