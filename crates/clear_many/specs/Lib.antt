@@ -1,2 +1,3 @@
 pub mod Between
+pub mod Blocks
 pub mod Texts

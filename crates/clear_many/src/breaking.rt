@@ -1,21 +1,23 @@
-//! What breaks each bank, by four shares of the cuts at once.
+//! What breaks each bank, by blocks of the cuts on threads.
 ghost use Rattle.cascade.specs.Standings.{bank_numbers};
+ghost use Rattle.clear_many.specs.Blocks.{IsTold, across as across_of, edge as edge_of};
 ghost use Rattle.clear_many.specs.Texts.{breaking_report};
-ghost use Rattle.std.specs.Prelude.{◌≡◌, ◌+◌, ◌≤◌, IfOk, map};
-ghost use Rattle.std.specs.Thread.{IsSync};
+ghost use Rattle.shares.specs.Made.{AreInOrder};
+ghost use Rattle.std.specs.Prelude.{◌≡◌, ◌+◌, ◌<◌, ◌≤◌, IfOk, length, map};
 ghost use Rattle.stress.specs.Breaking.{breaking_within};
 ghost use Rattle.stress.specs.declared.TheConstants.{MAX_CUT};
 
 use clear_report::breaking_text;
 use clr_net::{Mem, Network};
+use shares::{Made, Piecework, THREADS, in_shares};
 use std::alloc::Global;
-use std::thread::{Threads, join};
+use std::thread::Threads;
 use stress::{Broken, MAX_CUT, breaking_within, joined};
 
 /// The text of the least cut that breaks each bank, and of how the bank stands at it. `Mem` for want
 /// of memory alone.
 ///
-/// Costs a clearing for each cut, which goes on from the one before in its share of them.
+/// Costs a clearing for each cut, which goes on from the one before in its block of them.
 pub fn tell_breaking<R: Threads + Sync>(
     rt: &R,
     alloc: Global,
@@ -23,62 +25,79 @@ pub fn tell_breaking<R: Threads + Sync>(
 ) -> Result<Vec<u8>, Mem>
     ensures { IfOk result (λ text. text.items ≡ breaking_report net.now) }
 {
-    let all = broken(rt, alloc, net)?;
+    let blocks = Blocks { alloc, net };
+    let Made { pieces, desk: _ } = in_shares(rt, alloc, &blocks, BLOCKS, THREADS)?;
+    let all = all_joined(alloc, net, pieces.as_slice())?;
     breaking_text(alloc, net, all.as_slice())
 }
 
-// One more than the greatest cut, and the cut in the middle.
-const END: u32 = MAX_CUT as u32 + 1;
+// How many blocks the cuts are parted into: as many for each thread as there are threads.
+const BLOCKS: usize = THREADS * THREADS;
 
-const MIDDLE: u32 = END / 2;
+// The cut at which a block begins, and at which the one before it has ended.
+fn edge(block: usize) -> u32
+    requires { block ≤ BLOCKS }
+    ensures { result ≡ edge_of block }
+{
+    block as u32 * (MAX_CUT as u32 + 1) / BLOCKS as u32
+}
 
-// What all cuts break: each half of them is gone through by two threads.
-fn broken<R: Threads + Sync>(rt: &R, alloc: Global, net: &Network) -> Result<Vec<Broken>, Mem>
+// The block that is gone through in a place, and the place of a block. The higher the cuts, the more
+// banks they break: so each thread, which has places side by side, has blocks far apart.
+fn across(place: usize) -> usize
+    requires { place < BLOCKS }
+    ensures { result ≡ across_of place }
+{
+    place % THREADS * THREADS + place / THREADS
+}
+
+// What all blocks of the cuts tell, put together from the lowest cuts up.
+fn all_joined(alloc: Global, net: &Network, pieces: &[Vec<Broken>]) -> Result<Vec<Broken>, Mem>
+    requires as_many { length pieces.now ≡ BLOCKS }
+    requires in_order { AreInOrder (IsTold net.now) 0 pieces.now }
     ensures { IfOk result (λ all.
         all.items ≡ map (breaking_within 0 (MAX_CUT + 1) net.now) (bank_numbers net.now)) }
 {
-    let low = || -> Result<Vec<Broken>, Mem>
-        requires { IsSync R.row }
-        ensures { IfOk result (λ all. all.items
-            ≡ map (breaking_within 0 MIDDLE net.entry.now) (bank_numbers net.entry.now)) }
-    { broken_by_two(rt, alloc, net, 0, MIDDLE) };
-    let high = || -> Result<Vec<Broken>, Mem>
-        requires { IsSync R.row }
-        ensures { IfOk result (λ all. all.items
-            ≡ map (breaking_within MIDDLE END net.entry.now) (bank_numbers net.entry.now)) }
-    { broken_by_two(rt, alloc, net, MIDDLE, END) };
-    let (a, b) = join(rt, low, high);
-    let lower = a?;
-    let upper = b?;
-    Ok(joined(MIDDLE, lower, upper.as_slice()))
+    let mut all = breaking_within(alloc, net, 0, 0)?;
+    for block in 0..BLOCKS {
+        all = joined(edge(block), all, pieces[across(block)].as_slice());
+    }
+    Ok(all)
 }
 
-// What the cuts from `low` up to below `high` break, each half of them by a thread.
-fn broken_by_two<R: Threads + Sync>(
-    rt: &R,
+// The desk at which cuts are tried: nothing stands on it.
+#[derive(Drop)]
+struct NoDesk;
+
+// The blocks of the cuts of all cash of a network.
+#[derive(Drop)]
+struct Blocks<'a> {
     alloc: Global,
-    net: &Network,
-    low: u32,
-    high: u32,
-) -> Result<Vec<Broken>, Mem>
-    requires range { low ≤ high }
-    requires high { high ≤ MAX_CUT + 1 }
-    ensures { IfOk result (λ all.
-        all.items ≡ map (breaking_within low high net.now) (bank_numbers net.now)) }
-{
-    let middle = low + (high - low) / 2;
-    let lower = || -> Result<Vec<Broken>, Mem>
-        requires { (low ≤ middle) × (middle ≤ MAX_CUT + 1) }
-        ensures { IfOk result (λ all. all.items
-            ≡ map (breaking_within low middle net.entry.now) (bank_numbers net.entry.now)) }
-    { breaking_within(alloc, net, low, middle) };
-    let upper = || -> Result<Vec<Broken>, Mem>
-        requires { (middle ≤ high) × (high ≤ MAX_CUT + 1) }
-        ensures { IfOk result (λ all. all.items
-            ≡ map (breaking_within middle high net.entry.now) (bank_numbers net.entry.now)) }
-    { breaking_within(alloc, net, middle, high) };
-    let (a, b) = join(rt, lower, upper);
-    let below = a?;
-    let above = b?;
-    Ok(joined(middle, below, above.as_slice()))
+    net: &'a Network,
+}
+
+impl<'a> Piecework<Vec<Broken>, NoDesk> for Blocks<'a> {
+    ghost use Rattle.clear_many.specs.declared.breaking.TheConstants.{BLOCKS};
+
+    ghost can = { λ w. Unit {0} };
+
+    ghost size = { λ w. BLOCKS };
+
+    ghost is_piece = { λ w place told. IsTold w.net.now place told };
+
+    ghost has_done = { λ w low high desk. Unit {0} };
+
+    fn desk(&self) -> Result<NoDesk, Mem> {
+        Ok(NoDesk)
+    }
+
+    fn piece(&self, desk: NoDesk, place: usize) -> Result<(Vec<Broken>, NoDesk), Mem> {
+        let block = across(place);
+        let told = breaking_within(self.alloc, self.net, edge(block), edge(block + 1))?;
+        Ok((told, desk))
+    }
+
+    fn merged(&self, front: NoDesk, _back: NoDesk) -> NoDesk {
+        front
+    }
 }

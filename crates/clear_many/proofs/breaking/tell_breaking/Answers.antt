@@ -1,14 +1,20 @@
-use Rattle.std.proofs.Common.{◌≡◌, ◌+◌, IfOk, length, ap, ◌∙◌, subst}
+use Rattle.std.proofs.Common.{◌≡◌, ◌+◌, IfOk, length, sym, ap, ◌∙◌, subst}
 use Rattle.clear_report.specs.Breaking.{breaking_text}
+use Rattle.shares.specs.Made.{AreInOrder}
 use Rattle.stress.specs.declared.TheConstants.{MAX_CUT}
+use Rattle.clear_many.specs.Blocks.{IsTold}
 use Rattle.clear_many.proofs.Broken.{as_many_broken, told_by_all_cuts}
 use Rattle.clear_many.proofs.breaking.tell_breaking.Goals as goal
 
+pub all_joined-requires-clause-in_order : goal.all_joined-requires-clause-in_order
+all_joined-requires-clause-in_order g c =
+    subst (AreInOrder (IsTold c.args.net.now) 0) (sym c.as_slice.ensures.value) c.in_ok-pieces.ensures.in_order
+
 pub breaking_text-requires : goal.breaking_text-requires
 breaking_text-requires g c =
-    ap length (c.as_slice.ensures.value ∙ c.in_ok-all.ensures) ∙ as_many_broken c.args.net.now 0 (MAX_CUT + 1)
+    ap length (c.as_slice-2.ensures.value ∙ c.in_ok-all.ensures) ∙ as_many_broken c.args.net.now 0 (MAX_CUT + 1)
 
 pub returns : goal.returns
 returns g c =
     subst (λ all. IfOk c.breaking_text.result (λ text. text.items ≡ breaking_text c.args.net.now all))
-    (c.as_slice.ensures.value ∙ told_by_all_cuts c.args.net.now c.in_ok-all.all c.in_ok-all.ensures) c.breaking_text.ensures
+    (c.as_slice-2.ensures.value ∙ told_by_all_cuts c.args.net.now c.in_ok-all.all c.in_ok-all.ensures) c.breaking_text.ensures
