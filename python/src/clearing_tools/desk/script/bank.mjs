@@ -64,7 +64,7 @@ const adding = (context, bank) => {
   const input = (id, words, value, more = {}) => make("label", {}, `${words} `, make("input", { type: "text", id, value, size: 8, autocomplete: "off",
     "aria-describedby": `${id}-fault`, ...more }));
   const send = () => context.change({ set: "add", debtor: context.network.names[bank], creditor: by("creditor").value, class: by("class").value,
-    claim: by("claim").value }, "claim", ["creditor", "class", "claim"]);
+    claim: by("claim").value }, "claim", DEBT_MORE);
   const enter = { keydown: (event) => { if (event.key === "Enter") { event.preventDefault(); send(); } } };
   return make("details", { id: "add-debt" }, make("summary", {}, "Add a debt to a bank"), make("div", { class: "tools" },
     input("creditor", "to", "", { size: 16, list: "names", ...enter }), input("class", "class", "1", { size: 2, ...enter }), input("claim", "claim", "", enter),
@@ -100,18 +100,24 @@ const asking = (context, bank) => make("div", { id: "asks" }, make("div", { clas
   } }, words))), ...ASKS.map(([what]) => make("p", { id: `answer-${what}`, role: "status" })),
   context.view.keep === context.base.keep ? null : make("p", { class: "small muted" }, "These are asked of the clearing without costs of default."));
 
-/** Shows the bank chosen; nothing where another was chosen meanwhile. */
+/** What stands in the form for a debt more. */
+const DEBT_MORE = ["creditor", "class", "claim"];
+const typed = () => DEBT_MORE.map((id) => by(id)?.value);
+
+/** Shows the bank chosen; nothing where another was chosen meanwhile. What is typed meanwhile for a debt more stays. */
 export const showBank = async (context, focus = false) => {
   const bank = context.bank, view = context.view;
   if (bank === null) return;
+  const before = typed();
   const { value, fault: trouble } = await see(`/bank/${view.id}/${bank}`);
   if (bank !== context.bank || view !== context.view) return;
   if (trouble) { context.trouble(trouble); return; }
-  const isOpen = by("add-debt")?.open ?? false;
+  const isOpen = by("add-debt")?.open ?? false, after = typed();
   keepingFocus(() => by("bank").replaceChildren(make("h3", { id: "bank-name", tabindex: -1 }, context.name(bank)), make("p", { id: "bank-state" }, STATES[view.state[bank]] + "."),
     accounts(context, view, bank), facts(view, bank), otherEnd(view, bank) ?? "", reason(context, value.why), asking(context, bank), owesTable(context, bank, value.owes),
     adding(context, bank), owedTable(context, value.owed)));
   by("add-debt").open = isOpen;
+  DEBT_MORE.forEach((id, place) => { if (after[place] !== before[place]) by(id).value = after[place] ?? by(id).value; });
   if (!focus) return;
   by("bank-name").focus({ preventScroll: true });
   by("bank-name").scrollIntoView({ block: "nearest" });
