@@ -1,5 +1,6 @@
 """The desk's server: every number is the program's, faults are told at their field, what is taken away says the same, and nobody else
 gets in. It wants bottle, Debian's package python3-bottle."""
+import hashlib
 import io
 import json
 import os
@@ -332,12 +333,67 @@ class TakenAway(Desk):
         self.assertIn("tools/report.py --banks banks.csv --debts debts.csv", page)
         with zipfile.ZipFile(io.BytesIO(desk.see(f"/take/{view['id']}/evidence"))) as archive:
             archive.extractall(self.folder)
-        self.assertEqual((self.folder / "evidence/inputs/banks.csv").read_bytes(), desk.see(f"/take/{view['id']}/banks"))
-        done = subprocess.run([str(ROOT / "tools/evidence.sh"), "check", str(self.folder / "evidence")], capture_output=True, encoding="utf-8")
-        self.assertEqual(done.returncode, 0, done.stdout + done.stderr)
+        # The changes are a scenario: the files are as they were given, and what it leaves is the state.
+        for what in ("banks", "debts"):
+            self.assertEqual((self.folder / f"evidence/inputs/{what}.csv").read_bytes(), (TWELVE / f"{what}.csv").read_bytes())
+        self.assertEqual((self.folder / "evidence/inputs/scenarios.toml").read_bytes(), desk.see(f"/take/{view['id']}/scenario"))
+        self.assertEqual((self.folder / "evidence/scenario-1/banks.csv").read_bytes(), desk.see(f"/take/{view['id']}/banks"))
+        self.checked(self.folder / "evidence")
         for what in ("banks", "report", "evidence"):
             disposition = desk.ask("GET", f"/take/0/{what}", {"Cookie": desk.cookie})[1]["Content-Disposition"]
             self.assertRegex(disposition, r'^attachment; filename="[a-z]+\.[a-z]+"$')
+
+    def checked(self, folder):
+        """A folder of evidence holds by its own check, whose lines are given."""
+        done = subprocess.run([str(ROOT / "tools/evidence.sh"), "check", str(folder)], capture_output=True, encoding="utf-8")
+        self.assertEqual(done.returncode, 0, done.stdout + done.stderr)
+        return done.stdout
+
+    def test_the_report_and_the_evidence_say_what_was_changed(self):
+        desk = self.desk(None, "--scenarios", SCENARIOS)
+        sums = [f"Before the changes {what}.csv has the SHA-256 {hashlib.sha256((TWELVE / f'{what}.csv').read_bytes()).hexdigest()}."
+                for what in ("banks", "debts")]
+        names = desk.see("/network")["names"]
+        debts = [line.split(",") for line in (TWELVE / "debts.csv").read_text().splitlines()[1:]]
+        cash = int((TWELVE / "banks.csv").read_text().splitlines()[1].split(",")[1])
+        changes = [
+            ({"set": "scenario", "value": 3}, ["The scenario “"]),
+            ({"set": "cut", "value": "950"}, ["All cash is cut by 950 per mille."]),
+            ({"set": "keep", "value": "640"}, ["A bank in default keeps 640 per mille of its estate."]),
+            ({"set": "bank", "bank": 0, "field": "cash", "value": "1234567"}, [f"{names[0]}: cash 1,234,567 in place of {cash:,}."]),
+            ({"set": "bank", "bank": 0, "field": "rule", "value": "equal"}, [f"{names[0]}: rule equal in place of "]),
+            ({"set": "bank", "bank": 1, "field": "outside", "value": "5000"}, [f"{names[1]}: owed outside 5,000 in place of 0."]),
+            ({"set": "claim", "debt": 0, "value": "12345"},
+             [f"{debts[0][0]} to {debts[0][1]}, class {debts[0][2]}: the debt is 12,345 in place of {int(debts[0][3]):,}."]),
+            ({"set": "strike", "debt": 5}, [f"{debts[5][0]} to {debts[5][1]}, class {debts[5][2]}: the debt of {int(debts[5][3]):,} is struck."]),
+            ({"set": "add", "debtor": "Kemi", "creditor": "Isar", "class": "9", "claim": "999"},
+             ["Kemi to Isar, class 9: a debt of 999 is added."]),
+        ]
+        at = 0
+        for change, _ in changes:
+            at = desk.change(at, **change)["id"]
+        page = desk.see(f"/take/{at}/report").decode()
+        head = page.partition("<header>")[2].partition("</header>")[0]
+        with zipfile.ZipFile(io.BytesIO(desk.see(f"/take/{at}/evidence"))) as archive:
+            archive.extractall(self.folder)
+        text = (self.folder / "evidence/inputs/changes.txt").read_text(encoding="utf-8")
+        for words in [*(words for _, said in changes for words in said), *sums]:
+            self.assertIn(words, head)
+            self.assertIn(words, text)
+        self.assertNotIn("No scenario was given", page)
+        self.assertIn("inputs/changes.txt", self.checked(self.folder / "evidence").partition("not checked: ")[2])
+        # As it is there is nothing to say.
+        self.assertNotIn('id="changed"', desk.see("/take/0/report").decode())
+        with zipfile.ZipFile(io.BytesIO(desk.see("/take/0/evidence"))) as archive:
+            self.assertNotIn("evidence/inputs/changes.txt", archive.namelist())
+
+    def test_names_in_what_was_changed_are_no_markup(self):
+        desk = self.desk(self.net(f"{SCRIPT},5,order\nשלום,7,order\n", f"{SCRIPT},שלום,1,9\n"))
+        at = desk.change(0, set="bank", bank=0, field="cash", value="6")["id"]
+        at = desk.change(at, set="bank", bank=1, field="cash", value="6")["id"]
+        page = desk.see(f"/take/{at}/report").decode()
+        self.assertIn("&lt;script&gt;alert(1)&lt;/script&gt;: cash 6 in place of 5.", page)
+        self.assertNotIn(SCRIPT, page.partition("</header>")[0])
 
     def test_labels_stand_beside_the_names(self):
         labels = self.file("labels.csv", f"code,name\nKemi,Kemin Pankki Oyj\nNobody,No bank\nIsar,{SCRIPT}\n")

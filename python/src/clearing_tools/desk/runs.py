@@ -21,6 +21,7 @@ from ..checks.why import faults_of
 from ..evidence import shock
 from ..fullnames import FullNames
 from . import state as states
+from .changes import Original
 from .state import Base, State
 
 AT_ONCE = 4
@@ -137,8 +138,8 @@ def base_of(runs: Runs, banks: str, debts: str, scenarios: Optional[str]) -> Bas
 class Desk:
     """The network, and the clearings of its states that were asked for last."""
 
-    def __init__(self, runs: Runs, base: Base, full: FullNames) -> None:
-        self.runs, self.base, self.full = runs, base, full
+    def __init__(self, runs: Runs, base: Base, full: FullNames, originals: Optional[Mapping[str, Original]] = None) -> None:
+        self.runs, self.base, self.full, self.originals = runs, base, full, originals or {}
         self.kept: "OrderedDict[Any, Cleared]" = OrderedDict()
         self.debts: Tuple[Any, Any] = (None, None)  # the debts that were asked for last: while a slider moves they stay
         self.lock = threading.Lock()

@@ -65,7 +65,7 @@ def saved(matter):
 def worst(matter):
     """What the scenario that leaves most unpaid does."""
     if not matter.scenarios:
-        return "No scenario was given."
+        return "All this is of the network as it was changed; no scenario was given beside." if matter.changes else "No scenario was given."
     base = sum(map(shortfall_of, matter.banks))
     unpaid = {at: sum(map(shortfall_of, banks)) for at, (_, banks, _) in enumerate(matter.scenarios)}
     at = max(unpaid, key=unpaid.get)
