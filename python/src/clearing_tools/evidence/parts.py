@@ -38,8 +38,9 @@ commands.tsv   the words and the status of each run of the program, from this fo
 versions.txt   of the repository, the program and the toolchain
 SHA256SUMS     checksums of all files: `sha256sum --check SHA256SUMS`
 
-`tools/evidence.sh check FOLDER` of the repository checks all this with Python alone. docs/FORMATS.md there has the files, and
-tools/audit.py says in its first lines what they mean.
+`tools/evidence.sh check FOLDER` of the repository checks all this with Python alone; on another machine it needs tools/evidence.sh,
+tools/evidence.py and python/src of the repository, in one folder. docs/FORMATS.md there has the files, and tools/audit.py says in its
+first lines what they mean.
 """
 
 
