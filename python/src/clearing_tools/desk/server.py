@@ -102,7 +102,7 @@ def bottle_of() -> Any:
     except ImportError as fault:
         raise Failed(
             f"bottle is missing for {sys.executable} (Python {sys.version.split()[0]}); Debian's package python3-bottle is for"
-            " /usr/bin/python3", 2) from fault
+            " /usr/bin/python3, and for a virtual environment that was made of it with --system-site-packages", 2) from fault
     return bottle
 
 

@@ -68,7 +68,7 @@ def templates():
     except ImportError as fault:
         raise Failed(
             f"jinja2 is missing for {sys.executable} (Python {sys.version.split()[0]}); Debian's package python3-jinja2 is for"
-            " /usr/bin/python3", 2) from fault
+            " /usr/bin/python3, and for a virtual environment that was made of it with --system-site-packages", 2) from fault
     return jinja2.Environment(
         loader=jinja2.FileSystemLoader(FOLDER / "templates"), autoescape=True, undefined=jinja2.StrictUndefined, trim_blocks=True,
         lstrip_blocks=True)
