@@ -248,6 +248,7 @@ class Faults(Desk):
             ({"set": "cut", "value": "half"}, "scenarios row 1: shape (17)", "cut"),
             ({"set": "cut", "value": "9" * 20}, "scenarios row 1: shape (17)", "cut"),
             ({"set": "keep", "value": "1001"}, "'1001' is no value of --keep: it is a number from 0 to 1,000", "keep"),
+            ({"set": "cut", "value": "95%"}, "scenarios row 1: shape (17)", "cut"),
             ({"set": "keep", "value": "x"}, "'x' is no value of --keep: a number is 1 to 20 digits 0 to 9, and nothing else", "keep"),
         ]
         for change, said, field in table:
@@ -256,6 +257,28 @@ class Faults(Desk):
         # No state was made, and the last good one is as it was.
         self.assertEqual(desk.see(f"/state/{good['id']}"), good)
         self.assertEqual(desk.change(good["id"], set="cut", value="101")["id"], good["id"] + 1)
+
+    def test_a_fault_says_what_to_do(self):
+        desk = self.desk()
+        bank, add = {"set": "bank", "bank": 2}, {"set": "add", "debtor": "Kemi", "creditor": "Isar", "class": "1", "claim": "5"}
+        for change, hint in (
+            ({"set": "cut", "value": "95%"}, "write 950 for 95%"), ({"set": "cut", "value": "12.5 %"}, "write 125 for 12.5 %"),
+            ({"set": "cut", "value": "1001"}, "from 0 to 1,000, per mille"), ({"set": "keep", "value": "80%"}, "write 800 for 80%"),
+            ({**bank, "field": "cash", "value": "1.5"}, "amounts are whole units"), ({**bank, "field": "cash", "value": ""}, "write 0 where there is nothing"),
+            ({**bank, "field": "cash", "value": "1000000000001"}, "at most 1,000,000,000,000"), ({**bank, "field": "rule", "value": "Webster"}, "write it as webster"),
+            ({**bank, "field": "outside", "value": "100000000001"}, "at most 100,000,000,000"), ({"set": "claim", "debt": 6, "value": "1000001"}, "at most 1,000,000"),
+            ({**add, "claim": "1e3"}, "without an exponent"), ({**add, "class": "10"}, "a class is one digit from 1 to 9"),
+            ({**add, "claim": "1000001"}, "at most 1,000,000"),
+        ):
+            self.assertIn(hint, desk.change(0, 422, **change)["meaning"], change)
+
+    def test_an_amount_may_be_typed_as_the_page_shows_it(self):
+        desk = self.desk()
+        self.assertEqual(desk.change(0, set="bank", bank=0, field="cash", value="1,200,000")["cash"][0], 1_200_000)
+        self.assertEqual(desk.change(0, set="cut", value="1,000")["cut"], 1000)
+        self.assertEqual(desk.change(0, set="claim", debt=0, value="12,345")["changedDebts"][0][5], 12_345)
+        for value in ("1,20", "1,2000", ",100", "1,,000", "1,000,", "1.000,000"):
+            desk.change(0, 422, set="bank", bank=0, field="cash", value=value)
 
     def test_all_claims_of_a_bank_may_pass_the_limit(self):
         debts = "".join(f"A,B{at},1,1000000\n" for at in range(10))
