@@ -28,8 +28,8 @@ class Matrix(Case):
         sheet, told = self.file("m.csv", MATRIX), "what is written is CSV, and this is the name of a workbook"
         for name in ("x.xlsx", "X.XLSX", "x.ods", "x.xls"):
             other = self.folder / name
-            for words in (["--banks", other, "--debts", self.debts], ["--banks", self.banks, "--debts", other]):
-                self.refused("from_matrix.py", 2, told, sheet, "--cash", "ea", "--outside", "el", "--unit", "0.5", *words)
+            for named in (["--banks", other, "--debts", self.debts], ["--banks", self.banks, "--debts", other]):
+                self.refused("from_matrix.py", 2, told, sheet, "--cash", "ea", "--outside", "el", "--unit", "0.5", *named)
             self.refused("from_list.py", 2, told, sheet, "--table", sheet, "--banks", self.banks, "--debts", other)
             self.refused("from_totals.py", 2, told, sheet, "--out", other)
             self.refused("from_matrix.py", 2, told, sheet, *self.files, "--label", other)
