@@ -358,7 +358,7 @@ class Doing(InTheBrowser):
         self.expected = ["422"]
         self.choose(1)
         before = self.picture()
-        for key, value, said in (("cash", "1000000000001", "banks row 2: limit (6) — a number is outside its limit."), ("outside", "x", "banks row 2: number (4)"),
+        for key, value, said in (("cash", "1000000000001", "banks row 2: limit (6) — a number is outside its limit; it is at most 1,000,000,000,000."), ("outside", "x", "banks row 2: number (4)"),
                                  ("claim-3", "0.5", "debts row 4: number (4)"), ("cut", "1001", "scenarios row 1: limit (6)"),
                                  ("keep", "all", "is no value of --keep")):
             self.type_in(key, value)
