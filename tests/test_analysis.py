@@ -169,6 +169,9 @@ class Analysis(Case):
     def solver(self, words):
         return Solver(words[1].read_bytes(), words[3].read_bytes())
 
+    def test_the_help_of_impact_says_what_the_program_calls_a_column(self):
+        self.assertIn("`defaults`, which `clearing impact` calls `falls`", self.made("impact.py", "--help"))
+
     def test_the_independent_computation_is_that_of_the_model(self):
         chance = random.Random(2)
         for _ in range(300):

@@ -1,5 +1,6 @@
 """The desk's server: every number is the program's, faults are told at their field, what is taken away says the same, and nobody else
 gets in. It wants bottle, Debian's package python3-bottle."""
+import hashlib
 import io
 import json
 import os
@@ -247,6 +248,7 @@ class Faults(Desk):
             ({"set": "cut", "value": "half"}, "scenarios row 1: shape (17)", "cut"),
             ({"set": "cut", "value": "9" * 20}, "scenarios row 1: shape (17)", "cut"),
             ({"set": "keep", "value": "1001"}, "'1001' is no value of --keep: it is a number from 0 to 1,000", "keep"),
+            ({"set": "cut", "value": "95%"}, "scenarios row 1: shape (17)", "cut"),
             ({"set": "keep", "value": "x"}, "'x' is no value of --keep: a number is 1 to 20 digits 0 to 9, and nothing else", "keep"),
         ]
         for change, said, field in table:
@@ -255,6 +257,28 @@ class Faults(Desk):
         # No state was made, and the last good one is as it was.
         self.assertEqual(desk.see(f"/state/{good['id']}"), good)
         self.assertEqual(desk.change(good["id"], set="cut", value="101")["id"], good["id"] + 1)
+
+    def test_a_fault_says_what_to_do(self):
+        desk = self.desk()
+        bank, add = {"set": "bank", "bank": 2}, {"set": "add", "debtor": "Kemi", "creditor": "Isar", "class": "1", "claim": "5"}
+        for change, hint in (
+            ({"set": "cut", "value": "95%"}, "write 950 for 95%"), ({"set": "cut", "value": "12.5 %"}, "write 125 for 12.5 %"),
+            ({"set": "cut", "value": "1001"}, "from 0 to 1,000, per mille"), ({"set": "keep", "value": "80%"}, "write 800 for 80%"),
+            ({**bank, "field": "cash", "value": "1.5"}, "amounts are whole units"), ({**bank, "field": "cash", "value": ""}, "write 0 where there is nothing"),
+            ({**bank, "field": "cash", "value": "1000000000001"}, "at most 1,000,000,000,000"), ({**bank, "field": "rule", "value": "Webster"}, "write it as webster"),
+            ({**bank, "field": "outside", "value": "100000000001"}, "at most 100,000,000,000"), ({"set": "claim", "debt": 6, "value": "1000001"}, "at most 1,000,000"),
+            ({**add, "claim": "1e3"}, "without an exponent"), ({**add, "class": "10"}, "a class is one digit from 1 to 9"),
+            ({**add, "claim": "1000001"}, "at most 1,000,000"),
+        ):
+            self.assertIn(hint, desk.change(0, 422, **change)["meaning"], change)
+
+    def test_an_amount_may_be_typed_as_the_page_shows_it(self):
+        desk = self.desk()
+        self.assertEqual(desk.change(0, set="bank", bank=0, field="cash", value="1,200,000")["cash"][0], 1_200_000)
+        self.assertEqual(desk.change(0, set="cut", value="1,000")["cut"], 1000)
+        self.assertEqual(desk.change(0, set="claim", debt=0, value="12,345")["changedDebts"][0][5], 12_345)
+        for value in ("1,20", "1,2000", ",100", "1,,000", "1,000,", "1.000,000"):
+            desk.change(0, 422, set="bank", bank=0, field="cash", value=value)
 
     def test_all_claims_of_a_bank_may_pass_the_limit(self):
         debts = "".join(f"A,B{at},1,1000000\n" for at in range(10))
@@ -332,12 +356,67 @@ class TakenAway(Desk):
         self.assertIn("tools/report.py --banks banks.csv --debts debts.csv", page)
         with zipfile.ZipFile(io.BytesIO(desk.see(f"/take/{view['id']}/evidence"))) as archive:
             archive.extractall(self.folder)
-        self.assertEqual((self.folder / "evidence/inputs/banks.csv").read_bytes(), desk.see(f"/take/{view['id']}/banks"))
-        done = subprocess.run([str(ROOT / "tools/evidence.sh"), "check", str(self.folder / "evidence")], capture_output=True, encoding="utf-8")
-        self.assertEqual(done.returncode, 0, done.stdout + done.stderr)
+        # The changes are a scenario: the files are as they were given, and what it leaves is the state.
+        for what in ("banks", "debts"):
+            self.assertEqual((self.folder / f"evidence/inputs/{what}.csv").read_bytes(), (TWELVE / f"{what}.csv").read_bytes())
+        self.assertEqual((self.folder / "evidence/inputs/scenarios.toml").read_bytes(), desk.see(f"/take/{view['id']}/scenario"))
+        self.assertEqual((self.folder / "evidence/scenario-1/banks.csv").read_bytes(), desk.see(f"/take/{view['id']}/banks"))
+        self.checked(self.folder / "evidence")
         for what in ("banks", "report", "evidence"):
             disposition = desk.ask("GET", f"/take/0/{what}", {"Cookie": desk.cookie})[1]["Content-Disposition"]
             self.assertRegex(disposition, r'^attachment; filename="[a-z]+\.[a-z]+"$')
+
+    def checked(self, folder):
+        """A folder of evidence holds by its own check, whose lines are given."""
+        done = subprocess.run([str(ROOT / "tools/evidence.sh"), "check", str(folder)], capture_output=True, encoding="utf-8")
+        self.assertEqual(done.returncode, 0, done.stdout + done.stderr)
+        return done.stdout
+
+    def test_the_report_and_the_evidence_say_what_was_changed(self):
+        desk = self.desk(None, "--scenarios", SCENARIOS)
+        sums = [f"Before the changes {what}.csv has the SHA-256 {hashlib.sha256((TWELVE / f'{what}.csv').read_bytes()).hexdigest()}."
+                for what in ("banks", "debts")]
+        names = desk.see("/network")["names"]
+        debts = [line.split(",") for line in (TWELVE / "debts.csv").read_text().splitlines()[1:]]
+        cash = int((TWELVE / "banks.csv").read_text().splitlines()[1].split(",")[1])
+        changes = [
+            ({"set": "scenario", "value": 3}, ["The scenario “"]),
+            ({"set": "cut", "value": "950"}, ["All cash is cut by 950 per mille."]),
+            ({"set": "keep", "value": "640"}, ["A bank in default keeps 640 per mille of its estate."]),
+            ({"set": "bank", "bank": 0, "field": "cash", "value": "1234567"}, [f"{names[0]}: cash 1,234,567 in place of {cash:,}."]),
+            ({"set": "bank", "bank": 0, "field": "rule", "value": "equal"}, [f"{names[0]}: rule equal in place of "]),
+            ({"set": "bank", "bank": 1, "field": "outside", "value": "5000"}, [f"{names[1]}: owed outside 5,000 in place of 0."]),
+            ({"set": "claim", "debt": 0, "value": "12345"},
+             [f"{debts[0][0]} to {debts[0][1]}, class {debts[0][2]}: the debt is 12,345 in place of {int(debts[0][3]):,}."]),
+            ({"set": "strike", "debt": 5}, [f"{debts[5][0]} to {debts[5][1]}, class {debts[5][2]}: the debt of {int(debts[5][3]):,} is struck."]),
+            ({"set": "add", "debtor": "Kemi", "creditor": "Isar", "class": "9", "claim": "999"},
+             ["Kemi to Isar, class 9: a debt of 999 is added."]),
+        ]
+        at = 0
+        for change, _ in changes:
+            at = desk.change(at, **change)["id"]
+        page = desk.see(f"/take/{at}/report").decode()
+        head = page.partition("<header>")[2].partition("</header>")[0]
+        with zipfile.ZipFile(io.BytesIO(desk.see(f"/take/{at}/evidence"))) as archive:
+            archive.extractall(self.folder)
+        text = (self.folder / "evidence/inputs/changes.txt").read_text(encoding="utf-8")
+        for words in [*(words for _, said in changes for words in said), *sums]:
+            self.assertIn(words, head)
+            self.assertIn(words, text)
+        self.assertNotIn("No scenario was given", page)
+        self.assertIn("inputs/changes.txt", self.checked(self.folder / "evidence").partition("not checked: ")[2])
+        # As it is there is nothing to say.
+        self.assertNotIn('id="changed"', desk.see("/take/0/report").decode())
+        with zipfile.ZipFile(io.BytesIO(desk.see("/take/0/evidence"))) as archive:
+            self.assertNotIn("evidence/inputs/changes.txt", archive.namelist())
+
+    def test_names_in_what_was_changed_are_no_markup(self):
+        desk = self.desk(self.net(f"{SCRIPT},5,order\nשלום,7,order\n", f"{SCRIPT},שלום,1,9\n"))
+        at = desk.change(0, set="bank", bank=0, field="cash", value="6")["id"]
+        at = desk.change(at, set="bank", bank=1, field="cash", value="6")["id"]
+        page = desk.see(f"/take/{at}/report").decode()
+        self.assertIn("&lt;script&gt;alert(1)&lt;/script&gt;: cash 6 in place of 5.", page)
+        self.assertNotIn(SCRIPT, page.partition("</header>")[0])
 
     def test_labels_stand_beside_the_names(self):
         labels = self.file("labels.csv", f"code,name\nKemi,Kemin Pankki Oyj\nNobody,No bank\nIsar,{SCRIPT}\n")

@@ -322,13 +322,43 @@ class Doing(InTheBrowser):
         self.js("document.getElementById('find').focus()")
         self.press("OSUUS", Keys.ENTER)
         self.until(lambda: "bank 555 (Osuuspankki Å)" in self.text("bank-name"))
+        self.js("document.getElementById('find').focus()")
+        self.press("nobody")
+        self.assertEqual(self.text("find-none"), "No bank has this in its name.")
+        self.press(Keys.ESCAPE)
+        self.assertEqual(self.text("find-none"), "")
+
+    def test_an_answer_of_a_bank_is_seen_and_says_of_which_cash(self):
+        self.open()
+        self.size(1366, 900)
+        self.slide("cut", 100)
+        self.until_state(1)
+        self.choose(9)
+        for what in ("breaking", "rescue", "ruin"):
+            self.js("const e = document.getElementById(arguments[0]); e.scrollIntoView({ block: 'end' }); e.focus()", f"ask-{what}")
+            self.click(f"ask-{what}")
+            self.until(lambda: self.text(f"answer-{what}") not in ("", "The program is asked."))
+            box = self.js("const b = document.getElementById(arguments[0]).getBoundingClientRect(); return [b.top, b.bottom, innerHeight, document.activeElement.id, "
+                          "document.getElementById(arguments[0]).getAttribute('role')]", f"answer-{what}")
+            self.assertTrue(0 <= box[0] and box[1] <= box[2] + 1, (what, box))
+            self.assertEqual(box[3:], [f"ask-{what}", "status"])
+        self.assertIn(" per mille of the cash before this cut (", self.text("answer-breaking"))
+        self.assertIn("the breaking cut of the cash before this cut", self.text("asks-of"))
+
+    def test_a_phone_shows_the_whole_drawing(self):
+        self.open()
+        self.size(390, 844)
+        box = self.js("""const s = document.querySelector('#picture svg'), b = s.getBoundingClientRect(), p = s.parentElement;
+            return [b.left, b.right, p.scrollWidth, p.clientWidth]""")
+        self.assertTrue(0 <= box[0] and box[1] <= 390 and box[2] <= box[3], box)
+        self.assertIn("opens its part below", self.js("return document.querySelector('figcaption').innerText"))
 
     def test_a_refused_change_is_told_at_its_field(self):
         self.open()
         self.expected = ["422"]
         self.choose(1)
         before = self.picture()
-        for key, value, said in (("cash", "1000000000001", "banks row 2: limit (6) — a number is outside its limit."), ("outside", "x", "banks row 2: number (4)"),
+        for key, value, said in (("cash", "1000000000001", "banks row 2: limit (6) — a number is outside its limit; it is at most 1,000,000,000,000."), ("outside", "x", "banks row 2: number (4)"),
                                  ("claim-3", "0.5", "debts row 4: number (4)"), ("cut", "1001", "scenarios row 1: limit (6)"),
                                  ("keep", "all", "is no value of --keep")):
             self.type_in(key, value)
@@ -361,6 +391,7 @@ class Doing(InTheBrowser):
         self.slide("keep", 500)
         self.until_state(2)
         self.assertFalse(self.js("return document.getElementById('take-scenario').checkVisibility()"))
+        self.assertEqual(self.text("no-scenario"), "No changes.toml: a scenario takes cash and nothing else, and changed here: what default keeps.")
 
     def test_a_state_is_a_link_and_two_tabs_are_apart(self):
         self.open()

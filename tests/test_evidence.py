@@ -32,6 +32,28 @@ class Evidence(EvidenceCase):
 
     # The banks that a scenario leaves.
 
+    def test_without_what_it_needs_it_says_so_in_a_line(self):
+        for names in (["evidence.sh"], ["evidence.sh", "evidence.py"]):
+            place = self.folder / str(len(names)) / "tools"
+            place.mkdir(parents=True)
+            for name in names:
+                shutil.copy(ROOT / "tools" / name, place)
+            done = subprocess.run([str(place / "evidence.sh"), "check", str(self.folder)], capture_output=True, encoding="utf-8")
+            self.assertEqual((done.returncode, done.stdout), (2, ""))
+            self.assertRegex(done.stderr, r"\Aevidence\.sh: needs tools/evidence\.sh, tools/evidence\.py and python/src [^\n]*\n\Z")
+
+    def test_a_text_of_what_was_changed_belongs_to_a_folder(self):
+        text = self.file("said.txt", "Hub: cash 5 in place of 4.\n")
+        folder = self.folder / "evidence"
+        words = ["--banks", HUB / "banks.csv", "--debts", HUB / "debts.csv"]
+        self.assertEqual(evidence("make", folder, *words, "--changes", text).returncode, 0)
+        self.assertEqual((folder / "inputs/changes.txt").read_bytes(), text.read_bytes())
+        done = evidence("check", folder)
+        self.assertEqual(done.returncode, 0, done.stdout)
+        self.assertIn(b"not checked: that the inputs are true (inputs/banks.csv, inputs/changes.txt, inputs/debts.csv)", done.stdout)
+        (folder / "inputs/changes.txt").write_text("Hub: cash 4 in place of 4.\n")
+        self.assertEqual(evidence("check", folder).returncode, 4)
+
     def test_a_shock_leaves_what_stress_clears(self):
         generated = [self.file("b.csv"), self.file("d.csv")]
         self.made("gen_files.py", "--seed", 3, "--size", 200, "--tries", 900, "--banks", generated[0], "--debts", generated[1])

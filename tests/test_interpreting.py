@@ -1,5 +1,7 @@
 """The table of docs/INTERPRETING.md: the program beside pro rata in real numbers, on three networks."""
+import os
 import re
+import shlex
 import subprocess
 import sys
 import unittest
@@ -29,6 +31,21 @@ def in_real_numbers(name, *words):
     first = subprocess.run(run, cwd=ROOT, capture_output=True, encoding="utf-8", check=True).stdout.splitlines()[0]
     paid, short = re.fullmatch(r"paid ([\d.]+), banks that leave debts unpaid: (\d+)", first).groups()
     return f"{float(paid):,.1f}", short
+
+
+class RealNumbers(unittest.TestCase):
+    def test_a_closed_pipe_is_no_fault(self):
+        run = f"exec {shlex.quote(sys.executable)} examples/pro-rata/real.py examples/twelve-banks"
+        read, write = os.pipe()
+        os.close(read)
+        done = subprocess.run(["sh", "-c", run], cwd=ROOT, stdout=write, stderr=subprocess.PIPE, encoding="utf-8")
+        os.close(write)
+        self.assertEqual(done.stderr, "")
+
+    def test_words_that_are_none_are_told(self):
+        for words in ([], ["--one-class"], ["examples/core", "--two"]):
+            done = subprocess.run([sys.executable, "examples/pro-rata/real.py", *words], cwd=ROOT, capture_output=True, encoding="utf-8")
+            self.assertEqual((done.returncode, done.stdout, done.stderr), (1, "", "usage: python3 real.py FOLDER [--one-class]\n"))
 
 
 class Table(unittest.TestCase):

@@ -26,6 +26,13 @@ class Man(Case):
             for part in (".SH NAME", ".SH SYNOPSIS", ".SH DESCRIPTION"):
                 self.assertIn(part, page)
 
+    def test_the_page_of_the_program_names_pages_that_there_are(self):
+        below = (ROOT / "docs/clearing.1").read_text().partition(".SH SEE ALSO\n")[2]
+        named = re.findall(r"^\.BR (clearing-\S+) \(1\)", below, re.MULTILINE)
+        self.assertLess({"clearing-desk", "clearing-evidence", "clearing-from-list", "clearing-report"}, set(named))
+        self.assertEqual(named, sorted(named))
+        self.assertLessEqual(set(named), {page.stem for page in self.pages()})
+
     @needs("mandoc")
     def test_pages_are_in_form(self):
         for page in [*self.pages(), ROOT / "docs/clearing.1"]:

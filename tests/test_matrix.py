@@ -24,6 +24,17 @@ class Matrix(Case):
         self.assertEqual((self.banks.read_text(), self.debts.read_text()), (banks, debts))
         self.printed("check", *self.files)
 
+    def test_the_name_of_a_workbook_is_no_file_to_write(self):
+        sheet, told = self.file("m.csv", MATRIX), "what is written is CSV, and this is the name of a workbook"
+        for name in ("x.xlsx", "X.XLSX", "x.ods", "x.xls"):
+            other = self.folder / name
+            for named in (["--banks", other, "--debts", self.debts], ["--banks", self.banks, "--debts", other]):
+                self.refused("from_matrix.py", 2, told, sheet, "--cash", "ea", "--outside", "el", "--unit", "0.5", *named)
+            self.refused("from_list.py", 2, told, sheet, "--table", sheet, "--banks", self.banks, "--debts", other)
+            self.refused("from_totals.py", 2, told, sheet, "--out", other)
+            self.refused("from_matrix.py", 2, told, sheet, *self.files, "--label", other)
+            self.assertFalse(other.exists() or self.banks.exists() or self.debts.exists())
+
     def test_matrix_becomes_two_files(self):
         names = ["--cash", "ea", "--outside", "el", "--unit", "0.5"]
         self.told("from_matrix.py", self.file("m.csv", MATRIX), *names, *self.files)

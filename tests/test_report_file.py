@@ -126,6 +126,7 @@ class TheFile(Report):
         done = subprocess.run([PYTHON, "-B", "-c", program], cwd=PACKAGES, capture_output=True, encoding="utf-8")
         self.assertEqual((done.returncode, done.stdout), (2, ""))
         self.assertIn("python3-jinja2", done.stderr)
+        self.assertIn("--system-site-packages", done.stderr)
         self.assertEqual(len(done.stderr.splitlines()), 1)
 
     def test_a_journal_that_is_not_lawful_is_told_and_not_played(self):

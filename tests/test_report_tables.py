@@ -131,7 +131,7 @@ class Tables(InTheBrowser):
         self.assertEqual(cells[1][6:8], [str(part) for part in after])
         self.assertIn(f"unpaid +{sum(after) - sum(lost)}", cells[1][9])
         sentence = self.js("return document.querySelector('#summary li').textContent")
-        self.assertIn(f": {sum(lost)} units stays unpaid, ", sentence)
+        self.assertIn(f": {sum(lost)} units stay unpaid, ", sentence)
 
     def test_the_rankings_are_those_of_the_tools(self):
         files = files_of(TWELVE)
@@ -182,12 +182,15 @@ class Tables(InTheBrowser):
 
         core, ring = files_of(ROOT / "examples/core"), files_of(ROOT / "examples/gridlock")
         self.assertEqual(last(core, "--default-keeps", "800"), [
-            "Where a bank in default keeps 80% of its estate, 42 banks fall at the least payments that clear, and 41 at the greatest; 102,005 units is lost,"
-            " or 101,718 units."])
+            "Where a bank in default keeps 80% of its estate, 42 banks fall at the least payments that clear, and 41 at the greatest. At the least 102,005"
+            " units are lost, and 341,769 units more stay unpaid than without costs; at the greatest 101,718 units are lost, and 340,505 units more stay"
+            " unpaid than without costs."])
         self.assertEqual(last(files_of(ROOT / "examples/chain"), "--default-keeps", "500", "--unit", "1000", "--currency", "EUR"), [
-            "Where a bank in default keeps 50% of its estate, 2 banks fall at the least as at the greatest payments that clear, and EUR 6,000 is lost."])
+            "Where a bank in default keeps 50% of its estate, 2 banks fall at the least as at the greatest payments that clear; EUR 6,000 is lost, and"
+            " EUR 10,000 more stays unpaid than without costs."])
         self.assertEqual(last(ring, "--default-keeps", "900"), [
-            "Where a bank in default keeps 90% of its estate, 3 banks fall at the least payments that clear, and none at the greatest; nothing is lost, or nothing."])
+            "Where a bank in default keeps 90% of its estate, 3 banks fall at the least payments that clear, and none at the greatest. At the least nothing is lost, and"
+            " as much stays unpaid as without costs; at the greatest nothing is lost, and 300 units less stay unpaid than without costs."])
         self.assertEqual(last(core), [])
 
     def test_the_summary_is_five_sentences_of_the_results(self):
@@ -196,10 +199,10 @@ class Tables(InTheBrowser):
         self.assertEqual(said, [
             "4 of 12 banks cannot pay all that they owe: EUR 1,493.3 million stays unpaid, 15.3% of what the banks owe.",
             "Dunmore and Isar could not pay even if all who owe to them paid in full; Birk and Elbe fall because those who owe to them do not.",
-            "The cheapest to save is Birk: with EUR 113.3 million more it pays all that it owes; EUR 400 million for Isar would save 1 other too.",
-            "The worst of 3 scenarios, \u201cthree quarters are lost and Isar loses all\u201d, leaves 4 banks in default and EUR 6,610.8 million"
+            "The cheapest to save is Birk: with EUR 113.3 million more it pays all that it owes; EUR 400 million for Isar would save Birk too.",
+            "The worst of 3 scenarios, \u201cthree quarters are lost and Isar loses all\u201d, leaves the same 4 banks in default and EUR 6,610.8 million"
             " unpaid, EUR 5,117.5 million more than as things are.",
-            "The next to fall is Jura, where 89.1% of all cash is lost; then Fjord, at 94.1%."])
+            "The next to fall is Jura, once all banks have lost 89.1% of their cash; then Fjord, at 94.1%."])
         self.open(files_of(ROOT / "examples/gridlock"))
         said = self.js("return [...document.querySelectorAll('#summary li')].map(e => e.textContent)")
         self.assertEqual(said[1], "A, B and C fall at the least payments alone, and greater payments, by 300 units in all, would clear too.")

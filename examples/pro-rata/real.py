@@ -6,6 +6,7 @@ A bank in default pays each debt of a class the same share of its claim, whateve
 --one-class all debts have one class. Prints what is paid on all debts, in units to a tenth, and which banks leave debts unpaid.
 """
 import csv
+import os
 import pathlib
 import sys
 
@@ -44,4 +45,11 @@ def main(folder, one_class):
 
 
 if __name__ == "__main__":
-    main(sys.argv[1], "--one-class" in sys.argv[2:])
+    if len(sys.argv) < 2 or sys.argv[1].startswith("-") or sys.argv[2:] not in ([], ["--one-class"]):
+        sys.exit("usage: python3 real.py FOLDER [--one-class]")
+    try:
+        main(sys.argv[1], "--one-class" in sys.argv[2:])
+        sys.stdout.flush()
+    except BrokenPipeError:
+        # Who reads has read enough.
+        os.dup2(os.open(os.devnull, os.O_WRONLY), sys.stdout.fileno())

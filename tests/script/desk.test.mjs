@@ -142,6 +142,8 @@ test("banks are found by name or label, the nearest first", () => {
   const names = ["Kemi", "Alkem", "kem", "Ost"], labels = ["", "", "", "Bank of Kemijärvi"];
   assert.deepEqual(matches(names, labels, " KEM "), [2, 0, 1, 3]);
   assert.deepEqual(matches(names, labels, ""), []);
+  assert.deepEqual(matches(["Crédit Loire", "B"], ["", "Cre\u0301dit B"], "credit"), [0, 1]);
+  assert.deepEqual(matches(["Credit Loire"], [""], "CRÉDIT"), [0]);
   assert.deepEqual(matches(names, labels, "kem", 2), [2, 0]);
   const many = Array.from({ length: 1000 }, (_, at) => `bank ${at}`);
   assert.deepEqual(matches(many, many.map(() => ""), "bank 777"), [777]);

@@ -96,6 +96,10 @@ class Money:
                 return f"{self.currency} {number} {word}" if self.currency else f"{number} {word}{' units' if self.unit is None else ''}"
         return self(units)
 
+    def verb(self, units: int, one: str, many: str) -> str:
+        """The form of a verb behind an amount: several units are many, and an amount of a currency is one."""
+        return many if self.unit is None and not self.currency and units != 1 else one
+
     def scale_of(self, amounts: Iterable[int]) -> "Scale":
         """The scale in which a table with these amounts is read: whole, or in thousands, millions or billions."""
         return Scale(self, list(amounts))

@@ -56,7 +56,7 @@ def program() -> str:
     else:
         found = on_path(named)
     if found is None:
-        raise Failed(f"cannot run {named}: it is on no absolute entry of the path")
+        raise Failed(f"cannot run {named}: it is on no absolute entry of the path; CLEARING names the program")
     if os.path.basename(os.path.realpath(found)) == "first-look":
         raise Failed(f"{named} is a first look, which is not proved; name the proved program by CLEARING", 2)
     return found

@@ -3,7 +3,7 @@
 In:   --banks FILE and --debts FILE, as `clearing` reads them
 Out:  CSV on standard output, or in --ranking FILE: `bank,cash,own,others,defaults`, a line for each bank, those first that hurt others most.
       Where the bank loses all its cash, it keeps so much less itself (`own`), the others keep so much less together (`others`), and so many
-      others that were sound are in default (`defaults`). What a bank keeps is its equity and what it pays outside.
+      others that were sound are in default (`defaults`, which `clearing impact` calls `falls`). What a bank keeps is its equity and what it pays outside.
       --matrix FILE     `bank,of,lost`: where `bank` loses all its cash, `of` keeps so much less; a line for each pair where that is not 0
       --defaults FILE   `bank,of,state`: where `bank` loses all its cash, `of`, which was sound, is in that state
       --picture FILE    a heat map of the matrix, the banks that hurt others most first (--most of them, 40). The kind of picture is the

@@ -21,6 +21,8 @@ from ..checks.why import faults_of
 from ..evidence import shock
 from ..fullnames import FullNames
 from . import state as states
+from .changes import Original
+from .hints import hint_of
 from .state import Base, State
 
 AT_ONCE = 4
@@ -137,8 +139,8 @@ def base_of(runs: Runs, banks: str, debts: str, scenarios: Optional[str]) -> Bas
 class Desk:
     """The network, and the clearings of its states that were asked for last."""
 
-    def __init__(self, runs: Runs, base: Base, full: FullNames) -> None:
-        self.runs, self.base, self.full = runs, base, full
+    def __init__(self, runs: Runs, base: Base, full: FullNames, originals: Optional[Mapping[str, Original]] = None) -> None:
+        self.runs, self.base, self.full, self.originals = runs, base, full, originals or {}
         self.kept: "OrderedDict[Any, Cleared]" = OrderedDict()
         self.debts: Tuple[Any, Any] = (None, None)  # the debts that were asked for last: while a slider moves they stay
         self.lock = threading.Lock()
@@ -256,11 +258,12 @@ def refusal(fault: errors.ClearingError, state: State, change: Mapping[str, Any]
     """A fault of the program, told at a field."""
     if isinstance(fault, errors.RefusedError):
         said = f"{fault.file} row {fault.row}: {fault.kind} ({fault.number})"
-        return Refused(said, fault.meaning, states.field_of(change, fault.file, fault.kind))
+        meaning = "; ".join(filter(None, [fault.meaning, hint_of(change, fault.kind)]))
+        return Refused(said, meaning, states.field_of(change, fault.file, fault.kind))
     if isinstance(fault, errors.UsageError):
         words = ["cost-bounds", "--banks=b", "--debts=d", f"--keep={state.keep}"]
         said = "; ".join(what for _, what in faults_of(words)) or str(fault)
-        return Refused(said, "", states.field_of(change, "", ""))
+        return Refused(said, hint_of(change, ""), states.field_of(change, "", ""))
     return runner.Failed(str(fault))
 
 

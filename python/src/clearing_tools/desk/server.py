@@ -41,6 +41,7 @@ from ..fullnames import add_labels, read_labels
 from ..report.gather import D3
 from ..runner import Failed, command, work_folder
 from .app import application
+from .changes import original_of
 from .guard import Guard
 from .runs import Desk, Runs, base_of
 
@@ -101,7 +102,7 @@ def bottle_of() -> Any:
     except ImportError as fault:
         raise Failed(
             f"bottle is missing for {sys.executable} (Python {sys.version.split()[0]}); Debian's package python3-bottle is for"
-            " /usr/bin/python3", 2) from fault
+            " /usr/bin/python3, and for a virtual environment that was made of it with --system-site-packages", 2) from fault
     return bottle
 
 
@@ -160,8 +161,9 @@ def main() -> int:
         runs = Runs(folder)
         base = base_of(runs, asked.banks, asked.debts, asked.scenarios)
         full.check((bank.name for bank in base.banks), 4)
+        originals = {what: original_of(path) for what, path in (("banks", asked.banks), ("debts", asked.debts)) if os.path.isfile(path)}
         server, clock = Server(), Clock()
-        guard = Guard(application(bottle, Desk(runs, base, full), library()), server.server_port, clock.asked)
+        guard = Guard(application(bottle, Desk(runs, base, full, originals), library()), server.server_port, clock.asked)
         server.set_app(guard)
         serving = threading.Thread(target=server.serve_forever, args=(0.1,), daemon=True)
         try:

@@ -3,6 +3,7 @@
 What is typed stands in the files as it was typed, so that the program judges it. Amounts are whole units of account."""
 import csv
 import io
+import re
 from typing import Any, Dict, Iterator, List, Mapping, NamedTuple, Optional, Sequence, Tuple
 
 from clearing_client.format import MAX_CUT, MAX_KEEP
@@ -11,6 +12,7 @@ from clearing_client.scenarios import Scenario, Scenarios
 
 from ..evidence import shock
 
+GROUPED = re.compile("[0-9]{1,3}(,[0-9]{3})+")
 MOST_LETTERS = 200  # of a field that is typed: more than any field that the program takes
 
 
@@ -42,8 +44,11 @@ AS_IT_IS = State()
 
 
 def plain(text: str) -> str:
-    """A field as the program prints it, where it is a number; else as it was typed."""
+    """A field as the program prints it, where it is a number, with or without the commas between thousands with which the page shows it; else
+    as it was typed."""
     inner = text.strip(" \t")
+    if GROUPED.fullmatch(inner):
+        inner = inner.replace(",", "")
     return str(int(inner)) if inner.isascii() and inner.isdigit() and len(inner) <= 20 else text
 
 

@@ -9,6 +9,7 @@ from clearing_client.scenarios import Scenarios
 
 from .. import runner
 from ..fullnames import text_of
+from . import changes
 from . import state as states
 from .runs import AT_ONCE, Desk, Place
 from .state import State
@@ -37,12 +38,38 @@ def taken(desk: Desk, state: State, what: str) -> Tuple[bytes, str, str]:
             (place.path / "labels.csv").write_text(text_of(desk.full), encoding="utf-8")
             labels = ["--labels", "labels.csv"] if desk.full.full else []
             costs = ["--default-keeps", state.keep] if state.keep != states.AS_IT_IS.keep else []
-            made(desk, place, "report.gather",
-                 ["--banks", "banks.csv", "--debts", "debts.csv", *labels, *costs, "--title", "Tried at the desk", "--out", name])
+            made(desk, place, "report.gather", ["--banks", "banks.csv", "--debts", "debts.csv", *labels, *costs, *told(desk, place, state),
+                                                "--title", "Tried at the desk", "--out", name])
         if what == "evidence":
-            made(desk, place, "evidence.evidence", ["make", "evidence", "--banks", "banks.csv", "--debts", "debts.csv"])
+            made(desk, place, "evidence.evidence", ["make", "evidence", *evident(desk, place, state), *told(desk, place, state)])
             return archive(place.path, "evidence"), name, kind
         return (place.path / name).read_bytes(), name, kind
+
+
+def told(desk: Desk, place: Place, state: State) -> List[str]:
+    """The changes in words, as words of a tool; none where nothing was changed."""
+    if not changes.in_words(desk.base, state):
+        return []
+    place.put("changes.txt", changes.text_of(desk.base, state, desk.originals).encode("utf-8", "backslashreplace"))
+    return ["--changes", "changes.txt"]
+
+
+def evident(desk: Desk, place: Place, state: State) -> List[str]:
+    """The files of the evidence, as words: the files as they were given with the changes as a scenario, where they are one, or where nothing
+    was changed; else those of the state."""
+    files = ["--banks", "banks.csv", "--debts", "debts.csv"]
+    scenario = states.as_scenario(desk.base, state, states.left_of(desk.base, state))
+    if scenario is None and changes.in_words(desk.base, state):
+        return files
+    desk.files(place, states.AS_IT_IS)
+    for what, original in desk.originals.items():
+        content = changes.content_of(original)
+        if content is not None:
+            place.put(f"{what}.csv", content)
+    if scenario is None:
+        return files
+    place.put("changes.toml", Scenarios([scenario]).to_toml(plain=True).encode())
+    return [*files, "--scenarios", "changes.toml"]
 
 
 def made(desk: Desk, place: Place, module: str, words: List[str]) -> None:

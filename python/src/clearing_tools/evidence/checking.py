@@ -13,7 +13,7 @@ from .. import runner
 from ..runner import ROOT, Failed
 from . import audit, shock, source
 from .parts import (
-    BANKS, BUILT, FILE, JOURNAL, PROGRAM, README, SUMS, TABLES, TEXTS, UNREAD, VERSIONS, checksum_of, commands_of, commands_text, most_of,
+    BANKS, BUILT, CHANGES, FILE, JOURNAL, PROGRAM, README, SUMS, TABLES, TEXTS, UNREAD, VERSIONS, checksum_of, commands_of, commands_text, most_of,
     names_of, parts_of, program_sum, read_inputs, read_rescue, rescue_holds, stress_of, sums_text, words_of,
 )
 
@@ -148,6 +148,8 @@ class Checking:
     def files(self):
         """The names of the files that these commands make of these inputs."""
         files = names_of(self.parts, self.commands, self.has("inputs/scenarios.toml"))
+        if self.has(CHANGES):
+            files.add(CHANGES)
         if self.has("source/"):
             files |= {"source/command.tsv", "source/summary.csv", *source.names_of(self.read("source/command.tsv"))}
         return files

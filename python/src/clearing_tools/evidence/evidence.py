@@ -1,7 +1,7 @@
 """Makes a folder of evidence for what `clearing` says of a network, and checks one on any machine.
 
-    tools/evidence.sh make FOLDER --banks FILE --debts FILE [--scenarios FILE] [--bank NAME]
-    tools/evidence.sh make FOLDER --source COMMAND [--scenarios FILE] [--bank NAME]
+    tools/evidence.sh make FOLDER --banks FILE --debts FILE [--scenarios FILE] [--bank NAME] [--changes FILE]
+    tools/evidence.sh make FOLDER --source COMMAND [--scenarios FILE] [--bank NAME] [--changes FILE]
     tools/evidence.sh check FOLDER
 
 In:   for `make` the two files, a file of scenarios and the name of a bank, as `clearing` takes them; for `check` the folder
@@ -13,7 +13,7 @@ of that bank, the network with the sum that saves it (rescue/) and with a unit l
 with what `clearing stress` prints, which is compared with all that; commands.tsv with the words and the status of each run;
 versions.txt; and SHA256SUMS over all files. With --source in place of the two files, source/ has the sheets of that command of
 from_matrix.py, from_list.py or from_totals.py (without where it writes), the command and the summary, and the two files are what it
-makes. One worker makes each journal, so that the same program makes the same bytes again.
+makes. --changes keeps a text that says what was changed before, as inputs/changes.txt, of which nothing is computed. One worker makes each journal, so that the same program makes the same bytes again.
 
 `check` asks for the folder, Python and nothing else. It reads each file once, into a copy of its own. The folder must have exactly the
 files that `make` writes for its inputs, and nothing else. It compares the checksums, commands.tsv and README.txt, makes the banks file of
@@ -42,7 +42,7 @@ from ..runner import ROOT, Failed
 from . import audit, shock, source
 from .checking import check
 from .parts import (
-    README, checksum, commands_of, commands_text, contents, parts_of, program_sum, read_inputs, rescue_holds, stress_of, sums_text,
+    CHANGES, README, checksum, commands_of, commands_text, contents, parts_of, program_sum, read_inputs, rescue_holds, stress_of, sums_text,
 )
 
 # Making.
@@ -91,6 +91,8 @@ def make_in(folder, asked):
         if vars(asked)[name] is not None:
             ending = "toml" if name == "scenarios" else "csv"
             put(folder, f"inputs/{name}.{ending}", contents(vars(asked)[name]))
+    if asked.changes is not None:
+        put(folder, CHANGES, contents(asked.changes))
     read = lambda name: (folder / name).read_bytes()
     inputs = ["--banks", "inputs/banks.csv", "--debts", "inputs/debts.csv"]
     # The program's own refusal comes first.
@@ -141,7 +143,7 @@ def make(asked):
     if os.path.lexists(target):
         raise Failed(f"{asked.folder} is there already", 2)
     # Who may not read the inputs may not read the evidence.
-    given = [asked.banks, asked.debts, asked.scenarios, *(source.sheets_of(asked.source) if asked.source is not None else [])]
+    given = [asked.banks, asked.debts, asked.scenarios, asked.changes, *(source.sheets_of(asked.source) if asked.source is not None else [])]
     mask = shock.mask_of(name for name in given if name is not None)
     os.umask(mask)
     try:
@@ -179,6 +181,7 @@ def main():
     making.add_argument("--source", metavar="COMMAND", help="the command that makes the two files of sheets")
     making.add_argument("--scenarios", metavar="FILE", help="the scenarios file")
     making.add_argument("--bank", metavar="NAME", help="a bank to be saved")
+    making.add_argument("--changes", metavar="FILE", help="a text that says what was changed against other files")
     tasks.add_parser("check", help="checks a folder", allow_abbrev=False).add_argument("folder", metavar="FOLDER")
     asked = parser.parse_args()
     if asked.task == "make" and (asked.banks is None, asked.debts is None) != ((asked.source is not None),) * 2:

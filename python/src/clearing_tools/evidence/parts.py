@@ -14,8 +14,10 @@ UNREAD, SUMS, BANKS, JOURNAL, TABLES, PROGRAM = 3, 4, 5, 6, 7, 8
 
 # The texts that each folder has beside the inputs and what is printed.
 TEXTS = ("README.txt", "SHA256SUMS", "commands.tsv", "versions.txt")
+# What was changed before, in words, in the folders that say so.
+CHANGES = "inputs/changes.txt"
 # What a file of a folder may be called, and how long it may be at most.
-FILE = re.compile(r"inputs/(banks\.csv|debts\.csv|scenarios\.toml)|README\.txt|SHA256SUMS|commands\.tsv|versions\.txt|stress\.csv|rescue/rescue\.csv"
+FILE = re.compile(r"inputs/(banks\.csv|debts\.csv|scenarios\.toml|changes\.txt)|README\.txt|SHA256SUMS|commands\.tsv|versions\.txt|stress\.csv|rescue/rescue\.csv"
                   r"|source/(command\.tsv|summary\.csv|[0-9]+-[^/\0\t\n]{1,200})|(as-is|scenario-[1-9][0-9]{0,2}|rescue|unit-less)/(banks|journal|payments|defaults)\.csv")
 MOST = {"journal.csv": audit.SIZES["journal"], "stress.csv": 400_000_000}
 MOST_OF_OTHERS, MOST_OF_SHEETS = 8_388_608, 400_000_000
@@ -27,7 +29,7 @@ Part = namedtuple("Part", "label folder banks")
 README = """Evidence for what `clearing` says of a network.
 
 source/        the sheets that the two files were made of, with the command and its summary, where it began there
-inputs/        the files as they were given, or made of the source
+inputs/        the files as they were given, or made of the source; changes.txt says what was changed before, where something was
 as-is/         the network as it is: a journal of raises, the payments, the defaults
 scenario-1/ .. what each scenario leaves: the banks file, and the same three
 rescue/        the banks file with the least sum that saves a bank, and the same three
@@ -36,8 +38,9 @@ commands.tsv   the words and the status of each run of the program, from this fo
 versions.txt   of the repository, the program and the toolchain
 SHA256SUMS     checksums of all files: `sha256sum --check SHA256SUMS`
 
-`tools/evidence.sh check FOLDER` of the repository checks all this with Python alone. docs/FORMATS.md there has the files, and
-tools/audit.py says in its first lines what they mean.
+`tools/evidence.sh check FOLDER` of the repository checks all this with Python alone; on another machine it needs tools/evidence.sh,
+tools/evidence.py and python/src of the repository, in one folder. docs/FORMATS.md there has the files, and tools/audit.py says in its
+first lines what they mean.
 """
 
 

@@ -99,7 +99,19 @@ def parsed(parser, words=None):
         parser.error("--no-outside and --outside are both said")
     if asked.label_column and not asked.label:
         parser.error("--label-column is for --label")
+    check_names(parser, asked)
     return asked
+
+
+WORKBOOKS = (".xlsx", ".xlsm", ".xls", ".ods")
+
+
+def check_names(parser, asked):
+    """Ends with 2 where a file to write has the name of a workbook: what is written is CSV."""
+    for option in ("banks", "debts", "out", "label", "summary"):
+        name = vars(asked).get(option)
+        if name is not None and name.lower().endswith(WORKBOOKS):
+            parser.error(f"--{option} {name}: what is written is CSV, and this is the name of a workbook")
 
 
 def amounts_of(words):

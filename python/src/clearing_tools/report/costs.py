@@ -50,11 +50,27 @@ def share_of(keep):
 
 
 def sentence(matter):
-    """How many banks fall at each end, and what is lost of their estates."""
-    least, greatest = matter.costs.least, matter.costs.greatest
+    """How many banks fall at each end, what is lost of their estates, and how what stays unpaid changes."""
+    base, least, greatest = matter.costs.base, matter.costs.least, matter.costs.greatest
     said = f"Where a bank in default keeps {share_of(matter.costs.keep)} of its estate, "
     falls = count(least.defaults, "bank falls", "banks fall") if least.defaults else "no bank falls"
-    lost, other = (matter.money.in_short(end.lost) if end.lost else "nothing" for end in (least, greatest))
     if least == greatest:
-        return f"{said}{falls} at the least as at the greatest payments that clear, and {lost} is lost."
-    return f"{said}{falls} at the least payments that clear, and {greatest.defaults or 'none'} at the greatest; {lost} is lost, or {other}."
+        return f"{said}{falls} at the least as at the greatest payments that clear; {lost_of(matter, least)}, and {unpaid_of(matter, base, least)}."
+    return (
+        f"{said}{falls} at the least payments that clear, and {greatest.defaults or 'none'} at the greatest. At the least {lost_of(matter, least)}, and"
+        f" {unpaid_of(matter, base, least)}; at the greatest {lost_of(matter, greatest)}, and {unpaid_of(matter, base, greatest)}."
+    )
+
+
+def lost_of(matter, end):
+    """What is lost of the estates at an end."""
+    return f"{matter.money.in_short(end.lost)} {matter.money.verb(end.lost, 'is', 'are')} lost" if end.lost else "nothing is lost"
+
+
+def unpaid_of(matter, base, end):
+    """What stays unpaid at an end, against the clearing without costs."""
+    if end.unpaid == base.unpaid:
+        return "as much stays unpaid as without costs"
+    more = "more" if end.unpaid > base.unpaid else "less"
+    change = abs(end.unpaid - base.unpaid)
+    return f"{matter.money.in_short(change)} {more} {matter.money.verb(change, 'stays', 'stay')} unpaid than without costs"

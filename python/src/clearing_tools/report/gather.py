@@ -7,6 +7,7 @@ In:   --banks, --debts   the two files of the network
       --title            the title of the page
       --unit, --currency what a unit of account is worth, such as --unit 1000 --currency EUR: amounts are in the currency then
       --default-keeps    what a bank in default keeps of its estate, 0 to 1000 per mille: both ends where default costs are there too
+      --changes          a text that says what was changed against other files, a line each: it stands under the title
       --keep             a folder for what the program printed, under the names that the evidence has; a new one, or an empty one
       --d3               the library d3 in one file; Debian's package node-d3 has it, and it is found there
 Out:  --out              the report: a summary of five sentences (six where default costs), key figures, the network drawn with a player of the journal, a table of
@@ -26,6 +27,7 @@ understood, Jinja2 is missing, or the folder of --keep is there and not empty; 1
 import csv
 import os
 import pathlib
+import re
 import sys
 import time
 from collections import namedtuple
@@ -114,7 +116,8 @@ def frames_of(raises):
 def inputs_of(asked):
     """The files given, each with what it is, its name, size and checksum. What is longer than any such file is left to the program to
     refuse."""
-    names = [("banks", asked.banks), ("debts", asked.debts), ("scenarios", asked.scenarios), ("journal", asked.journal), ("labels", asked.labels)]
+    names = [("banks", asked.banks), ("debts", asked.debts), ("scenarios", asked.scenarios), ("journal", asked.journal), ("labels", asked.labels),
+             ("changes", asked.changes)]
     return [
         Given(what, name, os.path.getsize(name), sum_of(name))
         for what, name in names
@@ -179,6 +182,16 @@ def scenarios_of(program, files, asked, outside):
     return [Scenario(scenario.name, list(scenario.banks.values()), cash) for scenario, cash in zip(found, sums)]
 
 
+def changes_of(name):
+    """What was changed against other files, a line each; none where no file says so."""
+    if name is None:
+        return []
+    text = pathlib.Path(name).read_bytes()[: max(MAX_BYTES.values())].decode("utf-8", "backslashreplace")
+    lines = [line for line in text.removeprefix("\ufeff").replace("\r\n", "\n").split("\n") if line.strip()]
+    # What holds a name apart stays.
+    return ["".join(part if part in ("\u2068", "\u2069") else labels.shown(part) for part in re.split("([\u2068\u2069])", line)) for line in lines]
+
+
 def gather(asked, folder):
     """Asks the program for all that the page has."""
     program, inputs = Program(folder), inputs_of(asked)
@@ -215,6 +228,7 @@ def gather(asked, folder):
         costs=costs,
         scenarios=scenarios,
         frames=frames,
+        changes=changes_of(asked.changes),
         evidence=evidence_of(program, inputs, verdict),
     )
 
@@ -252,6 +266,7 @@ def words():
     parser.add_argument(
         "--default-keeps", metavar="N", type=cli.number_in(0, MAX_KEEP), help="what a bank in default keeps of its estate, per mille"
     )
+    parser.add_argument("--changes", metavar="FILE", help="a text that says what was changed against other files, a line each")
     parser.add_argument("--keep", metavar="FOLDER", help="a new or empty folder for what the program printed")
     parser.add_argument("--d3", metavar="FILE", help="the library d3 in one file")
     parser.add_argument("--out", metavar="FILE", required=True, help="the page to write")
@@ -266,7 +281,7 @@ def is_taken(folder):
 @command("report.py")
 def main():
     asked = words()
-    inputs = [name for name in (asked.banks, asked.debts, asked.scenarios, asked.journal, asked.labels) if name]
+    inputs = [name for name in (asked.banks, asked.debts, asked.scenarios, asked.journal, asked.labels, asked.changes) if name]
     try:
         files.check_apart([asked.out], inputs)
         if asked.keep and is_taken(asked.keep):

@@ -16,13 +16,14 @@ from ..texts import STATES, due_of, flows_of, shortfall_of
 from . import costs, tables
 from .summary import summary
 
+MOST_CHANGES = 40  # lines of what was changed, under the title
 FOLDER = pathlib.Path(__file__).resolve().parent
 
 Verdict = namedtuple("Verdict", "lawful line words")
 Evidence = namedtuple("Evidence", "files commit toolchain commands verdict made words")
 # A scenario: its name, its banks in file order, and the cash that it leaves.
 Scenario = namedtuple("Scenario", "name banks cash")
-Answers = namedtuple("Answers", "title money banks full cash rules debts waves more rescued rankings costs scenarios frames evidence")
+Answers = namedtuple("Answers", "title money banks full cash rules debts waves more rescued rankings costs scenarios frames changes evidence")
 # Parts of the page, in its order: the key of each and its name.
 PARTS = {
     "summary": "Summary",
@@ -67,7 +68,7 @@ def templates():
     except ImportError as fault:
         raise Failed(
             f"jinja2 is missing for {sys.executable} (Python {sys.version.split()[0]}); Debian's package python3-jinja2 is for"
-            " /usr/bin/python3", 2) from fault
+            " /usr/bin/python3, and for a virtual environment that was made of it with --system-site-packages", 2) from fault
     return jinja2.Environment(
         loader=jinja2.FileSystemLoader(FOLDER / "templates"), autoescape=True, undefined=jinja2.StrictUndefined, trim_blocks=True,
         lstrip_blocks=True)
@@ -234,6 +235,7 @@ def page_of(matter, library, environment):
         scripts=list(map(Markup, scripts)),
         data=Markup(data_of(matter, drawn, columns)) if scripts else "",
         page_title=labels.shown(matter.title),
+        most_changes=MOST_CHANGES,
         name=name,
         full=full,
         link=linked.__getitem__,

@@ -11,7 +11,8 @@ SHOWN = 5
 
 # The banks that hurt others most, the sound banks that fall first where all cash is cut, and the banks that are saved with the least cash:
 # a few records each of what the three tasks print.
-Rankings = namedtuple("Rankings", "hurts near cheap")
+# `saved` are the other banks that each rescue of these saves too.
+Rankings = namedtuple("Rankings", "hurts near cheap saved")
 
 
 def who_hurts(impact):
@@ -33,4 +34,6 @@ def rankings_of(program, files, rescues):
     """The three rankings, where `rescues` is the result of `clearing rescues`."""
     impact = program.result("impact", Impact, program.ask("impact.csv", "impact", *files))
     breaking = program.result("breaking", Breaking, program.ask("breaking.csv", "breaking", *files))
-    return Rankings(who_hurts(impact), nearest(breaking), cheapest(rescues))
+    cheap = cheapest(rescues)
+    saved = {bank.bank: [pair.saves for pair in rescues.saved if pair.bank == bank.bank] for bank in cheap}
+    return Rankings(who_hurts(impact), nearest(breaking), cheap, saved)

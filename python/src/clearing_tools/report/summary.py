@@ -25,8 +25,8 @@ def falls(matter):
         return f"None of {count(len(banks), 'bank')} is in default: {pays}, {matter.money.in_short(due)} in all."
     verb = "cannot pay all that it owes" if len(short) == 1 else "cannot pay all that they owe"
     return (
-        f"{len(short):,} of {count(len(banks), 'bank')} {verb}: {matter.money.in_short(unpaid)} stays unpaid, {percent(unpaid, due)} of what"
-        " the banks owe."
+        f"{len(short):,} of {count(len(banks), 'bank')} {verb}: {matter.money.in_short(unpaid)} {matter.money.verb(unpaid, 'stays', 'stay')} unpaid,"
+        f" {percent(unpaid, due)} of what the banks owe."
     )
 
 
@@ -56,25 +56,31 @@ def saved(matter):
     first, best = cheap[0], max(cheap, key=lambda each: each.also_saved)
     said = f"The cheapest to save is {matter.called(first.bank)}: with {matter.money.in_short(first.added)} more it pays all that it owes"
     if first.also_saved:
-        said += f", and so {count(first.also_saved, 'other does', 'others do')}"
+        said += f", and so {'does' if first.also_saved == 1 else 'do'} {others(matter, first)}"
     if best.also_saved > first.also_saved:
-        said += f"; {matter.money.in_short(best.added)} for {matter.called(best.bank)} would save {count(best.also_saved, 'other', 'others')} too"
+        said += f"; {matter.money.in_short(best.added)} for {matter.called(best.bank)} would save {others(matter, best)} too"
     return said + "."
+
+
+def others(matter, bank):
+    """The others that the rescue of a bank saves, in a sentence."""
+    return listed([matter.called(name) for name in matter.rankings.saved[bank.bank]])
 
 
 def worst(matter):
     """What the scenario that leaves most unpaid does."""
     if not matter.scenarios:
-        return "No scenario was given."
+        return "All this is of the network as it was changed; no scenario was given beside." if matter.changes else "No scenario was given."
     base = sum(map(shortfall_of, matter.banks))
     unpaid = {at: sum(map(shortfall_of, banks)) for at, (_, banks, _) in enumerate(matter.scenarios)}
     at = max(unpaid, key=unpaid.get)
     name, banks, _ = matter.scenarios[at]
-    short = sum(bank.state != "sound" for bank in banks)
+    fallen, before = ({bank.name for bank in some if bank.state != "sound"} for some in (banks, matter.banks))
+    same = "the same " if fallen and fallen == before else ""
     more = f"{matter.money.in_short(unpaid[at] - base)} more than as things are" if unpaid[at] >= base else "less than as things are"
     first = f"The worst of {count(len(unpaid), 'scenario')}" if len(unpaid) > 1 else "The scenario"
     return (
-        f"{first}, “{apart(name)}”, leaves {count(short, 'bank')} in default and {matter.money.in_short(unpaid[at])} unpaid, {more}."
+        f"{first}, “{apart(name)}”, leaves {same}{count(len(fallen), 'bank')} in default and {matter.money.in_short(unpaid[at])} unpaid, {more}."
     )
 
 
@@ -84,7 +90,7 @@ def following(matter):
     if not near:
         left = any(bank.state == "sound" for bank in matter.banks)
         return "No other bank would fall, even if all cash were lost." if left else "No bank is left that could fall."
-    said = f"The next to fall is {matter.called(near[0].bank)}, where {percent(near[0].cut, 1000)} of all cash is lost"
+    said = f"The next to fall is {matter.called(near[0].bank)}, once all banks have lost {percent(near[0].cut, 1000)} of their cash"
     if len(near) > 1:
         said += f"; then {matter.called(near[1].bank)}, at {percent(near[1].cut, 1000)}"
     return said + "."

@@ -85,8 +85,9 @@ const reason = (context, why) => {
 const ASKS = [
   ["rescue", "Its rescue", (answer, context) => (answer.added
     ? `${money(answer.added)} more of cash save it${answer.saved.length ? `, and ${listed(answer.saved.map(context.name))} too` : ""}.` : "It needs none.")],
-  ["breaking", "Its breaking cut", (answer) => (answer.cut === null ? "No cut of all cash breaks it."
-    : answer.cut === 0 ? "It is in default without a cut." : `It falls at a cut of ${number(answer.cut)} per mille (${answer.state}), and at none below.`)],
+  ["breaking", "Its breaking cut", (answer, context) => (answer.cut === null ? "No cut of all cash breaks it."
+    : answer.cut === 0 ? "It is in default without a cut."
+      : `It falls at a cut of ${number(answer.cut)} per mille${context.view.cut ? " of the cash before this cut" : ""} (${answer.state}), and at none below.`)],
   ["ruin", "The harm of its ruin", (answer, context) => `Where it loses all its cash, ${money(answer.cash)}, it keeps ${number(answer.own)} less and others ${number(answer.others)} less; `
     + (answer.fallen.length ? `${number(answer.fallen.length)} more fall: ${listed(answer.fallen.map(context.name), 8)}.` : "no other bank falls.")],
 ];
@@ -97,7 +98,10 @@ const asking = (context, bank) => make("div", { id: "asks" }, make("div", { clas
     place.textContent = "The program is asked.";
     const { value, fault: trouble } = await see(`/ask/${state}/${bank}/${what}`);
     place.textContent = trouble ? trouble.said : say(value, context);
+    // The answer may be below the window; the focus stays at the button.
+    place.scrollIntoView({ block: "nearest" });
   } }, words))), ...ASKS.map(([what]) => make("p", { id: `answer-${what}`, role: "status" })),
+  context.view.cut ? make("p", { class: "small muted", id: "asks-of" }, "Rescue and ruin are asked of this state, the breaking cut of the cash before this cut.") : null,
   context.view.keep === context.base.keep ? null : make("p", { class: "small muted" }, "These are asked of the clearing without costs of default."));
 
 /** What stands in the form for a debt more. */

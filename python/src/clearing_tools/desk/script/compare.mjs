@@ -77,3 +77,12 @@ export const told = (before, now, names) => {
 export const changedBanks = (before, now) => places(now).flatMap((bank) => ["cash", "rule", "outside"]
   .filter((field) => before[field][bank] !== now[field][bank])
   .map((field) => ({ bank, field, before: before[field][bank], now: now[field][bank] })));
+
+/** Why the changes are no scenario, which takes cash and nothing else; nothing where nothing is changed. */
+export const whyNoScenario = (before, now) => {
+  const fields = new Set(changedBanks(before, now).map(({ field }) => field));
+  const reasons = [["debts", now.changedDebts.length], ["rules", fields.has("rule")], ["what is owed outside", fields.has("outside")],
+    ["what default keeps", before.keep !== now.keep], ["cash that is more than before", now.left.some((units, bank) => units > before.left[bank])]];
+  const said = reasons.filter(([, holds]) => holds).map(([words]) => words);
+  return said.length ? `No changes.toml: a scenario takes cash and nothing else, and changed here: ${listed(said)}.` : "";
+};

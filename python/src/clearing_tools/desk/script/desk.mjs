@@ -1,7 +1,7 @@
 // The desk: what is done in the page goes to the server as a change of the state at hand, and what comes back is shown.
 import { change, see } from "./ask.mjs";
 import { showBank } from "./bank.mjs";
-import { sums, told } from "./compare.mjs";
+import { sums, told, whyNoScenario } from "./compare.mjs";
 import { matches } from "./find.mjs";
 import { endJournal, showJournal } from "./journal.mjs";
 import { Line } from "./line.mjs";
@@ -63,6 +63,7 @@ const showControls = (view) => {
   if (location.hash !== `#state-${view.id}`) history.replaceState(null, "", `#state-${view.id}`);
   for (const what of TAKES) by(`take-${what}`).href = `/take/${view.id}/${what}`;
   by("take-scenario-line").hidden = !view.isScenario;
+  by("no-scenario").textContent = view.isScenario ? "" : whyNoScenario(context.base, view);
   by("note-report").textContent = view.greatest ? ", with both ends where default costs in a part of their own" : "";
   by("note-evidence").textContent = view.greatest ? ", without costs of default" : "";
 };
@@ -104,12 +105,15 @@ const finder = () => {
   const found = by("found");
   const open = (bank) => { found.replaceChildren(); by("find").value = ""; context.open(bank); };
   const sought = () => matches(context.network.names, context.network.labels, by("find").value);
-  by("find").addEventListener("input", () => found.replaceChildren(...sought().map((bank) =>
-    make("li", {}, make("button", { type: "button", click: () => open(bank) }, context.name(bank))))));
+  by("find").addEventListener("input", () => {
+    const banks = sought(), none = by("find").value.trim() && !banks.length;
+    found.replaceChildren(...banks.map((bank) => make("li", {}, make("button", { type: "button", click: () => open(bank) }, context.name(bank)))));
+    by("find-none").textContent = none ? "No bank has this in its name." : "";
+  });
   by("find").addEventListener("keydown", (event) => {
     const [first] = sought();
     if (event.key === "Enter" && first !== undefined) open(first);
-    if (event.key === "Escape") found.replaceChildren();
+    if (event.key === "Escape") { found.replaceChildren(); by("find-none").textContent = ""; }
   });
 };
 

@@ -1,6 +1,7 @@
 // Finds banks by a part of their names or of their labels.
 
-const folded = (text) => text.toLocaleLowerCase();
+// A letter with an accent is the letter.
+const folded = (text) => text.normalize("NFKD").replace(/\p{M}/gu, "").toLocaleLowerCase();
 
 /** The places of at most so many banks: those whose name is the text first, then those that begin with it, then those that have it. */
 export const matches = (names, labels, text, most = 12) => {

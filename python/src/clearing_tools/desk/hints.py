@@ -1,0 +1,38 @@
+"""What to do about a change that the program refuses: the hints of `lint` for the field in which it was typed."""
+import re
+from typing import Any, Mapping
+
+from clearing_client.format import MAX_CASH, MAX_CLAIM, MAX_CUT, MAX_KEEP, MAX_OUTSIDE, MAX_OWED
+
+from ..checks import lint
+
+MOST = {"cash": MAX_CASH, "outside": MAX_OUTSIDE, "claim": MAX_CLAIM, "add": MAX_CLAIM, "cut": MAX_CUT, "keep": MAX_KEEP}
+PERCENT = re.compile(r"([0-9]{1,3})(?:[.,]([0-9]))? ?%")
+
+
+def hint_of(change: Mapping[str, Any], kind: str) -> str:
+    """What to do, in some words; empty where nothing is known. The kind is that of the program's fault, empty where a word is refused."""
+    word = str(change.get("set"))
+    field = str(change.get("field")) if word == "bank" else word
+    text = str(change.get("claim" if word == "add" else "value", "")).strip(" \t")
+    if field in ("cut", "keep"):
+        return of_share(text, MOST[field])
+    if kind == "number":
+        return str(lint.number_hint(text.encode("utf-8", "replace")))
+    if kind == "rule":
+        return str(lint.rule_hint(text.encode("utf-8", "replace")))
+    if kind == "class":
+        return str(lint.class_hint(str(change.get("class", "")).encode("utf-8", "replace")))
+    if kind == "total":
+        return f"all that banks owe is at most {MAX_OWED:,}"
+    return f"it is at most {MOST[field]:,}" if kind == "limit" and field in MOST else ""
+
+
+def of_share(text: str, most: int) -> str:
+    """What to do about a number per mille."""
+    percent = PERCENT.fullmatch(text)
+    if percent:
+        return f"it is per mille: write {int(percent[1] + (percent[2] or '0'))} for {text}"
+    if text.isascii() and text.isdigit():
+        return f"it is a number from 0 to {most:,}, per mille"
+    return f"it is a whole number from 0 to {most:,}, per mille, such as 50 for 5%"
