@@ -188,6 +188,11 @@ class Gate(Machine):
         self.assertEqual(told[3], "gate: 2 of 2 crates are proved; edits of low; 0 minutes so far, about 0 more")
         self.assertIn("logic=proved", lines)
 
+    def test_what_is_printed_comes_through_in_every_locale(self):
+        status, lines = self.ran(".ci/run", STEPS=r"one side has `\316\273 x. x \342\211\241 x`\n", PYTHONIOENCODING="ascii")
+        self.assertEqual(status, 0, lines)
+        self.assertIn("one side has `\u03bb x. x \u2261 x`", lines)
+
     def test_the_estimate_goes_by_the_work_that_is_left(self):
         spec = importlib.util.spec_from_file_location("gate", self.root / "tools/dev/gate.py")
         gate = importlib.util.module_from_spec(spec)

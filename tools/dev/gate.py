@@ -79,10 +79,12 @@ class Work:
 def main(command):
     """Runs the command. Its status."""
     work = Work()
-    with subprocess.Popen(command, stdout=subprocess.PIPE, encoding="utf-8", errors="replace") as gate:
+    with subprocess.Popen(command, stdout=subprocess.PIPE) as gate:
         for line in gate.stdout:
-            print(line, end="", flush=True)
-            if work.read(line.rstrip("\n")):
+            # As bytes, since the locale may not have the signs of a proof.
+            sys.stdout.buffer.write(line)
+            sys.stdout.buffer.flush()
+            if work.read(line.decode("utf-8", "replace").rstrip("\n")):
                 print(f"gate: {work.told()}", file=sys.stderr, flush=True)
     return gate.returncode if gate.returncode >= 0 else 128 - gate.returncode
 
