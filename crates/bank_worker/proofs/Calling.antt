@@ -1,7 +1,7 @@
 -- The next called bank of a worker, and the creditors that are called.
 use Rattle.std.proofs.Common.{◌≡◌, ℕ, ◌+◌, ◌/◌, ◌<◌, ◌≤◌, ◌++◌, Bool, true, false, true≢false, List, [], append_assoc, append-nil, drop, length, get_or, refl, sym, ap, ◌∙◌, subst, ⊎_elim, arith, eq-eqb}
 use Rattle.std.specs.Prelude.{◌==◌, ◌||◌}
-use Rattle.std.proofs.lemmas.List.{get_or_past}
+use Rattle.std.proofs.lemmas.List.{get_or_past, get_or_default}
 use Rattle.std.proofs.Math.Seq.{drop-append_seam}
 use Rattle.clear_core.specs.declared.event.Raise.{Raise}
 use Rattle.std.proofs.lemmas.Bool.{cases_lt, false_from_ne_true, or_right}
@@ -22,7 +22,7 @@ use Rattle.bank_worker.specs.Visits.{IsSameCrew, IsSameSeat, Notes, with_bell}
 use Rattle.bank_worker.proofs.Filtered.{filter_rises}
 use Rattle.bank_worker.proofs.Manned.{bank_at, desk_is, length_banks}
 use Rattle.bank_worker.proofs.PlacesOfBanks.{banks_of_desks, not_after}
-use Rattle.bank_worker.proofs.Raising.{raised_in_either}
+use Rattle.bank_worker.proofs.Raising.{raised_in_either, length-debts_of}
 use Rattle.bank_worker.proofs.Ringing.{creditor_noted, debt_of_raise, length-creditors_of}
 use Rattle.bank_worker.proofs.Sweeping.{after_take}
 
@@ -47,7 +47,7 @@ place_ahead banks mine workers from b h lt ge e =
     let p = h.out.only b e in
     let place : b / workers ≡ p.0 = ap (λ n. n / workers) (sym p.2) ∙ (h.out.placed p.0 p.1).1 in
     ⊎_elim
-    (λ (less : p.0 < from). absurd (omega (arith, p.2, h.rise p.0 from less lt)))
+    (λ (less : p.0 < from). absurd (omega (arith, p.2, h.rise p.0 from 0 less lt)))
     (λ (le : from ≤ p.0). omega (arith, place))
     (cases_lt p.0 from)
 
@@ -56,7 +56,7 @@ pub before_place : (banks mine : List ℕ) (workers b k : ℕ) → AreInPlace ba
 before_place banks mine workers b k h e lt =
     let p = h.out.only b e in
     let place : b / workers ≡ p.0 = ap (λ n. n / workers) (sym p.2) ∙ (h.out.placed p.0 p.1).1 in
-    omega (arith, p.2, h.rise k p.0 (omega (arith, place)) p.1)
+    omega (arith, p.2, h.rise k p.0 0 (omega (arith, place)) p.1)
 
 -- where no bank is in both sets up to some number, none of the banks up to there is called
 pub none_called : (s : Shown) (desks : List BankView) (banks mine called : List ℕ) (workers from k to : ℕ) → desks ≡ desks_held s → banks ≡ banks_of desks
@@ -114,7 +114,8 @@ called_more noted old new rs n d lt h stay here x lx j lj at = ⊎_elim
 pub creditors_called : (net : Net) (noted called : List ℕ) (rs : List Raise) → noted ≡ creditors_of net → AreCalledTo noted called rs (length rs) → AreCreditorsIn net called rs
 creditors_called net noted called rs are h x lx raised =
     subst (λ b. is_in called b ≡ true) (creditor_noted net noted x are lx)
-    (h x (omega (arith, lx, ap length are, length-creditors_of net)) raised.0 raised.1 raised.2)
+    (h x (omega (arith, lx, ap length are, length-creditors_of net)) raised.0 (omega (arith, raised.1, length-debts_of rs))
+    (get_or_default (debts_of rs) raised.0 0 x raised.1 ∙ raised.2))
 
 -- where nothing was raised there is nobody to call
 pub calls_none : (w : Crew) (called : List ℕ) → CallsOthers w w called
@@ -146,6 +147,16 @@ calls_more old cur new called now same kept a b = record {
       (λ (last : IsRaisedIn b.made x). ap (is_in now) (sym creditor) ∙ b.rung x lt last (ap (holds t) creditor ∙ not_held))
       (raised_in_either a.made b.made x o);
 }
+
+-- so it is from step to step, where more banks are called between them
+pub calls_on : (old cur new : Crew) (first called more now : List ℕ) → IsSameSeat old.seat.shows cur.seat.shows → StayIn called more
+    → KeepsOthers old.seat.shows first called × CallsOthers old cur called → KeepsOthers cur.seat.shows more now × CallsOthers cur new now
+    → KeepsOthers old.seat.shows first now × CallsOthers old new now
+calls_on old cur new first called more now same stay a b =
+    let kept : KeepsOthers cur.seat.shows called now = λ c other is. b.0 c other (stay c is) in (
+      (λ c other is. kept c (ap (λ bs. is_marked bs c) same.banks ∙ other) (a.0 c other is)),
+      calls_more old cur new called now same kept a.1 b.1,
+    )
 
 -- the creditors of the debts that a visit raised are called
 pub calls_visit : (cur taken new : Crew) (up : Bool) (b from : ℕ) (desk : BankView) (now : List ℕ) → taken ≡ after_take cur b up → up ≡ true → IsSameCrew taken new

@@ -66,7 +66,7 @@ stands n w i a low lt = filter_finds (is_of_worker w i) n (a * w + i) lt (eq-eqb
 pub not_after : (xs : List ℕ) (a b : ℕ) → Rises xs → a ≤ b → b < length xs → get_or xs a 0 ≤ get_or xs b 0
 not_after xs a b rise le l = elim (cases_eq a b) [
   | inl e ↦ omega (arith, ap (λ k. get_or xs k 0) e)
-  | inr n ↦ omega (arith, rise a b (omega (arith, n)) l)
+  | inr n ↦ omega (arith, rise a b 0 (omega (arith, n)) l)
 ]
 
 -- each is its place times w, and i
@@ -82,7 +82,7 @@ placed n w i (suc k) some l =
     let h = one_of n w i (suc k) some l in
     let rise = filter_rises (is_of_worker w i) 0 n in
     let before : get_or xs k 0 ≡ k * w + i = placed n w i k some (omega (arith, l)) in
-    let after : get_or xs k 0 < get_or xs (suc k) 0 = rise k (suc k) (omega arith) l in
+    let after : get_or xs k 0 < get_or xs (suc k) 0 = rise k (suc k) 0 (omega arith) l in
     let more : k < q = ⊎_elim (λ (lt : k < q). lt) (λ (le : q ≤ k). absurd (omega (arith, h.split, before, after, mul-le-mul_right w le))) (cases_lt k q) in
     let next : suc k ≤ q = omega (arith, more) in
     let least : suc k * w ≤ q * w = mul-le-mul_right w next in

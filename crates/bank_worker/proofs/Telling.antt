@@ -1,5 +1,5 @@
 -- What the acts of a seat tell of the visits of its worker.
-use Rattle.std.proofs.Common.{◌≡◌, ℕ, ◌+◌, ◌<◌, false, List, [], ◌∷◌, ◌++◌, length, map, refl, sym, ap, ◌∙◌, subst, arith, append-nil, append_assoc, length-append}
+use Rattle.std.proofs.Common.{◌≡◌, ℕ, ◌+◌, ◌<◌, false, List, [], ◌∷◌, ◌++◌, length, map, sym, ap, ◌∙◌, subst, arith, append-nil, append_assoc, length-append, refl}
 use Rattle.std.specs.Prelude.{cond, flat_map}
 use Rattle.std.proofs.lemmas.List.{flat_map_more}
 use Rattle.std.proofs.lemmas.List.Concat.{flat_map-cons}
@@ -14,10 +14,7 @@ use Rattle.bank_worker.specs.Rings.{called_by}
 use Rattle.bank_worker.specs.Told.{AreTold, VisitMade, acts_with_take, is_take, takes_in}
 use Rattle.bank_worker.specs.Views.{Crew, desk_at}
 use Rattle.bank_worker.specs.Visits.{AreVisitsFrom, IsAllVisits, IsCalledVisit, IsSameCrew, acts_of}
-use Rattle.bank_worker.proofs.Sweeping.{same_crew_then}
-
-same_as_it_was : (w : Crew) → IsSameCrew w w
-same_as_it_was w = record { table = refl; seat = record { net = refl; master = refl; banks = refl; floor = refl; seats = refl }; desks = refl; worker = refl }
+use Rattle.bank_worker.proofs.Sweeping.{same_crew_then, same_as_it_was}
 
 -- no visit
 told_none : (w : Crew) → AreTold w w

@@ -1,19 +1,27 @@
--- What a visit, a sweep and a round all keep of a worker, and what only grows.
-use Rattle.std.specs.Prelude.{◌≡◌, ℕ, ◌+◌, ◌<◌, ◌≤◌, length, slice_index}
-use Rattle.pay_words.specs.Views.{OwesNoRing}
+-- What a visit, a sweep, a round and a run all keep, and what only grows; and what a round does.
+use Rattle.std.specs.Prelude.{◌≡◌, ℕ, ◌+◌, ◌*◌, ◌<◌, ◌≤◌, length, slice_index}
+use Rattle.clr_net.specs.declared.TheConstants.{MAX_OWED}
+use Rattle.pay_words.specs.declared.view.Shown.{Shown}
+use Rattle.pay_words.specs.Views.{OwesNoRing, took}
+use Rattle.bank_worker.specs.declared.visit.Visit.{Visit}
 use Rattle.bank_worker.specs.Raises.{AreRaisedStill}
-use Rattle.bank_worker.specs.Views.{Crew, desks_held, paid_by_all}
-use Rattle.bank_worker.specs.Visits.{AddsRaises, IsAllCalm, IsAllVisits, IsSameCrew, MayRest, TellsRaises}
+use Rattle.bank_worker.specs.Views.{Crew, desk_at, desks_held, paid_by_all}
+use Rattle.bank_worker.specs.Visits.{AddsRaises, AreAtRest, IsAllCalm, IsAllVisits, IsSameCrew, MayRest}
+use Rattle.bank_worker.specs.Visits.{TellsRaises, WhenMem, WhenRaised}
 
--- the worker stays the same, its payments rose by n units in all, and payments, raises and takes
--- only grew
+-- of a seat that raised n units the network stays, and payments, raises and takes only grew
+pub record SeatGrows (n : ℕ) (s t : Shown) : Type 0 where
+  pub net : t.net ≡ s.net
+  pub none_fell : (x : ℕ) → x < length s.net.debts → slice_index s.paid x ≤ slice_index t.paid x
+  pub taken : s.taken ≤ t.taken
+  pub raises : AddsRaises n s t
+
+-- so of a worker, which stays the same; its payments rose by n units in all, and each debt on which
+-- more is paid was raised
 pub record Grows (n : ℕ) (old new : Crew) : Type 0 where
   pub same : IsSameCrew old new
+  pub seat : SeatGrows n old.seat.shows new.seat.shows
   pub rose : paid_by_all new.seat.shows new.desks ≡ paid_by_all old.seat.shows old.desks + n
-  pub none_fell : (x : ℕ) → x < length old.seat.shows.net.debts
-      → slice_index old.seat.shows.paid x ≤ slice_index new.seat.shows.paid x
-  pub taken : old.seat.shows.taken ≤ new.seat.shows.taken
-  pub raises : AddsRaises n old.seat.shows new.seat.shows
   pub told : TellsRaises old.seat.shows new.seat.shows
   pub still : AreRaisedStill old.seat.shows.raises new.seat.shows.raises
 
@@ -26,3 +34,39 @@ pub record HasGone (n : ℕ) (old new : Crew) : Type 0 where
   pub rest : MayRest new.seat.shows new.desks
   pub no_rings : OwesNoRing new.seat.shows
   pub held : new.desks ≡ desks_held new.seat.shows
+
+-- a round that raised n units
+pub record IsRounded (n : ℕ) (old new : Crew) : Type 0 where
+  pub gone : HasGone n old new
+  pub at_rest : AreAtRest new.seat.shows new.desks
+
+-- as many visits as bells were taken, at most so many sweeps over the desks
+pub record VisitsByBells (sweeps : ℕ) (old new : Crew) : Type 0 where
+  pub by_bells : new.visits + old.seat.shows.taken ≡ old.visits + new.seat.shows.taken
+  pub at_most : new.visits ≤ old.visits + sweeps * length old.desks
+
+-- a worker that has just taken the bell of one of its desks, for a visit that found no memory
+abbrev pub with_a_visit_refused : Crew → ℕ → Crew
+with_a_visit_refused w bank = record w {
+  visits = w.visits + 1;
+  seat = record w.seat { shows = took w.seat.shows bank };
+}
+
+-- a round that a visit without memory ended: before that visit all bells that were taken led to
+-- whole visits, and nothing else was done; and nothing was done after it
+pub record IsStopped (sweeps : ℕ) (old new : Crew) : Type 0 where
+  pub before : Crew
+  pub units : ℕ
+  pub gone : HasGone units old before
+  pub at_most : before.visits ≤ old.visits + sweeps * length old.desks
+  pub place : ℕ
+  pub known : place < length before.desks
+  pub last : new ≡ with_a_visit_refused before (desk_at before.desks place).bank
+
+-- a round of at most so many sweeps that answered so
+pub record MakesRound (sweeps : ℕ) (answer : Visit) (old new : Crew) : Type 0 where
+  pub same : IsSameCrew old new
+  pub visits : VisitsByBells sweeps old new
+  pub raised : WhenRaised answer (λ n. IsRounded n old new)
+  pub few : WhenRaised answer (λ n. n ≤ 1000000 * MAX_OWED)
+  pub mem : WhenMem answer (IsStopped sweeps old new)

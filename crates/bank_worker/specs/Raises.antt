@@ -6,6 +6,8 @@ use Rattle.clear_core.specs.declared.event.Raise.{Raise}
 use Rattle.pay_words.specs.declared.view.Shown.{Shown}
 use Rattle.pay_words.specs.Views.{IsOver, holds, is_marked, raise_of}
 use Rattle.bank_worker.specs.Rising.{Rises}
+use Rattle.std.specs.List.{Contains}
+use Rattle.std.proofs.Common.{All}
 
 -- the debts xs are owed by banks of the seat, and stand in file order
 pub record AreOwedBy (s : Shown) (xs : List ℕ) : Type 0 where
@@ -31,7 +33,7 @@ debts_of rs = map (λ r. r.debt.0) rs
 
 -- one of the raises is of the debt x
 abbrev pub IsRaisedIn : List Raise → ℕ → Type 0
-IsRaisedIn rs x = (j : ℕ) × (j < length rs) × (slice_index (debts_of rs) j ≡ x)
+IsRaisedIn rs x = Contains (debts_of rs) x
 
 -- each debt that some raises are of is one that more raises are of
 abbrev pub AreRaisedStill : List Raise → List Raise → Type 0
@@ -59,10 +61,9 @@ pub record IsRaised (s t : Shown) (xs ts : List ℕ) (n : ℕ) : Type 0 where
   pub each : (k : ℕ) → k < n → slice_index t.paid (slice_index xs k) ≡ slice_index ts k
   pub others : (x : ℕ) → ((k : ℕ) → k < n → slice_index xs k ≢ x) → HasSamePay s t x
   pub told : (x : ℕ) → IsRaisedIn made x ⊎ HasSamePay s t x
-  pub theirs : (j : ℕ) → j < length made
-      → (k : ℕ) × (k < n) × (slice_index xs k ≡ slice_index (debts_of made) j)
+  pub theirs : All (λ x. (k : ℕ) × (k < n) × (slice_index xs k ≡ x)) (debts_of made)
   pub in_order : Rises (debts_of made)
-  pub owe : (j : ℕ) → j < length made → is_marked t.owes_ring (slice_index (debts_of made) j) ≡ true
+  pub owe : All (λ x. is_marked t.owes_ring x ≡ true) (debts_of made)
   pub only_they_owe : (x : ℕ) → is_marked t.owes_ring x ≡ true
       → (is_marked s.owes_ring x ≡ true) ⊎ IsRaisedIn made x
   pub still_owe : (x : ℕ) → is_marked s.owes_ring x ≡ true → is_marked t.owes_ring x ≡ true

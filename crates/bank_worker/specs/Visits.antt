@@ -1,19 +1,18 @@
 -- What a visit and a round do.
-use Rattle.std.specs.Prelude.{◌≡◌, ◌≢◌, ◌⊎◌, ℕ, ◌+◌, ◌*◌, ◌<◌, ◌≤◌, ◌++◌, true, false, List, [], ◌∷◌, length, map, slice_index, sum}
-use Rattle.clr_net.specs.declared.TheConstants.{MAX_OWED}
+use Rattle.std.specs.Prelude.{◌≡◌, ◌≢◌, ◌⊎◌, ℕ, ◌+◌, ◌<◌, ◌≤◌, ◌++◌, true, false, List, [], ◌∷◌, length, map, slice_index, sum}
 use Rattle.clr_net.specs.Net.{Net, creditor_of, debtor_of}
 use Rattle.clear_core.specs.declared.event.Raise.{Raise}
 use Rattle.bank_desk.specs.Desks.{BankView}
 use Rattle.pay_words.specs.declared.view.Act.{Act}
 use Rattle.pay_words.specs.declared.view.Shown.{Shown}
-use Rattle.pay_words.specs.Views.{HasSeenFloor, IsCalm, OwesNoRing, holds, is_marked, look_at, raise_of, ring_of, took}
+use Rattle.pay_words.specs.Views.{HasSeenFloor, IsCalm, holds, is_marked, look_at, raise_of, ring_of, took}
 use Rattle.bank_worker.specs.declared.visit.Visit.{Visit}
 use Rattle.bank_worker.specs.declared.visit.Visit.TheVariants.{Raised, Mem}
 use Rattle.bank_worker.specs.Rising.{Rises}
 use Rattle.bank_worker.specs.Looks.{IsSeenAt, HasSameSight}
 use Rattle.bank_worker.specs.Raises.{HasSamePay, IsRaisedIn, debts_of}
 use Rattle.bank_worker.specs.Rings.{called_by}
-use Rattle.bank_worker.specs.Views.{Crew, Divides, desk_at, paid_by, paid_by_all}
+use Rattle.bank_worker.specs.Views.{Crew, Divides, desk_at, paid_by}
 
 -- the answer is this number of units
 abbrev pub WhenRaised : Visit → (ℕ → Type 0) → Type 0
@@ -150,49 +149,3 @@ MayRest s desks = (k : ℕ) → k < length desks
 pub record AreAtRest (s : Shown) (desks : List BankView) : Type 0 where
   pub divide : (k : ℕ) → k < length desks → Divides s (desk_at desks k)
   pub seen : (k : ℕ) → k < length desks → HasSeenFloor s (desk_at desks k).bank
-
--- a round that raised n units
-pub record IsRounded (n : ℕ) (old new : Crew) : Type 0 where
-  pub at_rest : AreAtRest new.seat.shows new.desks
-  pub rose : paid_by_all new.seat.shows new.desks ≡ paid_by_all old.seat.shows old.desks + n
-  pub none_fell : (x : ℕ) → x < length old.seat.shows.net.debts
-      → slice_index old.seat.shows.paid x ≤ slice_index new.seat.shows.paid x
-  pub calm : IsAllCalm new.seat.shows
-  pub no_rings : OwesNoRing new.seat.shows
-  pub raises : AddsRaises n old.seat.shows new.seat.shows
-  pub told : TellsRaises old.seat.shows new.seat.shows
-  pub by_visits : IsAllVisits n old new
-
--- as many visits as bells were taken, at most so many sweeps over the desks
-pub record VisitsByBells (sweeps : ℕ) (old new : Crew) : Type 0 where
-  pub by_bells : new.visits + old.seat.shows.taken ≡ old.visits + new.seat.shows.taken
-  pub at_most : new.visits ≤ old.visits + sweeps * length old.desks
-
--- a worker that has just taken the bell of one of its desks, for a visit that found no memory
-abbrev pub with_a_visit_refused : Crew → ℕ → Crew
-with_a_visit_refused w bank = record w {
-  visits = w.visits + 1;
-  seat = record w.seat { shows = took w.seat.shows bank };
-}
-
--- a round that a visit without memory ended: before that visit all bells that were taken led to
--- whole visits, and nothing else was done; and nothing was done after it
-pub record IsStopped (sweeps : ℕ) (old new : Crew) : Type 0 where
-  pub before : Crew
-  pub units : ℕ
-  pub by_visits : IsAllVisits units old before
-  pub same : IsSameCrew old before
-  pub visits : VisitsByBells sweeps old before
-  pub calm : IsAllCalm before.seat.shows
-  pub rest : MayRest before.seat.shows before.desks
-  pub place : ℕ
-  pub known : place < length before.desks
-  pub last : new ≡ with_a_visit_refused before (desk_at before.desks place).bank
-
--- a round of at most so many sweeps that answered so
-pub record MakesRound (sweeps : ℕ) (answer : Visit) (old new : Crew) : Type 0 where
-  pub same : IsSameCrew old new
-  pub visits : VisitsByBells sweeps old new
-  pub raised : WhenRaised answer (λ n. IsRounded n old new)
-  pub few : WhenRaised answer (λ n. n ≤ 1000000 * MAX_OWED)
-  pub mem : WhenMem answer (IsStopped sweeps old new)

@@ -8,7 +8,8 @@
 //!
 //! A *seat* is the right to look, raise, ring and take on a board. A *desk* has what is known of one
 //! bank. An *office* has the desks of a worker, and the workspace that it keeps from round to round.
-//! Contracts see a worker as a *crew*: its seat, desks, number, visits and journal.
+//! Contracts see a worker as a *crew*: its seat, desks, number, visits and journal. A bank is
+//! *called* while it is on the worklist of a round, the set of banks whose bells may be up.
 #![tactic(auto)]
 
 mod bank_set;

@@ -1,12 +1,11 @@
 ghost use Rattle.bank_worker.specs.BankSets.{is_in};
 ghost use Rattle.bank_worker.specs.Called.{AreCalledOrAtRest, AreCalledTo, AreCreditorsIn};
 ghost use Rattle.bank_worker.specs.Called.{CallsOthers, KeepsOthers, StayIn};
-ghost use Rattle.bank_worker.specs.Grows.{Grows, HasGone};
+ghost use Rattle.bank_worker.specs.Grows.{Grows, MakesRound};
 ghost use Rattle.bank_worker.specs.Offices.{IsOfficeFor};
 ghost use Rattle.bank_worker.specs.Views.{banks_held, desk_at, desks_held};
-ghost use Rattle.bank_worker.specs.Visits.{AreAtRest, IsAllCalm, IsDown, IsRounded, IsSameCrew};
-ghost use Rattle.bank_worker.specs.Visits.{IsStopped, IsVisited, MakesRound, MayRest};
-ghost use Rattle.bank_worker.specs.Visits.{VisitsByBells, WhenMem, WhenRaised};
+ghost use Rattle.bank_worker.specs.Visits.{IsAllCalm, IsDown, IsSameCrew, IsVisited, MayRest};
+ghost use Rattle.bank_worker.specs.Visits.{WhenMem, WhenRaised};
 ghost use Rattle.clr_net.specs.declared.TheConstants.{MAX_BANKS, MAX_OWED};
 ghost use Rattle.pay_words.specs.Views.{IsAt, OwesNoRing, holds, is_of_worker, took};
 ghost use Rattle.std.specs.Prelude.{◌≡◌, ◌+◌, ◌*◌, ◌^◌, ◌<◌, ◌≤◌, ℕ, [], IfErr, IfNone, IfOk};
@@ -177,6 +176,7 @@ impl Worker {
             × MayRest self.old.seat.shows self.old.desks }
         ensures { MakesRound sweeps result self.old self.new }
     {
+        // That the banks of the desks are among all banks is known of the office, read here.
         let _ = &self.office;
         self.go_round(
             board,
@@ -204,11 +204,7 @@ impl Worker {
         requires idle { OwesNoRing self.old.seat.shows × IsAllCalm self.old.seat.shows
             × MayRest self.old.seat.shows self.old.desks }
         requires called { AreCalledOrAtRest called.old self.old.seat.shows self.old.desks }
-        ensures same { IsSameCrew self.old self.new }
-        ensures visits { VisitsByBells sweeps self.old self.new }
-        ensures raised { WhenRaised result (λ n. IsRounded n self.old self.new) }
-        ensures few { WhenRaised result (λ n. n ≤ 1000000 * MAX_OWED) }
-        ensures mem { WhenMem result (IsStopped sweeps self.old self.new) }
+        ensures round { MakesRound sweeps result self.old self.new }
         ensures others { KeepsOthers self.old.seat.shows called.old called.new }
         ensures rung { CallsOthers self.old self.new called.new }
     {
@@ -287,13 +283,8 @@ impl Worker {
         requires idle { IsAllCalm self.old.seat.shows
             × MayRest self.old.seat.shows self.old.desks }
         requires called { AreCalledOrAtRest called.old self.old.seat.shows self.old.desks }
-        ensures same { IsSameCrew self.old self.new }
-        ensures visits { VisitsByBells 1 self.old self.new }
-        ensures gone { WhenRaised result (λ n. HasGone n self.old self.new) }
-        ensures at_rest { WhenRaised result (λ n.
-            AreAtRest self.new.seat.shows self.new.desks) }
+        ensures round { MakesRound 1 result self.old self.new }
         ensures few { WhenRaised result (λ n. n ≤ length self.old.desks * MAX_OWED) }
-        ensures mem { WhenMem result (IsStopped 1 self.old self.new) }
         ensures others { KeepsOthers self.old.seat.shows called.old called.new }
         ensures rung { CallsOthers self.old self.new called.new }
     {

@@ -1,9 +1,9 @@
 -- What one bank pays, row by row: its debts get what its rule gives, all together what it has or owes.
-use Rattle.std.proofs.Common.{◌≡◌, ℕ, ◌<◌, min, List, length, get_or, map, sum, sum_by, sym, ap, ◌∙◌, subst, arith}
+use Rattle.std.proofs.Common.{◌≡◌, ℕ, ◌<◌, min, List, length, get_or, map, sum, sum_by, refl, sym, ap, ◌∙◌, subst, arith}
 use Rattle.std.proofs.lemmas.List.{ext_get_or, get_or-map, length-map}
 use Rattle.std.proofs.lemmas.List.Sums.{sum-map}
 use Rattle.clr_net.specs.Limits.{IsNetwork}
-use Rattle.clr_net.specs.Net.{Net, place_in_row, row, claims_of, classes_of, rule_of}
+use Rattle.clr_net.specs.Net.{Net, debtor_of, place_in_row, row, claims_of, classes_of, rule_of}
 use Rattle.clr_net.proofs.RowsAndColumns.{StandsInRow, row_place, length-claims_of, length-classes_of, classes_of_are}
 use Rattle.clr_net.proofs.Share.{length-share, sum_share}
 use Rattle.clear_core.specs.Clearing.{receipts, spend, division_of, division, pay_by, pay, Clears}
@@ -17,13 +17,15 @@ pub length-division : (net : Net) (i r : ℕ) → length (division net i r) ≡ 
 length-division net i r = length-division_of net i (spend net i r)
 
 module _ (net : Net) (f : ℕ → ℕ → ℕ) (P : List ℕ) (i : ℕ) where
-  -- the debt in the place k of a row is paid what the division has there
+  -- what the bank divides gives each debt of its row what is paid on it
+  pub division_pays : (x units : ℕ) → x < length net.debts → debtor_of net x ≡ i → units ≡ f i (receipts net P i)
+      → get_or (division_of net i units) (place_in_row net x) 0 ≡ get_or (pay_by net f P) x 0
+  division_pays x units l owed e = rw (e, ← owed) (sym (pay_by_at net f P x l))
+
+  -- so it is with the debt in the place k
   pay_by_at_place : (k x : ℕ) → StandsInRow net i k x
       → get_or (pay_by net f P) x 0 ≡ get_or (division_of net i (f i (receipts net P i))) k 0
-  pay_by_at_place k x stands =
-      pay_by_at net f P x stands.in_range
-      ∙ ap (λ j. get_or (division_of net j (f j (receipts net P j))) (place_in_row net x) 0) stands.owed
-      ∙ ap (λ m. get_or (division_of net i (f i (receipts net P i))) m 0) stands.in_place
+  pay_by_at_place k x stands = rw (← stands.in_place) (sym (division_pays x _ stands.in_range stands.owed refl))
 
   -- the division of a bank, read in a place of its row, is what the debt there is paid
   pub award_by_at : (k x : ℕ) → k < length (row net i) → get_or (row net i) k 0 ≡ x

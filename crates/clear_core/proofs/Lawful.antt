@@ -36,7 +36,7 @@ pub stands_more : (net : Net) (rs : List Raise) (s : Raise) → Stands net rs �
 stands_more net rs s h all lawful = stands_from_more net 0 (zeros net) rs s h (omega arith) all lawful
 
 -- a lawful raise is of a debt of the network
-lawful_in_range : (net : Net) (P : List ℕ) (r : Raise) → IsLawful net P r → r.debt.0 < length net.debts
+pub lawful_in_range : (net : Net) (P : List ℕ) (r : Raise) → IsLawful net P r → r.debt.0 < length net.debts
 lawful_in_range net P r l = ⊎_elim (λ (below : r.debt.0 < length net.debts). below)
     (λ (past : length net.debts ≤ r.debt.0). absurd (omega (arith, l.0, l.1, pay_past net P r.debt.0 past)))
     (cases_lt r.debt.0 (length net.debts))
@@ -53,7 +53,7 @@ pub stands_in_range : (net : Net) (rs : List Raise) → Stands net rs → All (�
 stands_in_range net rs h = in_range_from net 0 (zeros net) rs h
 
 -- what a journal that stands pays, all banks would pay as well
-raised_by : (P : List ℕ) (x v : ℕ) → get_or P x 0 < v → IsAtMost P (set P x v)
+pub raised_by : (P : List ℕ) (x v : ℕ) → get_or P x 0 < v → IsAtMost P (set P x v)
 raised_by P x v l k = grind (arith, common_steps)
 
 pay_covers_from : (net : Net) (stamp : ℕ) (P : List ℕ) (rs : List Raise) → IsAtMost P (pay net P) → StandsFrom net stamp P rs

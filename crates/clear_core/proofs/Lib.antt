@@ -7,6 +7,7 @@ pub mod Settling
 pub mod Least
 pub mod Richer
 pub mod Legal
+pub mod Before
 pub mod Journals
 pub mod Within
 pub mod Lawful

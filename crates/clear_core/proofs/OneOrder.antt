@@ -7,8 +7,8 @@ use Rattle.std.proofs.lemmas.Bool.{and_parts, and_from}
 use Rattle.std.proofs.lemmas.List.Sorted.{sum_by-IsPermutation}
 use Rattle.std.proofs.lemmas.List.Sums.{sum_by-cons}
 use Rattle.clear_core.specs.declared.event.Raise.{Raise}
-use Rattle.clear_core.specs.History.{may_precede, with_raise, ordered}
-use Rattle.clear_core.proofs.Ordered.{InTurn, in_turn}
+use Rattle.clear_core.specs.History.{may_precede, ordered}
+use Rattle.clear_core.proofs.Ordered.{InTurn, in_turn, ordered_moves, precedes_trans}
 
 -- two raises are the same where each may stand before the other
 same : Raise → Raise → Bool
@@ -30,9 +30,6 @@ same-is a b h g =
     let amounts : a.to ≡ b.to = grind (arith, common_steps, h, g) in
     alike a.stamp b.stamp a.debt.0 b.debt.0 a.to b.to stamps debts amounts
 
-precedes-trans : (a b c : Raise) → may_precede a b ≡ true → may_precede b c ≡ true → may_precede a c ≡ true
-precedes-trans a b c h g = grind (arith, common_steps, h, g)
-
 -- how often a raise stands in a list
 once : Raise → Raise → ℕ
 once a r = cond (same a r) 1 0
@@ -52,20 +49,6 @@ once-self : (a : Raise) → once a a ≡ 1
 unfolding once
 once-self a = rw (same-refl a) refl
 
-times_put : (a r : Raise) (rs : List Raise) → times a (with_raise r rs) ≡ times a (r ∷ rs)
-times_put a r [] = refl
-times_put a r (q ∷ rs) = by_test (may_precede r q) (times_put a r rs)
-  where
-    by_test : (b : Bool) → times a (with_raise r rs) ≡ times a (r ∷ rs)
-        → times a (cond b (r ∷ q ∷ rs) (q ∷ with_raise r rs)) ≡ times a (r ∷ q ∷ rs)
-    by_test true e = refl
-    by_test false e = omega (arith, e, times-cons a q (with_raise r rs), times-cons a r (q ∷ rs), times-cons a q rs, times-cons a r rs)
-
-times_ordered : (a : Raise) (rs : List Raise) → times a (ordered rs) ≡ times a rs
-times_ordered a [] = refl
-times_ordered a (r ∷ rs) =
-    omega (arith, times_put a r (ordered rs), times-cons a r (ordered rs), times-cons a r rs, times_ordered a rs)
-
 -- the first of raises in turn may stand before each of them
 head_before : (y x : Raise) (rs : List Raise) → InTurn (y ∷ rs) → 0 < times x (y ∷ rs) → may_precede y x ≡ true
 unfolding InTurn once same
@@ -78,7 +61,7 @@ head_before y x (z ∷ zs) h l = by (same x y) refl (omega (arith, times-cons x 
   where
     by : (b : Bool) → same x y ≡ b → 0 < cond b 1 0 + times x (z ∷ zs) → (0 < times x (z ∷ zs) → may_precede z x ≡ true) → may_precede y x ≡ true
     by true e m later = (and_parts (may_precede x y) (may_precede y x) e).1
-    by false e m later = precedes-trans y z x h.0 (later (omega arith))
+    by false e m later = precedes_trans y z x h.0 (later (omega arith))
 
 -- raises in turn are known by how often each stands there
 one_order : (xs ys : List Raise) → InTurn xs → InTurn ys → ((a : Raise) → times a xs ≡ times a ys) → xs ≡ ys
@@ -106,4 +89,4 @@ unfolding times
 only_order rs qs moved h =
     one_order qs (ordered rs)
     (in_turn_from qs (λ k d l. subst (λ n. may_precede (get_or qs k d) (get_or qs n d) ≡ true) (add-one k) (h k d (omega arith))))
-    (in_turn rs) (λ a. sum_by-IsPermutation (once a) rs qs moved ∙ sym (times_ordered a rs))
+    (in_turn rs) (λ a. sum_by-IsPermutation (once a) rs qs moved ∙ sym (sum_by-IsPermutation (once a) rs (ordered rs) (ordered_moves rs)))

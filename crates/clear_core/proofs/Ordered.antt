@@ -1,133 +1,143 @@
--- A history, put in order, stands, and it replays to the greatest amount of each debt.
-use Rattle.std.proofs.Common.{◌≡◌, ◌≢◌, ◌⊎◌, ℕ, zero, suc, ◌<◌, ◌≤◌, ◌==◌, ◌&&◌, nat_lt, max, Bool, true, false, cond, List, [], ◌∷◌, ◌++◌, All, length, get_or, set, slice_get, Some, sym, refl, ap, ◌∙◌, subst, inl, inr, ⊎_elim, arith, zero-le, le-ltb, eq-eqb, ne_eqb}
+-- Raises in order are the same raises, and a history, put in order, stands and replays to the greatest amount of each debt.
+use Rattle.std.proofs.Common.{◌≡◌, ◌≢◌, ◌⊎◌, ℕ, zero, suc, ◌<◌, ◌≤◌, max, Bool, true, false, cond, List, [], ◌∷◌, ◌++◌, All, length, get_or, set, sym, refl, ap, ◌∙◌, subst, inl, inr, ⊎_elim, arith, zero-le}
+use Rattle.std.specs.List.{AllPairs, Contains}
+use Rattle.std.specs.List.Sorted.{IsPermutation}
 use Rattle.std.proofs.lemmas.Grind.{common_steps}
-use Rattle.std.proofs.lemmas.Bool.{cases_lt, cases_eq}
-use Rattle.std.proofs.lemmas.List.{get_or_past, length-replicate}
-use Rattle.std.proofs.lemmas.List.FromFn.{get_or-map-range_with_len, length-map-range_with_len}
-use Rattle.clr_net.specs.Amounts.{IsAtMost}
+use Rattle.std.proofs.lemmas.Bool.{cases_eq}
+use Rattle.std.proofs.lemmas.Bool.Decides.{nat_tests}
+use Rattle.std.proofs.lemmas.List.{get_or-set_same, length-replicate, length-set}
+use Rattle.std.proofs.lemmas.List.Elements.{All-cons, All-tail, All-contains, Contains-get_or}
+use Rattle.std.proofs.lemmas.List.Sorted.{All-permutation, IsPermutation-refl, IsPermutation-cons, IsPermutation-middle, IsPermutation-trans, length_permutation}
+use Rattle.std.proofs.lemmas.Option.{slice_get-get_or, slice_get_within, get_or_from_slice_get}
 use Rattle.clr_net.specs.Net.{Net}
 use Rattle.clr_net.proofs.Lists.{zeros_at}
 use Rattle.clear_core.specs.declared.event.Raise.{Raise}
 use Rattle.clear_core.specs.Clearing.{pay, zeros}
-use Rattle.clear_core.specs.History.{replayed_from, replayed, StandsFrom, Stands, raised_before, paid_before, IsTraced, may_precede, with_raise, ordered, raised_to, IsHistory}
+use Rattle.clear_core.specs.History.{replayed_from, replayed, StandsFrom, Stands, IsLawful, paid_before, IsTraced, may_precede, with_raise, ordered, raised_to, IsHistory}
+use Rattle.clear_core.proofs.Before.{paid_before_within, paid_before_grows}
+use Rattle.clear_core.proofs.Lawful.{lawful_in_range, raised_by}
 use Rattle.clear_core.proofs.Pay.{pay_mono}
-
--- what holds of each raise of a list
-unfoldable pub Each : (Raise → Type 0) → List Raise → Type 0
-Each P [] = Unit {0}
-Each P (r ∷ rs) = P r × Each P rs
-
--- what holds between each raise and each that stands after it
-unfoldable pub EachTwo : (Raise → Raise → Type 0) → List Raise → Type 0
-EachTwo D [] = Unit {0}
-EachTwo D (r ∷ rs) = Each (D r) rs × EachTwo D rs
-
-pub each_from : (P : Raise → Type 0) (rs : List Raise) → ((i : ℕ) (r : Raise) → slice_get rs i ≡ Some r → P r) → Each P rs
-unfolding Each
-each_from P [] h = tt
-each_from P (r ∷ rs) h = (h 0 r refl, each_from P rs (λ i. h (suc i)))
-
-pub each_at : (P : Raise → Type 0) (rs : List Raise) → Each P rs → (i : ℕ) (r : Raise) → slice_get rs i ≡ Some r → P r
-unfolding Each
-each_at P [] h i r e = absurd (cc)
-each_at P (q ∷ rs) h zero r e = let same : q ≡ r = cc in subst P same h.0
-each_at P (q ∷ rs) h (suc i) r e = each_at P rs h.1 i r e
-
-pub each_map : (P Q : Raise → Type 0) (rs : List Raise) → ((r : Raise) → P r → Q r) → Each P rs → Each Q rs
-unfolding Each
-each_map P Q [] f h = tt
-each_map P Q (r ∷ rs) f h = (f r h.0, each_map P Q rs f h.1)
-
-each_two_from : (D : Raise → Raise → Type 0) (rs : List Raise)
-    → ((i j : ℕ) (a b : Raise) → i < j → slice_get rs i ≡ Some a → slice_get rs j ≡ Some b → D a b) → EachTwo D rs
-unfolding EachTwo
-each_two_from D [] h = tt
-each_two_from D (r ∷ rs) h = (
-  each_from (D r) rs (λ j b e. h 0 (suc j) r b (omega arith) refl e),
-  each_two_from D rs (λ i j a b l. h (suc i) (suc j) a b (omega arith)),
-)
-
-each_two_at : (D : Raise → Raise → Type 0) (rs : List Raise) → EachTwo D rs
-    → (i j : ℕ) (a b : Raise) → i < j → slice_get rs i ≡ Some a → slice_get rs j ≡ Some b → D a b
-unfolding EachTwo
-each_two_at D [] h i j a b l e f = absurd (cc)
-each_two_at D (r ∷ rs) h i zero a b l e f = absurd (omega arith)
-each_two_at D (r ∷ rs) h zero (suc j) a b l e f = let same : r ≡ a = cc in subst (λ q. D q b) same (each_at (D r) rs h.0 j b f)
-each_two_at D (r ∷ rs) h (suc i) (suc j) a b l e f = each_two_at D rs h.1 i j a b (omega arith) e f
 
 -- a raise that may not precede another may follow it
 pub follows : (a b : Raise) → may_precede a b ≡ false → may_precede b a ≡ true
 follows a b h = grind (arith, common_steps, h)
 
+pub precedes_trans : (a b c : Raise) → may_precede a b ≡ true → may_precede b c ≡ true → may_precede a c ≡ true
+precedes_trans a b c h g = grind (arith, common_steps, h, g)
+
 precedes_stamp : (a b : Raise) → may_precede a b ≡ true → a.stamp ≤ b.stamp
 precedes_stamp a b h = grind (arith, common_steps, h)
 
--- what holds of a raise and of each of a list holds of each of the list with the raise in its place
-each_put : (P : Raise → Type 0) (r : Raise) (rs : List Raise) → P r → Each P rs → Each P (with_raise r rs)
-unfolding Each
-each_put P r [] p h = (p, tt)
-each_put P r (q ∷ rs) p h = by_test (may_precede r q) (each_put P r rs p h.1)
+-- a raise put in its place, and raises put in order, are the same raises
+put_moves : (r : Raise) (rs : List Raise) → IsPermutation (r ∷ rs) (with_raise r rs)
+put_moves r [] = IsPermutation-refl (r ∷ [])
+put_moves r (q ∷ rs) = by_test (may_precede r q) (put_moves r rs)
   where
-    by_test : (b : Bool) → Each P (with_raise r rs) → Each P (cond b (r ∷ q ∷ rs) (q ∷ with_raise r rs))
-    by_test true later = (p, h)
-    by_test false later = (h.0, later)
+    by_test : (b : Bool) → IsPermutation (r ∷ rs) (with_raise r rs) → IsPermutation (r ∷ q ∷ rs) (cond b (r ∷ q ∷ rs) (q ∷ with_raise r rs))
+    by_test true h = IsPermutation-refl (r ∷ q ∷ rs)
+    by_test false h = IsPermutation-trans (r ∷ q ∷ rs) (q ∷ r ∷ rs) (q ∷ with_raise r rs) (IsPermutation-middle (r ∷ []) q rs) (IsPermutation-cons q (r ∷ rs) (with_raise r rs) h)
 
-each_ordered : (P : Raise → Type 0) (rs : List Raise) → Each P rs → Each P (ordered rs)
-unfolding Each
-each_ordered P [] h = tt
-each_ordered P (r ∷ rs) h = each_put P r (ordered rs) h.0 (each_ordered P rs h.1)
+pub ordered_moves : (rs : List Raise) → IsPermutation rs (ordered rs)
+ordered_moves [] = IsPermutation-refl []
+ordered_moves (r ∷ rs) = IsPermutation-trans (r ∷ rs) (r ∷ ordered rs) (with_raise r (ordered rs)) (IsPermutation-cons r rs (ordered rs) (ordered_moves rs)) (put_moves r (ordered rs))
 
--- so it is with what holds between each two, either way round
-each_two_put : (D : Raise → Raise → Type 0) → ((a b : Raise) → D a b → D b a) → (r : Raise) (rs : List Raise) → Each (D r) rs
-    → EachTwo D rs → EachTwo D (with_raise r rs)
-unfolding Each EachTwo
-each_two_put D sy r [] f h = (tt, tt)
-each_two_put D sy r (q ∷ rs) f h = by_test (may_precede r q) (each_two_put D sy r rs f.1 h.1)
+pub length-ordered : (rs : List Raise) → length (ordered rs) ≡ length rs
+length-ordered rs = length_permutation rs (ordered rs) (ordered_moves rs)
+
+-- what holds of each two of a list holds of the first and each after it, and of each two of the others
+module _ (R : Raise → Raise → Type 0) (r : Raise) (rs : List Raise) where
+  pairs_head : AllPairs R (r ∷ rs) → All (R r) rs
+  pairs_head h k d l = h 0 (suc k) d (omega arith) (omega arith)
+
+  pairs_tail : AllPairs R (r ∷ rs) → AllPairs R rs
+  pairs_tail h i j d l m = h (suc i) (suc j) d (omega arith) (omega arith)
+
+  pairs_cons : All (R r) rs → AllPairs R rs → AllPairs R (r ∷ rs)
+  pairs_cons f h i zero d l m = absurd (omega arith)
+  pairs_cons f h zero (suc j) d l m = f j d (omega arith)
+  pairs_cons f h (suc i) (suc j) d l m = h i j d (omega arith) (omega arith)
+
+-- a raise may precede another, and D holds of the two
+abbrev IsAhead : (Raise → Raise → Type 0) → Raise → Raise → Type 0
+IsAhead D a b = (may_precede a b ≡ true) × D a b
+
+module _ (D : Raise → Raise → Type 0) (both_ways : (a b : Raise) → D a b → D b a) where
+  put_pairs : (r : Raise) (rs : List Raise) → All (D r) rs → AllPairs (IsAhead D) rs → AllPairs (IsAhead D) (with_raise r rs)
+  put_pairs r [] f h = pairs_cons (IsAhead D) r [] (λ k d l. absurd (omega arith)) h
+  put_pairs r (q ∷ rs) f h =
+      by_test (may_precede r q) refl (put_pairs r rs (All-tail (D r) q rs f) (pairs_tail (IsAhead D) q rs h))
+    where
+      after_q : All (IsAhead D q) rs
+      after_q = pairs_head (IsAhead D) q rs h
+
+      by_test : (b : Bool) → may_precede r q ≡ b → AllPairs (IsAhead D) (with_raise r rs)
+          → AllPairs (IsAhead D) (cond b (r ∷ q ∷ rs) (q ∷ with_raise r rs))
+      by_test true e later = pairs_cons (IsAhead D) r (q ∷ rs)
+          (All-cons (IsAhead D r) q rs (e, f 0 q (omega arith))
+          (λ k d l. (precedes_trans r q (get_or rs k d) e (after_q k d l).0, f (suc k) d (omega arith)))) h
+      by_test false e later = pairs_cons (IsAhead D) q (with_raise r rs)
+          (All-permutation (IsAhead D q) (r ∷ rs) (with_raise r rs) (put_moves r rs)
+          (All-cons (IsAhead D q) r rs (follows r q e, both_ways r q (f 0 q (omega arith))) after_q)) later
+
+  -- what holds of each two raises, either way round, holds of each two in order
+  ordered_pairs : (rs : List Raise) → AllPairs D rs → AllPairs (IsAhead D) (ordered rs)
+  ordered_pairs [] h = λ i j d l m. absurd (omega arith)
+  ordered_pairs (r ∷ rs) h = put_pairs r (ordered rs)
+      (All-permutation (D r) rs (ordered rs) (ordered_moves rs) (pairs_head D r rs h))
+      (ordered_pairs rs (pairs_tail D r rs h))
+
+-- each raise may precede the next one
+abbrev pub MayFollow : Raise → List Raise → Type 0
+MayFollow q [] = Unit {0}
+MayFollow q (r ∷ rs) = may_precede q r ≡ true
+
+unfoldable pub InTurn : List Raise → Type 0
+InTurn [] = Unit {0}
+InTurn (r ∷ rs) = MayFollow r rs × InTurn rs
+
+-- so it is where each may precede all after it, and once the raises are in order
+turn_from : (D : Raise → Raise → Type 0) (rs : List Raise) → AllPairs (IsAhead D) rs → InTurn rs
+unfolding InTurn
+turn_from D [] h = tt
+turn_from D (r ∷ []) h = (tt, tt)
+turn_from D (r ∷ q ∷ rs) h = ((h 0 1 r (omega arith) (omega arith)).0, turn_from D (q ∷ rs) (pairs_tail (IsAhead D) r (q ∷ rs) h))
+
+pub in_turn : (rs : List Raise) → InTurn (ordered rs)
+in_turn rs = let D = λ (a b : Raise). Unit {0} in turn_from D (ordered rs) (ordered_pairs D (λ a b u. u) rs (λ i j d l m. tt))
+
+turn_kept : (rs : List Raise) → InTurn rs → ordered rs ≡ rs
+unfolding InTurn
+turn_kept [] h = refl
+turn_kept (r ∷ rs) h = ap (with_raise r) (turn_kept rs h.1) ∙ put_first r rs h.0
   where
-    by_test : (b : Bool) → EachTwo D (with_raise r rs) → EachTwo D (cond b (r ∷ q ∷ rs) (q ∷ with_raise r rs))
-    by_test true later = (f, h)
-    by_test false later = (each_put (D q) r rs (sy r q f.0) h.0, later)
+    put_first : (r : Raise) (rs : List Raise) → MayFollow r rs → with_raise r rs ≡ r ∷ rs
+    put_first r [] m = refl
+    put_first r (q ∷ rs) m = ap (λ b. cond b (r ∷ q ∷ rs) (q ∷ with_raise r rs)) m
 
-each_two_ordered : (D : Raise → Raise → Type 0) → ((a b : Raise) → D a b → D b a) → (rs : List Raise) → EachTwo D rs → EachTwo D (ordered rs)
-unfolding EachTwo
-each_two_ordered D sy [] h = tt
-each_two_ordered D sy (r ∷ rs) h = each_two_put D sy r (ordered rs) (each_ordered (D r) rs h.0) (each_two_ordered D sy rs h.1)
+pub ordered_again : (rs : List Raise) → ordered (ordered rs) ≡ ordered rs
+ordered_again rs = turn_kept (ordered rs) (in_turn rs)
 
--- no stamp is below one that stands before it
-abbrev StampsRise : List Raise → Type 0
-StampsRise rs = EachTwo (λ a b. a.stamp ≤ b.stamp) rs
-
-stamps_put : (r : Raise) (rs : List Raise) → StampsRise rs → StampsRise (with_raise r rs)
-unfolding Each EachTwo
-stamps_put r [] h = (tt, tt)
-stamps_put r (q ∷ rs) h = by_test (may_precede r q) refl (stamps_put r rs h.1)
+-- a raise goes before those of greater stamp
+put_before : (r : Raise) (xs ys : List Raise) → All (λ q. r.stamp < q.stamp) ys → with_raise r (xs ++ ys) ≡ with_raise r xs ++ ys
+put_before r [] [] h = refl
+put_before r [] (q ∷ ys) h =
+    let less = h 0 q (omega arith) in
+    let first : may_precede r q ≡ true = grind (arith, common_steps, less) in
+    ap (λ b. cond b (r ∷ q ∷ ys) (q ∷ with_raise r ys)) first
+put_before r (x ∷ xs) ys h = by_test (may_precede r x) (put_before r xs ys h)
   where
-    by_test : (b : Bool) → may_precede r q ≡ b → StampsRise (with_raise r rs) → StampsRise (cond b (r ∷ q ∷ rs) (q ∷ with_raise r rs))
-    by_test true e later =
-        let l : r.stamp ≤ q.stamp = precedes_stamp r q e in
-        ((l, each_map (λ b. q.stamp ≤ b.stamp) (λ b. r.stamp ≤ b.stamp) rs (λ b m. omega arith) h.0), h)
-    by_test false e later =
-        let l : q.stamp ≤ r.stamp = precedes_stamp q r (follows r q e) in
-        (each_put (λ b. q.stamp ≤ b.stamp) r rs l h.0, later)
-
-stamps_rise : (rs : List Raise) → StampsRise (ordered rs)
-unfolding EachTwo
-stamps_rise [] = tt
-stamps_rise (r ∷ rs) = stamps_put r (ordered rs) (stamps_rise rs)
-
--- the amounts of a debt do not depend on the order
-raised_before_put : (n : ℕ) (r : Raise) (rs : List Raise) (x : ℕ) → raised_before n (with_raise r rs) x ≡ raised_before n (r ∷ rs) x
-raised_before_put n r [] x = refl
-raised_before_put n r (q ∷ rs) x = by_test (may_precede r q) (raised_before_put n r rs x)
-  where
-    by_test : (b : Bool) → raised_before n (with_raise r rs) x ≡ raised_before n (r ∷ rs) x
-        → raised_before n (cond b (r ∷ q ∷ rs) (q ∷ with_raise r rs)) x ≡ raised_before n (r ∷ q ∷ rs) x
+    by_test : (b : Bool) → with_raise r (xs ++ ys) ≡ with_raise r xs ++ ys
+        → cond b (r ∷ x ∷ xs ++ ys) (x ∷ with_raise r (xs ++ ys)) ≡ cond b (r ∷ x ∷ xs) (x ∷ with_raise r xs) ++ ys
     by_test true e = refl
-    by_test false e = omega (arith, e)
+    by_test false e = ap (λ zs. x ∷ zs) e
 
-raised_before_ordered : (n : ℕ) (rs : List Raise) (x : ℕ) → raised_before n (ordered rs) x ≡ raised_before n rs x
-raised_before_ordered n [] x = refl
-raised_before_ordered n (r ∷ rs) x = omega (arith, raised_before_put n r (ordered rs) x, raised_before_ordered n rs x)
+-- raises all of whose stamps are above those of others stand after them
+pub ordered_after_all : (xs ys : List Raise) → All (λ b. All (λ a. a.stamp < b.stamp) xs) ys
+    → ordered (xs ++ ys) ≡ ordered xs ++ ordered ys
+ordered_after_all [] ys h = refl
+ordered_after_all (x ∷ xs) ys h =
+    ap (with_raise x) (ordered_after_all xs ys (λ m e n k d l. h m e n (suc k) d (omega arith)))
+    ∙ put_before x (ordered xs) (ordered ys) (All-permutation (λ (b : Raise). x.stamp < b.stamp) ys (ordered ys) (ordered_moves ys) (λ m e n. h m e n 0 x (omega arith)))
 
 raised_to_put : (r : Raise) (rs : List Raise) (x : ℕ) → raised_to (with_raise r rs) x ≡ raised_to (r ∷ rs) x
 raised_to_put r [] x = refl
@@ -138,123 +148,92 @@ raised_to_put r (q ∷ rs) x = by_test (may_precede r q) (raised_to_put r rs x)
     by_test true e = refl
     by_test false e = omega (arith, e)
 
-pub raised_to_ordered : (rs : List Raise) (x : ℕ) → raised_to (ordered rs) x ≡ raised_to rs x
+-- the greatest amount of a debt does not depend on the order
+raised_to_ordered : (rs : List Raise) (x : ℕ) → raised_to (ordered rs) x ≡ raised_to rs x
 raised_to_ordered [] x = refl
 raised_to_ordered (r ∷ rs) x = omega (arith, raised_to_put r (ordered rs) x, raised_to_ordered rs x)
+
+-- each raise of a journal that stands pays more on its debt, so that it replays to the greatest amount of each
+replayed_from_at : (net : Net) (stamp : ℕ) (P : List ℕ) (rs : List Raise) (y : ℕ) → y < length P → StandsFrom net stamp P rs
+    → get_or (replayed_from P rs) y 0 ≡ max (get_or P y 0) (raised_to rs y)
+unfolding StandsFrom replayed_from
+replayed_from_at net stamp P [] y l s = omega arith
+replayed_from_at net stamp P (r ∷ rs) y l s =
+    let rest = replayed_from_at net r.stamp (set P r.debt.0 r.to) rs y (omega (arith, length-set P r.debt.0 r.to)) s.2 in
+    let more = s.1.0 in
+    grind (arith, common_steps, nat_tests, rest, more)
 
 -- a later raise of the same debt has the greater stamp and the greater amount
 abbrev IsLater : Raise → Raise → Type 0
 IsLater a b = (a.stamp ≤ b.stamp) × (a.debt.0 ≡ b.debt.0 → (a.stamp < b.stamp) × (a.to < b.to))
-
--- replaying amounts that rise on each debt leaves the greatest of each
-pub replayed_from_at : (P : List ℕ) (rs : List Raise) (y : ℕ) → y < length P → EachTwo IsLater rs
-    → Each (λ r. r.debt.0 ≡ y → get_or P y 0 < r.to) rs → get_or (replayed_from P rs) y 0 ≡ max (get_or P y 0) (raised_to rs y)
-unfolding Each EachTwo replayed_from
-replayed_from_at P [] y l t h = omega arith
-replayed_from_at P (r ∷ rs) y l t h = ⊎_elim
-    (λ (e : r.debt.0 ≡ y).
-    let here : get_or (set P r.debt.0 r.to) y 0 ≡ r.to = grind (arith, common_steps, l, e) in
-    let rest = each_map (IsLater r) (λ b. b.debt.0 ≡ y → get_or (set P r.debt.0 r.to) y 0 < b.to) rs
-    (λ b later f. omega (arith, here, (later.1 (e ∙ sym f)).1)) t.0 in
-    omega (
-      arith,
-      replayed_from_at (set P r.debt.0 r.to) rs y (grind (arith, common_steps, l)) t.1 rest,
-      here,
-      h.0 e,
-      ap (λ b. cond b r.to 0) (eq-eqb r.debt.0 y e),
-    ))
-    (λ (ne : r.debt.0 ≡ y → ⊥).
-    let here : get_or (set P r.debt.0 r.to) y 0 ≡ get_or P y 0 = grind (arith, common_steps, ne) in
-    let rest = each_map (λ b. b.debt.0 ≡ y → get_or P y 0 < b.to) (λ b. b.debt.0 ≡ y → get_or (set P r.debt.0 r.to) y 0 < b.to) rs
-    (λ b less f. omega (arith, here, less f)) h.1 in
-    omega (
-      arith,
-      replayed_from_at (set P r.debt.0 r.to) rs y (grind (arith, common_steps, l)) t.1 rest,
-      here,
-      ap (λ b. cond b r.to 0) (ne_eqb r.debt.0 y ne),
-    ))
-    (cases_eq r.debt.0 y)
-
--- no raise of stamps from n on counts before n
-none_before : (n : ℕ) (rs : List Raise) (y : ℕ) → Each (λ r. n ≤ r.stamp) rs → raised_before n rs y ≡ 0
-unfolding Each
-none_before n [] y h = refl
-none_before n (r ∷ rs) y h =
-    omega (
-      arith,
-      ap (λ b. cond (b && r.debt.0 == y) r.to 0) (le-ltb r.stamp n h.0),
-      none_before n rs y h.1,
-    )
 
 module _ (net : Net) (whole : List Raise) where
   -- each raise is within what the raises of smaller stamp allow
   abbrev IsWithin : Raise → Type 0
   IsWithin r = r.to ≤ get_or (pay net (paid_before net r.stamp whole)) r.debt.0 0
 
-  -- what all raises below a stamp come to is paid, or stands in the rest
+  -- each raise stands in the rest, or so much is paid on its debt
   abbrev IsCovered : List ℕ → List Raise → Type 0
-  IsCovered P rest = (n y : ℕ) → y < length net.debts → raised_before n whole y ≤ max (get_or P y 0) (raised_before n rest y)
+  IsCovered P rest = All (λ b. Contains rest b ⊎ (b.to ≤ get_or P b.debt.0 0)) whole
 
-  paid_before_le : (P : List ℕ) (r : Raise) (rs : List Raise) → IsCovered P (r ∷ rs) → Each (λ b. r.stamp ≤ b.stamp) rs
-      → IsAtMost (paid_before net r.stamp whole) P
-  unfolding Each
-  paid_before_le P r rs c h y = ⊎_elim
-      (λ (l : y < length net.debts). omega (
-        arith,
-        get_or-map-range_with_len (raised_before r.stamp whole) 0 (length net.debts) y y 0 l (omega arith),
-        c r.stamp y l,
-        none_before r.stamp (r ∷ rs) y (omega arith, h),
-      ))
-      (λ (g : length net.debts ≤ y). omega (
-        arith,
-        get_or_past (paid_before net r.stamp whole) y 0
-            (omega (arith, length-map-range_with_len (raised_before r.stamp whole) 0 (length net.debts))),
-      ))
-      (cases_lt y (length net.debts))
-
-  stands_from : (stamp : ℕ) (P : List ℕ) (rest : List Raise) → Each (λ r. stamp ≤ r.stamp) rest → EachTwo IsLater rest
-      → Each (λ r. get_or P r.debt.0 0 < r.to) rest → Each IsWithin rest → length P ≡ length net.debts → IsCovered P rest
+  stands_from : (stamp : ℕ) (P : List ℕ) (rest : List Raise) → All (λ r. stamp ≤ r.stamp) rest → AllPairs IsLater rest
+      → All (λ r. get_or P r.debt.0 0 < r.to) rest → All IsWithin rest → length P ≡ length net.debts → IsCovered P rest
       → StandsFrom net stamp P rest
-  unfolding Each EachTwo StandsFrom
+  unfolding StandsFrom
   stands_from stamp P [] s t h w e c = tt
-  stands_from stamp P (r ∷ rs) s t h w e c =
-      let later_stamps = each_map (IsLater r) (λ b. r.stamp ≤ b.stamp) rs (λ b later. later.0) t.0 in
-      let allowed : r.to ≤ get_or (pay net P) r.debt.0 0 =
-      omega (arith, w.0, pay_mono net (paid_before net r.stamp whole) P (paid_before_le P r rs c later_stamps) r.debt.0) in
-      let raised = set P r.debt.0 r.to in
-      (s.0, (h.0, allowed), stands_from r.stamp raised rs later_stamps t.1 still_less w.1 (grind (arith, common_steps, e)) covered)
+  stands_from stamp P (r ∷ rs) s t h w e c = (
+    s 0 r (omega arith),
+    lawful,
+    stands_from r.stamp (set P r.debt.0 r.to) rs (λ k d l. (later k d l).0) (pairs_tail IsLater r rs t) still_less
+        (All-tail IsWithin r rs w) (length-set P r.debt.0 r.to ∙ e) covered,
+  )
     where
-      still_less : Each (λ b. get_or (set P r.debt.0 r.to) b.debt.0 0 < b.to) rs
-      still_less = less_than rs t.0 h.1
-        where
-          less_than : (bs : List Raise) → Each (IsLater r) bs → Each (λ b. get_or P b.debt.0 0 < b.to) bs
-              → Each (λ b. get_or (set P r.debt.0 r.to) b.debt.0 0 < b.to) bs
-          less_than [] f g = tt
-          less_than (b ∷ bs) f g = (
-            ⊎_elim
-                (λ (same : r.debt.0 ≡ b.debt.0). grind (arith, common_steps, (f.0.1 same).1, g.0, same))
-                (λ (ne : r.debt.0 ≡ b.debt.0 → ⊥). grind (arith, common_steps, g.0, ne))
-                (cases_eq r.debt.0 b.debt.0),
-            less_than bs f.1 g.1,
-          )
+      later : All (IsLater r) rs
+      later = pairs_head IsLater r rs t
+
+      -- what has a smaller stamp is paid
+      paid : All (λ b. b.stamp < r.stamp → b.to ≤ get_or P b.debt.0 0) whole
+      paid k d l less = ⊎_elim
+          (λ (left : Contains (r ∷ rs) (get_or whole k d)). absurd (omega (
+            arith,
+            less,
+            All-contains (λ (b : Raise). r.stamp ≤ b.stamp) (r ∷ rs) (get_or whole k d)
+                (All-cons (λ (b : Raise). r.stamp ≤ b.stamp) r rs (omega arith) (λ k d l. (later k d l).0)) left,
+          )))
+          (λ (done : (get_or whole k d).to ≤ get_or P (get_or whole k d).debt.0 0). done)
+          (c k d l)
+
+      lawful : IsLawful net P r
+      lawful = (
+        h 0 r (omega arith),
+        omega (
+          arith,
+          w 0 r (omega arith),
+          pay_mono net (paid_before net r.stamp whole) P (paid_before_within net r.stamp whole P paid) r.debt.0,
+        ),
+      )
+
+      still_less : All (λ b. get_or (set P r.debt.0 r.to) b.debt.0 0 < b.to) rs
+      still_less k d l =
+          let b = get_or rs k d in
+          let less = h (suc k) d (omega arith) in
+          ⊎_elim
+          (λ (same : r.debt.0 ≡ b.debt.0). grind (arith, common_steps, ((later k d l).1 same).1, less, same))
+          (λ (ne : r.debt.0 ≢ b.debt.0). grind (arith, common_steps, less, ne))
+          (cases_eq r.debt.0 b.debt.0)
+
+      left_or_paid : (b : Raise) (k : ℕ) → k < length (r ∷ rs) → get_or (r ∷ rs) k b ≡ b
+          → Contains rs b ⊎ (b.to ≤ get_or (set P r.debt.0 r.to) b.debt.0 0)
+      left_or_paid b zero l same = inr (subst (λ (b : Raise). b.to ≤ get_or (set P r.debt.0 r.to) b.debt.0 0) same
+          (omega (arith, get_or-set_same P r.debt.0 r.to 0 (omega (arith, e, lawful_in_range net P r lawful)))))
+      left_or_paid b (suc k) l same = inl (k, omega arith, same)
 
       covered : IsCovered (set P r.debt.0 r.to) rs
-      covered n y l = ⊎_elim
-          (λ (same : r.debt.0 ≡ y).
-          let here : get_or (set P r.debt.0 r.to) y 0 ≡ r.to = grind (arith, common_steps, l, e, same) in
-          omega (arith, c n y l, here, h.0, ap (λ z. get_or P z 0) same, cond_le (nat_lt r.stamp n && r.debt.0 == y) r.to))
-          (λ (ne : r.debt.0 ≡ y → ⊥).
-          let here : get_or (set P r.debt.0 r.to) y 0 ≡ get_or P y 0 = grind (arith, common_steps, ne) in
-          omega (arith, c n y l, here, none_of (nat_lt r.stamp n) (r.debt.0 == y) r.to (ne_eqb r.debt.0 y ne)))
-          (cases_eq r.debt.0 y)
-        where
-          cond_le : (b : Bool) (to : ℕ) → cond b to 0 ≤ to
-          cond_le true to = omega arith
-          cond_le false to = zero-le
-
-          none_of : (b c : Bool) (to : ℕ) → c ≡ false → cond (b && c) to 0 ≡ 0
-          none_of true c to e = ap (λ b. cond b to 0) e
-          none_of false c to e = refl
+      covered k d l = ⊎_elim
+          (λ (left : Contains (r ∷ rs) (get_or whole k d)). left_or_paid (get_or whole k d) left.0 left.1 left.2)
+          (λ (done : (get_or whole k d).to ≤ get_or P (get_or whole k d).debt.0 0).
+          inr (omega (arith, done, raised_by P r.debt.0 r.to lawful.0 (get_or whole k d).debt.0)))
+          (c k d l)
 
 module _ (net : Net) (rs : List Raise) (history : IsHistory net rs) where
   -- two raises of a history, in whatever order they stand
@@ -271,16 +250,17 @@ module _ (net : Net) (rs : List Raise) (history : IsHistory net rs) where
     h.1,
   )
 
-  apart : EachTwo AreApart (ordered rs)
-  apart = each_two_ordered AreApart apart_either_way rs (each_two_from AreApart rs (λ i j a b l e f. (
-    history.traced.differ i j a b l e f,
-    history.rises i j a b e f,
-    history.rises j i b a f e,
-  )))
+  apart : AllPairs (IsAhead AreApart) (ordered rs)
+  apart = ordered_pairs AreApart apart_either_way rs (λ i j d l m.
+      let a = slice_get-get_or rs i d (omega arith) in
+      let b = slice_get-get_or rs j d m in
+      (history.traced.differ i j _ _ l a b, history.rises i j _ _ a b, history.rises j i _ _ b a))
 
-  later : EachTwo IsLater (ordered rs)
-  unfolding Each EachTwo
-  later = both (ordered rs) apart (stamps_rise rs)
+  later : AllPairs IsLater (ordered rs)
+  later i j d l m =
+      let p = apart i j d l m in
+      is_later (get_or (ordered rs) i d) (get_or (ordered rs) j d) p.1
+      (precedes_stamp (get_or (ordered rs) i d) (get_or (ordered rs) j d) p.0)
     where
       same_debt : (a b : Raise) → a.debt.0 ≡ b.debt.0 → a.debt ≡ b.debt
       same_debt a b e = ap (λ (n : ℕ). record { 0 = n }) e
@@ -296,157 +276,42 @@ module _ (net : Net) (rs : List Raise) (history : IsHistory net rs) where
             (less, h.1 (same_debt a b e) less),
       )
 
-      each_both : (a : Raise) (bs : List Raise) → Each (AreApart a) bs → Each (λ b. a.stamp ≤ b.stamp) bs → Each (IsLater a) bs
-      each_both a [] f g = tt
-      each_both a (b ∷ bs) f g = (is_later a b f.0 g.0, each_both a bs f.1 g.1)
+  above_zero : All (λ r. 0 < r.to) (ordered rs)
+  above_zero = All-permutation (λ (r : Raise). 0 < r.to) rs (ordered rs) (ordered_moves rs)
+      (λ k d l. history.above_zero k _ (slice_get-get_or rs k d l))
 
-      both : (bs : List Raise) → EachTwo AreApart bs → StampsRise bs → EachTwo IsLater bs
-      both [] f g = tt
-      both (b ∷ bs) f g = (each_both b bs f.0 g.0, both bs f.1 g.1)
-
-  above_zero : Each (λ r. 0 < r.to) (ordered rs)
-  above_zero = each_ordered (λ r. 0 < r.to) rs (each_from (λ r. 0 < r.to) rs history.above_zero)
-
-  same_before : (n : ℕ) → IsAtMost (paid_before net n rs) (paid_before net n (ordered rs))
-  same_before n y = ⊎_elim
-      (λ (l : y < length net.debts). omega (
+  within : All (IsWithin net (ordered rs)) (ordered rs)
+  within = All-permutation (IsWithin net (ordered rs)) rs (ordered rs) (ordered_moves rs) (λ k d l.
+      let r = get_or rs k d in
+      omega (
         arith,
-        get_or-map-range_with_len (raised_before n rs) 0 (length net.debts) y y 0 l (omega arith),
-        get_or-map-range_with_len (raised_before n (ordered rs)) 0 (length net.debts) y y 0 l (omega arith),
-        raised_before_ordered n rs y,
+        history.traced.within k r (slice_get-get_or rs k d l),
+        pay_mono net (paid_before net r.stamp rs) (paid_before net r.stamp (ordered rs))
+            (paid_before_grows net r.stamp rs r.stamp (ordered rs) (omega arith) (ordered_moves rs)) r.debt.0,
       ))
-      (λ (g : length net.debts ≤ y). omega (
-        arith,
-        get_or_past (paid_before net n rs) y 0 (omega (arith, length-map-range_with_len (raised_before n rs) 0 (length net.debts))),
-      ))
-      (cases_lt y (length net.debts))
-
-  within : Each (IsWithin net (ordered rs)) (ordered rs)
-  within = each_ordered (IsWithin net (ordered rs)) rs (each_from (IsWithin net (ordered rs)) rs (λ i r e. omega (
-    arith,
-    history.traced.within i r e,
-    pay_mono net (paid_before net r.stamp rs) (paid_before net r.stamp (ordered rs)) (same_before r.stamp) r.debt.0,
-  )))
 
   -- in order, it is traced as well
   pub ordered_is_traced : IsTraced net (ordered rs)
   ordered_is_traced = record {
-    differ = λ i j a b l e f. (each_two_at AreApart (ordered rs) apart i j a b l e f).0;
-    within = λ i r e. each_at (IsWithin net (ordered rs)) (ordered rs) within i r e;
+    differ = λ i j a b l e f.
+        rw (get_or_from_slice_get (ordered rs) i a a e, get_or_from_slice_get (ordered rs) j b a f) at
+        (apart i j a l (slice_get_within (ordered rs) j b f)).1.0;
+    within = λ i r e. subst (IsWithin net (ordered rs)) (get_or_from_slice_get (ordered rs) i r r e)
+        (within i r (slice_get_within (ordered rs) i r e));
   }
 
   -- it stands
   pub ordered_stands : Stands net (ordered rs)
   ordered_stands =
-      stands_from net (ordered rs) 0 (zeros net) (ordered rs) (each_map (λ r. 0 < r.to) (λ r. 0 ≤ r.stamp) (ordered rs) (λ r l. zero-le) above_zero)
-      later
-      (each_map (λ r. 0 < r.to) (λ r. get_or (zeros net) r.debt.0 0 < r.to) (ordered rs)
-      (λ r l. omega (arith, l, zeros_at (length net.debts) r.debt.0)) above_zero)
-      within (length-replicate (length net.debts) 0) (λ n y l. omega arith)
+      stands_from net (ordered rs) 0 (zeros net) (ordered rs) (λ k d l. zero-le) later
+      (λ k d l. omega (arith, above_zero k d l, zeros_at (length net.debts) (get_or (ordered rs) k d).debt.0))
+      within (length-replicate (length net.debts) 0) (λ k d l. inl (Contains-get_or (ordered rs) k d l))
 
   -- and it replays to the greatest amount of each debt
   pub ordered_replays : (x : ℕ) → x < length net.debts → get_or (replayed net (ordered rs)) x 0 ≡ raised_to rs x
-  ordered_replays x l =
-      let start : get_or (zeros net) x 0 ≡ 0 = zeros_at (length net.debts) x in
-      omega (
-        arith,
-        replayed_from_at (zeros net) (ordered rs) x (omega (arith, l, length-replicate {A = ℕ} (length net.debts) 0)) later
-            (each_map (λ r. 0 < r.to) (λ r. r.debt.0 ≡ x → get_or (zeros net) x 0 < r.to) (ordered rs)
-            (λ r m e. omega (arith, m, start)) above_zero),
-        start,
-        raised_to_ordered rs x,
-      )
-
--- each raise may precede the next one
-abbrev pub MayFollow : Raise → List Raise → Type 0
-MayFollow q [] = Unit {0}
-MayFollow q (r ∷ rs) = may_precede q r ≡ true
-
-unfoldable pub InTurn : List Raise → Type 0
-InTurn [] = Unit {0}
-InTurn (r ∷ rs) = MayFollow r rs × InTurn rs
-
-turn_put : (r : Raise) (rs : List Raise) → InTurn rs → InTurn (with_raise r rs)
-unfolding InTurn
-turn_put r [] h = (tt, tt)
-turn_put r (q ∷ rs) h = by_test (may_precede r q) refl (turn_put r rs h.1)
-  where
-    may_follow_put : (q r : Raise) (rs : List Raise) → may_precede q r ≡ true → MayFollow q rs → MayFollow q (with_raise r rs)
-    may_follow_put q r [] e m = e
-    may_follow_put q r (s ∷ rs) e m = by_next (may_precede r s)
-      where
-        by_next : (b : Bool) → MayFollow q (cond b (r ∷ s ∷ rs) (s ∷ with_raise r rs))
-        by_next true = e
-        by_next false = m
-
-    by_test : (b : Bool) → may_precede r q ≡ b → InTurn (with_raise r rs) → InTurn (cond b (r ∷ q ∷ rs) (q ∷ with_raise r rs))
-    by_test true e turn = (e, h)
-    by_test false e turn = (may_follow_put q r rs (follows r q e) h.0, turn)
-
-pub in_turn : (rs : List Raise) → InTurn (ordered rs)
-unfolding InTurn
-in_turn [] = tt
-in_turn (r ∷ rs) = turn_put r (ordered rs) (in_turn rs)
-
-turn_kept : (rs : List Raise) → InTurn rs → ordered rs ≡ rs
-unfolding InTurn
-turn_kept [] h = refl
-turn_kept (r ∷ rs) h = ap (with_raise r) (turn_kept rs h.1) ∙ put_first r rs h.0
-  where
-    put_first : (r : Raise) (rs : List Raise) → MayFollow r rs → with_raise r rs ≡ r ∷ rs
-    put_first r [] m = refl
-    put_first r (q ∷ rs) m = ap (λ b. cond b (r ∷ q ∷ rs) (q ∷ with_raise r rs)) m
-
--- so it is once the raises are in order
-pub ordered_again : (rs : List Raise) → ordered (ordered rs) ≡ ordered rs
-ordered_again rs = turn_kept (ordered rs) (in_turn rs)
-
--- what holds of each raise by its place holds of each, and the other way
-pub each_all : (P : Raise → Type 0) (rs : List Raise) → All P rs → Each P rs
-unfolding Each
-each_all P [] h = tt
-each_all P (r ∷ rs) h = (h 0 r (omega arith), each_all P rs (λ k d l. h (suc k) d (omega arith)))
-
-length_put : (r : Raise) (rs : List Raise) → length (with_raise r rs) ≡ suc (length rs)
-length_put r [] = refl
-length_put r (q ∷ rs) = by_test (may_precede r q) (length_put r rs)
-  where
-    by_test : (b : Bool) → length (with_raise r rs) ≡ suc (length rs)
-        → length (cond b (r ∷ q ∷ rs) (q ∷ with_raise r rs)) ≡ suc (suc (length rs))
-    by_test true e = refl
-    by_test false e = ap suc e
-
--- the raises in order are as many
-pub length-ordered : (rs : List Raise) → length (ordered rs) ≡ length rs
-length-ordered [] = refl
-length-ordered (r ∷ rs) = length_put r (ordered rs) ∙ ap suc (length-ordered rs)
-
--- a raise goes before those of greater stamp
-put_before : (r : Raise) (xs ys : List Raise) → Each (λ q. r.stamp < q.stamp) ys → with_raise r (xs ++ ys) ≡ with_raise r xs ++ ys
-unfolding Each
-put_before r [] [] h = refl
-put_before r [] (q ∷ ys) h =
-    let less = h.0 in
-    let first : may_precede r q ≡ true = grind (arith, common_steps, less) in
-    ap (λ b. cond b (r ∷ q ∷ ys) (q ∷ with_raise r ys)) first
-put_before r (x ∷ xs) ys h = by_test (may_precede r x) (put_before r xs ys h)
-  where
-    by_test : (b : Bool) → with_raise r (xs ++ ys) ≡ with_raise r xs ++ ys
-        → cond b (r ∷ x ∷ xs ++ ys) (x ∷ with_raise r (xs ++ ys)) ≡ cond b (r ∷ x ∷ xs) (x ∷ with_raise r xs) ++ ys
-    by_test true e = refl
-    by_test false e = ap (λ zs. x ∷ zs) e
-
--- raises all of whose stamps are above those of others stand after them
-pub ordered_after : (xs ys : List Raise) → Each (λ a. Each (λ b. a.stamp < b.stamp) ys) xs
-    → ordered (xs ++ ys) ≡ ordered xs ++ ordered ys
-unfolding Each
-ordered_after [] ys h = refl
-ordered_after (x ∷ xs) ys h =
-    ap (with_raise x) (ordered_after xs ys h.1)
-    ∙ put_before x (ordered xs) (ordered ys) (each_ordered (λ b. x.stamp < b.stamp) ys h.0)
-
--- so it is where the facts are by place
-pub ordered_after_all : (xs ys : List Raise) → All (λ b. All (λ a. a.stamp < b.stamp) xs) ys
-    → ordered (xs ++ ys) ≡ ordered xs ++ ordered ys
-ordered_after_all xs ys h = ordered_after xs ys (each_all (λ a. Each (λ b. a.stamp < b.stamp) ys) xs
-    (λ k d l. each_all (λ b. (get_or xs k d).stamp < b.stamp) ys (λ m e n. h m e n k d l)))
+  ordered_replays x l = omega (
+    arith,
+    replayed_from_at net 0 (zeros net) (ordered rs) x (omega (arith, l, length-replicate {A = ℕ} (length net.debts) 0)) ordered_stands,
+    zeros_at (length net.debts) x,
+    raised_to_ordered rs x,
+  )

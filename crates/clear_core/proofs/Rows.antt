@@ -6,6 +6,7 @@ use Rattle.std.proofs.lemmas.List.{get_or-map, length-map, map-append, take_more
 use Rattle.std.proofs.lemmas.List.Elements.{All-from_get_or}
 use Rattle.std.proofs.lemmas.List.FromFn.{length-range_with_len}
 use Rattle.std.proofs.lemmas.List.Sums.{length-filter, count_by-le-length}
+use Rattle.std.proofs.lemmas.Option.{slice_get_within}
 use Rattle.clr_net.specs.declared.TheConstants.{MAX_CLAIM}
 use Rattle.clr_net.specs.declared.debt.Debt.{Debt}
 use Rattle.clr_net.specs.declared.debt.DebtId.{DebtId}
@@ -75,6 +76,15 @@ claim_read net x d e = ap (λ o. option_map_or (λ (d : Debt). d.claim) o 0) e
 
 pub class_read : (net : Net) (x : ℕ) (d : Debt) → slice_get net.debts x ≡ Some d → class_of net x ≡ d.class
 class_read net x d e = ap (λ o. option_map_or (λ (d : Debt). d.class) o 0) e
+
+pub creditor_read : (net : Net) (x : ℕ) (d : Debt) → slice_get net.debts x ≡ Some d → creditor_of net x ≡ d.creditor.0
+creditor_read net x d e = ap (λ o. option_map_or (λ (d : Debt). d.creditor.0) o 0) e
+
+-- the creditor of a debt is a bank of the network
+pub creditor_known : (net : Net) (x : ℕ) (d : Debt) → IsNetwork net → slice_get net.debts x ≡ Some d
+    → d.creditor.0 < length net.banks
+creditor_known net x d network e =
+    omega (arith, creditor_read net x d e, (network.each_debt x (slice_get_within net.debts x d e)).creditor_known)
 
 -- a list of what f gives for the first k numbers, with one more
 pub laid_more : (f : ℕ → ℕ) (laid ns : List ℕ) (k x v : ℕ) → laid ≡ map f (take k ns) → k < length ns → get_or ns k 0 ≡ x → f x ≡ v

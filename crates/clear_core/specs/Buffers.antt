@@ -7,6 +7,11 @@ use Rattle.clr_net.specs.declared.TheConstants.{MAX_CLAIM}
 abbrev pub HasRoom : Net → ℕ → Type 0
 HasRoom net room = (i : ℕ) → length (row net i) ≤ room
 
+-- the awards of the last division, and how many debts the buffers of one can hold
+pub record RowDivision : Type 0 where
+  pub awards : List ℕ
+  pub room : ℕ
+
 -- no amount is above the most that a debt may claim
 abbrev pub AreInLimit : List ℕ → Type 0
 AreInLimit amounts = (k : ℕ) → slice_index amounts k ≤ MAX_CLAIM

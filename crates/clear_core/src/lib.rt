@@ -13,6 +13,7 @@ mod journal;
 pub mod laws;
 mod quiet;
 mod receipts;
+mod row_buffer;
 mod scratch;
 mod state;
 
@@ -21,5 +22,6 @@ pub use event::{Event, Illegal, Raise};
 pub use journal::Journal;
 pub use quiet::{first_unquiet, is_quiet};
 pub use receipts::{estate_of, receipts_of, spend, spendable};
-pub use scratch::{Scratch, lay_out_row, longest_row};
+pub use row_buffer::lay_out_row;
+pub use scratch::{Scratch, longest_row};
 pub use state::{State, allowed_of};

@@ -2,36 +2,31 @@ ghost use Rattle.clear_core.specs.Buffers.{AreInLimit, HasRoom};
 ghost use Rattle.clear_core.specs.Clearing.{division, division_of, pay};
 ghost use Rattle.clear_core.specs.Raised.{IsRaised};
 ghost use Rattle.clr_net.specs.Limits.{IsNetwork};
-ghost use Rattle.clr_net.specs.Net.{claims_of, classes_of, debtor_of, row as row_of};
+ghost use Rattle.clr_net.specs.Net.{debtor_of, place_in_row, row as row_of};
 ghost use Rattle.clr_net.specs.declared.TheConstants.{MAX_CLAIM, MAX_DEBTS};
 ghost use Rattle.std.specs.Bool.{OnFalse, OnTrue};
-ghost use Rattle.std.specs.Prelude.{◌≡◌, ◌≢◌, ◌*◌, ◌<◌, ◌≤◌, ◌↔◌, ℕ, IfOk, IsTrue, length, map, slice_index, sum, vec_capacity, vec_len};
+ghost use Rattle.std.specs.Prelude.{◌≡◌, ◌≢◌, ◌*◌, ◌<◌, ◌≤◌, ◌↔◌, ℕ, IfOk, IsTrue, length, map, slice_index, sum};
 
 use crate::receipts::{receipts_of, spend};
+use crate::row_buffer::RowBuffer;
 use clr_net::{BankId, Mem, Network};
-use rule_level::share_by_level;
 use std::alloc::Global;
 use std::marker::Model;
 
-/// Buffers in which the estate of one bank is divided, so that no division takes memory.
+/// Buffers in which what one bank divides is divided, so that no division takes memory.
 ///
 /// Contracts see the room: how many debts the buffers can hold.
 #[derive(Drop)]
 pub struct Scratch {
-    claims: Vec<u64>,
-    classes: Vec<u8>,
-    awards: Vec<u64>,
+    row: RowBuffer,
 }
 
 impl Model for Scratch {
-    ghost use Rattle.std.specs.Prelude.{◌≡◌, ℕ, vec_capacity};
+    ghost use Rattle.std.specs.Prelude.{ℕ};
 
     ghost Value = { ℕ };
 
-    ghost view = { λ s. vec_capacity s.claims };
-
-    ghost invariant = { λ s. (vec_capacity s.classes ≡ vec_capacity s.claims)
-        × (vec_capacity s.awards ≡ vec_capacity s.claims) };
+    ghost view = { λ s. s.row.room };
 }
 
 impl Scratch {
@@ -39,11 +34,8 @@ impl Scratch {
     pub fn of(alloc: Global, net: &Network) -> Result<Scratch, Mem>
         ensures { IfOk result (HasRoom net.now) }
     {
-        let room = longest_row(net);
         Ok(Scratch {
-            claims: Vec::with_capacity(alloc, room)?,
-            classes: Vec::with_capacity(alloc, room)?,
-            awards: Vec::with_capacity(alloc, room)?,
+            row: RowBuffer::with_room(alloc, longest_row(net))?,
         })
     }
 
@@ -65,15 +57,27 @@ impl Scratch {
         ensures room { self.new ≡ self.old }
     {
         let receipts = receipts_of(net, bank, paid);
-        award_row(
-            net,
-            bank,
-            spend(net, bank, receipts),
-            &mut self.claims,
-            &mut self.classes,
-            &mut self.awards,
-        );
-        let awards = self.awards.as_slice();
+        self.divide_row(net, bank, spend(net, bank, receipts), next);
+    }
+
+    /// A bank pays on the debts of its row what its rule gives of so many units: writes that into
+    /// `next`, and nothing else.
+    ///
+    /// `next` has a place for each debt, in file order, in units. Takes no memory.
+    pub fn divide_row(&mut self, net: &Network, bank: BankId, units: u64, next: &mut [u64])
+        requires network { IsNetwork net.now }
+        requires bank { bank.0 < length net.now.banks }
+        requires next { length next.old ≡ length net.now.debts }
+        requires room { HasRoom net.now self.old }
+        ensures in_row { (x : ℕ) → x < length net.now.debts → debtor_of net.now x ≡ bank.0
+            → slice_index next.new x
+            ≡ slice_index (division_of net.now bank.0 units) (place_in_row net.now x) }
+        ensures others { (x : ℕ) → debtor_of net.now x ≢ bank.0
+            → slice_index next.new x ≡ slice_index next.old x }
+        ensures room { self.new ≡ self.old }
+    {
+        self.row.divide(net, bank, units);
+        let awards = self.row.awards();
         for (place, id) in net.row(bank).iter().enumerate() {
             next[id.0 as usize] = awards[place];
         }
@@ -106,15 +110,8 @@ impl Scratch {
         ensures same { OnFalse result (paid.new ≡ paid.old) }
         ensures room { self.new ≡ self.old }
     {
-        award_row(
-            net,
-            bank,
-            units,
-            &mut self.claims,
-            &mut self.classes,
-            &mut self.awards,
-        );
-        raise(net, bank, self.awards.as_slice(), paid, marks)
+        self.row.divide(net, bank, units);
+        raise(net, bank, self.row.awards(), paid, marks)
     }
 
     /// What a bank's rule gives the debt in one place of its row, when the bank receives so many units.
@@ -133,15 +130,8 @@ impl Scratch {
         ensures award { result ≡ slice_index (division net.now bank.0 receipts) place }
         ensures room { self.new ≡ self.old }
     {
-        award_row(
-            net,
-            bank,
-            spend(net, bank, receipts),
-            &mut self.claims,
-            &mut self.classes,
-            &mut self.awards,
-        );
-        self.awards[place]
+        self.row.divide(net, bank, spend(net, bank, receipts));
+        self.row.awards()[place]
     }
 
     /// Whether what is paid on the row of a bank is what its rule gives, when the bank receives so
@@ -156,15 +146,8 @@ impl Scratch {
             ↔ (map (slice_index paid.now) (row_of net.now bank.0) ≡ division net.now bank.0 receipts) }
         ensures room { self.new ≡ self.old }
     {
-        award_row(
-            net,
-            bank,
-            spend(net, bank, receipts),
-            &mut self.claims,
-            &mut self.classes,
-            &mut self.awards,
-        );
-        are_paid(net, bank, paid, self.awards.as_slice())
+        self.row.divide(net, bank, spend(net, bank, receipts));
+        are_paid(net, bank, paid, self.row.awards())
     }
 }
 
@@ -180,70 +163,6 @@ pub fn longest_row(net: &Network) -> usize
         longest = longest.max(net.row(BankId(number)).len());
     }
     longest
-}
-
-/// Lays out the claims, in units, and the classes of the debts that a bank owes, in file order:
-/// writes over two lists that have the room for them. Takes no memory.
-pub fn lay_out_row(net: &Network, bank: BankId, claims: &mut Vec<u64>, classes: &mut Vec<u8>)
-    requires bank { bank.0 < length net.now.banks }
-    requires room_for_claims { length (row_of net.now bank.0) ≤ vec_capacity claims.old }
-    requires room_for_classes { length (row_of net.now bank.0) ≤ vec_capacity classes.old }
-    ensures claims { claims.new.items ≡ claims_of net.now bank.0 }
-    ensures classes { classes.new.items ≡ classes_of net.now bank.0 }
-    ensures room_of_claims { vec_capacity claims.new ≡ vec_capacity claims.old }
-    ensures room_of_classes { vec_capacity classes.new ≡ vec_capacity classes.old }
-{
-    claims.clear();
-    classes.clear();
-    for id in net.row(bank) {
-        let debt = net.debt(*id);
-        claims.push_reserved(debt.claim);
-        classes.push_reserved(debt.class);
-    }
-}
-
-// As many awards of nothing as there are places.
-fn blank(awards: &mut Vec<u64>, places: usize)
-    requires { places ≤ vec_capacity awards.old }
-    ensures places { vec_len awards.new ≡ places }
-    ensures room { vec_capacity awards.new ≡ vec_capacity awards.old }
-{
-    awards.clear();
-    for _ in 0..places {
-        awards.push_reserved(0);
-    }
-}
-
-// Lays out the row of a bank, and divides so many units among it.
-fn award_row(
-    net: &Network,
-    bank: BankId,
-    units: u64,
-    claims: &mut Vec<u64>,
-    classes: &mut Vec<u8>,
-    awards: &mut Vec<u64>,
-)
-    requires network { IsNetwork net.now }
-    requires bank { bank.0 < length net.now.banks }
-    requires room_for_claims { length (row_of net.now bank.0) ≤ vec_capacity claims.old }
-    requires room_for_classes { length (row_of net.now bank.0) ≤ vec_capacity classes.old }
-    requires room_for_awards { length (row_of net.now bank.0) ≤ vec_capacity awards.old }
-    ensures awards { awards.new.items ≡ division_of net.now bank.0 units }
-    ensures places { vec_len awards.new ≡ length (row_of net.now bank.0) }
-    ensures room_of_claims { vec_capacity claims.new ≡ vec_capacity claims.old }
-    ensures room_of_classes { vec_capacity classes.new ≡ vec_capacity classes.old }
-    ensures room_of_awards { vec_capacity awards.new ≡ vec_capacity awards.old }
-{
-    lay_out_row(net, bank, claims, classes);
-    blank(awards, net.row(bank).len());
-    divide_laid_out(
-        net,
-        bank,
-        units,
-        claims.as_slice(),
-        classes.as_slice(),
-        awards.as_mut_slice(),
-    );
 }
 
 // Pays the awards on the debts of a bank, where they are more than is paid, and marks whoever is
@@ -285,23 +204,4 @@ fn are_paid(net: &Network, bank: BankId, paid: &[u64], awards: &[u64]) -> bool
         }
     }
     true
-}
-
-// Divides so many units among the debts of a bank that are laid out, by its rule.
-fn divide_laid_out(
-    net: &Network,
-    bank: BankId,
-    units: u64,
-    claims: &[u64],
-    classes: &[u8],
-    into: &mut [u64],
-)
-    requires network { IsNetwork net.now }
-    requires bank { bank.0 < length net.now.banks }
-    requires claims { claims.now ≡ claims_of net.now bank.0 }
-    requires classes { classes.now ≡ classes_of net.now bank.0 }
-    requires places { length into.old ≡ length (row_of net.now bank.0) }
-    ensures { into.new ≡ division_of net.now bank.0 units }
-{
-    share_by_level(net.bank(bank).rule, claims, classes, units, into);
 }

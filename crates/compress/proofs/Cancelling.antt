@@ -16,7 +16,7 @@ use Rattle.compress.proofs.Cycles.{cycle_keeps}
 use Rattle.compress.specs.declared.mark.Mark.{Mark}
 use Rattle.compress.specs.declared.mark.Mark.TheVariants.{New, Walked, Done}
 use Rattle.compress.specs.Walk.{mark_of, stops, end_of, steps_left, IsWalk, AreDone, IsKept}
-use Rattle.compress.proofs.Walks.{stop_before, stop_last, stop_after, walk_back}
+use Rattle.compress.proofs.Walks.{stop_before, stop_last, stop_after, walk_back, walked_not_done}
 use Rattle.compress.proofs.Dones.{done_marked, done_lowered}
 
 -- one debt more, at the end
@@ -155,18 +155,35 @@ cancelling_begins net c s place m C W marks x l w live link in_walk closed pos e
       less = omega (arith, sum_by-set (λ n. n) C x (get_or C x 0 - m) 0 r);
       banks = refl;
       stays = λ b e. e;
-      done = λ R d. done_lowered net c C (set C x (get_or C x 0 - m)) R marks x d
+      done = λ R d. done_lowered (set C x (get_or C x 0 - m)) x d
           (λ y ne. get_or-set_other C x y (get_or C x 0 - m) 0 ne)
           (omega (arith, get_or-set_same C x (get_or C x 0 - m) 0 r))
-          (λ e. not_done (length W) (sym (ap (mark_of marks) (sym link) ∙ e)
-          ∙ (w.marked (length W) (omega arith))));
+          (λ e. walked_not_done (length W) (sym (w.marked (length W) (omega arith))
+          ∙ ap (mark_of marks) (sym link) ∙ e));
     }
   where
     at : (k : ℕ) → k ≡ 0 → class_of net (get_or (x ∷ []) k 0) ≡ c
     at k e = ap (λ k. class_of net (get_or (x ∷ []) k 0)) e ∙ live.class
 
-    not_done : (k : ℕ) → Done ≡ Walked k → ⊥
-    not_done k e = absurd (cc)
+-- the last debt of the walk, on the way
+pub record IsLast (net : Net) (c m : ℕ) (D : List ℕ) (y : ℕ) : Type 0 where
+  pub live : IsLive net D c y
+  pub enough : m ≤ get_or D y 0
+  pub in_claims : y < length D
+
+pub cancelling_last : (net : Net) (c s place m : ℕ) (C : List ℕ) (before : List Mark)
+    (D W : List ℕ) (marks : List Mark) (y : ℕ)
+    → length C ≡ length net.debts → IsCancelling net c s place m C before D (W ++ y ∷ []) marks
+    → place < length W + 1 → IsLast net c m D y
+cancelling_last net c s place m C before D W marks y l old in_walk =
+    let live = subst (IsLive net D c) (get_or_push W y 0 (length W) refl)
+    (old.walk.live (length W) (omega (arith, length_push W y))) in
+    record {
+      live = live;
+      enough = subst (λ x. m ≤ get_or D x 0) (get_or_push W y 0 (length W) refl)
+          (old.enough (length W) (omega arith) (omega (arith, length_push W y)));
+      in_claims = omega (arith, live.debt, ap length old.claims, length-lowered C m old.xs);
+    }
 
 -- and goes on with the last debt of the walk
 pub cancelling_goes_on : (net : Net) (c s place m : ℕ) (C : List ℕ) (before : List Mark)
@@ -178,16 +195,13 @@ pub cancelling_goes_on : (net : Net) (c s place m : ℕ) (C : List ℕ) (before 
 cancelling_goes_on net c s place m C before D W marks y network l bl old in_walk pos =
     let w = old.walk in
     let n = length_push W y in
-    let live = subst (IsLive net D c) (get_or_push W y 0 (length W) refl)
-    (w.live (length W) (omega (arith, n))) in
-    let enough : m ≤ get_or D y 0 = subst (λ x. m ≤ get_or D x 0)
-    (get_or_push W y 0 (length W) refl) (old.enough (length W) (omega arith)
-    (omega (arith, n))) in
+    let last = cancelling_last net c s place m C before D W marks y l old in_walk in
+    let live = last.live in
+    let enough = last.enough in
     let link : creditor_of net y ≡ end_of net s W =
     ap (creditor_of net) (sym (get_or_push W y 0 (length W) refl))
     ∙ w.links (length W) (omega (arith, n)) ∙ stop_before net s W y (length W) (omega arith) in
-    let dl : length D ≡ length C = ap length old.claims ∙ length-lowered C m old.xs in
-    let r : y < length D = omega (arith, live.debt) in
+    let r = last.in_claims in
     let b : debtor_of net y < length marks = omega
     (arith, (network.each_debt y live.debt).debtor_known, old.banks) in
     let was : mark_of marks (debtor_of net y) ≡ Walked (length W + 1) =
@@ -216,7 +230,7 @@ cancelling_goes_on net c s place m C before D W marks y network l bl old in_walk
           (end_of net s (W ++ y ∷ [])) old.xs y old.leads
           (sym (stop_last net s W y (length (W ++ y ∷ [])) n))));
       within = in_walk;
-      walk = walk_back net c s D (set D y (get_or D y 0 - m)) W marks y New w same b
+      walk = walk_back (set D y (get_or D y 0 - m)) W y New w same b
           (λ k e. absurd (cc));
       enough = λ k g h. omega (
         arith,
@@ -238,16 +252,13 @@ cancelling_goes_on net c s place m C before D W marks y network l bl old in_walk
       stays = λ j e. get_or-set_other marks (debtor_of net y) j New Done
           (λ f. walked_not_done (length W + 1) (sym was ∙ ap (mark_of marks) (sym f)
           ∙ old.stays j e)) ∙ old.stays j e;
-      done = λ R d. done_marked net c (set D y (get_or D y 0 - m)) R marks (debtor_of net y) New
-          (done_lowered net c D (set D y (get_or D y 0 - m)) R marks y (old.done R d) same
+      done = λ R d. done_marked (debtor_of net y) New
+          (done_lowered (set D y (get_or D y 0 - m)) y (old.done R d) same
           (omega (arith, get_or-set_same D y (get_or D y 0 - m) 0 r))
           (λ e. walked_not_done (length W) (sym (w.marked (length W) (omega (arith, n)))
           ∙ ap (mark_of marks) (stop_before net s W y (length W) (omega arith) ∙ sym link) ∙ e)))
           b (λ e. walked_not_done (length W + 1) (sym was ∙ e)) (λ e. absurd (cc));
     }
-  where
-    walked_not_done : (k : ℕ) → Walked k ≡ Done → ⊥
-    walked_not_done k e = absurd (cc)
 
 -- once the walk is back at the place, the cycle is closed and every balance is as before
 pub cancelling_ends : (net : Net) (c s place m : ℕ) (C : List ℕ) (before : List Mark)
@@ -266,26 +277,6 @@ cancelling_ends net c s place m C before D W marks l old back =
           (end_of net s W)) at old.leads) kept);
       banks = old.banks;
       stays = old.stays;
-    }
-
--- the last debt of the walk, on the way
-pub record IsLast (net : Net) (c m : ℕ) (D : List ℕ) (y : ℕ) : Type 0 where
-  pub live : IsLive net D c y
-  pub enough : m ≤ get_or D y 0
-  pub in_claims : y < length D
-
-pub cancelling_last : (net : Net) (c s place m : ℕ) (C : List ℕ) (before : List Mark)
-    (D W : List ℕ) (marks : List Mark) (y : ℕ)
-    → length C ≡ length net.debts → IsCancelling net c s place m C before D (W ++ y ∷ []) marks
-    → place < length W + 1 → IsLast net c m D y
-cancelling_last net c s place m C before D W marks y l old in_walk =
-    let live = subst (IsLive net D c) (get_or_push W y 0 (length W) refl)
-    (old.walk.live (length W) (omega (arith, length_push W y))) in
-    record {
-      live = live;
-      enough = subst (λ x. m ≤ get_or D x 0) (get_or_push W y 0 (length W) refl)
-          (old.enough (length W) (omega arith) (omega (arith, length_push W y)));
-      in_claims = omega (arith, live.debt, ap length old.claims, length-lowered C m old.xs);
     }
 
 -- a walk is its debts before the last, and the last

@@ -1,9 +1,8 @@
 -- What stands before the cursors of the columns is passed, and stays so.
-use Rattle.std.proofs.Common.{◌≡◌, ◌≢◌, ℕ, ◌<◌, ◌≤◌, List, length, get_or, set, replicate, sym, ap, subst, ⊎_elim, arith}
+use Rattle.std.proofs.Common.{◌≡◌, ◌≢◌, ℕ, ◌<◌, ◌≤◌, List, length, get_or, set, sym, ap, subst, ⊎_elim, arith}
 use Rattle.std.proofs.lemmas.Bool.{cases_eq}
 use Rattle.std.proofs.lemmas.List.{get_or-set_same, get_or-set_other}
 use Rattle.clr_net.specs.Net.{Net, debtor_of, column}
-use Rattle.clr_net.proofs.Lists.{zeros_at}
 use Rattle.compress.specs.declared.mark.Mark.{Mark}
 use Rattle.compress.specs.Walk.{IsPassed, ArePassed, IsKept, IsReady}
 use Rattle.compress.proofs.Searching.{ready_from_column}

@@ -1,14 +1,16 @@
 -- A compression leaves no cycle; and lowering the debts of a cycle keeps all balances.
-use Rattle.std.proofs.Common.{◌≡◌, ◌≢◌, ℕ, zero, suc, ◌+◌, ◌-◌, ◌*◌, ◌<◌, ◌≤◌, ◌==◌, ◌&&◌, Bool, true, false, cond, All, List, [], ◌∷◌, length, length-set, get_or, set, map, filter, count_by, sum_by, refl, sym, ap, ◌∙◌, subst, ⊎_elim, arith, eq-eqb, zero-le}
+use Rattle.std.proofs.Common.{◌≡◌, ◌≢◌, ℕ, zero, suc, ◌+◌, ◌-◌, ◌*◌, ◌<◌, ◌≤◌, ◌==◌, ◌&&◌, Bool, true, false, cond, All, List, [], ◌∷◌, length, length-set, get_or, set, map, filter, count_by, sum, sum_by, refl, sym, ap, ◌∙◌, subst, ⊎_elim, arith, eq-eqb}
 use Rattle.std.specs.List.{range_with_len}
 use Rattle.std.proofs.Math.Dec.{ltb}
 use Rattle.std.proofs.Math.Nat.{mul-add}
 use Rattle.std.proofs.lemmas.Bool.{cases_eq, and_from, lt-ltb}
-use Rattle.std.proofs.lemmas.List.{get_or-set_same, get_or-set_other}
-use Rattle.std.proofs.lemmas.List.Sums.{sum_by-cons}
+use Rattle.std.proofs.lemmas.List.{ext_get_or, get_or-set_same, get_or-set_other}
+use Rattle.std.proofs.lemmas.List.FromFn.{get_or-map-range_with_len, length-map-range_with_len}
+use Rattle.std.proofs.lemmas.List.Sums.{sum_by-cons, sum_by-set}
 use Rattle.clr_net.specs.Limits.{IsNetwork}
 use Rattle.clr_net.specs.Net.{Net, debtor_of, creditor_of, class_of, column}
 use Rattle.clr_net.proofs.Filters.{place_that_holds}
+use Rattle.clr_net.proofs.Lists.{sum-cons}
 use Rattle.compress.specs.Compression.{IsBalanceKept, is_live, most, rank_of, rank_above, Compression, Leads, IsLive, HasNoCycle}
 use Rattle.compress.specs.Lowering.{lowered, CanLower}
 
@@ -83,74 +85,47 @@ no_cycle net C R n network made c i x xs live leads =
           (λ k d l. live (suc k) d (omega arith)) leads.1,
     ))
 
+-- the claims of the numbers that pass, and 0 for each other
+abbrev passing : (ℕ → Bool) → List ℕ → ℕ → ℕ
+passing p C y = cond (p y) (get_or C y 0) 0
+
+sum_by-passing : (p : ℕ → Bool) (C xs : List ℕ) → sum_by (λ y. get_or C y 0) (filter p xs) ≡ sum (map (passing p C) xs)
+sum_by-passing p C [] = refl
+sum_by-passing p C (x ∷ xs) = by_test (p x) (sum_by-passing p C xs)
+  where
+    by_test : (b : Bool) → sum_by (λ y. get_or C y 0) (filter p xs) ≡ sum (map (passing p C) xs)
+        → sum_by (λ y. get_or C y 0) (cond b (x ∷ filter p xs) (filter p xs))
+        ≡ sum (cond b (get_or C x 0) 0 ∷ map (passing p C) xs)
+    by_test true e = omega
+        (arith, sum_by-cons (λ y. get_or C y 0) x (filter p xs), sum-cons (get_or C x 0) (map (passing p C) xs), e)
+    by_test false e = omega (arith, sum-cons 0 (map (passing p C) xs), e)
+
 -- a sum over the numbers that pass, after a write at the number x
-sum_past : (p : ℕ → Bool) (C : List ℕ) (a n x v : ℕ) → x < a
-    → sum_by (λ y. get_or (set C x v) y 0) (filter p (range_with_len a n))
-    ≡ sum_by (λ y. get_or C y 0) (filter p (range_with_len a n))
-sum_past p C a zero x v l = refl
-sum_past p C a (suc n) x v l = by_test (p a) (sum_past p C (a + 1) n x v (omega arith))
-  where
-    by_test : (b : Bool)
-        → sum_by (λ y. get_or (set C x v) y 0) (filter p (range_with_len (a + 1) n))
-        ≡ sum_by (λ y. get_or C y 0) (filter p (range_with_len (a + 1) n))
-        → sum_by (λ y. get_or (set C x v) y 0)
-        (cond b (a ∷ filter p (range_with_len (a + 1) n)) (filter p (range_with_len (a + 1) n)))
-        ≡ sum_by (λ y. get_or C y 0) (cond b (a ∷ filter p (range_with_len (a + 1) n))
-        (filter p (range_with_len (a + 1) n)))
-    by_test true e = omega (
+sum_written : (p : ℕ → Bool) (C : List ℕ) (n x v : ℕ) → length C ≡ n → x < n
+    → sum_by (λ y. get_or (set C x v) y 0) (filter p (range_with_len 0 n)) + cond (p x) (get_or C x 0) 0
+    ≡ sum_by (λ y. get_or C y 0) (filter p (range_with_len 0 n)) + cond (p x) v 0
+sum_written p C n x v as_many l =
+    let numbers = range_with_len 0 n in
+    let at = λ (E : List ℕ) (k : ℕ) (m : k < n).
+    get_or-map-range_with_len (passing p E) 0 n k k 0 m (omega arith) in
+    let len = λ (E : List ℕ). length-map-range_with_len (passing p E) 0 n in
+    let same : map (passing p (set C x v)) numbers ≡ set (map (passing p C) numbers) x (cond (p x) v 0) =
+    ext_get_or 0 _ _ (omega (arith, len C, len (set C x v), length-set {A = ℕ})) (λ k m.
+    let inside : k < n = omega (arith, len (set C x v)) in
+    ⊎_elim
+    (λ (e : k ≡ x). rw e (at (set C x v) x l ∙ ap (λ w. cond (p x) w 0) (get_or-set_same C x v 0 (omega arith))
+    ∙ sym (get_or-set_same (map (passing p C) numbers) x (cond (p x) v 0) 0 (omega (arith, len C)))))
+    (λ (ne : k ≢ x). at (set C x v) k inside ∙ ap (λ w. cond (p k) w 0) (get_or-set_other C x k v 0 ne)
+    ∙ sym (at C k inside) ∙ sym (get_or-set_other (map (passing p C) numbers) x k (cond (p x) v 0) 0 ne))
+    (cases_eq k x)) in
+    omega (
       arith,
-      sum_by-cons (λ y. get_or (set C x v) y 0) a (filter p (range_with_len (a + 1) n)),
-      sum_by-cons (λ y. get_or C y 0) a (filter p (range_with_len (a + 1) n)),
-      get_or-set_other C x a v 0 (λ e. omega arith),
-      e,
+      sum_by-passing p C numbers,
+      sum_by-passing p (set C x v) numbers,
+      ap sum same,
+      sum_by-set (λ n. n) (map (passing p C) numbers) x (cond (p x) v 0) 0 (omega (arith, len C)),
+      at C x l,
     )
-    by_test false e = e
-
-sum_written : (p : ℕ → Bool) (C : List ℕ) (a n x v : ℕ) → x < length C → a ≤ x → x < a + n
-    → sum_by (λ y. get_or (set C x v) y 0) (filter p (range_with_len a n)) + cond (p x)
-    (get_or C x 0) 0
-    ≡ sum_by (λ y. get_or C y 0) (filter p (range_with_len a n)) + cond (p x) v 0
-sum_written p C a zero x v w g l = absurd (omega arith)
-sum_written p C a (suc n) x v w g l = ⊎_elim
-    (λ (e : x ≡ a). rw e (here (p a) (omega (arith, e)) (sum_past p C (a + 1) n a v (omega arith))))
-    (λ (ne : x ≡ a → ⊥). other (p a) ne (sum_written p C (a + 1) n x v w (omega arith)
-    (omega arith)))
-    (cases_eq x a)
-  where
-    here : (b : Bool) → a < length C
-        → sum_by (λ y. get_or (set C a v) y 0) (filter p (range_with_len (a + 1) n))
-        ≡ sum_by (λ y. get_or C y 0) (filter p (range_with_len (a + 1) n))
-        → sum_by (λ y. get_or (set C a v) y 0)
-        (cond b (a ∷ filter p (range_with_len (a + 1) n))
-        (filter p (range_with_len (a + 1) n))) + cond b (get_or C a 0) 0
-        ≡ sum_by (λ y. get_or C y 0) (cond b (a ∷ filter p (range_with_len (a + 1) n))
-        (filter p (range_with_len (a + 1) n))) + cond b v 0
-    here true m e = omega (
-      arith,
-      sum_by-cons (λ y. get_or (set C a v) y 0) a (filter p (range_with_len (a + 1) n)),
-      sum_by-cons (λ y. get_or C y 0) a (filter p (range_with_len (a + 1) n)),
-      get_or-set_same C a v 0 m,
-      e,
-    )
-    here false m e = omega (arith, e)
-
-    other : (b : Bool) → x ≢ a
-        → sum_by (λ y. get_or (set C x v) y 0) (filter p (range_with_len (a + 1) n)) + cond (p x)
-        (get_or C x 0) 0
-        ≡ sum_by (λ y. get_or C y 0) (filter p (range_with_len (a + 1) n)) + cond (p x) v 0
-        → sum_by (λ y. get_or (set C x v) y 0)
-        (cond b (a ∷ filter p (range_with_len (a + 1) n))
-        (filter p (range_with_len (a + 1) n))) + cond (p x) (get_or C x 0) 0
-        ≡ sum_by (λ y. get_or C y 0) (cond b (a ∷ filter p (range_with_len (a + 1) n))
-        (filter p (range_with_len (a + 1) n))) + cond (p x) v 0
-    other true ne e = omega (
-      arith,
-      sum_by-cons (λ y. get_or (set C x v) y 0) a (filter p (range_with_len (a + 1) n)),
-      sum_by-cons (λ y. get_or C y 0) a (filter p (range_with_len (a + 1) n)),
-      get_or-set_other C x a v 0 (λ s. ne (sym s)),
-      e,
-    )
-    other false ne e = e
 
 -- lowering debts by m each takes m off a sum for each of them that passes
 scaled : (b : Bool) (m n w k : ℕ) → m ≤ w → k + cond b w 0 ≡ n + cond b (w - m) 0
@@ -170,7 +145,7 @@ sum_lowered p n m C (x ∷ xs) l h =
       sum_lowered p n m D xs (omega (arith, length-set {A = ℕ})) h.2,
       scaled (p x) m (sum_by (λ y. get_or C y 0) (filter p (range_with_len 0 n))) (get_or C x 0)
           (sum_by (λ y. get_or D y 0) (filter p (range_with_len 0 n)))
-          h.1 (sum_written p C 0 n x (get_or C x 0 - m) h.0 zero-le (omega (arith, h.0))),
+          h.1 (sum_written p C n x (get_or C x 0 - m) l (omega (arith, h.0))),
       ap (λ (t : ℕ). m * t) (sum_by-cons (λ y. cond {A = ℕ} (p y) 1 0) x xs),
       mul-add m (cond (p x) 1 0) (count_by p xs),
     )

@@ -46,8 +46,7 @@ pub live_from : (net : Net) (C : List ℕ) (c x : ℕ) → x < length net.debts
 live_from net C c x l e =
     let both = and_parts (class_of net x == c) (ltb 0 (get_or C x 0)) e in
     record {
-      debt
-          = l;
+      debt = l;
       class = eqb-true (class_of net x) c both.0;
       claim = ltb-true 0 (get_or C x 0) both.1;
     }
@@ -83,10 +82,10 @@ undone_one (Walked p) ne = refl
 undone_one Done ne = absurd (ne refl)
 
 -- a bank that is not done gets another mark, and is not done
-pub done_marked : (net : Net) (c : ℕ) (C R : List ℕ) (marks : List Mark) (b : ℕ) (v : Mark)
+pub done_marked : {net : Net} {c : ℕ} {C R : List ℕ} {marks : List Mark} (b : ℕ) (v : Mark)
     → AreDone net c C R marks → b < length marks
     → mark_of marks b ≢ Done → v ≢ Done → AreDone net c C R (set marks b v)
-done_marked net c C R marks b v d l was will = record {
+done_marked {net = net} {marks = marks} b v d l was will = record {
   debtors = λ x live e. kept (debtor_of net x) (d.debtors x live (before (creditor_of net x) e));
   ranks = λ j m e. d.ranks j m (before j e);
   low = λ j. omega (
@@ -109,16 +108,15 @@ done_marked net c C R marks b v d l was will = record {
     kept j e = get_or-set_other marks b j v Done (λ s. was (ap (mark_of marks) (sym s) ∙ e)) ∙ e
 
 -- a claim on a debt to a bank that is not done falls
-pub done_lowered : (net : Net) (c : ℕ) (C D R : List ℕ) (marks : List Mark) (x : ℕ)
+pub done_lowered : {net : Net} {c : ℕ} {C R : List ℕ} {marks : List Mark} (D : List ℕ) (x : ℕ)
     → AreDone net c C R marks
     → ((y : ℕ) → y ≢ x → get_or D y 0 ≡ get_or C y 0) → get_or D x 0 ≤ get_or C x 0
     → mark_of marks (creditor_of net x) ≢ Done
     → AreDone net c D R marks
-done_lowered net c C D R marks x d same less shut = record {
+done_lowered {net = net} {c = c} {C = C} {R = R} {marks = marks} D x d same less shut = record {
   debtors = λ y live e. d.debtors y
       record {
-        debt
-            = live.debt;
+        debt = live.debt;
         class = live.class;
         claim = omega (arith, live.claim, no_more y);
       } e;
@@ -136,12 +134,12 @@ done_lowered net c C D R marks x d same less shut = record {
         (cases_eq y x)
 
 -- a bank is done, and gets its number, once all banks that owe it a debt above 0 are
-pub done_more : (net : Net) (c : ℕ) (C R : List ℕ) (marks : List Mark) (b v : ℕ)
+pub done_more : {net : Net} {c : ℕ} {C R : List ℕ} {marks : List Mark} (b v : ℕ)
     → AreDone net c C R marks
     → b < length marks → b < length R → mark_of marks b ≢ Done
     → ((x : ℕ) → IsLive net C c x → creditor_of net x ≡ b → mark_of marks (debtor_of net x) ≡ Done)
     → v ≡ rank_above net C (λ j. get_or R j 0) c b → AreDone net c C (set R b v) (set marks b Done)
-done_more net c C R marks b v d l r was ready e = record {
+done_more {net = net} {c = c} {C = C} {R = R} {marks = marks} b v d l r was ready e = record {
   debtors = λ x live f. ⊎_elim
       (λ (s : creditor_of net x ≡ b). kept (debtor_of net x) (ready x live s))
       (λ (ne : creditor_of net x ≢ b).

@@ -1,8 +1,7 @@
 -- The two other steps: a walk goes on to a new bank, or its last bank is done.
-use Rattle.std.proofs.Common.{◌≡◌, ◌≢◌, ℕ, ◌+◌, ◌<◌, ◌≤◌, List, [], ◌∷◌, ◌++◌, length, length-set, get_or, set, Bool, true, false, not, Option, Some, None, refl, sym, ap, ◌∙◌, subst, ⊎_elim, arith}
-use Rattle.std.proofs.lemmas.Bool.{cases_lt, true≢false}
-use Rattle.std.proofs.lemmas.List.{length-append, get_or_past, get_or-set_same, get_or-set_other, length_push, map-append}
-use Rattle.std.specs.Bool.{OnTrue, OnFalse}
+use Rattle.std.proofs.Common.{◌≡◌, ◌≢◌, ℕ, ◌+◌, ◌<◌, ◌≤◌, List, [], ◌∷◌, ◌++◌, length, length-set, get_or, set, true, Option, Some, None, refl, sym, ap, ◌∙◌, subst, ⊎_elim, arith}
+use Rattle.std.proofs.lemmas.Bool.{cases_lt}
+use Rattle.std.proofs.lemmas.List.{get_or_past, get_or-set_same, get_or-set_other, length_push, map-append}
 use Rattle.std.specs.Option.{is_some, option_to_list}
 use Rattle.clr_net.specs.declared.debt.DebtId.{DebtId}
 use Rattle.clr_net.specs.Net.{Net, numbers, debtor_of}
@@ -10,11 +9,8 @@ use Rattle.compress.specs.Compression.{rank_above}
 use Rattle.compress.specs.declared.mark.Mark.{Mark}
 use Rattle.compress.specs.declared.mark.Mark.TheVariants.{New, Walked, Done}
 use Rattle.compress.specs.Walk.{mark_of, end_of, HasNoWalk, IsWalk, AreDone, IsKept, IsReady, LeadsOn}
-use Rattle.compress.proofs.Walks.{stop_last, walk_grows, walk_back, walk_ends}
+use Rattle.compress.proofs.Walks.{stop_last, walk_grows, walk_back, walk_ends, walked_not_done}
 use Rattle.compress.proofs.Dones.{done_marked, done_more}
-
-pub walked_not_done : (k : ℕ) → Walked k ≡ Done → ⊥
-walked_not_done k e = absurd (cc)
 
 pub new_not_done : New ≡ Done → ⊥
 new_not_done e = absurd (cc)
@@ -38,9 +34,9 @@ kept_marks net c C before after l h = record {
 }
 
 -- steps one after another
-pub kept_both : (net : Net) (c : ℕ) (C D E : List ℕ) (m n o : List Mark) → IsKept net c C D m n
+pub kept_both : {net : Net} {c : ℕ} {C D E : List ℕ} {m n o : List Mark} → IsKept net c C D m n
     → IsKept net c D E n o → IsKept net c C E m o
-kept_both net c C D E m n o a b = record {
+kept_both a b = record {
   as_many = b.as_many ∙ a.as_many;
   falls = λ k. omega (arith, a.falls k, b.falls k);
   others = λ x ne. b.others x ne ∙ a.others x ne;
@@ -76,9 +72,8 @@ module _ (net : Net) (c s : ℕ) (C W : List ℕ) (marks : List Mark) (x : ℕ)
 
   pub grown_done : (R : List ℕ) → AreDone net c C R marks
       → AreDone net c C R (set marks (debtor_of net x) (Walked (length W + 1)))
-  grown_done R d = done_marked net c C R marks (debtor_of net x)
-      (Walked (length W + 1)) d grown_in_range on.unfinished
-      (λ e. walked_not_done (length W + 1) e)
+  grown_done R d = done_marked (debtor_of net x) (Walked (length W + 1)) d grown_in_range on.unfinished
+      (walked_not_done (length W + 1))
 
 module _ (net : Net) (c s : ℕ) (C W : List ℕ) (marks : List Mark)
     (w : IsWalk net c s C W marks) where
@@ -98,8 +93,8 @@ module _ (net : Net) (c s : ℕ) (C W : List ℕ) (marks : List Mark)
       → IsReady net c (end_of net s W) C marks
       → v ≡ rank_above net C (λ j. get_or R j 0) c (end_of net s W)
       → AreDone net c C (set R (end_of net s W) v) (set marks (end_of net s W) Done)
-  retired_done R v d l ready e = done_more net c C R marks (end_of net s W) v d end_in_range
-      (omega (arith, end_in_range)) end_not_done ready e
+  retired_done R v d l ready e =
+      done_more (end_of net s W) v d end_in_range (omega (arith, end_in_range)) end_not_done ready e
 
   pub retired_back : (V : List ℕ) (y : ℕ) → W ≡ V ++ y ∷ []
       → IsWalk net c s C V (set marks (end_of net s W) Done)
@@ -107,7 +102,7 @@ module _ (net : Net) (c s : ℕ) (C W : List ℕ) (marks : List Mark)
       let at : end_of net s W ≡ debtor_of net y = ap (end_of net s) e
       ∙ stop_last net s V y (length (V ++ y ∷ [])) (length_push V y) in
       subst (λ b. IsWalk net c s C V (set marks b Done)) (sym at)
-      (walk_back net c s C C V marks y Done (subst (λ U. IsWalk net c s C U marks) e w)
+      (walk_back C V y Done (subst (λ U. IsWalk net c s C U marks) e w)
       (λ z ne. refl) (omega (arith, end_in_range, at)) (λ k f. absurd (cc)))
 
   pub retired_ends : W ≡ [] → HasNoWalk (set marks (end_of net s W) Done) ×
@@ -120,65 +115,16 @@ module _ (net : Net) (c s : ℕ) (C W : List ℕ) (marks : List Mark)
         get_or-set_same marks s Done Done (omega (arith, end_in_range, at)),
       )
 
-empty : (ids : List DebtId) → length ids ≡ 0 → ids ≡ []
-empty [] l = refl
-empty (y ∷ ids) l = absurd (omega arith)
+-- what is left of a walk where its last debt is taken off
+pub popped : (net : Net) (c s : ℕ) (C : List ℕ) (marks : List Mark) (items ids : List DebtId) (o : Option DebtId)
+    → IsWalk net c s C (numbers items) marks → is_some o ≡ true → items ≡ ids ++ option_to_list o
+    → IsWalk net c s C (numbers ids) (set marks (end_of net s (numbers items)) Done)
+popped net c s C marks items ids None w some at = absurd (cc)
+popped net c s C marks items ids (Some y) w some at =
+    retired_back net c s C (numbers items) marks w (numbers ids) y.0
+    (ap numbers at ∙ map-append (λ (id : DebtId). id.0) ids (y ∷ []))
 
--- how the taking off of the last debt tells whether the walk was back at its start
-module _ (net : Net) (c s : ℕ) (C : List ℕ) (marks : List Mark) (items ids : List DebtId)
-    (w : IsWalk net c s C (numbers items) marks) where
-  pub popped_walk : (o : Option DebtId) (b : Bool) → is_some o ≡ not b
-      → items ≡ ids ++ option_to_list o
-      → OnFalse b (IsWalk net c s C (numbers ids) (set marks (end_of net s (numbers items)) Done))
-  popped_walk None true e at = tt
-  popped_walk None false e at = absurd (cc)
-  popped_walk (Some y) true e at = absurd (cc)
-  popped_walk (Some y) false e at =
-      retired_back net c s C (numbers items) marks w (numbers ids) y.0 (ap numbers at
-      ∙ map-append (λ (id : DebtId). id.0) ids (y ∷ []))
-
-  -- where nothing was taken off, the walk had no debt
-  pub popped_ends : (o : Option DebtId) (b : Bool) → is_some o ≡ not b
-      → (0 < length items → is_some o ≡ true)
-      → OnTrue b (HasNoWalk (set marks (end_of net s (numbers items)) Done))
-  popped_ends None true e some = (retired_ends net c s C (numbers items) marks w
-      (ap numbers (empty items (⊎_elim
-      (λ (l : 0 < length items). absurd (true≢false (sym (some l))))
-      (λ (g : length items ≤ 0). omega arith)
-      (cases_lt 0 (length items)))))).0
-  popped_ends None false e some = tt
-  popped_ends (Some y) true e some = absurd (cc)
-  popped_ends (Some y) false e some = tt
-
-  -- no debt is left then
-  pub popped_empty : (o : Option DebtId) (b : Bool) → is_some o ≡ not b
-      → (0 < length items → is_some o ≡ true) → items ≡ ids ++ option_to_list o
-      → OnTrue b (ids ≡ [])
-  popped_empty None true e some at = empty ids (omega (
-    arith,
-    ap length at,
-    length-append ids [],
-    none_left (⊎_elim
-        (λ (l : 0 < length items). absurd (true≢false (sym (some l))))
-        (λ (g : length items ≤ 0). g)
-        (cases_lt 0 (length items))),
-  ))
-    where
-      none_left : length items ≤ 0 → length items ≡ 0
-      none_left g = omega arith
-  popped_empty None false e some at = tt
-  popped_empty (Some y) true e some at = absurd (cc)
-  popped_empty (Some y) false e some at = tt
-
--- what follows from a fact that is known in one case
-pub on_false : {P Q : Type 0} (b : Bool) → (P → Q) → OnFalse b P → OnFalse b Q
-on_false true f p = tt
-on_false false f p = f p
-
-pub on_true : {P Q : Type 0} (b : Bool) → (P → Q) → OnTrue b P → OnTrue b Q
-on_true true f p = f p
-on_true false f p = tt
-
-pub both_true : (P Q : Type 0) (b : Bool) → OnTrue b P → OnTrue b Q → OnTrue b (P × Q)
-both_true P Q true p q = (p, q)
-both_true P Q false p q = tt
+-- a list without an element is empty
+pub no_debts : (ids : List DebtId) → length ids ≡ 0 → ids ≡ []
+no_debts [] l = refl
+no_debts (y ∷ ids) l = absurd (omega arith)

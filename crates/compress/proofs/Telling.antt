@@ -11,10 +11,10 @@ use Rattle.compress.specs.declared.mark.Mark.{Mark}
 use Rattle.compress.specs.declared.mark.Mark.TheVariants.{New, Walked, Done}
 use Rattle.compress.specs.declared.walk.Walk.{Walk}
 use Rattle.compress.specs.Walk.{mark_of, end_of, AreDone, ArePassed, IsWalk, IsKept, IsReady, IsTold, IsUnderWay, IsAtRest}
-use Rattle.compress.proofs.Walks.{walk_begins}
+use Rattle.compress.proofs.Walks.{walk_begins, walked_not_done}
 use Rattle.compress.proofs.Dones.{done_marked}
 use Rattle.compress.proofs.Cursors.{passed_kept}
-use Rattle.compress.proofs.Steps.{new_not_done, walked_not_done, kept_done, retired_done, retired_kept}
+use Rattle.compress.proofs.Steps.{new_not_done, kept_done, retired_done, retired_kept}
 
 -- a mark, as it is read
 pub read_mark : (marks : List Mark) (b : ℕ) (m : Mark) → b < length marks → m ≡ get_or marks b m
@@ -44,7 +44,7 @@ begun net c C w start rest known new =
       walk = subst (λ ids. IsWalk net c start.0 C (numbers ids) after) (sym rest.empty)
           (walk_begins net c start.0 C marks known rest.no_walk);
       told = record {
-        done = done_marked net c C w.ranks.items marks start.0 (Walked 0) rest.told.done known
+        done = done_marked start.0 (Walked 0) rest.told.done known
             (λ e. new_not_done (sym new ∙ e)) (walked_not_done 0);
         passed = passed_kept net c C C marks after w.cursors.items
             (begun_kept net c C marks start.0 new) rest.told.passed;

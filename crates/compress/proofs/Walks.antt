@@ -42,6 +42,9 @@ same_place j k e = cc
 new_not_walked : (k : ℕ) → New ≢ Walked k
 new_not_walked k e = absurd (cc)
 
+pub walked_not_done : (k : ℕ) → Walked k ≢ Done
+walked_not_done k e = absurd (cc)
+
 -- a walk begins at a bank
 pub walk_begins : (net : Net) (c s : ℕ) (C : List ℕ) (marks : List Mark) → s < length marks
     → HasNoWalk marks
@@ -121,12 +124,12 @@ walk_grows net c s C W marks x w live link l new = record {
 
 -- a walk is taken back by its last debt, whose claim may have been lowered, and whose debtor is no
 -- longer on it
-pub walk_back : (net : Net) (c s : ℕ) (C D W : List ℕ) (marks : List Mark) (x : ℕ) (v : Mark)
+pub walk_back : {net : Net} {c s : ℕ} {C : List ℕ} {marks : List Mark} (D W : List ℕ) (x : ℕ) (v : Mark)
     → IsWalk net c s C (W ++ x ∷ []) marks
     → ((y : ℕ) → y ≢ x → get_or D y 0 ≡ get_or C y 0) → debtor_of net x < length marks
     → ((k : ℕ) → v ≢ Walked k)
     → IsWalk net c s D W (set marks (debtor_of net x) v)
-walk_back net c s C D W marks x v w same l free = record {
+walk_back {net = net} {c = c} {s = s} {C = C} {marks = marks} D W x v w same l free = record {
   live = λ k m.
       let y = get_or W k 0 in
       let old = subst (IsLive net C c) (get_or-append W (x ∷ []) 0 k m)

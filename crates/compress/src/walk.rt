@@ -120,5 +120,9 @@ fn retire(net: &Network, class: u8, claims: &[u64], walk: &mut Walk, end: BankId
 {
     walk.ranks[end.0 as usize] = rank_here(net, class, end, claims, walk.ranks.as_slice());
     walk.marks[end.0 as usize] = Mark::Done;
-    walk.debts.pop().is_none()
+    if walk.debts.is_empty() {
+        return true;
+    }
+    walk.debts.pop();
+    false
 }

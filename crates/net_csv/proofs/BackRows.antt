@@ -1,6 +1,7 @@
 -- What is printed of one bank and of one debt is read back as that bank and that debt.
-use Rattle.std.proofs.Common.{◌≡◌, ◌<◌, ◌≤◌, ◌+◌, ◌*◌, ℕ, true, false, List, [], ◌∷◌, length, map, Some, Ok, refl, sym, ap, ◌∙◌, arith, sum_by}
-use Rattle.std.specs.List.{flat_map, list_any}
+use Rattle.std.proofs.Common.{◌≡◌, ◌<◌, ◌≤◌, ◌+◌, ◌*◌, ℕ, true, false, List, [], ◌∷◌, ◌++◌, length, map, Some, Ok, refl, sym, ap, ◌∙◌, arith, sum_by}
+use Rattle.std.specs.Prelude.{codes}
+use Rattle.std.specs.List.{AllByRecursion, flat_map, list_any}
 use Rattle.std.specs.Fmt.{decimal}
 use Rattle.std.proofs.lemmas.Bool.{lt-ltb, le-leb, ne_eqb}
 use Rattle.std.proofs.lemmas.List.{length-append}
@@ -13,42 +14,32 @@ use Rattle.clr_net.specs.declared.bank.Bank.{Bank}
 use Rattle.clr_net.specs.declared.debt.Debt.{Debt}
 use Rattle.clr_net.specs.declared.rule.RuleKind.{RuleKind}
 use Rattle.clr_net.specs.declared.rule.RuleKind.TheVariants as kind
-use Rattle.net_check.specs.Field.{trimmed_start, rule_in}
+use Rattle.csv.specs.Reading.{strip_bom}
+use Rattle.net_check.specs.Field.{trimmed_start, trimmed_field, rule_in}
 use Rattle.net_check.specs.Record.{bank_in}
 use Rattle.clr_net.specs.Lines.{line}
 use Rattle.net_csv.specs.Printing.{rule_word, bank_fields, debt_fields}
 use Rattle.net_csv.specs.declared.layout.Version.{Version}
 use Rattle.net_csv.specs.declared.layout.Version.TheVariants as version
-use Rattle.net_csv.specs.Reading.{Fields, trimmed_fields, is_blank, bank_in_row, debt_in_row}
-use Rattle.net_csv.proofs.PlainFields.{IsKeptField, kept_name, kept_decimal, name_has_byte, name_is_short, number_in-decimal, class_back}
-use Rattle.net_csv.proofs.PrintedRecords.{ArePlain, AreRows, IsRow}
+use Rattle.net_csv.specs.Reading.{Fields, trimmed_fields, is_blank, records_of, bank_in_row, debt_in_row}
+use Rattle.net_csv.proofs.PlainFields.{IsPlain, IsKeptField, kept_word, kept_name, kept_decimal, name_has_byte, name_is_short, number_in-decimal, class_back}
+use Rattle.net_csv.proofs.PrintedRecords.{IsRow, read_printed}
 use Rattle.net_csv.proofs.BackFacts.{IsBackBank, IsBackDebt, IsBackName}
 
--- the word of each rule is kept, short, and read back as the rule
-kept_rule : (r : RuleKind) → IsKeptField (rule_word r)
+-- the word of a rule is kept, short, and read back as the rule
+record IsRuleWord (r : RuleKind) : Type 0 where
+  kept : IsKeptField (rule_word r)
+  short : length (rule_word r) ≤ 9
+  back : rule_in (rule_word r) ≡ Some r
+
+is_rule_word : (r : RuleKind) → IsRuleWord r
 unfolding trimmed_start
-kept_rule kind.Order = record { plain = record { unquoted = refl }; trimmed = refl }
-kept_rule kind.Equal = record { plain = record { unquoted = refl }; trimmed = refl }
-kept_rule kind.Losses = record { plain = record { unquoted = refl }; trimmed = refl }
-kept_rule kind.Jefferson = record { plain = record { unquoted = refl }; trimmed = refl }
-kept_rule kind.Webster = record { plain = record { unquoted = refl }; trimmed = refl }
-kept_rule kind.Adams = record { plain = record { unquoted = refl }; trimmed = refl }
-
-rule_is_short : (r : RuleKind) → length (rule_word r) ≤ 9
-rule_is_short kind.Order = omega arith
-rule_is_short kind.Equal = omega arith
-rule_is_short kind.Losses = omega arith
-rule_is_short kind.Jefferson = omega arith
-rule_is_short kind.Webster = omega arith
-rule_is_short kind.Adams = omega arith
-
-rule_back : (r : RuleKind) → rule_in (rule_word r) ≡ Some r
-rule_back kind.Order = refl
-rule_back kind.Equal = refl
-rule_back kind.Losses = refl
-rule_back kind.Jefferson = refl
-rule_back kind.Webster = refl
-rule_back kind.Adams = refl
+is_rule_word kind.Order = record { kept = kept_word (codes "order") refl refl; short = omega arith; back = refl }
+is_rule_word kind.Equal = record { kept = kept_word (codes "equal") refl refl; short = omega arith; back = refl }
+is_rule_word kind.Losses = record { kept = kept_word (codes "losses") refl refl; short = omega arith; back = refl }
+is_rule_word kind.Jefferson = record { kept = kept_word (codes "jefferson") refl refl; short = omega arith; back = refl }
+is_rule_word kind.Webster = record { kept = kept_word (codes "webster") refl refl; short = omega arith; back = refl }
+is_rule_word kind.Adams = record { kept = kept_word (codes "adams") refl refl; short = omega arith; back = refl }
 
 -- a record that a file keeps, and whose line is short
 pub record IsKeptRow (fields : Fields) : Type 0 where
@@ -58,46 +49,43 @@ pub record IsKeptRow (fields : Fields) : Type 0 where
   pub short : length (line fields) ≤ 151
 
 -- it is one where each field is kept
-unfoldable pub AreKeptFields : Fields → Type 0
-AreKeptFields [] = Unit {0}
-AreKeptFields (x ∷ rest) = IsKeptField x × AreKeptFields rest
+abbrev pub AreKeptFields : Fields → Type 0
+AreKeptFields fields = AllByRecursion IsKeptField fields
 
-all_plain : (fields : Fields) → AreKeptFields fields → ArePlain fields
-unfolding AreKeptFields ArePlain
-all_plain [] all = tt
-all_plain (x ∷ rest) all = (all.0.plain, all_plain rest all.1)
+-- what holds of each item where another fact does
+pub each_then : {X : Type 0} (P Q : X → Type 0) → ((x : X) → P x → Q x) → (xs : List X) → AllByRecursion P xs → AllByRecursion Q xs
+each_then P Q f [] all = tt
+each_then P Q f (x ∷ xs) all = (f x all.0, each_then P Q f xs all.1)
 
-all_trimmed : (fields : Fields) → AreKeptFields fields → trimmed_fields fields ≡ fields
-unfolding AreKeptFields
-all_trimmed [] all = refl
-all_trimmed (x ∷ rest) all = rw (all.0.trimmed, all_trimmed rest all.1) refl
+-- a list of which f leaves each item stays
+map_same : {X : Type 0} (f : X → X) (xs : List X) → AllByRecursion (λ x. f x ≡ x) xs → map f xs ≡ xs
+map_same f [] all = refl
+map_same f (x ∷ xs) all = rw (all.0, map_same f xs all.1) refl
 
 pub kept_row : (first second : List ℕ) (others : Fields) → AreKeptFields (first ∷ second ∷ others) → is_blank (first ∷ second ∷ others) ≡ false
     → length (line (first ∷ second ∷ others)) ≤ 151 → IsKeptRow (first ∷ second ∷ others)
 kept_row first second others all full short = record {
-  row = record { first = first; second = second; others = others; are = refl; plain = all_plain (first ∷ second ∷ others) all };
-  trimmed = all_trimmed (first ∷ second ∷ others) all;
+  row = record { first = first; second = second; others = others; are = refl; plain = each_then IsKeptField IsPlain (λ x k. k.plain) (first ∷ second ∷ others) all };
+  trimmed = map_same trimmed_field (first ∷ second ∷ others)
+      (each_then IsKeptField (λ x. trimmed_field x ≡ x) (λ x k. k.trimmed) (first ∷ second ∷ others) all);
   full = full;
   short = short;
 }
 
 -- each record of a list is such
-unfoldable pub AreKeptRows : List Fields → Type 0
-AreKeptRows [] = Unit {0}
-AreKeptRows (fields ∷ rest) = IsKeptRow fields × AreKeptRows rest
+abbrev pub AreKeptRows : List Fields → Type 0
+AreKeptRows rows = AllByRecursion IsKeptRow rows
 
-pub kept_rows : (rows : List Fields) → AreKeptRows rows → AreRows rows
-unfolding AreKeptRows AreRows
-kept_rows [] all = tt
-kept_rows (fields ∷ rest) all = (all.0.row, kept_rows rest all.1)
-
-pub kept_trimmed : (rows : List Fields) → AreKeptRows rows → map trimmed_fields rows ≡ rows
-unfolding AreKeptRows
-kept_trimmed [] all = refl
-kept_trimmed (fields ∷ rest) all = rw (all.0.trimmed, kept_trimmed rest all.1) refl
+-- the records of a printed file
+pub records_printed : (header : Fields) (rows : List Fields) → IsRow header → AreKeptRows rows
+    → strip_bom (line header ++ flat_map line rows) ≡ line header ++ flat_map line rows
+    → records_of (line header ++ flat_map line rows) ≡ trimmed_fields header ∷ rows
+records_printed header rows head all unmarked =
+    ap (map trimmed_fields) (read_printed header rows head (each_then IsKeptRow IsRow (λ r k. k.row) rows all) unmarked)
+    ∙ ap (λ (t : List Fields). trimmed_fields header ∷ t)
+    (map_same trimmed_fields rows (each_then IsKeptRow (λ r. trimmed_fields r ≡ r) (λ r k. k.trimmed) rows all))
 
 pub kept_short : (rows : List Fields) → AreKeptRows rows → length (flat_map line rows) ≤ 151 * length rows
-unfolding AreKeptRows
 kept_short [] all = omega arith
 kept_short (fields ∷ rest) all =
     let one = all.0.short in
@@ -107,24 +95,23 @@ kept_short (fields ∷ rest) all =
 
 -- the record of a bank, in each version
 pub bank_row : (v : Version) (done : List Bank) (b : Bank) → IsBackBank done b → IsKeptRow (bank_fields v b)
-unfolding AreKeptFields
 bank_row version.One done b back =
     let limit = back.cash in
     let name = name_is_short b.name back.named in
     let cash = length-decimal-le 20 b.cash (omega arith) (omega arith) (omega arith) in
-    let word = rule_is_short b.rule in
+    let word = (is_rule_word b.rule).short in
     kept_row b.name (decimal b.cash) (rule_word b.rule ∷ [])
-    (kept_name b.name back.named back.kept, (kept_decimal b.cash (omega arith), (kept_rule b.rule, tt)))
+    (kept_name b.name back.named back.kept, (kept_decimal b.cash (omega arith), ((is_rule_word b.rule).kept, tt)))
     (rw (name_has_byte b.name back.named) refl) (simp length-append (omega arith))
 bank_row version.Two done b back =
     let limit = back.cash in
     let limit_too = back.outside in
     let name = name_is_short b.name back.named in
     let cash = length-decimal-le 20 b.cash (omega arith) (omega arith) (omega arith) in
-    let word = rule_is_short b.rule in
+    let word = (is_rule_word b.rule).short in
     let outside = length-decimal-le 20 b.outside (omega arith) (omega arith) (omega arith) in
     kept_row b.name (decimal b.cash) (rule_word b.rule ∷ decimal b.outside ∷ [])
-    (kept_name b.name back.named back.kept, (kept_decimal b.cash (omega arith), (kept_rule b.rule, (kept_decimal b.outside (omega arith), tt))))
+    (kept_name b.name back.named back.kept, (kept_decimal b.cash (omega arith), ((is_rule_word b.rule).kept, (kept_decimal b.outside (omega arith), tt))))
     (rw (name_has_byte b.name back.named) refl) (simp length-append (omega arith))
 
 -- a version says all of a bank
@@ -159,14 +146,13 @@ bank_of_words_back done row name cash word rule outside room named new limit is_
 pub bank_read_back : (v : Version) (done : List Bank) (row : ℕ) (b : Bank) → IsBackBank done b → SaysAll v b
     → bank_in_row v (record { banks = done; debts = [] }) (row, bank_fields v b) ≡ Ok b
 bank_read_back version.One done row b back none =
-    bank_of_word_back done row b.name b.cash (rule_word b.rule) b.rule back.room back.named back.new back.cash (rule_back b.rule)
+    bank_of_word_back done row b.name b.cash (rule_word b.rule) b.rule back.room back.named back.new back.cash (is_rule_word b.rule).back
     ∙ ap (λ (n : ℕ). Ok (record { name = b.name; cash = b.cash; rule = b.rule; outside = n })) (sym none)
 bank_read_back version.Two done row b back all =
-    bank_of_words_back done row b.name b.cash (rule_word b.rule) b.rule b.outside back.room back.named back.new back.cash (rule_back b.rule) back.outside
+    bank_of_words_back done row b.name b.cash (rule_word b.rule) b.rule b.outside back.room back.named back.new back.cash (is_rule_word b.rule).back back.outside
 
 pub debt_row : (net : Net) (done : List Debt) (d : Debt) → IsBackDebt net done d → IsBackName net d.debtor.0 → IsBackName net d.creditor.0
     → IsKeptRow (debt_fields net d)
-unfolding AreKeptFields
 debt_row net done d back debtor creditor =
     let limit = back.claim in
     let class = back.class_in_limit in

@@ -1,5 +1,5 @@
 -- What one read takes from the records that are left.
-use Rattle.std.proofs.Common.{◌≡◌, ◌≤◌, ◌<◌, ◌+◌, ℕ, zero, suc, Bool, true, false, List, [], ◌∷◌, ◌++◌, length, Option, Some, None, refl, sym, ap, ◌∙◌, inl, arith, add-one, if◌then◌else◌, ◌==◌}
+use Rattle.std.proofs.Common.{◌≡◌, ◌≤◌, ◌<◌, ◌+◌, ℕ, zero, suc, Bool, true, false, List, [], ◌∷◌, ◌++◌, length, Option, Some, None, refl, sym, ap, ◌∙◌, inl, true≢false, arith, add-one, if◌then◌else◌, ◌==◌}
 use Rattle.csv.specs.Machine.{Read, step, in_field, start_field, start_record, after_end, is_end, ends_at_end, next_record, fields_after, field_after, carriage_return}
 use Rattle.std.specs.Borrow.{Bor}
 use Rattle.csv.specs.Reading.{NextIs, ReadsNext, ReadRecord, records, records_from, records_next, default_config, strip_bom, is_bom, pending_of, took_first, is_flexible}
@@ -21,14 +21,8 @@ either : (b : Bool) (p q : State × Action) → EndsBetween p → EndsBetween q 
 either true p q f g = f
 either false p q f g = g
 
-skips : (s : State) → EndsBetween (s, act.Skip)
-skips s = record { between = λ e. cc e }
-
-copies : (s : State) → EndsBetween (s, act.Copy)
-copies s = record { between = λ e. cc e }
-
-ends_field : (s : State) → EndsBetween (s, act.EndField)
-ends_field s = record { between = λ e. cc e }
+goes_on : (s : State) (a : Action) → is_end a ≡ false → EndsBetween (s, a)
+goes_on s a on = record { between = λ e. absurd (true≢false (sym e ∙ on)) }
 
 cond-between : (b : Bool) (s t : State) → ends_at_end s ≡ false → ends_at_end t ≡ false → ends_at_end (if b then s else t) ≡ false
 cond-between true s t f g = f
@@ -40,25 +34,25 @@ after_end-between (term.Any t) c = refl
 
 in_field-between : (cfg : Config) (c : ℕ) → EndsBetween (in_field cfg c)
 in_field-between cfg c =
-    either _ _ _ (ends_field st.StartField)
-    (either _ _ _ (record { between = λ e. after_end-between cfg.terminator c }) (copies st.InField))
+    either _ _ _ (goes_on st.StartField act.EndField refl)
+    (either _ _ _ (record { between = λ e. after_end-between cfg.terminator c }) (goes_on st.InField act.Copy refl))
 
 start_field-between : (cfg : Config) (c : ℕ) → EndsBetween (start_field cfg c)
-start_field-between cfg c = either _ _ _ (skips st.InQuoted) (in_field-between cfg c)
+start_field-between cfg c = either _ _ _ (goes_on st.InQuoted act.Skip refl) (in_field-between cfg c)
 
 start_record-between : (cfg : Config) (c : ℕ) → EndsBetween (start_record cfg c)
 start_record-between cfg c =
-    either _ _ _ (skips st.StartRecord) (either _ _ _ (skips st.InComment) (start_field-between cfg c))
+    either _ _ _ (goes_on st.StartRecord act.Skip refl) (either _ _ _ (goes_on st.InComment act.Skip refl) (start_field-between cfg c))
 
 step-between : (cfg : Config) (s : State) (c : ℕ) → EndsBetween (step cfg s c)
 step-between cfg st.StartRecord c = start_record-between cfg c
 step-between cfg st.StartField c = start_field-between cfg c
 step-between cfg st.InField c = in_field-between cfg c
-step-between cfg st.InQuoted c = either _ _ _ (skips st.AfterQuote) (either _ _ _ (skips st.InEscape) (copies st.InQuoted))
-step-between cfg st.InEscape c = copies st.InQuoted
-step-between cfg st.AfterQuote c = either _ _ _ (copies st.InQuoted) (in_field-between cfg c)
-step-between cfg st.InComment c = either _ _ _ (skips st.StartRecord) (skips st.InComment)
-step-between cfg st.AfterCr c = either _ _ _ (skips st.StartRecord) (start_record-between cfg c)
+step-between cfg st.InQuoted c = either _ _ _ (goes_on st.AfterQuote act.Skip refl) (either _ _ _ (goes_on st.InEscape act.Skip refl) (goes_on st.InQuoted act.Copy refl))
+step-between cfg st.InEscape c = goes_on st.InQuoted act.Copy refl
+step-between cfg st.AfterQuote c = either _ _ _ (goes_on st.InQuoted act.Copy refl) (in_field-between cfg c)
+step-between cfg st.InComment c = either _ _ _ (goes_on st.StartRecord act.Skip refl) (goes_on st.InComment act.Skip refl)
+step-between cfg st.AfterCr c = either _ _ _ (goes_on st.StartRecord act.Skip refl) (start_record-between cfg c)
 
 -- a record ends between two records, and takes no byte that comes after it
 abbrev Leaves : List ℕ → Read → Type 0

@@ -43,7 +43,7 @@ debt_in_row-ok net r d h =
 read_rows-keeps : (P : Net → Type 0) (l : Layout)
     → ((net : Net) (r : ℕ × Fields) (next : Net) → trimmed_fields r.1 ≡ r.1 → P net → with_row l net r ≡ Ok next → P next)
     → (net : Net) (rows : List (ℕ × Fields)) (out : Net) → AreTrimmed rows → P net → read_rows l net rows ≡ Ok out → P out
-unfolding read_rows AreTrimmed
+unfolding read_rows
 read_rows-keeps P l each net [] out trimmed has h = let same : net ≡ out = cc in subst P same has
 read_rows-keeps P l each net (r ∷ rest) out trimmed has h =
     let read = and_then-ok (with_row l net r) (λ next. read_rows l next rest) out h in

@@ -1,5 +1,5 @@
 -- Fields that a file keeps as they are: without quotes, and with no space or tab at their ends.
-use Rattle.std.proofs.Common.{◌≡◌, ◌≢◌, ◌∙◌, ◌<◌, ◌≤◌, ◌+◌, ◌-◌, ◌*◌, ◌/◌, ◌%◌, ◌^◌, ◌==◌, ◌&&◌, ◌||◌, ℕ, Bool, true, false, cond, not, nat_le, List, [], ◌∷◌, ◌++◌, length, reverse, Some, refl, sym, ap, arith}
+use Rattle.std.proofs.Common.{◌≡◌, ◌≢◌, ◌∙◌, ◌<◌, ◌≤◌, ◌+◌, ◌-◌, ◌*◌, ◌/◌, ◌%◌, ◌^◌, ◌==◌, ◌&&◌, ℕ, Bool, true, false, cond, not, nat_le, List, [], ◌∷◌, ◌++◌, length, reverse, Some, refl, sym, ap, arith}
 use Rattle.std.specs.List.{list_all, list_any}
 use Rattle.std.specs.Char.{is_ascii_digit}
 use Rattle.std.specs.Fmt.{decimal}
@@ -7,7 +7,7 @@ use Rattle.std.specs.Str.{is_utf8, chars}
 use Rattle.std.proofs.lemmas.Bool.{and_parts, ne_eqb, le-leb, leb-true, not-true}
 use Rattle.std.proofs.lemmas.Fmt.{decimal_by_steps_wide, decimal_digit, length-decimal-le_wide}
 use Rattle.std.proofs.lemmas.List.{length-append}
-use Rattle.std.proofs.lemmas.List.Folds.{list_all-append}
+use Rattle.std.proofs.lemmas.List.Folds.{list_all-append, list_any-append}
 use Rattle.std.proofs.lemmas.Str.{IsUtf8-from_is_utf8, chars-encodes}
 use lib.Dec.{ltb}
 use lib.Utf8.{encode, encodes, next}
@@ -28,14 +28,6 @@ high_byte b high = plain_byte b (λ e. omega arith) (λ e. omega arith) (λ e. o
 -- a field with no byte that calls for quotes
 pub record IsPlain (field : List ℕ) : Type 0 where
   pub unquoted : list_any (needs_byte default_writer) field ≡ false
-
-none_in_both : (p : ℕ → Bool) (xs ys : List ℕ) → list_any p xs ≡ false → list_any p ys ≡ false → list_any p (xs ++ ys) ≡ false
-none_in_both p [] ys e f = f
-none_in_both p (x ∷ xs) ys e f = by (p x) e (λ h. none_in_both p xs ys h f)
-  where
-    by : (b : Bool) → (b || list_any p xs) ≡ false → (list_any p xs ≡ false → list_any p (xs ++ ys) ≡ false) → (b || list_any p (xs ++ ys)) ≡ false
-    by true h more = h
-    by false h more = more h
 
 -- a character that may stand in a name
 plain_char : (c : ℕ) → may_stand_in_name c ≡ true → list_any (needs_byte default_writer) (encode c) ≡ false
@@ -64,7 +56,7 @@ plain_chars : (cs : List ℕ) → list_all may_stand_in_name cs ≡ true → lis
 plain_chars [] h = refl
 plain_chars (c ∷ cs) h =
     let parts = and_parts (may_stand_in_name c) (list_all may_stand_in_name cs) h in
-    none_in_both (needs_byte default_writer) (encode c) (encodes cs) (plain_char c parts.0) (plain_chars cs parts.1)
+    rw (list_any-append (needs_byte default_writer) (encode c) (encodes cs), plain_char c parts.0, plain_chars cs parts.1) refl
 
 -- a name calls for no quotes
 plain_name : (name : List ℕ) → is_name name ≡ true → IsPlain name
@@ -151,6 +143,10 @@ decimal_has_digit n small = decimal_by_steps_wide (λ m ds. 1 ≤ length ds) (λ
 pub record IsKeptField (field : List ℕ) : Type 0 where
   pub plain : IsPlain field
   pub trimmed : trimmed_field field ≡ field
+
+-- a word that is such, by two tests
+pub kept_word : (word : List ℕ) → list_any (needs_byte default_writer) word ≡ false → trimmed_field word ≡ word → IsKeptField word
+kept_word word plain trimmed = record { plain = record { unquoted = plain }; trimmed = trimmed }
 
 -- the digits of a number that a file can have are such
 pub kept_decimal : (n : ℕ) → n < 10 ^ MAX_DIGITS → IsKeptField (decimal n)

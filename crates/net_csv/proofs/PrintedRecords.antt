@@ -1,6 +1,6 @@
 -- A printed file, read record by record.
 use Rattle.std.proofs.Common.{◌≡◌, ◌∙◌, ◌||◌, ℕ, Bool, true, false, List, [], ◌∷◌, ◌++◌, map, Some, refl, sym, ap}
-use Rattle.std.specs.List.{flat_map, join_with_byte, list_any}
+use Rattle.std.specs.List.{AllByRecursion, flat_map, join_with_byte, list_any}
 use Rattle.std.proofs.lemmas.List.{append-nil}
 use Rattle.std.proofs.lemmas.List.Concat.{flat_map-cons}
 use Rattle.csv.specs.Machine.{next_record}
@@ -15,9 +15,8 @@ use Rattle.net_csv.proofs.Left.{records-some, records-none}
 use Rattle.net_csv.proofs.PlainFields.{IsPlain}
 
 -- each field calls for no quotes
-unfoldable pub ArePlain : Fields → Type 0
-ArePlain [] = Unit {0}
-ArePlain (x ∷ rest) = IsPlain x × ArePlain rest
+abbrev pub ArePlain : Fields → Type 0
+ArePlain fields = AllByRecursion IsPlain fields
 
 -- a record of two fields or more that need no quotes
 pub record IsRow (fields : Fields) : Type 0 where
@@ -29,7 +28,6 @@ pub record IsRow (fields : Fields) : Type 0 where
 
 -- words that call for no quotes, by a test
 plain_words : (words : Fields) → list_any (list_any (needs_byte default_writer)) words ≡ false → ArePlain words
-unfolding ArePlain
 plain_words [] h = tt
 plain_words (x ∷ rest) h = by (list_any (needs_byte default_writer) x) refl h (plain_words rest)
   where
@@ -45,13 +43,13 @@ word_row first second others h =
 
 -- fields joined by commas are the text that a writer of records makes
 joined-text : (x : List ℕ) (rest : Fields) → ArePlain (x ∷ rest) → join_with_byte 44 (x ∷ rest) ≡ x ++ fields_text default_writer rest
-unfolding fields_text ArePlain
+unfolding fields_text
 joined-text x [] plain = sym (append-nil x)
 joined-text x (y ∷ ys) plain =
     rw plain.1.0.unquoted (ap (λ t. x ++ (44 ∷ t)) (joined-text y ys plain.1))
 
 line-row : (x y : List ℕ) (rest : Fields) → ArePlain (x ∷ y ∷ rest) → line (x ∷ y ∷ rest) ≡ row_text default_writer (x ∷ y ∷ rest)
-unfolding is_blank ArePlain
+unfolding is_blank
 line-row x y rest plain = rw plain.0.unquoted (ap (λ t. t ++ 10 ∷ []) (joined-text x (y ∷ rest) plain))
 
 -- a line is read as its record
@@ -61,12 +59,11 @@ read_line fields tail row =
     rw row.are (rw (line-row row.first row.second row.others row.plain) (read-write-many row.first row.second row.others tail))
 
 -- each record is such
-unfoldable pub AreRows : List Fields → Type 0
-AreRows [] = Unit {0}
-AreRows (fields ∷ rest) = IsRow fields × AreRows rest
+abbrev pub AreRows : List Fields → Type 0
+AreRows rows = AllByRecursion IsRow rows
 
 read_lines : (rows : List Fields) → AreRows rows → records_after st.StartRecord (Some (flat_map line rows)) ≡ rows
-unfolding next_record AreRows
+unfolding next_record
 read_lines [] all = records-none st.StartRecord [] refl
 read_lines (fields ∷ rest) all =
     rw (flat_map-cons line fields rest)
@@ -81,12 +78,8 @@ lines-map fields_of line_of each (x ∷ xs) =
     rw (flat_map-cons line_of x xs, flat_map-cons line (fields_of x) (map fields_of xs), each x, lines-map fields_of line_of each xs) refl
 
 -- the records of a header and lines
-pub read_printed : {X : Type 0} (header : Fields) (fields_of : X → Fields) (line_of : X → List ℕ) (xs : List X)
-    → ((x : X) → line_of x ≡ line (fields_of x)) → IsRow header → AreRows (map fields_of xs)
-    → strip_bom (line header ++ flat_map line_of xs) ≡ line header ++ flat_map line_of xs
-    → records default_config (strip_bom (line header ++ flat_map line_of xs)) ≡ header ∷ map fields_of xs
-unfolding AreRows
-read_printed header fields_of line_of xs each head all no_mark =
-    let text : line header ++ flat_map line_of xs ≡ flat_map line (header ∷ map fields_of xs) =
-    ap (λ t. line header ++ t) (lines-map fields_of line_of each xs) ∙ sym (flat_map-cons line header (map fields_of xs)) in
-    ap (records default_config) (no_mark ∙ text) ∙ read_lines (header ∷ map fields_of xs) (head, all)
+pub read_printed : (header : Fields) (rows : List Fields) → IsRow header → AreRows rows
+    → strip_bom (line header ++ flat_map line rows) ≡ line header ++ flat_map line rows
+    → records default_config (strip_bom (line header ++ flat_map line rows)) ≡ header ∷ rows
+read_printed header rows head all no_mark =
+    ap (records default_config) (no_mark ∙ sym (flat_map-cons line header rows)) ∙ read_lines (header ∷ rows) (head, all)

@@ -23,9 +23,9 @@ use Rattle.net_csv.specs.declared.layout.Version.TheVariants as version
 use Rattle.net_csv.proofs.Networks.{are_read, with_file-keeps, network_of_ok, network_of_read}
 use Rattle.net_csv.proofs.KeptNames.{network_of_names}
 use Rattle.net_csv.proofs.Rows.{one_row, rows-pass, rows-end, file-below}
-use Rattle.net_csv.proofs.PrintedRecords.{IsRow, word_row, lines-map, read_printed}
+use Rattle.net_csv.proofs.PrintedRecords.{IsRow, word_row, lines-map}
 use Rattle.net_csv.proofs.BackFacts.{IsBackDebt, IsBackName, bank_back, debt_back, name_back}
-use Rattle.net_csv.proofs.BackRows.{IsKeptRow, AreKeptRows, kept_rows, kept_trimmed, kept_short, SaysAll, bank_row, debt_row, bank_read_back, debt_read_back}
+use Rattle.net_csv.proofs.BackRows.{IsKeptRow, AreKeptRows, records_printed, kept_short, SaysAll, bank_row, debt_row, bank_read_back, debt_read_back}
 
 -- things that a file has line by line, each of which is read back beside those before it
 record IsPrinted (X : Type 0) (l : Layout) (fields_of : X → Fields) (so_far : List X → Net) (all : List X) : Type 0 where
@@ -46,7 +46,6 @@ module _ (X : Type 0) (l : Layout) (fields_of : X → Fields) (so_far : List X �
     (printed : IsPrinted X l fields_of so_far all) where
   -- a file keeps the records
   all_kept : (rest done : List X) → all ≡ done ++ rest → AreKeptRows (map fields_of rest)
-  unfolding AreKeptRows
   all_kept [] done e = tt
   all_kept (x ∷ rest) done e = (printed.kept done rest x e, all_kept rest (done ++ x ∷ []) (moved all done rest x e))
 
@@ -101,10 +100,10 @@ short_header layout.Debts = omega arith
 records_back : (X : Type 0) (l : Layout) (fields_of : X → Fields) (so_far : List X → Net) (all : List X) → IsPrinted X l fields_of so_far all
     → records_of (file_text l fields_of all) ≡ trimmed_fields (header l) ∷ map fields_of all
 records_back X l fields_of so_far all printed =
-    let kept = all_kept X l fields_of so_far all printed all [] refl in
-    ap (map trimmed_fields) (read_printed (header l) fields_of (λ x. line (fields_of x)) all (λ x. refl) (header_row l)
-    (kept_rows (map fields_of all) kept) (unmarked l (flat_map (λ x. line (fields_of x)) all)))
-    ∙ ap (λ rows. trimmed_fields (header l) ∷ rows) (kept_trimmed (map fields_of all) kept)
+    let rows = map fields_of all in
+    ap (λ t. records_of (line (header l) ++ t)) (lines-map fields_of (λ x. line (fields_of x)) (λ x. refl) all)
+    ∙ records_printed (header l) rows (header_row l) (all_kept X l fields_of so_far all printed all [] refl)
+    (unmarked l (flat_map line rows))
 
 file_back : (X : Type 0) (l : Layout) (fields_of : X → Fields) (so_far : List X → Net) (all : List X) → IsPrinted X l fields_of so_far all
     → with_file l (file_text l fields_of all) (so_far []) ≡ Ok (so_far all)
@@ -116,6 +115,10 @@ file_back X l fields_of so_far all printed =
 -- the banks of a network without its debts
 abbrev with_banks : List Bank → Net
 with_banks banks = record { banks = banks; debts = [] }
+
+-- the first debts of a network, with all its banks
+abbrev with_debts : Net → List Debt → Net
+with_debts net debts = record { banks = net.banks; debts = debts }
 
 -- a version says all of the banks of a network
 abbrev SaysBanks : Version → Net → Type 0
@@ -133,13 +136,13 @@ banks_printed v net network names says = record {
 
 -- and its debts
 debts_printed : (net : Net) → IsNetwork net → KeepsNames net
-    → IsPrinted Debt layout.Debts (debt_fields net) (λ debts. record { banks = net.banks; debts = debts }) net.debts
+    → IsPrinted Debt layout.Debts (debt_fields net) (with_debts net) net.debts
 debts_printed net network names = record {
   kept = λ done rest d e.
       let back = debt_back net network done rest d e in debt_row net done d back (debtor back) (creditor back);
   read = λ done rest d row e.
       let back = debt_back net network done rest d e in
-      ap (λ (r : Result Debt Fault). and_then r (λ d. Ok (with_debt (record { banks = net.banks; debts = done }) d)))
+      ap (λ (r : Result Debt Fault). and_then r (λ d. Ok (with_debt (with_debts net done) d)))
       (debt_read_back net done row d back (debtor back) (creditor back));
 }
   where
@@ -170,7 +173,7 @@ banks_short v net network names says =
 
 debts_short : (net : Net) → IsNetwork net → KeepsNames net → length (debts_text net) ≤ 8388608
 debts_short net network names =
-    let lines = short_lines Debt layout.Debts (debt_fields net) (λ debts. record { banks = net.banks; debts = debts }) net.debts
+    let lines = short_lines Debt layout.Debts (debt_fields net) (with_debts net) net.debts
     (debts_printed net network names) in
     let first = short_header layout.Debts in
     let few = network.debts_in_limit in
@@ -199,7 +202,7 @@ printed_is_read_back net network names =
       small_too = debts_short net network names;
       read = banks_back (version_for net) net network names says;
       read_too =
-          file_back Debt layout.Debts (debt_fields net) (λ debts. record { banks = net.banks; debts = debts }) net.debts (debts_printed net network names);
+          file_back Debt layout.Debts (debt_fields net) (with_debts net) net.debts (debts_printed net network names);
     })
 
 -- rows of banks add no debt, and rows of debts no bank

@@ -1,5 +1,6 @@
 -- Fields that were trimmed have nothing to be trimmed.
 use Rattle.std.proofs.Common.{◌≡◌, ◌∙◌, ◌≤◌, ◌+◌, ℕ, Bool, true, false, not, cond, List, [], ◌∷◌, ◌++◌, length, map, reverse, Ok, refl, sym, ap, arith, subst}
+use Rattle.std.specs.List.{AllByRecursion}
 use Rattle.std.proofs.lemmas.List.{reverse-append, reverse-reverse}
 use Rattle.net_check.specs.Checks.{and_then, fault_unless}
 use Rattle.net_check.specs.Field.{is_space_or_tab, trimmed_start, trimmed_field, are_words}
@@ -67,12 +68,10 @@ fields-twice [] = refl
 fields-twice (x ∷ rest) = rw (field-twice x, fields-twice rest) refl
 
 -- rows whose fields have nothing to be trimmed
-unfoldable pub AreTrimmed : List (ℕ × Fields) → Type 0
-AreTrimmed [] = Unit {0}
-AreTrimmed (r ∷ rest) = (trimmed_fields r.1 ≡ r.1) × AreTrimmed rest
+abbrev pub AreTrimmed : List (ℕ × Fields) → Type 0
+AreTrimmed rows = AllByRecursion (λ r. trimmed_fields r.1 ≡ r.1) rows
 
 rows_trimmed : (raw : List Fields) (row : ℕ) → AreTrimmed (rows_from row (map trimmed_fields raw))
-unfolding AreTrimmed
 rows_trimmed [] row = tt
 rows_trimmed (fields ∷ rest) row = by (not (is_blank (trimmed_fields fields))) (rows_trimmed rest (row + 1))
   where

@@ -49,25 +49,24 @@ pairs-pointwise E f g [] (y ∷ ys) e = absurd (omega (arith, e))
 pairs-pointwise E f g (x ∷ xs) [] e = absurd (omega (arith, e))
 pairs-pointwise E f g (x ∷ xs) (y ∷ ys) e = ap (λ (b : Bool). E (g x) (f y) && b) (pairs-pointwise E f g xs ys (omega (arith, e)))
 
--- a record of three fields, and of four, by its fields
-pub three_are : (fields : List (List ℕ)) (a b c : List ℕ) → length fields ≡ 3 → field_at fields 0 ≡ Some a → field_at fields 1 ≡ Some b
-    → field_at fields 2 ≡ Some c → fields ≡ a ∷ b ∷ c ∷ []
-unfolding field_at
-three_are [] a b c e p q r = absurd (omega (arith, e))
-three_are (x ∷ []) a b c e p q r = absurd (omega (arith, e))
-three_are (x ∷ y ∷ []) a b c e p q r = absurd (omega (arith, e))
-three_are (x ∷ y ∷ z ∷ []) a b c e p q r = cc
-three_are (x ∷ y ∷ z ∷ w ∷ rest) a b c e p q r = absurd (omega (arith, e))
+-- a record has these fields from a place on
+abbrev pub HasFields : List (List ℕ) → ℕ → List (List ℕ) → Type 0
+HasFields fields k [] = Unit {0}
+HasFields fields k (w ∷ ws) = (field_at fields k ≡ Some w) × HasFields fields (suc k) ws
 
-pub four_are : (fields : List (List ℕ)) (a b c d : List ℕ) → length fields ≡ 4 → field_at fields 0 ≡ Some a → field_at fields 1 ≡ Some b
-    → field_at fields 2 ≡ Some c → field_at fields 3 ≡ Some d → fields ≡ a ∷ b ∷ c ∷ d ∷ []
+has_rest : (x : List ℕ) (fields ws : List (List ℕ)) (k : ℕ) → HasFields (x ∷ fields) (suc k) ws → HasFields fields k ws
 unfolding field_at
-four_are [] a b c d e p q r s = absurd (omega (arith, e))
-four_are (x ∷ []) a b c d e p q r s = absurd (omega (arith, e))
-four_are (x ∷ y ∷ []) a b c d e p q r s = absurd (omega (arith, e))
-four_are (x ∷ y ∷ z ∷ []) a b c d e p q r s = absurd (omega (arith, e))
-four_are (x ∷ y ∷ z ∷ w ∷ []) a b c d e p q r s = cc
-four_are (x ∷ y ∷ z ∷ w ∷ v ∷ rest) a b c d e p q r s = absurd (omega (arith, e))
+has_rest x fields [] k h = tt
+has_rest x fields (w ∷ ws) k h = (h.0, has_rest x fields ws (suc k) h.1)
+
+-- a record is the fields that it has
+pub fields_are : (fields ws : List (List ℕ)) → length fields ≡ length ws → HasFields fields 0 ws → fields ≡ ws
+unfolding field_at
+fields_are [] [] e h = refl
+fields_are [] (w ∷ ws) e h = absurd (omega (arith, e))
+fields_are (x ∷ fields) [] e h = absurd (omega (arith, e))
+fields_are (x ∷ fields) (w ∷ ws) e h =
+    let rest : fields ≡ ws = fields_are fields ws (omega (arith, e)) (has_rest x fields ws 0 h.1) in cc h.0
 
 -- a field at a place below the number of fields is there
 pub field_is_there : (fields : List (List ℕ)) (i : ℕ) (o : Option (Bor (List ℕ))) → i < length fields → option_map (λ s. s.now) o ≡ field_at fields i → IsSome o

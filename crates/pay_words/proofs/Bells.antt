@@ -1,8 +1,8 @@
 -- Words for the proofs that each step keeps the rule of the bells.
-use Rattle.std.proofs.Common.{◌≡◌, ◌≢◌, ℕ, zero, suc, ◌+◌, ◌*◌, ◌<◌, ◌≤◌, ◌==◌, List, [], ◌∷◌, set, get_or, sum, sum_by, Bool, true, false, refl, sym, ap, ◌∙◌, subst, ⊎_elim, arith, le_trans, le_of_eq, zero-le, length-set, get_or-set_same, get_or-set_other}
+use Rattle.std.proofs.Common.{◌≡◌, ◌≢◌, ℕ, zero, suc, ◌+◌, ◌*◌, ◌<◌, ◌≤◌, List, [], ◌∷◌, set, get_or, sum, sum_by, Bool, true, false, refl, sym, ap, ◌∙◌, subst, ⊎_elim, arith, le_trans, le_of_eq, zero-le, length-set, get_or-set_same, get_or-set_other}
 use Rattle.std.specs.Prelude.{if◌then◌else◌}
 use Rattle.std.specs.List.{range_with_len}
-use Rattle.std.proofs.lemmas.Bool.{eq-eqb, ne_eqb, cases_Bool, cond-true, cond-false}
+use Rattle.std.proofs.lemmas.Bool.{cases_Bool}
 use Rattle.std.proofs.lemmas.List.{ext_get_or}
 use Rattle.std.proofs.lemmas.List.FromFn.{length-range_with_len, get_or-range_with_len}
 use Rattle.std.proofs.lemmas.List.Sums.{sum_by-cons, sum_by-set, get_or-le-sum_by, sum_by-le, sum-map}
@@ -14,19 +14,9 @@ use Rattle.atomic_table.proofs.Lists.{at_set}
 use Rattle.pay_words.specs.declared.deed.Deed.{Deed}
 use Rattle.pay_words.specs.declared.view.View.{View}
 use Rattle.pay_words.specs.Views.{tabled}
-use Rattle.pay_words.specs.Kept.{Tower, HasBells, how_many}
-use Rattle.pay_words.proofs.Tables.{tabled_at, length-tabled, sum_less, tabled_most}
+use Rattle.pay_words.specs.BoardRule.{Tower, HasBells, how_many}
+use Rattle.pay_words.proofs.Tables.{tabled_at, length-tabled, sum_less, tabled_most, changed, changed_here, changed_else}
 use Rattle.pay_words.proofs.Views.{within_length}
-
--- a function that is changed at one number
-abbrev pub changed : {A : Type 0} → ℕ → A → (ℕ → A) → ℕ → A
-changed x a f y = if y == x then a else f y
-
-pub changed_here : {A : Type 0} (x : ℕ) (a : A) (f : ℕ → A) (y : ℕ) → y ≡ x → changed x a f y ≡ a
-changed_here x a f y e = cond-true (y == x) a (f y) (eq-eqb y x e)
-
-pub changed_else : {A : Type 0} (x : ℕ) (a : A) (f : ℕ → A) (y : ℕ) → y ≢ x → changed x a f y ≡ f y
-changed_else x a f y ne = cond-false (y == x) a (f y) (ne_eqb y x ne)
 
 -- what stands in a place of a list
 pub got : {A : Type 0} (l : List A) (i : ℕ) (a d : A) → get_elem? l i ≡ some a → get_or l i d ≡ a

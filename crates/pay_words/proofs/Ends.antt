@@ -1,6 +1,6 @@
 -- What the words and the raises are when a board is closed by a master that holds all banks.
-use Rattle.std.proofs.Common.{◌≡◌, ℕ, zero, suc, ◌+◌, ◌<◌, ◌≤◌, All, List, [], ◌∷◌, ◌++◌, length, get_or, sum, Bool, true, false, inl, inr, refl, sym, ap, ◌∙◌, subst, arith}
-use Rattle.std.specs.Prelude.{slice_index, if◌then◌else◌}
+use Rattle.std.proofs.Common.{◌≡◌, ℕ, ◌+◌, ◌<◌, ◌≤◌, All, List, ◌++◌, length, get_or, sum, Bool, true, refl, sym, ap, ◌∙◌, subst, arith, ⊎_elim}
+use Rattle.std.specs.Prelude.{slice_index}
 use Rattle.std.proofs.lemmas.List.{append-nil, ext_get_or}
 use Rattle.atomic_table.specs.Table.{Final, Seen}
 use Rattle.clr_net.specs.Amounts.{IsAtMost}
@@ -16,28 +16,24 @@ use Rattle.pay_words.specs.declared.view.View.{View}
 use Rattle.pay_words.specs.Belongs.{Belongs}
 use Rattle.pay_words.specs.Ends.{payments_of, values, Ends}
 use Rattle.pay_words.specs.Words.{unpaid, payment_of}
-use Rattle.pay_words.specs.Traces.{Traces, IsLawful, In, ending, raises_of, last_payment, start_of, paid_in}
-use Rattle.pay_words.specs.Views.{tabled, HoldsAll, holds}
-use Rattle.pay_words.specs.Kept.{Ledger, Suits, taken_of, made_of, own_raises}
+use Rattle.pay_words.specs.Traces.{Traces, AreLawfulTraces, ending, raises_of, last_payment, start_of, paid_in}
+use Rattle.pay_words.specs.Views.{tabled, HoldsAll, holds, a_raise}
+use Rattle.pay_words.specs.BoardRule.{Ledger, Suits, taken_of, made_of, own_raises}
 use Rattle.pay_words.proofs.Tables.{tabled_at, tabled_agree, length-tabled}
-use Rattle.pay_words.proofs.Traces.{among_raises_of, under_ending, read_back}
+use Rattle.pay_words.proofs.Traces.{read_back, under_own_ending}
 use Rattle.pay_words.proofs.Lawful.{value_fits, paid_in_below}
 use Rattle.pay_words.proofs.Pasts.{covered}
-use Rattle.pay_words.proofs.Orders.{in_ordered, same_of}
+use Rattle.pay_words.proofs.Orders.{same_of, all_ordered}
 use Rattle.pay_words.proofs.Histories.{lawful_agree, history_of, replayed_is}
-use Rattle.pay_words.proofs.Views.{rule, not_both}
+use Rattle.pay_words.proofs.Views.{rule, not_both, its_raises}
 use Rattle.pay_words.proofs.Bells.{sum_least, sum_alone}
-use Rattle.std.proofs.lemmas.Bool.{cond-true, false_from_ne_true}
+use Rattle.std.proofs.lemmas.Bool.{cond-true, false_from_ne_true, cond_both, cases_lt}
 use Rattle.std.proofs.Common.{◌≢◌}
 use mathlib.Core.List.{map-map}
 
-in_at : (rs : List Raise) (k : ℕ) (d : Raise) → k < length rs → In (get_or rs k d) rs
-in_at [] k d lt = absurd (omega (arith, lt))
-in_at (r ∷ rs) zero d lt = inl refl
-in_at (r ∷ rs) (suc k) d lt = inr (in_at rs k d (omega (arith, lt)))
-
 -- raises that are lawful by debt, whatever their order
-module _ (net : Net) (raises : List Raise) (known : (r : Raise) → In r raises → r.debt.0 < length net.debts) (h : IsLawful net (λ x. raises_of x raises)) where
+module _ (net : Net) (raises : List Raise) (known : All (λ r. r.debt.0 < length net.debts) raises)
+    (h : AreLawfulTraces net (λ x. raises_of x raises)) where
   abbrev t : Traces
   t x = raises_of x raises
 
@@ -47,14 +43,10 @@ module _ (net : Net) (raises : List Raise) (known : (r : Raise) → In r raises 
   values_are : values payments ≡ paid_in net t
   values_are = map-map (λ (p : Payment). p.value) (λ (x : ℕ). last_payment x raises) (debt_numbers net)
 
-  low_stamp : (r : Raise) → In r raises → r.stamp ≤ sum (values payments)
-  low_stamp r i =
-      let l = known r i in
-      let u = under_ending unpaid (t r.debt.0) (h.rise r.debt.0 l) r (among_raises_of raises r i) in
-      omega (arith, u.0, h.low r.debt.0 l, ap sum values_are)
-
   pub low_stamps : All (λ r. r.stamp ≤ sum (values payments)) raises
-  low_stamps k d lt = low_stamp (get_or raises k d) (in_at raises k d lt)
+  low_stamps k d lt =
+      let l = known k d lt in
+      omega (arith, under_own_ending raises k d lt (h.rise _ l), h.low _ l, ap sum values_are)
 
   pub values_below : IsAtMost (values payments) (least net)
   values_below x = omega (arith, paid_in_below net t h x, ap (λ (ns : List ℕ). slice_index ns x) values_are)
@@ -77,27 +69,23 @@ module _ (net : Net) (raises : List Raise) (known : (r : Raise) → In r raises 
   replays = replayed_is net (ordered raises) ∙ ap values (sym start_same)
 
   pub low_in_order : All (λ r. r.stamp ≤ sum (values payments)) (ordered raises)
-  low_in_order k d lt = low_stamp (get_or (ordered raises) k d) (in_ordered raises _ (in_at (ordered raises) k d lt))
+  low_in_order = all_ordered (λ r. r.stamp ≤ sum (values payments)) raises low_stamps
 
 -- a seat that holds no bank of a debtor has made no raise
 made_none : (d : Deed) (k : Ledger) (roll count id j : ℕ) (v u : View) → Suits d k roll count id v → v.shown.master ≡ true → ((x : ℕ) → x < length d.net.debts → holds v.shown (debtor_of d.net x) ≡ true)
     → j ≢ id → (u.live ≡ true → Suits d k roll count j u) → made_of u ≡ 0
-made_none d k roll count id j v u f chief all apart fits = go u.live refl
-  where
-    none : (rs : List Raise) → ((r : Raise) → In r rs → ⊥) → length rs ≡ 0
-    none [] h = refl
-    none (r ∷ rs) h = absurd (h r (inl refl))
-
-    made : u.live ≡ true → length u.shown.raises ≡ 0
-    made on = none u.shown.raises (λ r i.
-        let g = fits on in
-        let plain : u.shown.master ≡ false = false_from_ne_true u.shown.master (λ e. apart ((g.leads e).0 ∙ sym (f.leads chief).0)) in
-        let o = g.only r (subst (λ (b : Bool). In r (own_raises b u.shown.raises)) (sym plain) i) in
-        not_both d k roll count id j u v (debtor_of d.net r.debt.0) apart f (all r.debt.0 o.0) g o.1)
-
-    go : (b : Bool) → u.live ≡ b → (if b then length u.shown.raises else 0) ≡ 0
-    go true e = made e
-    go false e = refl
+made_none d k roll count id j v u f chief all apart fits = cond_both u.live (length u.shown.raises) 0 (λ n. n ≡ 0)
+    (λ on.
+    let g = fits on in
+    let only = its_raises d k roll count j u g (false_from_ne_true u.shown.master (λ e. apart ((g.leads e).0 ∙ sym (f.leads chief).0))) in
+    ⊎_elim
+    (λ (some : 0 < length u.shown.raises).
+    let r : Raise = a_raise 0 0 0 in
+    let o = only 0 r some in
+    absurd (not_both d k roll count id j u v (debtor_of d.net (get_or u.shown.raises 0 r).debt.0) apart f (all _ o.0) g o.1))
+    (λ (none : length u.shown.raises ≤ 0). omega arith)
+    (cases_lt 0 (length u.shown.raises)))
+    (λ _. refl)
 
 -- what the last state says, of the words
 pub record Closed (d : Deed) (s : Shown) (words : List ℕ) : Type 0 where
@@ -120,8 +108,8 @@ closes d id v ws xs on chief all final =
     let same : (x : ℕ) → x < length net.debts → raises_of x raises ≡ k.trace x =
     λ x lt. ap (raises_of x) (sym base)
     ∙ sym (f.told x lt (mine x lt) ∙ ap (λ (b : Bool). raises_of x k.base ++ raises_of x (own_raises b v.shown.raises)) chief ∙ append-nil (raises_of x k.base)) in
-    let lawful : IsLawful net (λ x. raises_of x raises) = lawful_agree net k.trace (λ x. raises_of x raises) h.lawful same in
-    let known : (r : Raise) → In r raises → r.debt.0 < length net.debts = λ r i. h.known r (subst (In r) (sym base) i) in
+    let lawful : AreLawfulTraces net (λ x. raises_of x raises) = lawful_agree net k.trace (λ x. raises_of x raises) h.lawful same in
+    let known = subst (All (λ r. r.debt.0 < length net.debts)) base h.known in
     let shown : payments_of v.shown ≡ start_of net raises =
     subst (λ (n : ℕ). tabled n (λ x. record { value = slice_index v.shown.paid x; stamp = slice_index v.shown.paid_stamps x }) ≡ start_of net raises) (sym over)
     (tabled_agree unpaid (length net.debts) (λ x. record { value = slice_index v.shown.paid x; stamp = slice_index v.shown.paid_stamps x }) (λ x. last_payment x raises)
@@ -143,7 +131,7 @@ closes d id v ws xs on chief all final =
             let taken = sum_least taken_of s.views id v final.1.1 in
             let made = sum_alone made_of s.views id v final.1.1 (λ j u ne e. made_none d k (slice_index s.words 0) (length s.views) id j v u f chief mine ne (λ o. h.fits j u e o)) in
             omega (arith, r.few, taken, made, cond-true v.live v.shown.taken 0 on, cond-true v.live (length v.shown.raises) 0 on);
-        after_past = λ a b lt i j l. f.late (get_or v.shown.raises a b) (in_at v.shown.raises a b lt) (get_or d.past i j) (in_at d.past i j l);
+        after_past = f.late;
       });
     }
 

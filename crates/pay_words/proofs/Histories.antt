@@ -1,31 +1,39 @@
 -- Raises that are lawful by debt are a history, and a replay leaves what each debt ended with.
-use Rattle.std.proofs.Common.{◌≡◌, ◌≢◌, ◌⊎◌, ℕ, zero, suc, ◌<◌, ◌==◌, List, [], ◌∷◌, length, set, map, slice_get, Some, Bool, true, false, inl, inr, refl, sym, ap, ◌∙◌, subst, arith, le_trans, le_of_eq, length-set, get_or-set_same, get_or-set_other}
+use Rattle.std.proofs.Common.{◌≡◌, ◌≢◌, ℕ, suc, ◌<◌, ◌==◌, List, [], ◌∷◌, length, set, map, slice_get, Some, Bool, true, false, inl, inr, refl, sym, ap, ◌∙◌, subst, arith, length-set, get_or-set_same, get_or-set_other, All, get_or, ◌≤◌, ⊎_elim}
 use Rattle.std.specs.Prelude.{slice_index, cond, sum}
-use Rattle.std.proofs.lemmas.Bool.{eq-eqb, ne_eqb}
-use Rattle.std.proofs.lemmas.List.{length-replicate, append-nil, ext_get_or}
+use Rattle.std.proofs.lemmas.Bool.{eq-eqb, ne_eqb, cases_Bool, cases_order}
+use Rattle.std.proofs.lemmas.List.{length-replicate, ext_get_or, get_or_default}
 use mathlib.Core.Logic.{dite}
-use native.Mathlib.Decide.{ℕ_discrete}
+use native.Mathlib.Decide.{ℕ_discrete, dec_lt}
 use Rattle.clr_net.specs.Net.{Net, debtor_of}
 use Rattle.clr_net.proofs.Lists.{zeros_at}
-use Rattle.clear_core.specs.Clearing.{zeros, part, receipts}
-use Rattle.clear_core.specs.History.{IsHistory, IsTraced, replayed_from, replayed, raised_before, paid_before}
+use Rattle.clear_core.specs.Clearing.{zeros, part}
+use Rattle.clear_core.specs.History.{IsHistory, replayed_from, replayed, raised_before, paid_before}
 use Rattle.clear_core.specs.declared.event.Raise.{Raise}
 use Rattle.clear_core.proofs.Pay.{pay_at}
 use Rattle.pay_words.specs.declared.payment.Payment.{Payment}
 use Rattle.pay_words.specs.Words.{unpaid}
-use Rattle.pay_words.specs.Traces.{Traces, IsLawful, In, Rise, ending, ending_from, raises_of, last_payment, start_of, paid_to, total}
+use Rattle.pay_words.specs.Traces.{Traces, AreLawfulTraces, Rise, ending, ending_from, raises_of, last_payment, start_of, paid_to, total}
 use Rattle.pay_words.proofs.Tables.{tabled_at, length-tabled, tabled_agree}
 use Rattle.pay_words.proofs.Marks.{column_agree}
-use Rattle.pay_words.proofs.Traces.{among_raises_of}
-use Rattle.pay_words.proofs.Pasts.{before_of}
+use Rattle.pay_words.proofs.Traces.{among_raises_of, raises_of-none, rise_rest}
+use Rattle.pay_words.proofs.Pasts.{before_of, Differ}
+use Rattle.std.specs.List.{AllPairs, Contains}
+use Rattle.std.proofs.lemmas.List.Kept.{AllPairs-cons}
+use Rattle.std.proofs.lemmas.List.Elements.{All-contains}
+use Rattle.std.proofs.lemmas.Option.{slice_get_within, get_or_from_slice_get}
+use Rattle.clr_net.specs.declared.debt.DebtId.{DebtId}
 
 -- raises that agree at each debt of the network
-pub lawful_agree : (net : Net) (t u : Traces) → IsLawful net t → ((x : ℕ) → x < length net.debts → u x ≡ t x) → IsLawful net u
+pub lawful_agree : (net : Net) (t u : Traces) → AreLawfulTraces net t → ((x : ℕ) → x < length net.debts → u x ≡ t x) → AreLawfulTraces net u
 lawful_agree net t u h same = record {
   rise = λ x lt. subst Rise (sym (same x lt)) (h.rise x lt);
-  each = λ x lt r i. h.each x lt r (subst (In r) (same x lt) i);
-  within = λ x lt r i. le_trans (h.within x lt r (subst (In r) (same x lt) i))
-      (le_of_eq (ap (part net x) (column_agree net (λ y. raised_before r.stamp (t y) y) (λ y. raised_before r.stamp (u y) y) (debtor_of net x) (λ y l. ap (λ (rs : List Raise). raised_before r.stamp rs y) (sym (same y l))))));
+  each = λ x lt. subst (All (λ r. (0 < r.to) × (r.debt.0 ≡ x))) (sym (same x lt)) (h.each x lt);
+  within = λ x lt. subst (All (λ r. r.to ≤ part net x (paid_to net u r.stamp x))) (sym (same x lt)) (λ k d l.
+      let stamp = (get_or (t x) k d).stamp in
+      let paid = column_agree net (λ y. raised_before stamp (t y) y) (λ y. raised_before stamp (u y) y) (debtor_of net x)
+      (λ y m. ap (λ (rs : List Raise). raised_before stamp rs y) (sym (same y m))) in
+      omega (arith, h.within x lt k d l, ap (part net x) paid));
   most = λ x lt. omega (arith, h.most x lt, ap (λ (rs : List Raise). (ending rs).value) (same x lt));
   low = λ x lt. omega (arith, h.low x lt, ap (λ (rs : List Raise). (ending rs).stamp) (same x lt), all);
 }
@@ -33,65 +41,72 @@ lawful_agree net t u h same = record {
     all : total net u ≡ total net t
     all = ap sum (tabled_agree 0 (length net.debts) (λ y. (ending (u y)).value) (λ y. (ending (t y)).value) (λ y l. ap (λ (rs : List Raise). (ending rs).value) (same y l)))
 
-in_got : (rs : List Raise) (i : ℕ) (r : Raise) → slice_get rs i ≡ Some r → In r rs
-in_got [] i r e = absurd (cc)
-in_got (a ∷ rs) zero r e = let same : a ≡ r = cc in inl same
-in_got (a ∷ rs) (suc i) r e = inr (in_got rs i r e)
-
 rise_tail : (x : ℕ) (a : Raise) (rs : List Raise) → Rise (raises_of x (a ∷ rs)) → Rise (raises_of x rs)
-rise_tail x a rs h = go (a.debt.0 == x) h
-  where
-    go : (t : Bool) → Rise (cond t (a ∷ raises_of x rs) (raises_of x rs)) → Rise (raises_of x rs)
-    go true i = i.1
-    go false i = i
+rise_tail x a rs h = ⊎_elim
+    (λ (e : (a.debt.0 == x) ≡ true). let all : Rise (a ∷ raises_of x rs) = rw e at h in rise_rest a (raises_of x rs) all)
+    (λ (e : (a.debt.0 == x) ≡ false). rw e at h)
+    (cases_Bool (a.debt.0 == x))
 
 -- raises that rise by debt differ
-differ : (rs : List Raise) (known : (r : Raise) → In r rs → Rise (raises_of r.debt.0 rs)) (i j : ℕ) (a b : Raise) → i < j → slice_get rs i ≡ Some a → slice_get rs j ≡ Some b → (a.stamp ≢ b.stamp) ⊎ (a.debt ≢ b.debt)
-differ [] known i j a b lt e f = absurd (cc)
-differ (c ∷ rs) known i zero a b lt e f = absurd (omega (arith, lt))
-differ (c ∷ rs) known zero (suc j) a b lt e f =
-    let same : c ≡ a = cc in
-    let later : In b rs = in_got rs j b f in
-    dite (ℕ_discrete b.debt.0 a.debt.0)
-    (λ is. inl (λ s.
-    let rise = subst Rise (ap (λ (t : Bool). cond t (c ∷ raises_of c.debt.0 rs) (raises_of c.debt.0 rs)) (eq-eqb c.debt.0 c.debt.0 refl)) (known c (inl refl)) in
-    let among : In b (raises_of c.debt.0 rs) = subst (λ (y : ℕ). In b (raises_of y rs)) (is ∙ ap (λ (z : Raise). z.debt.0) (sym same)) (among_raises_of rs b later) in
-    let up = (rise.0 b among).0 in
-    absurd (omega (arith, up, s, ap (λ (z : Raise). z.stamp) same))))
-    (λ ne. inr (λ s. ne (sym (ap (λ (z : Rattle.clr_net.specs.declared.debt.DebtId.DebtId). z.0) s))))
-differ (c ∷ rs) known (suc i) (suc j) a b lt e f = differ rs (λ r k. rise_tail r.debt.0 c rs (known r (inr k))) i j a b (omega (arith, lt)) e f
-
-traced_of : (net : Net) (rs : List Raise) → IsLawful net (λ x. raises_of x rs) → ((r : Raise) → In r rs → r.debt.0 < length net.debts) → IsTraced net rs
-traced_of net rs h are = record {
-  differ = differ rs (λ r i. h.rise r.debt.0 (are r i));
-  within = λ i r e.
-      let at : In r rs = in_got rs i r e in
-      let lt = are r at in
-      let same : paid_to net (λ x. raises_of x rs) r.stamp r.debt.0 ≡ receipts net (paid_before net r.stamp rs) (debtor_of net r.debt.0) =
-      column_agree net (λ y. raised_before r.stamp (raises_of y rs) y) (slice_index (paid_before net r.stamp rs)) (debtor_of net r.debt.0)
-      (λ y l. before_of r.stamp y rs ∙ sym (tabled_at (length net.debts) (raised_before r.stamp rs) y 0 l)) in
-      le_trans (h.within r.debt.0 lt r (among_raises_of rs r at)) (le_of_eq (ap (part net r.debt.0) same ∙ sym (pay_at net (paid_before net r.stamp rs) r.debt.0 lt)));
-}
+differ : (rs : List Raise) → ((x : ℕ) → Rise (raises_of x rs)) → AllPairs Differ rs
+differ [] rise = λ i j d lt l. absurd (omega (arith, l))
+differ (c ∷ rs) rise = AllPairs-cons Differ c rs
+    (λ k d l.
+    let b = get_or rs k d in
+    dite (ℕ_discrete b.debt.0 c.debt.0)
+    (λ is.
+    let all : Rise (c ∷ raises_of c.debt.0 rs) = rw (eq-eqb c.debt.0 c.debt.0 refl) at (rise c.debt.0) in
+    let i : Contains (raises_of c.debt.0 rs) b = subst (λ (x : ℕ). Contains (raises_of x rs) b) is (among_raises_of rs k d l) in
+    let up = All-contains (λ s. c.stamp < s.stamp) (raises_of c.debt.0 rs) b
+    (λ m e n. (all 0 (suc m) e (omega arith) (omega (arith, n))).0) i in
+    inl (λ s. absurd (omega (arith, up, s))))
+    (λ ne. inr (λ s. ne (sym (ap (λ (z : DebtId). z.0) s)))))
+    (differ rs (λ x. rise_tail x c rs (rise x)))
 
 -- of two raises that rise, the one of the greater stamp has the greater amount
-rise_pair : (rs : List Raise) → Rise rs → (a b : Raise) → In a rs → In b rs → a.stamp < b.stamp → a.to < b.to
-rise_pair [] h a b i j lt = absurd i
-rise_pair (c ∷ rs) h a b (inl e) (inl f) lt = absurd (omega (arith, lt, ap (λ (z : Raise). z.stamp) e, ap (λ (z : Raise). z.stamp) f))
-rise_pair (c ∷ rs) h a b (inl e) (inr j) lt = subst (λ (z : Raise). z.to < b.to) e (h.0 b j).1
-rise_pair (c ∷ rs) h a b (inr i) (inl f) lt = let up = (h.0 a i).0 in absurd (omega (arith, up, lt, ap (λ (z : Raise). z.stamp) f))
-rise_pair (c ∷ rs) h a b (inr i) (inr j) lt = rise_pair rs h.1 a b i j lt
+rise_pair : (rs : List Raise) → Rise rs → (a b : Raise) → Contains rs a → Contains rs b → a.stamp < b.stamp → a.to < b.to
+rise_pair rs h a b p q lt =
+    let there : get_or rs q.0 a ≡ b = get_or_default rs q.0 a b q.1 ∙ q.2 in
+    ⊎_elim
+    (λ (e : p.0 ≡ q.0). absurd (omega (arith, lt, ap (λ (r : Raise). r.stamp) (sym p.2 ∙ ap (λ (k : ℕ). get_or rs k a) e ∙ there))))
+    (⊎_elim
+    (λ (l : p.0 < q.0). omega (arith, (h p.0 q.0 a l q.1).1, ap (λ (r : Raise). r.to) p.2, ap (λ (r : Raise). r.to) there))
+    (λ (l : q.0 < p.0). absurd (omega
+    (arith, lt, (h q.0 p.0 a l p.1).0, ap (λ (r : Raise). r.stamp) p.2, ap (λ (r : Raise). r.stamp) there))))
+    (cases_order p.0 q.0)
 
 -- raises that are lawful by debt are a history
-pub history_of : (net : Net) (rs : List Raise) → IsLawful net (λ x. raises_of x rs) → ((r : Raise) → In r rs → r.debt.0 < length net.debts) → IsHistory net rs
-history_of net rs h are = record {
-  traced = traced_of net rs h are;
-  above_zero = λ i r e. let at = in_got rs i r e in (h.each r.debt.0 (are r at) r (among_raises_of rs r at)).0;
-  rises = λ i j a b e f same lt.
-      let p = in_got rs i a e in
-      let q = in_got rs j b f in
-      let debt = ap (λ (z : Rattle.clr_net.specs.declared.debt.DebtId.DebtId). z.0) same in
-      rise_pair (raises_of a.debt.0 rs) (h.rise a.debt.0 (are a p)) a b (among_raises_of rs a p) (subst (λ (y : ℕ). In b (raises_of y rs)) (sym debt) (among_raises_of rs b q)) lt;
-}
+module _ (net : Net) (rs : List Raise) (h : AreLawfulTraces net (λ x. raises_of x rs)) (known : All (λ r. r.debt.0 < length net.debts) rs)
+  where
+    rise : (x : ℕ) → Rise (raises_of x rs)
+    rise x = dite (dec_lt x (length net.debts)) (h.rise x)
+        (λ ge. subst Rise (sym (raises_of-none x rs (λ k d l e. absurd (omega (arith, known k d l, e, ge)))))
+        (λ i j d lt l. absurd (omega (arith, l))))
+
+    at : (i : ℕ) (r : Raise) → slice_get rs i ≡ Some r → Contains (raises_of r.debt.0 rs) r × (r.debt.0 < length net.debts)
+    at i r e = All-contains (λ r. Contains (raises_of r.debt.0 rs) r × (r.debt.0 < length net.debts)) rs r
+        (λ k d l. (among_raises_of rs k d l, known k d l)) (i, slice_get_within rs i r e, get_or_from_slice_get rs i r r e)
+
+    pub history_of : IsHistory net rs
+    history_of = record {
+      traced = record {
+        differ = λ i j a b lt e f. subst (λ (y : Raise × Raise). Differ y.0 y.1)
+            (λ k. (get_or_from_slice_get rs i a a e k, get_or_from_slice_get rs j b a f k))
+            (differ rs rise i j a lt (slice_get_within rs j b f));
+        within = λ i r e.
+            let x = r.debt.0 in
+            let lt = (at i r e).1 in
+            let most = All-contains (λ q. q.to ≤ part net x (paid_to net (λ y. raises_of y rs) q.stamp x)) (raises_of x rs) r
+            (h.within x lt) (at i r e).0 in
+            let paid = column_agree net (λ y. raised_before r.stamp (raises_of y rs) y) (slice_index (paid_before net r.stamp rs)) (debtor_of net x)
+            (λ y l. before_of r.stamp y rs ∙ sym (tabled_at (length net.debts) (raised_before r.stamp rs) y 0 l)) in
+            omega (arith, most, pay_at net (paid_before net r.stamp rs) x lt, ap (part net x) paid);
+      };
+      above_zero = λ i r e.
+          (All-contains (λ q. (0 < q.to) × (q.debt.0 ≡ r.debt.0)) (raises_of r.debt.0 rs) r (h.each r.debt.0 (at i r e).1) (at i r e).0).0;
+      rises = λ i j a b e f same lt. rise_pair (raises_of a.debt.0 rs) (rise a.debt.0) a b (at i a e).0
+          (subst (λ (d : DebtId). Contains (raises_of d.0 rs) b) (sym same) (at j b f).0) lt;
+    }
 
 length-replayed : (P : List ℕ) (rs : List Raise) → length (replayed_from P rs) ≡ length P
 unfolding replayed_from

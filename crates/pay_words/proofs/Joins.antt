@@ -1,5 +1,5 @@
 -- The master takes a seat back.
-use Rattle.std.proofs.Common.{◌≡◌, ◌≢◌, ◌⊎◌, ℕ, ◌+◌, ◌<◌, ◌≤◌, max, List, [], ◌++◌, length, set, Bool, true, false, true≢false, refl, sym, ap, ◌∙◌, subst, ⊎_elim, arith, le_trans, le_of_eq, length-set, append_assoc}
+use Rattle.std.proofs.Common.{◌≡◌, ◌≢◌, ◌⊎◌, ℕ, ◌+◌, ◌<◌, ◌≤◌, max, List, [], ◌++◌, length, set, Bool, true, false, true≢false, refl, sym, ap, ◌∙◌, subst, ⊎_elim, arith, le_trans, le_of_eq, length-set, append_assoc, All}
 use Rattle.std.specs.Prelude.{slice_index, if◌then◌else◌, ◌||◌}
 use Rattle.std.proofs.lemmas.Bool.{cases_Bool, cond-true, cond-false, or_cases, or_left, or_right, false_from_ne_true}
 use Rattle.std.proofs.lemmas.List.{append-nil}
@@ -17,15 +17,16 @@ use Rattle.pay_words.specs.declared.payment.Payment.{Payment}
 use Rattle.pay_words.specs.declared.view.Shown.{Shown}
 use Rattle.pay_words.specs.declared.view.View.{View}
 use Rattle.pay_words.specs.Views.{IsSound, OwesNoRing, is_marked, holds, rejoined, rejoined_over}
-use Rattle.pay_words.specs.Traces.{Traces, Stood, In, ending, raises_of}
-use Rattle.pay_words.specs.Kept.{Ledger, Leads, Suits, Sits, Tower, HasBells, IsRung, taken_of, made_of, own_raises, both_of, nobody, showing}
-use Rattle.pay_words.proofs.Tables.{length-tabled}
-use Rattle.pay_words.proofs.Traces.{in_split, raises_of-append, raises_of-none}
-use Rattle.pay_words.proofs.Marks.{marked_if, marked, chosen_second, chosen_first, chosen_each, chosen_most, length-chosen, receipts_agree}
-use Rattle.pay_words.proofs.Views.{rule, fits_set, sits_set, within_length}
+use Rattle.pay_words.specs.Traces.{Traces, Stood, ending, raises_of}
+use Rattle.pay_words.specs.BoardRule.{Ledger, Leads, Suits, Sits, Tower, HasBells, IsRung, taken_of, made_of, both_of, nobody, showing, own_raises}
+use Rattle.pay_words.proofs.Traces.{raises_of-append, raises_of-none}
+use Rattle.pay_words.proofs.Marks.{marked_if, marked, chosen_second, chosen_first, chosen_each, chosen_most, receipts_agree}
+use Rattle.pay_words.proofs.Views.{rule, fits_set, sits_set, within_length, its_raises}
 use Rattle.pay_words.proofs.Bells.{sum_views, has_set}
 use Rattle.pay_words.proofs.Rung.{called_still}
 use Rattle.std.proofs.Common.{length-append}
+use Rattle.std.proofs.lemmas.List.Elements.{All-nil, All-append}
+use Rattle.pay_words.proofs.Lengths.{over_rejoined}
 
 module _ (net : Net) (s t : Shown) where
   abbrev pub owes : ℕ → Bool
@@ -69,18 +70,7 @@ module _ (net : Net) (s t : Shown) where
 pub sound_both : (s t : Shown) → t.net ≡ s.net → IsSound s → IsSound t → IsSound (rejoined s t)
 sound_both s t e f g = record {
   network = f.network;
-  over = record {
-    banks = length-tabled (length s.net.banks) (λ b. holds s b || holds t b);
-    sights = length-chosen 0 (length s.net.debts) (gets s.net s t) s.sights t.sights;
-    sight_stamps = length-chosen 0 (length s.net.debts) (gets s.net s t) s.sight_stamps t.sight_stamps;
-    looks = length-chosen 0 (length s.net.debts) (gets s.net s t) s.looks t.looks;
-    paid = length-chosen 0 (length s.net.debts) (owes s.net s t) s.paid t.paid;
-    paid_stamps = length-chosen 0 (length s.net.debts) (owes s.net s t) s.paid_stamps t.paid_stamps;
-    floor = length-chosen 0 (length s.net.debts) (owes s.net s t) s.floor t.paid;
-    pending = length-chosen false (length s.net.debts) (gets s.net s t) s.pending t.pending;
-    owes_ring = length-chosen false (length s.net.debts) (owes s.net s t) s.owes_ring t.owes_ring;
-    fresh = length-chosen false (length s.net.banks) (holds t) s.fresh t.fresh;
-  };
+  over = over_rejoined s.net s t refl;
   pays_within = within_both s.net s t f.pays_within
       (subst (λ (n : Net). (x : ℕ) → x < length n.debts → holds t (debtor_of n x) ≡ true → slice_index t.paid x ≤ part n x (receipts n t.sights (debtor_of n x))) e g.pays_within);
   sights_below = chosen_most (length s.net.debts) (gets s.net s t) s.sights t.sights (slice_index (least s.net)) f.sights_below (subst (λ (n : Net). IsAtMost t.sights (least n)) e g.sights_below);
@@ -103,9 +93,8 @@ module _ (d : Deed) (k : Ledger) (roll count id other : ℕ) (v w : View) (apart
 
   -- its raises are of its own debts
   none_of : (x : ℕ) → holds t (debtor_of d.net x) ≡ false → raises_of x t.raises ≡ []
-  none_of x out = raises_of-none x t.raises (λ r i e.
-      let mine = (g.only r (subst (λ (b : Bool). In r (own_raises b t.raises)) (sym plain) i)).1 in
-      absurd (true≢false (sym mine ∙ ap (λ (y : ℕ). holds t (debtor_of d.net y)) e ∙ out)))
+  none_of x out = raises_of-none x t.raises (λ i e l is.
+      absurd (true≢false (sym (its_raises d k roll count other w g plain i e l).1 ∙ ap (λ (y : ℕ). holds t (debtor_of d.net y)) is ∙ out)))
 
   more_base : (x : ℕ) → raises_of x (k.base ++ t.raises) ≡ raises_of x k.base ++ raises_of x t.raises
   more_base x = raises_of-append x k.base t.raises
@@ -132,7 +121,8 @@ module _ (d : Deed) (k : Ledger) (roll count id other : ℕ) (v w : View) (apart
         (λ h mine. (λ i. record { value = chosen_first 0 debts (owes d.net s t) s.paid t.paid x lt h i; stamp = chosen_first 0 debts (owes d.net s t) s.paid_stamps t.paid_stamps x lt h i }) ∙ f.pays x lt mine);
     told = λ x lt e. by_holder d.net s t (debtor_of d.net x) e (λ h. told_second x lt h ∙ sym (more_base x)) (λ h mine. told_first x lt mine ∙ sym (same_base x h))
         ∙ sym (ap (λ (rs : List Raise). raises_of x (k.base ++ t.raises) ++ rs) (none_own x (s.raises ++ t.raises)) ∙ append-nil (raises_of x (k.base ++ t.raises)));
-    only = λ r j. absurd (subst (λ (b : Bool). In r (own_raises b (s.raises ++ t.raises))) chief j);
+    only = subst (λ (b : Bool). All (λ r. (r.debt.0 < debts) × (holds (rejoined_over d.net s t) (debtor_of d.net r.debt.0) ≡ true))
+        (own_raises b (s.raises ++ t.raises))) (sym chief) (All-nil _);
     stood = λ x lt. ⊎_elim
         (λ (h : holds t (creditor_of d.net x) ≡ true). subst (λ (y : ℕ × ℕ). Stood (k.trace x) y.0 y.1)
         (λ i. (sym (chosen_second 0 debts (gets d.net s t) s.sights t.sights x lt h) i, sym (chosen_second 0 debts (gets d.net s t) s.sight_stamps t.sight_stamps x lt h) i)) (g.stood x lt))
@@ -143,8 +133,8 @@ module _ (d : Deed) (k : Ledger) (roll count id other : ℕ) (v w : View) (apart
         (λ x lt h. le_of_eq (ap (λ (p : Payment). p.value) (g.pays x lt h)));
     seen_by_clock = chosen_most debts (gets d.net s t) s.sight_stamps t.sight_stamps (λ _. max s.clock t.clock) (λ x. omega (arith, f.seen_by_clock x)) (λ x. omega (arith, g.seen_by_clock x));
     paid_by_clock = λ x lt e. by_holder d.net s t (debtor_of d.net x) e (λ h. omega (arith, g.paid_by_clock x lt h)) (λ h mine. omega (arith, f.paid_by_clock x lt mine));
-    past_by_clock = λ r i. omega (arith, f.past_by_clock r i);
-    late = λ r i. ⊎_elim (λ (j : In r s.raises). f.late r j) (λ (j : In r t.raises). g.late r j) (in_split s.raises t.raises r i);
+    past_by_clock = λ i e l. omega (arith, f.past_by_clock i e l);
+    late = All-append (λ r. All (λ p. p.stamp < r.stamp) d.past) s.raises t.raises f.late g.late;
     clock_low = omega (arith, f.clock_low, g.clock_low);
     leads = λ e. let l = f.leads e in (l.0, ap (λ (rs : List Raise). rs ++ t.raises) l.1 ∙ append_assoc d.past s.raises t.raises, l.2, l.3, l.4);
   }
@@ -291,7 +281,8 @@ joins d id v other w may s h at apart there =
       size = h.size;
       stands = h.stands;
       lawful = h.lawful;
-      known = λ r i. ⊎_elim (λ (j : In r k.base). h.known r j) (λ (j : In r w.shown.raises). (g.only r (subst (λ (b : Bool). In r (own_raises b w.shown.raises)) (sym may.plain) j)).0) (in_split k.base w.shown.raises r i);
+      known = All-append (λ r. r.debt.0 < length d.net.debts) k.base w.shown.raises h.known
+          (λ i e lt. (its_raises d k roll count other w g may.plain i e lt).0);
       held = λ b lt. ⊎_elim
           (λ (t : holds w.shown b ≡ true). subst (λ (j : ℕ). Sits two j (λ u. holds u.shown b ≡ true)) (sym (cond-true (holds w.shown b) id (k.owner b) t))
           (joined, seat, may.live, held_second v.shown.net v.shown w.shown b (omega (arith, lt, over)) t))

@@ -1,5 +1,5 @@
 -- One more raise keeps the raises lawful, and no payment word overflows.
-use Rattle.std.proofs.Common.{◌≡◌, ◌≢◌, ℕ, ◌+◌, ◌<◌, ◌≤◌, List, length, sum, refl, sym, ap, ◌∙◌, subst, ⊎_elim, le_trans, le_of_eq, arith}
+use Rattle.std.proofs.Common.{◌≡◌, ◌≢◌, ℕ, ◌+◌, ◌<◌, ◌≤◌, List, length, sum, refl, sym, ap, ◌∙◌, le_trans, le_of_eq, arith, All, get_or, ◌++◌, ◌∷◌, []}
 use Rattle.std.specs.Prelude.{slice_index}
 use Rattle.std.proofs.lemmas.List.{get_or_past}
 use Rattle.std.proofs.lemmas.List.Sums.{sum_by-le-sum_by}
@@ -18,15 +18,17 @@ use Rattle.clear_core.proofs.Pay.{part_mono, sum-pay_le}
 use Rattle.clear_core.proofs.Least.{least_clears}
 use Rattle.pay_words.specs.declared.payment.Payment.{Payment}
 use Rattle.pay_words.specs.Words.{unpaid}
-use Rattle.pay_words.specs.Traces.{Traces, IsLawful, In, Rise, Stood, ending, paid_in, paid_to, total}
-use Rattle.pay_words.proofs.Tables.{tabled_at, length-tabled, sum_less, tabled_most}
-use Rattle.pay_words.proofs.Traces.{left_by, pushed, pushed_here, pushed_else, pushed_cases, before_pushed, rise_push, under_ending, ending_push, stood_before}
+use Rattle.pay_words.specs.Traces.{Traces, AreLawfulTraces, Rise, Stood, ending, paid_in, paid_to, total}
+use Rattle.pay_words.proofs.Tables.{tabled_at, length-tabled, sum_less, tabled_most, changed_here, changed_else, changed_each}
+use Rattle.pay_words.proofs.Traces.{left_by, pushed, before_pushed, under_ending, ending_push, stood_before}
+use Rattle.std.proofs.lemmas.List.Quantifiers.{all_pairs_push}
+use Rattle.std.proofs.lemmas.List.Elements.{All-push}
 
 -- the least clearing payments are in all within what is owed
 pub sum-least_le : (net : Net) → sum (least net) ≤ units_owed net
 sum-least_le net = omega (arith, ap sum (least_clears net), sum-pay_le net (least net))
 
-module _ (net : Net) (t : Traces) (h : IsLawful net t) where
+module _ (net : Net) (t : Traces) (h : AreLawfulTraces net t) where
   pub paid_in_at : (x : ℕ) → x < length net.debts → slice_index (paid_in net t) x ≡ (ending (t x)).value
   paid_in_at x lt = tabled_at (length net.debts) (λ y. (ending (t y)).value) x 0 lt
 
@@ -48,10 +50,10 @@ module _ (net : Net) (t : Traces) (h : IsLawful net t) where
     more = pushed t x r
 
     pub ending_here : (y : ℕ) → y ≡ x → ending (more y) ≡ left_by r
-    ending_here y e = ap ending (pushed_here t x r y e) ∙ ending_push unpaid (t y) r
+    ending_here y e = ap ending (changed_here x (t x ++ r ∷ []) t y e) ∙ ending_push unpaid (t x) r
 
     pub ending_else : (y : ℕ) → y ≢ x → ending (more y) ≡ ending (t y)
-    ending_else y ne = ap ending (pushed_else t x r y ne)
+    ending_else y ne = ap ending (changed_else x (t x ++ r ∷ []) t y ne)
 
     module _ (up : (ending (t x)).value < r.to) where
       pub ending_rises : (y : ℕ) → (ending (t y)).value ≤ (ending (more y)).value
@@ -68,23 +70,21 @@ module _ (net : Net) (t : Traces) (h : IsLawful net t) where
       within_more stamp y = part_mono net y _ _
           (sum_by-le-sum_by (λ z. raised_before stamp (t z) z) (λ z. raised_before stamp (more z) z) (column net (debtor_of net y)) (before_pushed t x r stamp))
 
-      pub lawful_push : (ending (t x)).stamp < r.stamp → r.to ≤ part net x (paid_to net t r.stamp x) → r.to ≤ slice_index (least net) x → r.stamp ≤ total net t + 1 → IsLawful net more
+      pub lawful_push : (ending (t x)).stamp < r.stamp → r.to ≤ part net x (paid_to net t r.stamp x) → r.to ≤ slice_index (least net) x → r.stamp ≤ total net t + 1 → AreLawfulTraces net more
       lawful_push late within below low = record {
-        rise = λ y l. dite (ℕ_discrete y x)
-            (λ e. subst Rise (sym (pushed_here t x r y e)) (rise_push (t y) r (h.rise y l)
-            (λ s i. let u = under_ending unpaid (t y) (h.rise y l) s i in
-            let a : (ending (t y)).stamp < r.stamp = subst (λ (z : ℕ). (ending (t z)).stamp < r.stamp) (sym e) late in
-            let b : (ending (t y)).value < r.to = subst (λ (z : ℕ). (ending (t z)).value < r.to) (sym e) up in
-            (omega (arith, a, u.0), omega (arith, b, u.1)))))
-            (λ ne. subst Rise (sym (pushed_else t x r y ne)) (h.rise y l));
-        each = λ y l s i. ⊎_elim
-            (λ (j : In s (t y)). h.each y l s j)
-            (λ (e : (y ≡ x) × (r ≡ s)). (subst (λ (z : Raise). 0 < z.to) e.1 (omega (arith, up)), ap (λ (z : Raise). z.debt.0) (sym e.1) ∙ is ∙ sym e.0))
-            (pushed_cases t x r y s i);
-        within = λ y l s i. ⊎_elim
-            (λ (j : In s (t y)). le_trans (h.within y l s j) (within_more s.stamp y))
-            (λ (e : (y ≡ x) × (r ≡ s)). subst (λ (z : ℕ × Raise). z.1.to ≤ part net z.0 (paid_to net more z.1.stamp z.0)) (λ k. (sym e.0 k, e.1 k)) (le_trans within (within_more r.stamp x)))
-            (pushed_cases t x r y s i);
+        rise = changed_each (λ y rs. y < length net.debts → Rise rs) x (t x ++ r ∷ []) t
+            (λ _. all_pairs_push (λ q s. (q.stamp < s.stamp) × (q.to < s.to)) (t x) r (h.rise x lt) (λ k d l.
+            let u = under_ending unpaid (t x) (h.rise x lt) k d l in
+            (omega (arith, late, u.0), omega (arith, up, u.1))))
+            (λ y _. h.rise y);
+        each = changed_each (λ y rs. y < length net.debts → All (λ s. (0 < s.to) × (s.debt.0 ≡ y)) rs) x (t x ++ r ∷ []) t
+            (λ _. All-push (λ s. (0 < s.to) × (s.debt.0 ≡ x)) (t x) r (h.each x lt) (omega (arith, up), is))
+            (λ y _. h.each y);
+        within = changed_each (λ y rs. y < length net.debts → All (λ s. s.to ≤ part net y (paid_to net more s.stamp y)) rs) x
+            (t x ++ r ∷ []) t
+            (λ _. All-push (λ s. s.to ≤ part net x (paid_to net more s.stamp x)) (t x) r (still x lt)
+            (le_trans within (within_more r.stamp x)))
+            (λ y _. still y);
         most = λ y l. dite (ℕ_discrete y x)
             (λ e. omega (arith, below, ap (λ (q : Payment). q.value) (ending_here y e), ap (slice_index (least net)) e))
             (λ ne. omega (arith, h.most y l, ap (λ (q : Payment). q.value) (ending_else y ne)));
@@ -92,6 +92,9 @@ module _ (net : Net) (t : Traces) (h : IsLawful net t) where
             (λ e. omega (arith, low, total_rises, ap (λ (q : Payment). q.stamp) (ending_here y e)))
             (λ ne. omega (arith, h.low y l, total_rises, ap (λ (q : Payment). q.stamp) (ending_else y ne)));
       }
+        where
+          still : (y : ℕ) → y < length net.debts → All (λ s. s.to ≤ part net y (paid_to net more s.stamp y)) (t y)
+          still y l k d lk = le_trans (h.within y l k d lk) (within_more (get_or (t y) k d).stamp y)
 
   -- what was seen before the stamp was paid before it
   pub seen_before : (sights stamps : List ℕ) (stamp x : ℕ) → length sights ≡ length net.debts
@@ -100,5 +103,6 @@ module _ (net : Net) (t : Traces) (h : IsLawful net t) where
   seen_before sights stamps stamp x size stood early = part_mono net x _ _
       (sum_by-le-sum_by (slice_index sights) (λ y. raised_before stamp (t y) y) (column net (debtor_of net x))
       (λ y. dite (dec_lt y (length net.debts))
-      (λ l. stood_before y (t y) (λ r i. (h.each y l r i).1) stamp (slice_index sights y) (slice_index stamps y) (stood y l) (early y))
+      (λ l. stood_before y (t y) (λ k d lk. (h.each y l k d lk).1) stamp (slice_index sights y) (slice_index stamps y) (stood y l)
+      (early y))
       (λ ge. let far : length sights ≤ y = omega arith in omega (arith, get_or_past sights y 0 far))))

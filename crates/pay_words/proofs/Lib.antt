@@ -1,5 +1,6 @@
 pub mod Tables
 pub mod Traces
+pub mod Lengths
 pub mod Lawful
 pub mod Standing
 pub mod Views

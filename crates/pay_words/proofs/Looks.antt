@@ -1,5 +1,5 @@
 -- A look keeps the rule of a board.
-use Rattle.std.proofs.Common.{◌≡◌, ℕ, ◌+◌, ◌<◌, ◌≤◌, max, List, length, set, get_or, true, false, refl, sym, ap, ◌∙◌, subst, arith, le_trans, length-set, get_or-set_same, get_or-set_other}
+use Rattle.std.proofs.Common.{◌≡◌, ℕ, ◌+◌, ◌<◌, ◌≤◌, max, List, length, set, get_or, true, refl, sym, ap, ◌∙◌, subst, arith, le_trans, get_or-set_same, get_or-set_other, All}
 use Rattle.std.proofs.lemmas.List.{set-get_or}
 use Rattle.std.specs.Prelude.{slice_index}
 use mathlib.Core.Option.{none}
@@ -8,7 +8,6 @@ use native.Mathlib.Decide.{ℕ_discrete}
 use Rattle.atomic_table.specs.Table.{Me, Allows, keeps, step}
 use Rattle.clr_net.specs.Net.{Net, debtor_of, creditor_of}
 use Rattle.clear_core.specs.Clearing.{least}
-use Rattle.clear_core.specs.declared.event.Raise.{Raise}
 use Rattle.clear_core.proofs.Pay.{part_mono, receipts_mono}
 use Rattle.pay_words.specs.declared.deed.Deed.{Deed}
 use Rattle.pay_words.specs.declared.payment.Payment.{Payment}
@@ -16,13 +15,14 @@ use Rattle.pay_words.specs.declared.view.Shown.{Shown}
 use Rattle.pay_words.specs.declared.view.View.{View}
 use Rattle.pay_words.specs.Words.{payment_of}
 use Rattle.pay_words.specs.Views.{IsSound, holds, looked}
-use Rattle.pay_words.specs.Traces.{In, Stood, ending, total}
-use Rattle.pay_words.specs.Kept.{Ledger, Suits, IsKept, IsRung, LookTells, Looks, showing}
+use Rattle.pay_words.specs.Traces.{Stood, ending, total}
+use Rattle.pay_words.specs.BoardRule.{Ledger, Suits, MeetsRule, IsRung, LookTells, Looks, showing}
 use Rattle.pay_words.proofs.Tables.{after_set, set_above, set_below}
 use Rattle.pay_words.proofs.Traces.{read_back, ending_stood, stood_under}
 use Rattle.pay_words.proofs.Lawful.{total_le, value_fits}
 use Rattle.pay_words.proofs.Views.{rule, fits_again, kept_again, not_both}
 use Rattle.pay_words.proofs.Rung.{rung_look}
+use Rattle.pay_words.proofs.Lengths.{over_looked}
 
 -- what a seat shows is sound after it has seen more
 pub sound_look : (s : Shown) (x : ℕ) (p : Payment) → IsSound s → slice_index s.sights x ≤ p.value → p.value ≤ slice_index (least s.net) x
@@ -33,10 +33,7 @@ sound_look s x p h up below low =
     assumption (
       within,
       set_below s.sights (least s.net) x p.value h.sights_below below,
-      length-set s.sights x p.value ∙ h.over.sights,
-      length-set s.sight_stamps x p.stamp ∙ h.over.sight_stamps,
-      length-set s.looks x (slice_index s.looks x + 1) ∙ h.over.looks,
-      length-set s.pending x false ∙ h.over.pending,
+      over_looked s x p h.over,
     )
 
 module _ (d : Deed) (k : Ledger) (roll count id : ℕ) (v : View) (x : ℕ) where
@@ -53,7 +50,7 @@ module _ (d : Deed) (k : Ledger) (roll count id : ℕ) (v : View) (x : ℕ) wher
       let seen = after_set (λ z m. m ≤ max v.shown.clock found.stamp) v.shown.sight_stamps x found.stamp (omega arith) (λ z. omega (arith, f.seen_by_clock z)) in
       let stamps : (y : ℕ) → y < length d.net.debts → holds v.shown (debtor_of d.net y) ≡ true → (ending (k.trace y)).stamp ≤ max v.shown.clock found.stamp =
       λ y l i. omega (arith, f.paid_by_clock y l i) in
-      let past : (r : Raise) → In r d.past → r.stamp ≤ max v.shown.clock found.stamp = λ r i. omega (arith, f.past_by_clock r i) in
+      let past : All (λ r. r.stamp ≤ max v.shown.clock found.stamp) d.past = λ i e l. omega (arith, f.past_by_clock i e l) in
       let clock : max v.shown.clock found.stamp ≤ total d.net k.trace = omega (arith, f.clock_low, low) in
       assumption (stood, seen, stamps, past, clock, f)
     where
@@ -93,7 +90,7 @@ looks d slots id me x on lt to_me s h sized at small =
       w,
       keeps,
       tt,
-      subst (λ (ws : List ℕ). IsKept d ws (set s.views id w)) (sym (set-get_or s.words (x + 1) 0))
+      subst (λ (ws : List ℕ). MeetsRule d ws (set s.views id w)) (sym (set-get_or s.words (x + 1) 0))
           (kept_again d s.words s.words s.views id v w k.trace h at refl refl refl refl h.stands h.lawful
           (fits_again d k (slice_index s.words 0) s.words s.views id w refl (λ j u _ e t. h.fits j u e t)
           (λ _. subst (λ (q : Payment). Suits d k (slice_index s.words 0) (length s.views) id (showing v (looked v.shown x q))) (sym is)

@@ -16,18 +16,20 @@ use Rattle.pay_words.specs.declared.payment.Payment.{Payment}
 use Rattle.pay_words.specs.declared.view.View.{View}
 use Rattle.pay_words.specs.Words.{unpaid, word_of}
 use Rattle.pay_words.specs.Belongs.{Belongs}
-use Rattle.pay_words.specs.Traces.{Traces, IsLawful, Stood, ending, raises_of, total}
+use Rattle.pay_words.specs.Traces.{Traces, AreLawfulTraces, Stood, ending, raises_of, total}
 use Rattle.pay_words.specs.Views.{IsSound, greatest, opening, is_marked}
-use Rattle.pay_words.specs.Kept.{Ledger, Suits, IsKept, Tower, HasBells, taken_of, made_of, bell, opening_view}
-use Rattle.pay_words.proofs.Traces.{ending_stood, among_raises_of, under_ending}
+use Rattle.pay_words.specs.BoardRule.{Ledger, Suits, MeetsRule, Tower, HasBells, taken_of, made_of, bell, opening_view}
+use Rattle.pay_words.proofs.Traces.{ending_stood, under_own_ending}
 use Rattle.pay_words.proofs.Lawful.{total_le, value_fits}
-use Rattle.pay_words.specs.Seats.{IsKeptIn, Tells, purse}
+use Rattle.pay_words.specs.Seats.{IsInMemory, Tells, purse}
 use Rattle.pay_words.proofs.Tables.{tabled_at}
 use Rattle.std.proofs.Common.{inl}
 use Rattle.std.proofs.lemmas.List.Sums.{sum_by-cons}
 use Rattle.std.proofs.lemmas.List.{get_or-append-add}
 use Rattle.pay_words.proofs.Bells.{sum_low}
 use Rattle.pay_words.proofs.Pasts.{traces, past_known, past_lawful, start_at, start_over, start_low, start_within}
+use Rattle.std.proofs.lemmas.List.Elements.{All-nil}
+use Rattle.pay_words.proofs.Lengths.{over_opening}
 
 pub greatest_more : (ns : List ℕ) (n : ℕ) → greatest (ns ++ n ∷ []) ≡ max n (greatest ns)
 greatest_more [] n = refl
@@ -71,7 +73,7 @@ module _ (d : Deed) (start : List Payment) (network : IsNetwork d.net) (h : Belo
   over_stamps : length (map (λ (p : Payment). p.stamp) start) ≡ n
   over_stamps = length-map start (λ (p : Payment). p.stamp) ∙ start_over net start d.past h
 
-  lawful : IsLawful net t
+  lawful : AreLawfulTraces net t
   lawful = past_lawful net start d.past h
 
   values_below : IsAtMost (map (λ p. p.value) start) (least net)
@@ -85,18 +87,7 @@ module _ (d : Deed) (start : List Payment) (network : IsNetwork d.net) (h : Belo
   pub sound_opening : IsSound (opening net start)
   sound_opening = record {
     network = network;
-    over = record {
-      banks = length-replicate (length net.banks) true;
-      sights = over_values;
-      sight_stamps = over_stamps;
-      looks = length-replicate n 0;
-      paid = over_values;
-      paid_stamps = over_stamps;
-      floor = over_values;
-      pending = length-replicate n false;
-      owes_ring = length-replicate n false;
-      fresh = length-replicate (length net.banks) true;
-    };
+    over = over_opening net start (start_over net start d.past h);
     pays_within = λ x lt _. le_trans (le_of_eq (value_at x lt)) (start_within net start d.past h x lt (map (λ p. p.value) start) value_at over_values);
     sights_below = values_below;
     paid_below = values_below;
@@ -113,21 +104,21 @@ module _ (d : Deed) (start : List Payment) (network : IsNetwork d.net) (h : Belo
     mine = λ _ _. refl;
     pays = λ x lt _. λ i. record { value = value_at x lt i; stamp = stamp_at x lt i };
     told = λ x _ _. sym (append-nil (raises_of x d.past));
-    only = λ r i. absurd i;
+    only = All-nil _;
     stood = λ x lt. subst (λ (y : ℕ × ℕ). Stood (t x) y.0 y.1) (λ i. (sym (value_at x lt) i, sym (stamp_at x lt) i)) (ending_stood (t x));
     floor = λ x lt. le_of_eq (value_at x lt);
     seen_by_clock = greatest_above (map (λ p. p.stamp) start);
     paid_by_clock = λ x lt _. le_trans (le_of_eq (sym (stamp_at x lt))) (greatest_above (map (λ p. p.stamp) start) x);
-    past_by_clock = λ r i.
-        let lt = past_known net start d.past h r i in
-        let u = under_ending unpaid (t r.debt.0) (lawful.rise r.debt.0 lt) r (among_raises_of d.past r i) in
-        omega (arith, u.0, stamp_at r.debt.0 lt, greatest_above (map (λ p. p.stamp) start) r.debt.0);
-    late = λ r i. absurd i;
+    past_by_clock = λ i e l.
+        let lt = past_known net start d.past h i e l in
+        let x = (get_or d.past i e).debt.0 in
+        omega (arith, under_own_ending d.past i e l (lawful.rise x lt), stamp_at x lt, greatest_above (map (λ p. p.stamp) start) x);
+    late = All-nil _;
     clock_low = clock_low;
     leads = λ _. (refl, sym (append-nil d.past), refl, le_refl 1, le_refl 1);
   }
 
-  pub opens : IsKept d (opening_words net start) (record { live = true; rolled = 1; shown = opening net start } ∷ [])
+  pub opens : MeetsRule d (opening_words net start) (record { live = true; rolled = 1; shown = opening net start } ∷ [])
   opens = record {
     ledger = ledger;
     network = network;
@@ -190,8 +181,8 @@ module _ (d : Deed) (start : List Payment) (network : IsNetwork d.net) (h : Belo
       one zero v e on = subst (Suits d ledger 1 1 0) (some-injective _ _ e) first
       one (suc id) v e on = absurd (some-ne-none v (sym e))
 
-  pub opens_past : IsKept d (opening_words net start) (opening_view d ∷ [])
-  opens_past = subst (λ (ps : List Payment). IsKept d (opening_words net start) (record { live = true; rolled = 1; shown = opening net ps } ∷ [])) h.start_is opens
+  pub opens_past : MeetsRule d (opening_words net start) (opening_view d ∷ [])
+  opens_past = subst (λ (ps : List Payment). MeetsRule d (opening_words net start) (record { live = true; rolled = 1; shown = opening net ps } ∷ [])) h.start_is opens
 
   -- each of the payments is that of the debt's last raise, whatever stands past the end
   start_ending : (k : ℕ) (p : Payment) → k < length start → get_or start k p ≡ ending (t k)
@@ -221,8 +212,8 @@ module _ (d : Deed) (start : List Payment) (network : IsNetwork d.net) (h : Belo
 
   -- what the master has in memory at first
   pub kept_opening : (clock workers : ℕ) (debtors : List ℕ) → debtors ≡ map (debtor_of net) (debt_numbers net) → clock ≡ greatest (map (λ p. p.stamp) start) → 0 < workers
-      → IsKeptIn (opening_view d) (purse [] (replicate workers (map (λ p. p.value) start)) debtors workers 0) clock 0
-  kept_opening clock workers debtors e f some' = subst (λ (ps : List Payment). IsKeptIn (record { live = true; rolled = 1; shown = opening net ps }) (purse [] (replicate workers values) debtors workers 0) clock 0) h.start_is (record {
+      → IsInMemory (opening_view d) (purse [] (replicate workers (map (λ p. p.value) start)) debtors workers 0) clock 0
+  kept_opening clock workers debtors e f some' = subst (λ (ps : List Payment). IsInMemory (record { live = true; rolled = 1; shown = opening net ps }) (purse [] (replicate workers values) debtors workers 0) clock 0) h.start_is (record {
     live = refl;
     sound = sound_opening;
     clock_is = f;

@@ -1,5 +1,5 @@
 -- A raise keeps the rule of a board.
-use Rattle.std.proofs.Common.{◌≡◌, ◌≢◌, ◌⊎◌, ℕ, ◌+◌, ◌*◌, ◌<◌, ◌≤◌, List, [], ◌∷◌, ◌++◌, length, set, get_or, Bool, true, false, true≢false, inl, inr, ⊎_elim, refl, sym, ap, ◌∙◌, subst, arith, le_refl, le_trans, le_of_eq, length-set, get_or-set_same, get_or-set_other}
+use Rattle.std.proofs.Common.{◌≡◌, ◌≢◌, ℕ, ◌+◌, ◌*◌, ◌<◌, ◌≤◌, List, [], ◌∷◌, ◌++◌, length, set, get_or, Bool, true, false, true≢false, refl, sym, ap, ◌∙◌, subst, arith, le_trans, le_of_eq, length-set, get_or-set_same, get_or-set_other, All, append_assoc}
 use Rattle.std.specs.Prelude.{slice_index}
 use Rattle.clear_core.proofs.Least.{part_le_least}
 use mathlib.Core.Option.{none}
@@ -16,13 +16,15 @@ use Rattle.pay_words.specs.declared.view.Shown.{Shown}
 use Rattle.pay_words.specs.declared.view.View.{View}
 use Rattle.pay_words.specs.Words.{word_of, payment_of}
 use Rattle.pay_words.specs.Views.{IsSound, holds, raised, a_raise}
-use Rattle.pay_words.specs.Traces.{IsLawful, In, ending, raises_of, total}
-use Rattle.pay_words.specs.Kept.{Ledger, Suits, Raises, own_raises, showing}
-use Rattle.pay_words.proofs.Tables.{after_set, set_below}
-use Rattle.pay_words.proofs.Traces.{left_by, read_back, pushed, pushed_here, pushed_else, stood_pushed, in_cases, raises_of-push, raises_of-push_else}
+use Rattle.pay_words.specs.Traces.{AreLawfulTraces, ending, raises_of, total}
+use Rattle.pay_words.specs.BoardRule.{Ledger, Suits, Raises, own_raises, showing}
+use Rattle.pay_words.proofs.Tables.{after_set, set_below, changed_else, changed_each}
+use Rattle.pay_words.proofs.Traces.{left_by, read_back, pushed, stood_pushed, raises_of-push, raises_of-push_else}
 use Rattle.pay_words.proofs.Lawful.{total_le, ending_here, ending_else, ending_rises, total_rises, lawful_push, seen_before}
 use Rattle.pay_words.proofs.Views.{rule, fits_again, kept_again, not_both}
 use Rattle.pay_words.proofs.Rung.{rung_raise}
+use Rattle.std.proofs.lemmas.List.Elements.{All-push}
+use Rattle.pay_words.proofs.Lengths.{over_raised}
 
 -- what a seat shows is sound after a raise within its estate
 sound_raise : (s : Shown) (x to : ℕ) → IsSound s → to ≤ part s.net x (receipts s.net s.sights (debtor_of s.net x)) → to ≤ slice_index (least s.net) x
@@ -30,15 +32,13 @@ sound_raise : (s : Shown) (x to : ℕ) → IsSound s → to ≤ part s.net x (re
 sound_raise s x to h within below low = assumption (
   after_set (λ z m. z < length s.net.debts → holds s (debtor_of s.net z) ≡ true → m ≤ part s.net z (receipts s.net s.sights (debtor_of s.net z))) s.paid x to (λ _ _. within) h.pays_within,
   set_below s.paid (least s.net) x to h.paid_below below,
-  length-set s.paid x to ∙ h.over.paid,
-  length-set s.paid_stamps x (s.clock + 1) ∙ h.over.paid_stamps,
-  length-set s.owes_ring x true ∙ h.over.owes_ring,
+  over_raised s x to h.over,
 )
 
 abbrev pair : ℕ → ℕ → Payment
 pair a b = record { value = a; stamp = b }
 
-module _ (d : Deed) (k : Ledger) (roll count : ℕ) (x : ℕ) (lt : x < length d.net.debts) (h : IsLawful d.net k.trace) (r : Raise) (is : r.debt.0 ≡ x) (up : (ending (k.trace x)).value < r.to) where
+module _ (d : Deed) (k : Ledger) (roll count : ℕ) (x : ℕ) (lt : x < length d.net.debts) (h : AreLawfulTraces d.net k.trace) (r : Raise) (is : r.debt.0 ≡ x) (up : (ending (k.trace x)).value < r.to) where
   abbrev next : Ledger
   next = record k { trace = pushed k.trace x r }
 
@@ -47,7 +47,8 @@ module _ (d : Deed) (k : Ledger) (roll count : ℕ) (x : ℕ) (lt : x < length d
   other_suits j u f away =
       let still = λ (y : ℕ) (i : holds u.shown (debtor_of d.net y) ≡ true). ending_else d.net k.trace h x lt r is y (apart y i) in
       let pays = λ (y : ℕ) (l : y < length d.net.debts) (i : holds u.shown (debtor_of d.net y) ≡ true). f.pays y l i ∙ sym (still y i) in
-      let told = λ (y : ℕ) (l : y < length d.net.debts) (i : holds u.shown (debtor_of d.net y) ≡ true). pushed_else k.trace x r y (apart y i) ∙ f.told y l i in
+      let told = λ (y : ℕ) (l : y < length d.net.debts) (i : holds u.shown (debtor_of d.net y) ≡ true). changed_else x
+      (k.trace x ++ r ∷ []) k.trace y (apart y i) ∙ f.told y l i in
       let stood = λ (y : ℕ) (l : y < length d.net.debts). stood_pushed k.trace x r y _ _ (f.stood y l) in
       let floor = λ (y : ℕ) (l : y < length d.net.debts). le_trans (f.floor y l) (ending_rises d.net k.trace h x lt r is up y) in
       let stamps = λ (y : ℕ) (l : y < length d.net.debts) (i : holds u.shown (debtor_of d.net y) ≡ true). le_trans (le_of_eq (ap (λ (q : Payment). q.stamp) (still y i))) (f.paid_by_clock y l i) in
@@ -67,34 +68,41 @@ module _ (d : Deed) (k : Ledger) (roll count : ℕ) (x : ℕ) (lt : x < length d
     pays = λ y l i. dite (ℕ_discrete y x)
         (λ e. subst (λ (z : ℕ). pair (get_or (set v.shown.paid x r.to) z 0) (get_or (set v.shown.paid_stamps x (v.shown.clock + 1)) z 0) ≡ ending (pushed k.trace x r z)) (sym e) here)
         (λ ne. (λ i. pair (get_or-set_other v.shown.paid x y r.to 0 ne i) (get_or-set_other v.shown.paid_stamps x y (v.shown.clock + 1) 0 ne i)) ∙ f.pays y l i ∙ sym (ending_else d.net k.trace h x lt r is y ne));
-    told = λ y l i. dite (ℕ_discrete y x)
-        (λ e. pushed_here k.trace x r y e ∙ ap (λ (rs : List Raise). rs ++ r ∷ []) (f.told y l i)
-        ∙ Rattle.std.proofs.Common.append_assoc (raises_of y k.base) (raises_of y (own_raises v.shown.master v.shown.raises)) (r ∷ [])
-        ∙ ap (λ (rs : List Raise). raises_of y k.base ++ rs) (sym (raises_of-push y (own_raises v.shown.master v.shown.raises) r (is ∙ sym e)) ∙ ap (raises_of y) grows))
-        (λ ne. let ne' : r.debt.0 ≢ y = λ e. ne (sym e ∙ is) in
-        pushed_else k.trace x r y ne ∙ f.told y l i ∙ ap (λ (rs : List Raise). raises_of y k.base ++ rs) (sym (raises_of-push_else y (own_raises v.shown.master v.shown.raises) r ne') ∙ ap (raises_of y) grows));
-    only = λ s i. ⊎_elim
-        (λ (j : In s (own_raises v.shown.master v.shown.raises)). f.only s j)
-        (λ (e : r ≡ s). subst (λ (z : Raise). (z.debt.0 < length d.net.debts) × (holds v.shown (debtor_of d.net z.debt.0) ≡ true)) e
-        (subst (λ (y : ℕ). (y < length d.net.debts) × (holds v.shown (debtor_of d.net y) ≡ true)) (sym is) (lt, mine)))
-        (in_cases (own_raises v.shown.master v.shown.raises) r s (subst (In s) (sym grows) i));
+    told = changed_each (λ y rs. y < length d.net.debts → holds v.shown (debtor_of d.net y) ≡ true
+        → rs ≡ raises_of y k.base ++ raises_of y now) x (k.trace x ++ r ∷ []) k.trace
+        (λ l i. ap (λ (rs : List Raise). rs ++ r ∷ []) (f.told x l i) ∙ append_assoc (raises_of x k.base) (raises_of x own) (r ∷ [])
+        ∙ ap (λ (rs : List Raise). raises_of x k.base ++ rs) (sym (raises_of-push x own r is) ∙ ap (raises_of x) grows))
+        (λ y ne l i. f.told y l i
+        ∙ ap (λ (rs : List Raise). raises_of y k.base ++ rs)
+        (sym (raises_of-push_else y own r (λ e. ne (sym e ∙ is))) ∙ ap (raises_of y) grows));
+    only = subst (All its) grows
+        (All-push its own r f.only
+        (subst (λ (y : ℕ). (y < length d.net.debts) × (holds v.shown (debtor_of d.net y) ≡ true)) (sym is) (lt, mine)));
     stood = λ y l. stood_pushed k.trace x r y _ _ (f.stood y l);
     floor = λ y l. le_trans (f.floor y l) (ending_rises d.net k.trace h x lt r is up y);
     seen_by_clock = λ y. omega (arith, f.seen_by_clock y);
     paid_by_clock = λ y l i. dite (ℕ_discrete y x)
         (λ e. le_of_eq (ap (λ (q : Payment). q.stamp) (ending_here d.net k.trace h x lt r is y e ∙ ap left_by made)))
         (λ ne. let same = ending_else d.net k.trace h x lt r is y ne in omega (arith, f.paid_by_clock y l i, ap (λ (q : Payment). q.stamp) same));
-    past_by_clock = λ p i. omega (arith, f.past_by_clock p i);
-    late = λ s i p j. ⊎_elim
-        (λ (i' : In s v.shown.raises). f.late s i' p j)
-        (λ (e : a_raise (v.shown.clock + 1) x r.to ≡ s). subst (λ (z : Raise). p.stamp < z.stamp) e (omega (arith, f.past_by_clock p j)))
-        (in_cases v.shown.raises (a_raise (v.shown.clock + 1) x r.to) s i);
+    past_by_clock = λ i e l. omega (arith, f.past_by_clock i e l);
+    late = All-push (λ s. All (λ p. p.stamp < s.stamp) d.past) v.shown.raises (a_raise (v.shown.clock + 1) x r.to) f.late
+        (λ i e l. omega (arith, f.past_by_clock i e l));
     clock_low = let more = total_rises d.net k.trace h x lt r is up in omega (arith, f.clock_low, more);
     leads = λ e. absurd (true≢false (sym e ∙ apart));
   }
     where
-      grows : own_raises v.shown.master v.shown.raises ++ r ∷ [] ≡ own_raises v.shown.master (v.shown.raises ++ a_raise (v.shown.clock + 1) x r.to ∷ [])
-      grows = ap (λ (b : Bool). own_raises b v.shown.raises ++ r ∷ []) apart ∙ ap (λ (s : Raise). v.shown.raises ++ s ∷ []) made ∙ sym (ap (λ (b : Bool). own_raises b (v.shown.raises ++ a_raise (v.shown.clock + 1) x r.to ∷ [])) apart)
+      its : Raise → Type 0
+      its s = (s.debt.0 < length d.net.debts) × (holds v.shown (debtor_of d.net s.debt.0) ≡ true)
+
+      own : List Raise
+      own = own_raises v.shown.master v.shown.raises
+
+      now : List Raise
+      now = own_raises v.shown.master (v.shown.raises ++ a_raise (v.shown.clock + 1) x r.to ∷ [])
+
+      grows : own ++ r ∷ [] ≡ now
+      grows = ap (λ (b : Bool). own_raises b v.shown.raises ++ r ∷ []) apart ∙ ap (λ (s : Raise). v.shown.raises ++ s ∷ []) made
+          ∙ sym (ap (λ (b : Bool). own_raises b (v.shown.raises ++ a_raise (v.shown.clock + 1) x r.to ∷ [])) apart)
 
       here : pair (get_or (set v.shown.paid x r.to) x 0) (get_or (set v.shown.paid_stamps x (v.shown.clock + 1)) x 0) ≡ ending (pushed k.trace x r x)
       here =
@@ -128,7 +136,7 @@ raises d slots id me x to on fits may s h sized at small =
     let below : to ≤ slice_index (least d.net) x = le_trans may.within (part_le_least d.net v.shown.sights x lt sights) in
     let size : length v.shown.sights ≡ length d.net.debts = f.sound.over.sights ∙ ap (λ (m : Net). length m.debts) f.net_is in
     let before = le_trans may.within (seen_before d.net k.trace h.lawful v.shown.sights v.shown.sight_stamps (v.shown.clock + 1) x size f.stood (λ y. omega (arith, f.seen_by_clock y))) in
-    let lawful : IsLawful d.net (pushed k.trace x r) = lawful_push d.net k.trace h.lawful x lt r refl paid stamp before below (omega (arith, f.clock_low)) in
+    let lawful : AreLawfulTraces d.net (pushed k.trace x r) = lawful_push d.net k.trace h.lawful x lt r refl paid stamp before below (omega (arith, f.clock_low)) in
     let low : v.shown.clock + 1 ≤ units_owed d.net =
     let more = total_rises d.net k.trace h.lawful x lt r refl paid in
     let most = total_le d.net (pushed k.trace x r) lawful in

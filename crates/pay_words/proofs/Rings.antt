@@ -18,9 +18,9 @@ use Rattle.pay_words.specs.declared.view.Act.{Act}
 use Rattle.pay_words.specs.declared.view.View.{View}
 use Rattle.pay_words.specs.Traces.{Traces, ending}
 use Rattle.pay_words.specs.Views.{IsSound, IsCalm, OwesRing, holds, is_marked, tabled, rung, took}
-use Rattle.pay_words.specs.Kept.{Ledger, Suits, IsKept, Tower, HasBells, IsCalled, IsRung, TakeTells, Rings, Glances, Takes, after_take, bell, taken_of, made_of, showing}
-use Rattle.pay_words.proofs.Tables.{tabled_at, length-tabled}
-use Rattle.pay_words.proofs.Bells.{changed, changed_here, changed_else, sum_views, has_set, sum_changed, one_less}
+use Rattle.pay_words.specs.BoardRule.{Ledger, Suits, MeetsRule, Tower, HasBells, IsCalled, IsRung, TakeTells, Rings, Glances, Takes, after_take, bell, taken_of, made_of, showing}
+use Rattle.pay_words.proofs.Tables.{tabled_at, length-tabled, changed, changed_here, changed_else, both_changed}
+use Rattle.pay_words.proofs.Bells.{sum_views, has_set, sum_changed, one_less}
 use Rattle.pay_words.proofs.Rung.{NoOther, called_still}
 use Rattle.pay_words.proofs.Views.{rule, fits_again, kept_again, not_both}
 
@@ -168,9 +168,8 @@ module _ (d : Deed) (t : Traces) (words : List ℕ) (views : List View) (id : �
     took_has : HasBells d w v → HasBells d took_tower (showing v (took v.shown b))
     took_has g =
         let pend = λ (y : ℕ) (l : y < n) (m : holds v.shown (creditor_of net y) ≡ true). took_at y l ∙ go (is_marked v.shown.pending y) (w.pend y) (creditor_of net y == b) (g.pend y l m) in
-        let fresh : (c : ℕ) → c < length net.banks → holds v.shown c ≡ true → is_marked (set v.shown.fresh b false) c ≡ took_tower.fresh c = λ c l m. dite (ℕ_discrete c b)
-        (λ e. ap (is_marked (set v.shown.fresh b false)) e ∙ get_or-set_same v.shown.fresh b false false (omega (arith, lt, long)) ∙ sym (changed_here b false w.fresh c e))
-        (λ ne. get_or-set_other v.shown.fresh b c false false ne ∙ g.fresh c l m ∙ sym (changed_else b false w.fresh c ne)) in
+        let fresh = λ (c : ℕ) (l : c < length net.banks) (m : holds v.shown c ≡ true).
+        both_changed v.shown.fresh false w.fresh b false c (omega (arith, lt, long)) (λ _. g.fresh c l m) in
         assumption (pend, fresh, g)
       where
         go : (p q s : Bool) → p ≡ q → (p || s) ≡ (if s then true else q)
@@ -210,10 +209,10 @@ module _ (d : Deed) (t : Traces) (words : List ℕ) (views : List View) (id : �
     }
 
 -- one step at a bell: the words, and a view that shows other bells
-struck_kept : (d : Deed) (s : State (Unit {0}) View) (id : ℕ) (v : View) (at : get_elem? s.views id ≡ some v) (h : IsKept d s.words s.views) (b m : ℕ) → b < length d.net.banks → (pending owing fresh : List Bool) (taken : ℕ) (acts : List Act)
+struck_kept : (d : Deed) (s : State (Unit {0}) View) (id : ℕ) (v : View) (at : get_elem? s.views id ≡ some v) (h : MeetsRule d s.words s.views) (b m : ℕ) → b < length d.net.banks → (pending owing fresh : List Bool) (taken : ℕ) (acts : List Act)
     → (v.live ≡ true) → IsSound (belled v.shown pending owing fresh taken acts)
     → IsRung d h.ledger.trace (set s.words (length d.net.debts + 1 + b) m) (set s.views id (showing v (belled v.shown pending owing fresh taken acts)))
-    → IsKept d (set s.words (length d.net.debts + 1 + b) m) (set s.views id (showing v (belled v.shown pending owing fresh taken acts)))
+    → MeetsRule d (set s.words (length d.net.debts + 1 + b) m) (set s.views id (showing v (belled v.shown pending owing fresh taken acts)))
 struck_kept d s id v at h b m lt pending owing fresh taken acts on sound rings =
     let k = h.ledger in
     let u = showing v (belled v.shown pending owing fresh taken acts) in
@@ -242,7 +241,7 @@ rings d slots id me i b place on over owes s h sized at small =
       w,
       keeps,
       tt,
-      subst (λ (j : ℕ). IsKept d (set s.words j 1) (set s.views id w)) (sym place)
+      subst (λ (j : ℕ). MeetsRule d (set s.words j 1) (set s.views id w)) (sym place)
           (struck_kept d s id v at h b 1 bank v.shown.pending _ v.shown.fresh v.shown.taken _ on (sound_rung v.shown b f.sound) new),
       λ c e. let same : b ≡ c = omega (arith, e, place, ap (λ (n : Net). length n.debts) over) in
           subst (λ (z : ℕ). ◌≡◌ {A = Me (Unit {0}) View} (w, me.1) (showing v (rung v.shown z), me.1)) same refl,
@@ -289,15 +288,15 @@ take_tells d k roll count id v words views b lt at on mine h f =
     not_called down calm x l is (inr e) = absurd (true≢false (sym e ∙ sym ((h.has id v at on).pend x (within x l) (held x (of x is))) ∙ calm x l is))
 
 -- what the bell tells in a table that is kept, by a load or by a swap
-told_at : (d : Deed) (s : State (Unit {0}) View) (id : ℕ) (v : View) (i b : ℕ) → IsKept d s.words s.views → get_elem? s.views id ≡ some v → i ≡ length d.net.debts + 1 + b → b < length d.net.banks → v.live ≡ true
+told_at : (d : Deed) (s : State (Unit {0}) View) (id : ℕ) (v : View) (i b : ℕ) → MeetsRule d s.words s.views → get_elem? s.views id ≡ some v → i ≡ length d.net.debts + 1 + b → b < length d.net.banks → v.live ≡ true
     → holds v.shown b ≡ true → TakeTells v.shown b (slice_index s.words i)
 told_at d s id v i b h at place lt on mine =
     subst (λ (j : ℕ). TakeTells v.shown b (slice_index s.words j)) (sym place)
     (take_tells d h.ledger (slice_index s.words 0) (length s.views) id v s.words s.views b lt at on mine h.rung (h.fits id v at on))
 
 -- a step that leaves its word and its view as they are
-unmoved : (d : Deed) (s : State (Unit {0}) View) (id : ℕ) (v : View) (i : ℕ) → IsKept d s.words s.views → get_elem? s.views id ≡ some v → IsKept d (set s.words i (slice_index s.words i)) (set s.views id v)
-unmoved d s id v i h at = subst (λ (y : List ℕ × List View). IsKept d y.0 y.1) (λ a. (sym (set-get_or s.words i 0) a, sym (set_again s.views id v at) a)) h
+unmoved : (d : Deed) (s : State (Unit {0}) View) (id : ℕ) (v : View) (i : ℕ) → MeetsRule d s.words s.views → get_elem? s.views id ≡ some v → MeetsRule d (set s.words i (slice_index s.words i)) (set s.views id v)
+unmoved d s id v i h at = subst (λ (y : List ℕ × List View). MeetsRule d y.0 y.1) (λ a. (sym (set-get_or s.words i 0) a, sym (set_again s.views id v at) a)) h
 
 pub glances : (d : Deed) (slots id : ℕ) (me : Me (Unit {0}) View) (i b : ℕ) → i ≡ length d.net.debts + 1 + b → b < length d.net.banks → me.0.live ≡ true → me.0.shown.net ≡ d.net → holds me.0.shown b ≡ true
     → Allows (rule d) slots id me i (λ n. n) (Glances (step slots i 0 0 none) me)
@@ -329,11 +328,11 @@ takes d slots id me i b place lt on over mine s h sized at small =
       keeps,
       tt,
       (dite (ℕ_discrete n 0)
-          (λ e. subst (λ (m : ℕ × View). IsKept d (set s.words i m.0) (set s.views id m.1)) (λ a. (e a, ap (λ (m : ℕ). showing v (after_take v.shown b m)) (sym e) a)) (unmoved d s id v i h at))
+          (λ e. subst (λ (m : ℕ × View). MeetsRule d (set s.words i m.0) (set s.views id m.1)) (λ a. (e a, ap (λ (m : ℕ). showing v (after_take v.shown b m)) (sym e) a)) (unmoved d s id v i h at))
           (λ ne.
           let one : n ≡ 1 = omega (arith, ne, tells.up_or_down) in
-          subst (λ (j : ℕ). IsKept d (set s.words j 0) (set s.views id w)) (sym place)
-          (subst (λ (m : ℕ). IsKept d (set s.words (length d.net.debts + 1 + b) 0) (set s.views id (showing v (after_take v.shown b m)))) (sym one)
+          subst (λ (j : ℕ). MeetsRule d (set s.words j 0) (set s.views id w)) (sym place)
+          (subst (λ (m : ℕ). MeetsRule d (set s.words (length d.net.debts + 1 + b) 0) (set s.views id (showing v (after_take v.shown b m)))) (sym one)
           (struck_kept d s id v at h b 0 lt _ v.shown.owes_ring _ (v.shown.taken + 1) _ on (sound_took v.shown b f.sound)
           (rung_take d k.trace s.words s.views id v at on h.size h.rung b lt over mine alone long (sym is ∙ one)))))),
       λ c e. let same : b ≡ c = omega (arith, e, place, ap (λ (m : Net). length m.debts) over) in

@@ -6,7 +6,7 @@ use lib.ListN.{get_elem?}
 use Rattle.atomic_table.specs.Table.{Me, Allows, keeps, step}
 use Rattle.pay_words.specs.declared.deed.Deed.{Deed}
 use Rattle.pay_words.specs.declared.view.View.{View}
-use Rattle.pay_words.specs.Kept.{Ledger, Leads, Suits, Rolls}
+use Rattle.pay_words.specs.BoardRule.{Ledger, Leads, Suits, Rolls}
 use Rattle.pay_words.proofs.Views.{rule, fits_set, kept_again}
 use Rattle.pay_words.proofs.Rung.{rung_same}
 use Rattle.std.proofs.Common.{subst}

@@ -1,6 +1,6 @@
 -- Each step keeps the rule of the bells.
-use Rattle.std.proofs.Common.{◌≡◌, ◌≢◌, ℕ, ◌+◌, ◌<◌, ◌≤◌, List, length, set, sum, true, false, inl, inr, refl, sym, ap, ◌∙◌, subst, arith, le_trans, length-append, get_or-set_same, get_or-set_other}
-use Rattle.std.specs.Prelude.{slice_index, if◌then◌else◌}
+use Rattle.std.proofs.Common.{◌≡◌, ◌≢◌, ℕ, ◌+◌, ◌<◌, ◌≤◌, List, length, set, sum, true, false, inl, inr, refl, sym, ap, ◌∙◌, subst, arith, le_trans, length-append, get_or-set_other, ◌++◌, ◌∷◌, []}
+use Rattle.std.specs.Prelude.{if◌then◌else◌}
 use Rattle.std.proofs.lemmas.Bool.{cond-true}
 use mathlib.Core.Option.{some}
 use mathlib.Core.Logic.{dite, ⊎_map}
@@ -12,11 +12,11 @@ use Rattle.pay_words.specs.declared.deed.Deed.{Deed}
 use Rattle.pay_words.specs.declared.payment.Payment.{Payment}
 use Rattle.pay_words.specs.declared.view.View.{View}
 use Rattle.pay_words.specs.Traces.{Traces, ending}
-use Rattle.pay_words.specs.Views.{holds, is_marked, looked, raised}
-use Rattle.pay_words.specs.Kept.{Tower, HasBells, IsCalled, IsRung, bell, bells_up, taken_of, made_of, showing}
-use Rattle.pay_words.proofs.Tables.{tabled_agree}
-use Rattle.pay_words.proofs.Traces.{pushed, pushed_else}
-use Rattle.pay_words.proofs.Bells.{changed, changed_here, changed_else, sum_views, has_set, marks_grow_by_one}
+use Rattle.pay_words.specs.Views.{holds, looked, raised}
+use Rattle.pay_words.specs.BoardRule.{Tower, HasBells, IsCalled, IsRung, bell, bells_up, taken_of, made_of, showing}
+use Rattle.pay_words.proofs.Tables.{tabled_agree, changed, changed_here, changed_else, both_changed}
+use Rattle.pay_words.proofs.Traces.{pushed}
+use Rattle.pay_words.proofs.Bells.{sum_views, has_set, marks_grow_by_one}
 
 -- views of other seats that do not hold a bank
 abbrev pub NoOther : List View → ℕ → ℕ → Type 0
@@ -67,12 +67,10 @@ module _ (d : Deed) (t : Traces) (words : List ℕ) (views : List View) (id : �
 
     looked_has : HasBells d w v → HasBells d seen_tower (showing v (looked v.shown x p))
     looked_has g =
-        let seen : (y : ℕ) → y < n → holds v.shown (creditor_of net y) ≡ true → slice_index (set v.shown.sights x p.value) y ≡ seen_tower.seen y = λ y l m. dite (ℕ_discrete y x)
-        (λ e. ap (slice_index (set v.shown.sights x p.value)) e ∙ get_or-set_same v.shown.sights x p.value 0 (omega (arith, lt, size)) ∙ sym (changed_here x p.value w.seen y e))
-        (λ ne. get_or-set_other v.shown.sights x y p.value 0 ne ∙ g.seen y l m ∙ sym (changed_else x p.value w.seen y ne)) in
-        let pend : (y : ℕ) → y < n → holds v.shown (creditor_of net y) ≡ true → is_marked (set v.shown.pending x false) y ≡ seen_tower.pend y = λ y l m. dite (ℕ_discrete y x)
-        (λ e. ap (is_marked (set v.shown.pending x false)) e ∙ get_or-set_same v.shown.pending x false false (omega (arith, lt, also)) ∙ sym (changed_here x false w.pend y e))
-        (λ ne. get_or-set_other v.shown.pending x y false false ne ∙ g.pend y l m ∙ sym (changed_else x false w.pend y ne)) in
+        let seen = λ (y : ℕ) (l : y < n) (m : holds v.shown (creditor_of net y) ≡ true).
+        both_changed v.shown.sights 0 w.seen x p.value y (omega (arith, lt, size)) (λ _. g.seen y l m) in
+        let pend = λ (y : ℕ) (l : y < n) (m : holds v.shown (creditor_of net y) ≡ true).
+        both_changed v.shown.pending false w.pend x false y (omega (arith, lt, also)) (λ _. g.pend y l m) in
         assumption (seen, pend, g)
 
     other_has : (u : View) → (holds u.shown (creditor_of net x) ≡ true → ⊥) → HasBells d w u → HasBells d seen_tower u
@@ -117,9 +115,8 @@ module _ (d : Deed) (t : Traces) (words : List ℕ) (views : List View) (id : �
 
     raised_has : HasBells d w v → HasBells d owing (showing v (raised v.shown x to))
     raised_has g =
-        let owed : (y : ℕ) → y < n → holds v.shown (debtor_of net y) ≡ true → is_marked (set v.shown.owes_ring x true) y ≡ owing.owed y = λ y l o. dite (ℕ_discrete y x)
-        (λ e. ap (is_marked (set v.shown.owes_ring x true)) e ∙ get_or-set_same v.shown.owes_ring x true false (omega (arith, lt, size)) ∙ sym (changed_here x true w.owed y e))
-        (λ ne. get_or-set_other v.shown.owes_ring x y true false ne ∙ g.owed y l o ∙ sym (changed_else x true w.owed y ne)) in
+        let owed = λ (y : ℕ) (l : y < n) (o : holds v.shown (debtor_of net y) ≡ true).
+        both_changed v.shown.owes_ring false w.owed x true y (omega (arith, lt, size)) (λ _. g.owed y l o) in
         assumption (owed, g)
 
     others_owe : (u : View) → (holds u.shown (debtor_of net x) ≡ true → ⊥) → HasBells d w u → HasBells d owing u
@@ -137,7 +134,7 @@ module _ (d : Deed) (t : Traces) (words : List ℕ) (views : List View) (id : �
       bells = λ b l. omega (arith, h.bells b l, same_bell b);
       answered = λ y l. dite (ℕ_discrete y x)
           (λ e. inr (inr (changed_here x true w.owed y e)))
-          (λ ne. ⊎_map (λ a. a ∙ sym (ap (λ (rs : List Raise). (ending rs).value) (pushed_else t x r y ne)))
+          (λ ne. ⊎_map (λ a. a ∙ sym (ap (λ (rs : List Raise). (ending rs).value) (changed_else x (t x ++ r ∷ []) t y ne)))
           (⊎_map (called_still net words now w owing y (same_bell (creditor_of net y)) refl) (λ o. changed_else x true w.owed y ne ∙ o)) (h.answered y l));
       lifted = λ y l. ⊎_map (λ a. a) (called_still net words now w owing y (same_bell (creditor_of net y)) refl) (h.lifted y l);
       levels = λ y l. le_trans (h.levels y l) (up y);

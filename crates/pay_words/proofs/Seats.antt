@@ -14,8 +14,8 @@ use Rattle.pay_words.specs.declared.deed.Deed.{Deed}
 use Rattle.pay_words.specs.declared.payment.Payment.{Payment}
 use Rattle.pay_words.specs.declared.view.Act.{Act}
 use Rattle.pay_words.specs.declared.view.View.{View}
-use Rattle.pay_words.specs.Kept.{Raises, after_take, showing, part_of, rest_of, both_of}
-use Rattle.pay_words.specs.Seats.{HasAll, HasOwn, IsKeptIn, Purse, Tells, purse}
+use Rattle.pay_words.specs.BoardRule.{Raises, after_take, showing, part_of, rest_of, both_of}
+use Rattle.pay_words.specs.Seats.{HasAll, HasOwn, IsInMemory, Purse, Tells, purse}
 use Rattle.pay_words.specs.Views.{Panel, Chair, Place, IsSound, HoldsAllOf, holds, looked, raised, rung, took}
 use Rattle.pay_words.proofs.Rings.{belled, sound_rung, sound_took}
 use Rattle.pay_words.proofs.Splits.{MayHand, sound_handed, sound_without}
@@ -27,14 +27,14 @@ use Rattle.pay_words.proofs.Views.{rule}
 pub payment_in_limit : (net : Net) (x r to : ℕ) → IsNetwork net → x < length net.debts → to ≤ part net x r → to ≤ MAX_CLAIM
 payment_in_limit net x r to network lt h = omega (arith, h, part_within net x r lt, claim_in_limit net x network)
 
-module _ (v : View) (p : Purse) (clock seats : ℕ) (h : IsKeptIn v p clock seats) where
+module _ (v : View) (p : Purse) (clock seats : ℕ) (h : IsInMemory v p clock seats) where
   pub clock_in_limit : clock ≤ MAX_OWED
   clock_in_limit = omega (arith, h.clock_is, h.sound.clock_below, h.sound.network.owed_in_limit)
 
-  pub kept_look : (x : ℕ) (q : Payment) (now : ℕ) → now ≡ max clock q.stamp → IsSound (looked v.shown x q) → IsKeptIn (showing v (looked v.shown x q)) p now seats
+  pub kept_look : (x : ℕ) (q : Payment) (now : ℕ) → now ≡ max clock q.stamp → IsSound (looked v.shown x q) → IsInMemory (showing v (looked v.shown x q)) p now seats
   kept_look x q now e sound = assumption (e ∙ ap (λ (n : ℕ). max n q.stamp) h.clock_is)
 
-  pub kept_raise : (x to : ℕ) → x < length v.shown.net.debts → v.shown.master ≡ false → IsSound (raised v.shown x to) → IsKeptIn (showing v (raised v.shown x to)) (record p { own = set p.own x to }) (clock + 1) seats
+  pub kept_raise : (x to : ℕ) → x < length v.shown.net.debts → v.shown.master ≡ false → IsSound (raised v.shown x to) → IsInMemory (showing v (raised v.shown x to)) (record p { own = set p.own x to }) (clock + 1) seats
   kept_raise x to lt plain sound = record {
     live = h.live;
     sound = sound;
@@ -74,8 +74,8 @@ pub may_within : (b c : Panel) (s t : Chair) (x to : ℕ) → b ≡ c → s ≡ 
 may_within b c s t x to e f may = subst (λ (y : Panel × Chair). MayRaise y.0.net y.1.shows x to) (λ i. (sym e i, sym f i)) may
 
 -- what the seats have in memory after a seat was handed out
-module _ (i : ℕ) (v : View) (p : Purse) (clock seats : ℕ) (h : IsKeptIn v p clock seats) (chief : v.shown.master ≡ true) where
-  pub kept_handed : i < p.workers → HoldsAllOf p.workers i v.shown → IsKeptIn (part_of p.workers i v) (purse (slice_index_or p.lists i []) [] [] p.workers i) clock 0
+module _ (i : ℕ) (v : View) (p : Purse) (clock seats : ℕ) (h : IsInMemory v p clock seats) (chief : v.shown.master ≡ true) where
+  pub kept_handed : i < p.workers → HoldsAllOf p.workers i v.shown → IsInMemory (part_of p.workers i v) (purse (slice_index_or p.lists i []) [] [] p.workers i) clock 0
   kept_handed low all = record {
     live = h.live;
     sound = sound_handed p.workers i v.shown all h.sound;
@@ -86,7 +86,7 @@ module _ (i : ℕ) (v : View) (p : Purse) (clock seats : ℕ) (h : IsKeptIn v p 
     at_master = λ e. absurd (true≢false (sym e));
   }
 
-  pub kept_without : IsKeptIn (rest_of p.workers i v) (record p { lists = set p.lists i [] }) clock (seats + 1)
+  pub kept_without : IsInMemory (rest_of p.workers i v) (record p { lists = set p.lists i [] }) clock (seats + 1)
   kept_without = record {
     live = h.live;
     sound = sound_without p.workers i v.shown h.sound;
@@ -98,9 +98,9 @@ module _ (i : ℕ) (v : View) (p : Purse) (clock seats : ℕ) (h : IsKeptIn v p 
   }
 
 -- and after one was taken back
-module _ (v w : View) (p q : Purse) (clock their_clock seats their_seats : ℕ) (f : IsKeptIn v p clock seats) (g : IsKeptIn w q their_clock their_seats)
+module _ (v w : View) (p q : Purse) (clock their_clock seats their_seats : ℕ) (f : IsInMemory v p clock seats) (g : IsInMemory w q their_clock their_seats)
     (same : w.shown.net ≡ v.shown.net) (chief : v.shown.master ≡ true) (plain : w.shown.master ≡ false) (workers : q.workers ≡ p.workers) where
-  pub kept_both : (now : ℕ) → now ≡ max clock their_clock → IsKeptIn (both_of v w) (record p { lists = set p.lists q.worker q.own }) now seats
+  pub kept_both : (now : ℕ) → now ≡ max clock their_clock → IsInMemory (both_of v w) (record p { lists = set p.lists q.worker q.own }) now seats
   kept_both now e = record {
     live = f.live;
     sound = sound_both v.shown w.shown same f.sound g.sound;
@@ -125,7 +125,7 @@ pub same_workers : (s t u v : Chair) (place : Place) → s ≡ t → u ≡ v →
 same_workers s t u v place e f g h = as_many u v place f h ∙ sym (as_many s t place e g)
 
 -- the master once it has left a number in the roll word
-pub kept_rolled : (v : View) (p : Purse) (clock seats n : ℕ) → IsKeptIn v p clock seats → IsKeptIn (record v { rolled = n }) p clock seats
+pub kept_rolled : (v : View) (p : Purse) (clock seats n : ℕ) → IsInMemory v p clock seats → IsInMemory (record v { rolled = n }) p clock seats
 kept_rolled v p clock seats n h = assumption
 
 pub may_hand : (v : View) (n workers i : ℕ) → v.live ≡ true → v.shown.master ≡ true → HoldsAllOf workers i v.shown → v.shown.seats + 2 ≤ n → MayHand workers i (record v { rolled = n })
@@ -135,17 +135,17 @@ pub holds_within : (s t : Chair) (ws vs i j : ℕ) → s ≡ t → ws ≡ vs →
 holds_within s t ws vs i j e f g all = subst (λ (y : ℕ × ℕ × Chair). HoldsAllOf y.0 y.1 y.2.shows) (λ k. (sym f k, sym g k, sym e k)) all
 
 -- what a seat has in memory does not depend on bells
-pub kept_belled : (v : View) (p : Purse) (clock seats : ℕ) (pending owing fresh : List Bool) (taken : ℕ) (acts : List Act) → IsSound (belled v.shown pending owing fresh taken acts) → IsKeptIn v p clock seats
-    → IsKeptIn (showing v (belled v.shown pending owing fresh taken acts)) p clock seats
+pub kept_belled : (v : View) (p : Purse) (clock seats : ℕ) (pending owing fresh : List Bool) (taken : ℕ) (acts : List Act) → IsSound (belled v.shown pending owing fresh taken acts) → IsInMemory v p clock seats
+    → IsInMemory (showing v (belled v.shown pending owing fresh taken acts)) p clock seats
 kept_belled v p clock seats pending owing fresh taken acts sound h = assumption
 
-pub kept_rung : (v : View) (p : Purse) (clock seats b : ℕ) → IsKeptIn v p clock seats → IsKeptIn (showing v (rung v.shown b)) p clock seats
+pub kept_rung : (v : View) (p : Purse) (clock seats b : ℕ) → IsInMemory v p clock seats → IsInMemory (showing v (rung v.shown b)) p clock seats
 kept_rung v p clock seats b h = kept_belled v p clock seats v.shown.pending _ v.shown.fresh v.shown.taken _ (sound_rung v.shown b h.sound) h
 
-pub kept_take : (v : View) (p : Purse) (clock seats b n : ℕ) → IsKeptIn v p clock seats → IsKeptIn (showing v (after_take v.shown b n)) p clock seats
+pub kept_take : (v : View) (p : Purse) (clock seats b n : ℕ) → IsInMemory v p clock seats → IsInMemory (showing v (after_take v.shown b n)) p clock seats
 kept_take v p clock seats b n h = go (n == 0)
   where
-    go : (t : Bool) → IsKeptIn (showing v (if t then v.shown else took v.shown b)) p clock seats
+    go : (t : Bool) → IsInMemory (showing v (if t then v.shown else took v.shown b)) p clock seats
     go true = h
     go false = kept_belled v p clock seats _ v.shown.owes_ring _ (v.shown.taken + 1) _ (sound_took v.shown b h.sound) h
 

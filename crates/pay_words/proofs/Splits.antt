@@ -1,5 +1,5 @@
 -- The master hands the banks of a worker to a new seat.
-use Rattle.std.proofs.Common.{◌≡◌, ◌≢◌, ◌⊎◌, ℕ, zero, suc, ◌+◌, ◌<◌, ◌≤◌, List, [], ◌∷◌, ◌++◌, length, set, Bool, true, false, true≢false, inl, inr, refl, sym, ap, ◌∙◌, subst, ⊎_elim, arith, length-set, length-append}
+use Rattle.std.proofs.Common.{◌≡◌, ◌≢◌, ◌⊎◌, ℕ, zero, suc, ◌+◌, ◌<◌, ◌≤◌, List, [], ◌∷◌, ◌++◌, length, set, Bool, true, false, true≢false, inl, inr, refl, sym, ap, ◌∙◌, subst, ⊎_elim, arith, length-set, length-append, All}
 use Rattle.std.specs.Prelude.{slice_index, if◌then◌else◌, ◌&&◌, not}
 use Rattle.std.proofs.lemmas.Bool.{cases_Bool, cond-true, cond-false, false_from_ne_true}
 use mathlib.Core.Option.{some, some-ne-none, some-injective}
@@ -12,20 +12,15 @@ use Rattle.pay_words.specs.declared.deed.Deed.{Deed}
 use Rattle.pay_words.specs.declared.view.Shown.{Shown}
 use Rattle.pay_words.specs.declared.view.View.{View}
 use Rattle.pay_words.specs.Views.{IsSound, HoldsAllOf, holds, is_of_worker, handed, without}
-use Rattle.pay_words.specs.Traces.{Traces, In, raises_of}
-use Rattle.pay_words.specs.Kept.{Ledger, Leads, Suits, Sits, Tower, HasBells, IsRung, taken_of, made_of, own_raises, rest_of, part_of}
-use Rattle.pay_words.proofs.Tables.{length-tabled}
+use Rattle.pay_words.specs.Traces.{Traces, raises_of}
+use Rattle.pay_words.specs.BoardRule.{Ledger, Leads, Suits, Sits, Tower, HasBells, IsRung, taken_of, made_of, own_raises, rest_of, part_of}
 use Rattle.pay_words.proofs.Marks.{marked_if, marked, both_marked, marked_without}
 use Rattle.pay_words.proofs.Views.{rule, fits_set, sits_set}
 use Rattle.pay_words.proofs.Bells.{sum_views, has_set}
 use Rattle.std.proofs.lemmas.List.Sums.{sum_by-append, sum_by-cons}
-
--- the lists of a sound seat for other banks, of which it holds each
-sound_part : (s : Shown) (banks : List Bool) (t : Shown) → IsSound s → length banks ≡ length s.net.banks → ((b : ℕ) → Rattle.pay_words.specs.Views.is_marked banks b ≡ true → holds s b ≡ true)
-    → t ≡ record s { master = t.master; banks = banks; raises = t.raises; seats = t.seats; taken = t.taken; acts = t.acts } → IsSound t
-sound_part s banks t h size all e =
-    let within = λ (x : ℕ) (lt : x < length s.net.debts) (mine : Rattle.pay_words.specs.Views.is_marked banks (debtor_of s.net x) ≡ true). h.pays_within x lt (all (debtor_of s.net x) mine) in
-    subst IsSound (sym e) (assumption (size, within, h))
+use Rattle.std.proofs.lemmas.List.Elements.{All-nil}
+use Rattle.pay_words.specs.Ends.{AreAfter}
+use Rattle.pay_words.proofs.Lengths.{over_handed, over_without}
 
 module _ (workers i : ℕ) (s : Shown) where
   abbrev pub goes : ℕ → Bool
@@ -49,10 +44,16 @@ module _ (workers i : ℕ) (s : Shown) where
       (false_from_ne_true (is_of_worker workers i b) (λ t. true≢false (sym (marked (length s.net.banks) (is_of_worker workers i) b lt t) ∙ e))))
 
   pub sound_handed : HoldsAllOf workers i s → IsSound s → IsSound (handed workers i s)
-  sound_handed all h = sound_part s _ (handed workers i s) h (length-tabled (length s.net.banks) (is_of_worker workers i)) (goes_from all) refl
+  sound_handed all h =
+      let within = λ (x : ℕ) (lt : x < length s.net.debts) (mine : goes (debtor_of s.net x) ≡ true). h.pays_within x lt
+      (goes_from all (debtor_of s.net x) mine) in
+      assumption (within, over_handed workers i s h.over, h)
 
   pub sound_without : IsSound s → IsSound (without workers i s)
-  sound_without h = sound_part s _ (without workers i s) h (length-tabled (length s.net.banks) (λ c. holds s c && not (is_of_worker workers i c))) (λ b e. (stays_if b e).0) refl
+  sound_without h =
+      let within = λ (x : ℕ) (lt : x < length s.net.debts) (mine : holds (without workers i s) (debtor_of s.net x) ≡ true).
+      h.pays_within x lt (stays_if (debtor_of s.net x) mine).0 in
+      assumption (within, over_without workers i s h.over, h)
 
 module _ (d : Deed) (k : Ledger) (roll count id : ℕ) (v : View) (workers i : ℕ) (chief : v.shown.master ≡ true) (all : HoldsAllOf workers i v.shown) (f : Suits d k roll count id v) where
   -- the banks that go are those of the new seat
@@ -69,8 +70,9 @@ module _ (d : Deed) (k : Ledger) (roll count id : ℕ) (v : View) (workers i : �
       let pays = λ (x : ℕ) (lt : x < length d.net.debts) (e : goes workers i v.shown (debtor_of d.net x) ≡ true). f.pays x lt (its _ e) in
       let told = λ (x : ℕ) (lt : x < length d.net.debts) (e : goes workers i v.shown (debtor_of d.net x) ≡ true). told_alone x lt (its _ e) in
       let stamps = λ (x : ℕ) (lt : x < length d.net.debts) (e : goes workers i v.shown (debtor_of d.net x) ≡ true). f.paid_by_clock x lt (its _ e) in
-      let only : (r : Raise) → ⊥ → (r.debt.0 < length d.net.debts) × (goes workers i v.shown (debtor_of d.net r.debt.0) ≡ true) = λ r j. absurd j in
-      let late : (r : Raise) → ⊥ → (p : Raise) → In p d.past → p.stamp < r.stamp = λ r j. absurd j in
+      let own : Raise → Type 0 = λ r. (r.debt.0 < length d.net.debts) × (goes workers i v.shown (debtor_of d.net r.debt.0) ≡ true) in
+      let only : All own [] = All-nil own in
+      let late : AreAfter d.past [] = All-nil (λ r. All (λ p. p.stamp < r.stamp) d.past) in
       let leads : Leads d next roll (count + 1) count (part_of workers i v) = λ e. absurd (true≢false (sym e)) in
       assumption (mine, pays, told, stamps, only, late, leads, sound_handed workers i v.shown all f.sound, f)
 
@@ -82,8 +84,10 @@ module _ (d : Deed) (k : Ledger) (roll count id : ℕ) (v : View) (workers i : �
       let pays = λ (x : ℕ) (lt : x < length d.net.debts) (e : holds (without workers i v.shown) (debtor_of d.net x) ≡ true). f.pays x lt (its _ e) in
       let told = λ (x : ℕ) (lt : x < length d.net.debts) (e : holds (without workers i v.shown) (debtor_of d.net x) ≡ true). f.told x lt (its _ e) in
       let stamps = λ (x : ℕ) (lt : x < length d.net.debts) (e : holds (without workers i v.shown) (debtor_of d.net x) ≡ true). f.paid_by_clock x lt (its _ e) in
-      let only : (r : Raise) → In r (own_raises v.shown.master v.shown.raises) → (r.debt.0 < length d.net.debts) × (holds (without workers i v.shown) (debtor_of d.net r.debt.0) ≡ true) =
-      λ r j. absurd (subst (λ (b : Bool). In r (own_raises b v.shown.raises)) chief j) in
+      let its : Raise → Type 0 = λ r. (r.debt.0 < length d.net.debts)
+      × (holds (without workers i v.shown) (debtor_of d.net r.debt.0) ≡ true) in
+      let only : All its (own_raises v.shown.master v.shown.raises) = subst (λ (b : Bool). All its (own_raises b v.shown.raises))
+      (sym chief) (All-nil its) in
       let leads : Leads d next roll (count + 1) id (rest_of workers i v) = λ e. (l.0, l.1, l.2, omega (arith, l.3), omega (arith, room)) in
       assumption (mine, pays, told, stamps, only, leads, sound_without workers i v.shown f.sound, f)
 

@@ -9,7 +9,7 @@ use Rattle.pay_words.specs.declared.deed.Deed.{Deed}
 use Rattle.pay_words.specs.declared.payment.Payment.{Payment}
 use Rattle.pay_words.specs.declared.view.View.{View}
 use Rattle.pay_words.specs.Ends.{values}
-use Rattle.pay_words.specs.Kept.{IsKept}
+use Rattle.pay_words.specs.BoardRule.{MeetsRule}
 use Rattle.pay_words.specs.Standing.{StaysBelowLeast, KeepsStampsLow, payments_in}
 use Rattle.pay_words.specs.Traces.{Traces, ending, paid_in}
 use Rattle.pay_words.specs.Views.{Panel}
@@ -18,7 +18,7 @@ use Rattle.pay_words.proofs.Tables.{tabled_at, tabled_agree, length-tabled}
 use Rattle.pay_words.proofs.Traces.{read_back}
 use Rattle.pay_words.proofs.Lawful.{value_fits, paid_in_below}
 
-module _ (d : Deed) (words : List ℕ) (views : List View) (h : IsKept d words views) where
+module _ (d : Deed) (words : List ℕ) (views : List View) (h : MeetsRule d words views) where
   abbrev trace : Traces
   trace = h.ledger.trace
 

@@ -1,6 +1,6 @@
 -- Lists over banks and debts: one that a function gives, and one of whose places changes.
-use Rattle.std.proofs.Common.{◌≡◌, ℕ, ◌+◌, ◌<◌, ◌≤◌, List, length, set, get_or, sum, sym, ◌∙◌, subst, le_refl, arith, get_or-set_same, get_or-set_other}
-use Rattle.std.specs.Prelude.{slice_index}
+use Rattle.std.proofs.Common.{◌≡◌, ℕ, ◌+◌, ◌<◌, ◌≤◌, List, length, set, get_or, sum, sym, ◌∙◌, subst, le_refl, arith, get_or-set_same, get_or-set_other, ◌≢◌, ap, refl, ◌==◌, eq-eqb}
+use Rattle.std.specs.Prelude.{slice_index, if◌then◌else◌}
 use Rattle.std.proofs.lemmas.List.{ext_get_or, set_past, get_or_past}
 use Rattle.std.proofs.lemmas.List.FromFn.{get_or-map-range_with_len, length-map-range_with_len}
 use native.Mathlib.Decide.{ℕ_discrete, dec_lt}
@@ -8,6 +8,7 @@ use mathlib.Core.Logic.{dite}
 use Rattle.clr_net.specs.Amounts.{IsAtMost}
 use Rattle.clr_net.proofs.Lists.{sum-le, sum_raised}
 use Rattle.pay_words.specs.Views.{tabled}
+use Rattle.std.proofs.lemmas.Bool.{cond-true, cond-false, ne_eqb}
 
 pub tabled_at : {A : Type 0} (n : ℕ) (f : ℕ → A) (x : ℕ) (d : A) → x < n → get_or (tabled n f) x d ≡ f x
 tabled_at n f x d lt = get_or-map-range_with_len f 0 n x x d lt (omega arith)
@@ -25,14 +26,43 @@ tabled_most n f g h x = dite (dec_lt x n)
     (λ lt. omega (arith, tabled_at n f x 0 lt, tabled_at n g x 0 lt, h x lt))
     (λ ge. let far : length (tabled n f) ≤ x = omega (arith, length-tabled n f) in omega (arith, get_or_past (tabled n f) x 0 far))
 
--- a fact of each number after one has changed: of the new one, and of the others
+-- what holds of what is new in a place of a list, and of each other, holds of each
+pub set_each : {A : Type 0} (F : ℕ → A → Type 0) (xs : List A) (x : ℕ) (a d : A) → x < length xs → F x a
+    → ((y : ℕ) → y ≢ x → F y (get_or xs y d)) → (y : ℕ) → F y (get_or (set xs x a) y d)
+set_each F xs x a d lt here other y = dite (ℕ_discrete y x)
+    (λ e. subst (λ z. F z (get_or (set xs x a) z d)) (sym e) (subst (F x) (sym (get_or-set_same xs x a d lt)) here))
+    (λ ne. subst (F y) (sym (get_or-set_other xs x y a d ne)) (other y ne))
+
+-- the same of numbers, also where the list is too short
 pub after_set : (F : ℕ → ℕ → Type 0) (P : List ℕ) (x n : ℕ) → F x n → ((y : ℕ) → F y (get_or P y 0))
     → (y : ℕ) → F y (get_or (set P x n) y 0)
-after_set F P x n here other y = dite (ℕ_discrete y x)
-    (λ e. subst (λ z. F z (get_or (set P x n) z 0)) (sym e) (dite (dec_lt x (length P))
-    (λ lt. subst (F x) (sym (get_or-set_same P x n 0 lt)) here)
-    (λ ge. let far : length P ≤ x = omega arith in subst (λ Q. F x (get_or Q x 0)) (sym (set_past P x n far)) (other x))))
-    (λ ne. subst (F y) (sym (get_or-set_other P x y n 0 ne)) (other y))
+after_set F P x n here other y = dite (dec_lt x (length P))
+    (λ lt. set_each F P x n 0 lt here (λ z _. other z) y)
+    (λ ge. subst (λ Q. F y (get_or Q y 0)) (sym (set_past P x n (omega arith))) (other y))
+
+-- a function that is changed at one number
+abbrev pub changed : {A : Type 0} → ℕ → A → (ℕ → A) → ℕ → A
+changed x a f y = if y == x then a else f y
+
+pub changed_here : {A : Type 0} (x : ℕ) (a : A) (f : ℕ → A) (y : ℕ) → y ≡ x → changed x a f y ≡ a
+changed_here x a f y e = cond-true (y == x) a (f y) (eq-eqb y x e)
+
+pub changed_else : {A : Type 0} (x : ℕ) (a : A) (f : ℕ → A) (y : ℕ) → y ≢ x → changed x a f y ≡ f y
+changed_else x a f y ne = cond-false (y == x) a (f y) (ne_eqb y x ne)
+
+-- what holds of the new value, and of each other, holds of each
+pub changed_each : {A : Type 0} (F : ℕ → A → Type 0) (x : ℕ) (a : A) (f : ℕ → A) → F x a → ((y : ℕ) → y ≢ x → F y (f y))
+    → (y : ℕ) → F y (changed x a f y)
+changed_each F x a f here other y = dite (ℕ_discrete y x)
+    (λ e. subst (λ z. F z (changed x a f z)) (sym e) (subst (F x) (sym (changed_here x a f x refl)) here))
+    (λ ne. subst (F y) (sym (changed_else x a f y ne)) (other y ne))
+
+-- a list and a function that are changed at one number agree where they agreed before
+pub both_changed : {A : Type 0} (xs : List A) (d : A) (f : ℕ → A) (x : ℕ) (a : A) (y : ℕ) → x < length xs
+    → (y ≢ x → get_or xs y d ≡ f y) → get_or (set xs x a) y d ≡ changed x a f y
+both_changed xs d f x a y lt other = dite (ℕ_discrete y x)
+    (λ e. ap (λ z. get_or (set xs x a) z d) e ∙ get_or-set_same xs x a d lt ∙ sym (changed_here x a f y e))
+    (λ ne. get_or-set_other xs x y a d ne ∙ other ne ∙ sym (changed_else x a f y ne))
 
 pub set_above : (P : List ℕ) (x n : ℕ) → slice_index P x ≤ n → IsAtMost P (set P x n)
 set_above P x n h = after_set (λ y m. slice_index P y ≤ m) P x n h (λ y. le_refl _)

@@ -1,5 +1,5 @@
 -- The list of all views when one of them changes.
-use Rattle.std.proofs.Common.{◌≡◌, ◌≢◌, ℕ, zero, suc, ◌+◌, ◌<◌, Bool, List, [], ◌∷◌, length, set, true, sym, ap, ◌∙◌, subst, ⊎_elim, arith, length-set}
+use Rattle.std.proofs.Common.{◌≡◌, ◌≢◌, ℕ, zero, suc, ◌+◌, ◌<◌, Bool, List, [], ◌∷◌, length, set, true, sym, ap, ◌∙◌, subst, ⊎_elim, arith, length-set, All, false}
 use Rattle.std.specs.Prelude.{slice_index}
 use mathlib.Core.Option.{some, some-ne-none, some-injective}
 use mathlib.Core.Logic.{dite}
@@ -10,12 +10,13 @@ use Rattle.atomic_table.proofs.Lists.{at_set, set_here, set_else}
 use Rattle.pay_words.specs.declared.deed.Deed.{Deed}
 use Rattle.pay_words.specs.declared.view.View.{View}
 use Rattle.pay_words.specs.Words.{word_of}
-use Rattle.pay_words.specs.Traces.{Traces, IsLawful, ending}
+use Rattle.pay_words.specs.Traces.{Traces, AreLawfulTraces, ending}
 use Rattle.pay_words.specs.Views.{holds, is_marked}
-use Rattle.pay_words.specs.Kept.{Ledger, Suits, Sits, IsKept, IsRung}
+use Rattle.pay_words.specs.BoardRule.{Ledger, Suits, Sits, MeetsRule, IsRung, own_raises}
+use Rattle.clr_net.specs.Net.{debtor_of}
 
 abbrev pub rule : Deed → State (Unit {0}) View → Type 0
-rule d s = IsKept d s.words s.views
+rule d s = MeetsRule d s.words s.views
 
 pub within_length : {A : Type 0} (l : List A) (i : ℕ) (a : A) → get_elem? l i ≡ some a → i < length l
 within_length [] i a e = absurd (some-ne-none a (sym e))
@@ -56,11 +57,11 @@ module _ (d : Deed) (k : Ledger) (roll : ℕ) where
 
 -- a step of the seat `id`, which holds the banks that it held, keeps the rule where words, raises,
 -- seats and bells go together again
-pub kept_again : (d : Deed) (words now : List ℕ) (views : List View) (id : ℕ) (v w : View) (t : Traces) (h : IsKept d words views)
+pub kept_again : (d : Deed) (words now : List ℕ) (views : List View) (id : ℕ) (v w : View) (t : Traces) (h : MeetsRule d words views)
     → get_elem? views id ≡ some v → w.live ≡ v.live → w.shown.banks ≡ v.shown.banks → w.shown.master ≡ v.shown.master → length now ≡ length words
-    → ((x : ℕ) → x < length d.net.debts → slice_index now (x + 1) ≡ word_of (ending (t x))) → IsLawful d.net t
+    → ((x : ℕ) → x < length d.net.debts → slice_index now (x + 1) ≡ word_of (ending (t x))) → AreLawfulTraces d.net t
     → ((j : ℕ) (u : View) → get_elem? (set views id w) j ≡ some u → u.live ≡ true → Suits d (record h.ledger { trace = t }) (slice_index now 0) (length (set views id w)) j u)
-    → IsRung d t now (set views id w) → IsKept d now (set views id w)
+    → IsRung d t now (set views id w) → MeetsRule d now (set views id w)
 kept_again d words now views id v w t h at on banks chief long stands lawful fits rung = record {
   ledger = record h.ledger { trace = t };
   network = h.network;
@@ -73,6 +74,13 @@ kept_again d words now views id v w t h at on banks chief long stands lawful fit
   fits = fits;
   rung = rung;
 }
+
+-- the raises of a seat that is not the master's are of its own debts
+pub its_raises : (d : Deed) (k : Ledger) (roll count id : ℕ) (v : View) → Suits d k roll count id v → v.shown.master ≡ false
+    → All (λ r. (r.debt.0 < length d.net.debts) × (holds v.shown (debtor_of d.net r.debt.0) ≡ true)) v.shown.raises
+its_raises d k roll count id v f plain =
+    subst (λ (b : Bool). All (λ r. (r.debt.0 < length d.net.debts) × (holds v.shown (debtor_of d.net r.debt.0) ≡ true))
+    (own_raises b v.shown.raises)) plain f.only
 
 -- two seats do not hold the same bank
 pub not_both : (d : Deed) (k : Ledger) (roll count i j : ℕ) (u v : View) (b : ℕ) → j ≢ i → Suits d k roll count i v → holds v.shown b ≡ true → Suits d k roll count j u → holds u.shown b ≡ true → ⊥

@@ -2,7 +2,7 @@ pub mod Founded
 pub mod Words
 pub mod Views
 pub mod Traces
-pub mod Kept
+pub mod BoardRule
 pub mod Seats
 pub mod Belongs
 pub mod Ends

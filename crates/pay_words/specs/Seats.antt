@@ -51,7 +51,7 @@ pub record HasAll (net : Net) (banks : List Bool) (paid : List ℕ) (p : Purse) 
       → Tells (list_for p (debtor_of net x)) paid x
 
 -- what a seat has in memory, beside its view
-pub record IsKeptIn (v : View) (p : Purse) (clock seats : ℕ) : Type 0 where
+pub record IsInMemory (v : View) (p : Purse) (clock seats : ℕ) : Type 0 where
   pub live : v.live ≡ true
   pub sound : IsSound v.shown
   pub clock_is : clock ≡ v.shown.clock

@@ -6,7 +6,7 @@ use Rattle.clear_core.specs.Clearing.{least}
 use Rattle.pay_words.specs.declared.payment.Payment.{Payment}
 use Rattle.pay_words.specs.declared.view.View.{View}
 use Rattle.pay_words.specs.Ends.{values}
-use Rattle.pay_words.specs.Kept.{IsKept}
+use Rattle.pay_words.specs.BoardRule.{MeetsRule}
 use Rattle.pay_words.specs.Views.{Panel, tabled}
 use Rattle.pay_words.specs.Words.{payment_of}
 
@@ -14,7 +14,7 @@ use Rattle.pay_words.specs.Words.{payment_of}
 -- steps, holds of them beside what some seats show
 abbrev pub MayStand : Panel → List ℕ → Type 0
 MayStand board words = (views : List View)
-    × IsKept (record { net = board.net; past = board.past }) words views
+    × MeetsRule (record { net = board.net; past = board.past }) words views
 
 -- the payments in the words of the debts, in file order
 abbrev pub payments_in : Net → List ℕ → List Payment

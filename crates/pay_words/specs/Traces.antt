@@ -1,7 +1,8 @@
 -- The raises of each debt, in the order in which they were made, and what makes them a lawful
 -- history.
-use Rattle.std.specs.Prelude.{◌≡◌, ◌⊎◌, ℕ, ◌<◌, ◌≤◌, ◌==◌, List, [], ◌∷◌, length, filter, sum}
+use Rattle.std.specs.Prelude.{◌≡◌, ◌⊎◌, ℕ, ◌<◌, ◌≤◌, ◌==◌, All, List, [], ◌∷◌, length, filter, sum}
 use Rattle.std.specs.Prelude.{sum_by, slice_index}
+use Rattle.std.specs.List.{AllPairs, Contains}
 use Rattle.clr_net.specs.Net.{Net, debtor_of, column}
 use Rattle.clear_core.specs.Clearing.{part, least}
 use Rattle.clear_core.specs.History.{raised_before}
@@ -30,14 +31,9 @@ last_payment x rs = ending (raises_of x rs)
 abbrev pub start_of : Net → List Raise → List Payment
 start_of net rs = tabled (length net.debts) (λ x. last_payment x rs)
 
-abbrev pub In : Raise → List Raise → Type 0
-In r [] = ⊥
-In r (s ∷ rs) = (s ≡ r) ⊎ In r rs
-
 -- stamps and amounts rise along the list
 abbrev pub Rise : List Raise → Type 0
-Rise [] = Unit {0}
-Rise (r ∷ rs) = ((s : Raise) → In s rs → (r.stamp < s.stamp) × (r.to < s.to)) × Rise rs
+Rise rs = AllPairs (λ r s. (r.stamp < s.stamp) × (r.to < s.to)) rs
 
 -- the raises of each debt
 abbrev pub Traces : Type 0
@@ -57,15 +53,15 @@ paid_to net t stamp x = sum_by (λ y. raised_before stamp (t y) y) (column net (
 -- of each debt the stamps and amounts rise, and each raise is within what its debtor's rule gives
 -- from its cash and from what raises of smaller stamp pay to it, less what it owes outside; no
 -- stamp is above the sum of what is paid
-pub record IsLawful (net : Net) (t : Traces) : Type 0 where
+pub record AreLawfulTraces (net : Net) (t : Traces) : Type 0 where
   pub rise : (x : ℕ) → x < length net.debts → Rise (t x)
-  pub each : (x : ℕ) → x < length net.debts → (r : Raise) → In r (t x) → (0 < r.to) × (r.debt.0 ≡ x)
-  pub within : (x : ℕ) → x < length net.debts → (r : Raise) → In r (t x)
-      → r.to ≤ part net x (paid_to net t r.stamp x)
+  pub each : (x : ℕ) → x < length net.debts → All (λ r. (0 < r.to) × (r.debt.0 ≡ x)) (t x)
+  pub within : (x : ℕ) → x < length net.debts
+      → All (λ r. r.to ≤ part net x (paid_to net t r.stamp x)) (t x)
   pub most : (x : ℕ) → x < length net.debts → (ending (t x)).value ≤ slice_index (least net) x
   pub low : (x : ℕ) → x < length net.debts → (ending (t x)).stamp ≤ total net t
 
 -- a payment that stood once: none yet, or that of one of the raises
 abbrev pub Stood : List Raise → ℕ → ℕ → Type 0
-Stood rs value stamp = ((value ≡ 0) × (stamp ≡ 0)) ⊎ ((r : Raise) × In r rs × (value ≡ r.to)
-    × (stamp ≡ r.stamp))
+Stood rs value stamp = ((value ≡ 0) × (stamp ≡ 0))
+    ⊎ ((r : Raise) × Contains rs r × (value ≡ r.to) × (stamp ≡ r.stamp))

@@ -3,7 +3,7 @@ ghost use Rattle.clear_core.specs.History.{ordered};
 ghost use Rattle.clr_net.specs.Net.{creditor_of, debtor_of};
 ghost use Rattle.pay_words.specs.Belongs.{Belongs};
 ghost use Rattle.pay_words.specs.Ends.{Ends};
-ghost use Rattle.pay_words.specs.Kept.{TakeTells, after_take};
+ghost use Rattle.pay_words.specs.BoardRule.{TakeTells, after_take};
 ghost use Rattle.pay_words.specs.Views.{HasSeenAll, HasSeenFloor, HoldsAll, HoldsAllOf, IsAt};
 ghost use Rattle.pay_words.specs.Views.{IsCalm, OwesNoRing, OwesRing, handed, holds, is_marked};
 ghost use Rattle.pay_words.specs.Views.{looked, opening, raised, rejoined, rung, took, without};

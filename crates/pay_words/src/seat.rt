@@ -30,7 +30,7 @@ pub struct PaySeat {
 
 impl Model for PaySeat {
     ghost use Rattle.std.specs.Prelude.{◌≡◌, []};
-    ghost use Rattle.pay_words.specs.Seats.{IsKeptIn, purse};
+    ghost use Rattle.pay_words.specs.Seats.{IsInMemory, purse};
     ghost use Rattle.pay_words.specs.Views.{Chair};
 
     ghost Value = { Chair };
@@ -40,7 +40,7 @@ impl Model for PaySeat {
       shows = s.seat.me.0.shown;
     } };
 
-    ghost invariant = { λ s. (s.seat.me.1 ≡ []) × IsKeptIn s.seat.me.0
+    ghost invariant = { λ s. (s.seat.me.1 ≡ []) × IsInMemory s.seat.me.0
         (purse s.own s.lists.items s.debtors.items s.workers s.worker) s.clock s.seats };
 }
 

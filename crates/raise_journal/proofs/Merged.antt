@@ -1,12 +1,12 @@
 -- Raises that are merged are the same raises, and in order they are the same list.
-use Rattle.std.proofs.Common.{◌≡◌, ◌⊎◌, ℕ, zero, suc, ◌+◌, ◌-◌, ◌<◌, ◌≤◌, not, Bool, true, false, cond, List, [], ◌∷◌, ◌++◌, length, length-drop, get_or, set, take, drop, refl, sym, ap, ◌∙◌, subst, ⊎_elim, arith, add-one, append_assoc}
+use Rattle.std.proofs.Common.{◌≡◌, ◌⊎◌, ℕ, zero, suc, ◌+◌, ◌-◌, ◌<◌, ◌≤◌, not, Bool, true, false, List, [], ◌∷◌, ◌++◌, length, length-drop, get_or, set, take, drop, refl, sym, ap, ◌∙◌, subst, ⊎_elim, arith, add-one, append_assoc}
 use Rattle.std.proofs.lemmas.List.{append-nil, drop-set, drop_all, drop_at, get_or_default, length-set, take-append-drop, take-set-le, take_all, take_at, take_more}
 use Rattle.std.specs.List.Sorted.{IsPermutation}
-use Rattle.std.proofs.lemmas.List.Sorted.{IsPermutation-refl, IsPermutation-cons, IsPermutation-middle, IsPermutation-append, IsPermutation-append_left, IsPermutation-append_right, IsPermutation-sym, IsPermutation-trans}
+use Rattle.std.proofs.lemmas.List.Sorted.{IsPermutation-refl, IsPermutation-middle, IsPermutation-append, IsPermutation-append_left, IsPermutation-append_right, IsPermutation-sym, IsPermutation-trans}
 use Rattle.std.proofs.lemmas.Bool.{not-false, not-true}
 use Rattle.clear_core.specs.declared.event.Raise.{Raise}
-use Rattle.clear_core.specs.History.{may_precede, with_raise, ordered}
-use Rattle.clear_core.proofs.Ordered.{InTurn, follows, in_turn}
+use Rattle.clear_core.specs.History.{may_precede, ordered}
+use Rattle.clear_core.proofs.Ordered.{InTurn, follows, in_turn, ordered_moves}
 use Rattle.clear_core.proofs.OneOrder.{only_order}
 use Rattle.raise_journal.specs.Gathered.{AreInOrder, HasGrownBy, HasMerged}
 
@@ -39,19 +39,6 @@ unfolding InTurn
 turn_joined [] x y ys h e g = (e, g)
 turn_joined (a ∷ []) x y ys h e g = (h.0, (e, g))
 turn_joined (a ∷ b ∷ xs) x y ys h e g = (h.0, turn_joined (b ∷ xs) x y ys h.1 e g)
-
--- a raise put in its place, and raises put in order, are the same raises
-put_moves : (r : Raise) (rs : List Raise) → IsPermutation (r ∷ rs) (with_raise r rs)
-put_moves r [] = IsPermutation-refl (r ∷ [])
-put_moves r (q ∷ rs) = by_test (may_precede r q) (put_moves r rs)
-  where
-    by_test : (b : Bool) → IsPermutation (r ∷ rs) (with_raise r rs) → IsPermutation (r ∷ q ∷ rs) (cond b (r ∷ q ∷ rs) (q ∷ with_raise r rs))
-    by_test true h = IsPermutation-refl (r ∷ q ∷ rs)
-    by_test false h = IsPermutation-trans (r ∷ q ∷ rs) (q ∷ r ∷ rs) (q ∷ with_raise r rs) (IsPermutation-middle (r ∷ []) q rs) (IsPermutation-cons q (r ∷ rs) (with_raise r rs) h)
-
-ordered_moves : (rs : List Raise) → IsPermutation rs (ordered rs)
-ordered_moves [] = IsPermutation-refl []
-ordered_moves (r ∷ rs) = IsPermutation-trans (r ∷ rs) (r ∷ ordered rs) (with_raise r (ordered rs)) (IsPermutation-cons r rs (ordered rs) (ordered_moves rs)) (put_moves r (ordered rs))
 
 -- the same raises have one order
 pub ordered_permuted : (rs qs : List Raise) → IsPermutation rs qs → ordered qs ≡ ordered rs

@@ -1,12 +1,11 @@
 -- The debt of a debtor, a creditor and a class, by its number.
-use Rattle.std.proofs.Common.{◌≡◌, ℕ, ◌<◌, ◌==◌, ◌&&◌, true, List, [], ◌∷◌, length, get_or, slice_get, Some, None, refl, sym, ap, ◌∙◌, arith, eq-eqb}
+use Rattle.std.proofs.Common.{◌≡◌, ℕ, ◌<◌, ◌==◌, ◌&&◌, true, List, length, get_or, slice_get, Some, None, refl, sym, ap, ◌∙◌, arith, eq-eqb}
 use Rattle.std.specs.Prelude.{position, Option, IfNone, IfSome, false}
 use Rattle.std.specs.List.{list_any}
 use Rattle.std.specs.Option.{option_map, option_map_or}
 use Rattle.std.proofs.lemmas.Bool.{lt-ltb, le-ltb, false_from_ne_true, eqb-true, and_from, and_parts}
 use Rattle.std.proofs.lemmas.List.Sums.{position_or_len_is}
 use Rattle.std.proofs.lemmas.Option.{get_or_from_slice_get, slice_get-get_or}
-use Rattle.csv.specs.Records.{field_at}
 use Rattle.clr_net.specs.Limits.{IsNetwork, IsOfKind, IsNewKind}
 use Rattle.clr_net.specs.Net.{Net, is_debt_of, is_of_kind}
 use Rattle.clr_net.specs.declared.debt.Debt.{Debt}
@@ -67,23 +66,3 @@ place_is net a b c ns None network tell some none =
 place_is net a b c ns (Some id) network tell some none =
     let d : Debt = record { debtor = record { 0 = 0 }; creditor = record { 0 = 0 }; class = 0; claim = 0 } in
     sym (kind_found net a b c id.0 (get_or net.debts id.0 d) network some.1 (slice_get-get_or net.debts id.0 d some.1) some.0)
-
--- a record of two fields, and of five, by its fields
-pub two_are : (fields : List (List ℕ)) (a b : List ℕ) → length fields ≡ 2 → field_at fields 0 ≡ Some a → field_at fields 1 ≡ Some b
-    → fields ≡ a ∷ b ∷ []
-unfolding field_at
-two_are [] a b e p q = absurd (omega (arith, e))
-two_are (x ∷ []) a b e p q = absurd (omega (arith, e))
-two_are (x ∷ y ∷ []) a b e p q = cc
-two_are (x ∷ y ∷ z ∷ rest) a b e p q = absurd (omega (arith, e))
-
-pub five_are : (fields : List (List ℕ)) (a b c d e : List ℕ) → length fields ≡ 5 → field_at fields 0 ≡ Some a → field_at fields 1 ≡ Some b
-    → field_at fields 2 ≡ Some c → field_at fields 3 ≡ Some d → field_at fields 4 ≡ Some e → fields ≡ a ∷ b ∷ c ∷ d ∷ e ∷ []
-unfolding field_at
-five_are [] a b c d e l p q r s t = absurd (omega (arith, l))
-five_are (x ∷ []) a b c d e l p q r s t = absurd (omega (arith, l))
-five_are (x ∷ y ∷ []) a b c d e l p q r s t = absurd (omega (arith, l))
-five_are (x ∷ y ∷ z ∷ []) a b c d e l p q r s t = absurd (omega (arith, l))
-five_are (x ∷ y ∷ z ∷ w ∷ []) a b c d e l p q r s t = absurd (omega (arith, l))
-five_are (x ∷ y ∷ z ∷ w ∷ v ∷ []) a b c d e l p q r s t = cc
-five_are (x ∷ y ∷ z ∷ w ∷ v ∷ u ∷ rest) a b c d e l p q r s t = absurd (omega (arith, l))

@@ -4,6 +4,7 @@
 //! it. What is lawful and leaves every bank quiet pays the least clearing payments.
 #![tactic(auto)]
 
+mod dividing;
 mod gathering;
 pub mod laws;
 mod printing;

@@ -14,8 +14,8 @@ use Rattle.rule_class.proofs.OrderFill.{length-fill, get_or-fill}
 use Rattle.rule_level.specs.InTurn.{IsInTurn}
 use Rattle.rule_level.specs.Levels.{at_level, level_awards, step_at, awards_above}
 use Rattle.rule_level.proofs.InTurn.{goes_before_later, award_in_turn}
-use Rattle.rule_level.proofs.Levels.{at_level_within, last_before_next, level_awards_at}
-use Rattle.rule_level.proofs.Steps.{level_rises, level_more, steps_at, sum_next_level}
+use Rattle.rule_level.proofs.Levels.{is_level, last_before_next, level_awards_at}
+use Rattle.rule_level.proofs.Steps.{level_rises, steps_at, sum_next_level}
 use Rattle.rule_level.proofs.Ties.{next_level_tied}
 
 -- all units are filled in, as far as there is room
@@ -78,13 +78,18 @@ module _ (rule : RuleKind) (t m : ℕ) (claims : List ℕ) (limit : (k : ℕ) �
   above_within : IsWithin claims above
   above_within = record {
     as_many = length-place_sums (level_awards rule t claims) (fill (map (step_at rule t) claims) m) ∙ length-map claims (at_level rule t);
-    within = λ k. omega (arith, above_at k, level_rises rule t (get_or claims k 0), at_level_within rule (t + 1) (get_or claims k 0));
+    within = λ k. omega (arith, above_at k, level_rises rule t (get_or claims k 0), (is_level rule (t + 1) (get_or claims k 0)).within);
   }
 
-  -- the last unit that the place i has got and the next one of the place j
-  given_or_tied : (i j : ℕ) → 0 < get_or above i 0 → get_or above j 0 < get_or claims j 0
-      → (goes_before rule (get_or claims i 0) (get_or above i 0 - 1) (get_or claims j 0) (get_or above j 0) ≡ true)
-      ⊎ ((goes_before rule (get_or claims j 0) (get_or above j 0) (get_or claims i 0) (get_or above i 0 - 1) ≡ false) × (i ≤ j))
+  -- the last unit that the place i has got goes before the next one of the place j, or they tie and j is not the earlier
+  abbrev IsBefore : ℕ → ℕ → Type 0
+  IsBefore i j = goes_before rule (get_or claims i 0) (get_or above i 0 - 1) (get_or claims j 0) (get_or above j 0) ≡ true
+
+  abbrev IsTied : ℕ → ℕ → Type 0
+  IsTied i j =
+      (goes_before rule (get_or claims j 0) (get_or above j 0) (get_or claims i 0) (get_or above i 0 - 1) ≡ false) × (i ≤ j)
+
+  given_or_tied : (i j : ℕ) → 0 < get_or above i 0 → get_or above j 0 < get_or claims j 0 → IsBefore i j ⊎ IsTied i j
   given_or_tied i j s l =
       let ci = get_or claims i 0 in
       let cj = get_or claims j 0 in
@@ -92,8 +97,8 @@ module _ (rule : RuleKind) (t m : ℕ) (claims : List ℕ) (limit : (k : ℕ) �
       let aj = get_or above j 0 in
       let at_i = above_at i in
       let at_j = above_at j in
-      let more_i = level_more rule t ci (limit i) in
-      let more_j = level_more rule t cj (limit j) in
+      let more_i = (is_level rule t ci).more (limit i) in
+      let more_j = (is_level rule t cj).more (limit j) in
       let rises_i = level_rises rule t ci in
       let rises_j = level_rises rule t cj in
       ⊎_elim
@@ -120,15 +125,13 @@ module _ (rule : RuleKind) (t m : ℕ) (claims : List ℕ) (limit : (k : ℕ) �
   above_in_turn : IsInTurn rule claims above
   above_in_turn = record {
     none_before = λ i j s l. ⊎_elim
-        (λ (h : goes_before rule (get_or claims i 0) (get_or above i 0 - 1) (get_or claims j 0) (get_or above j 0) ≡ true).
+        (λ (h : IsBefore i j).
         never_back rule (get_or claims i 0) (get_or above i 0 - 1) (get_or claims j 0) (get_or above j 0) h)
-        (λ (h : (goes_before rule (get_or claims j 0) (get_or above j 0) (get_or claims i 0) (get_or above i 0 - 1) ≡ false) × (i ≤ j)).
-        h.0)
+        (λ (h : IsTied i j). h.0)
         (given_or_tied i j s l);
     earlier_at_tie = λ i j b s l. ⊎_elim
-        (λ (h : goes_before rule (get_or claims i 0) (get_or above i 0 - 1) (get_or claims j 0) (get_or above j 0) ≡ true). h)
-        (λ (h : (goes_before rule (get_or claims j 0) (get_or above j 0) (get_or claims i 0) (get_or above i 0 - 1) ≡ false) × (i ≤ j)).
-        absurd (omega (arith, h.1, b)))
+        (λ (h : IsBefore i j). h)
+        (λ (h : IsTied i j). absurd (omega (arith, h.1, b)))
         (given_or_tied i j s l);
   }
 

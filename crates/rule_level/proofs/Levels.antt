@@ -1,5 +1,5 @@
 -- The awards at a level are given in turn.
-use Rattle.std.proofs.Common.{◌≡◌, ℕ, zero, suc, ◌+◌, ◌-◌, ◌*◌, ◌/◌, ◌<◌, ◌≤◌, true, List, [], ◌∷◌, get_or, min, sym, refl, ap, arith, mul-le-mul_left, ⊎_elim}
+use Rattle.std.proofs.Common.{◌≡◌, ℕ, zero, suc, ◌+◌, ◌-◌, ◌*◌, ◌/◌, ◌<◌, ◌≤◌, true, List, [], ◌∷◌, get_or, map, min, sym, refl, ap, arith, mul-le-mul_left, ⊎_elim}
 use Rattle.std.proofs.Math.Nat.{lt_of_mul-lt-mul_left, mul-lt-mul_of_pos_left, lt-mul-div-succ, le-mul_of_pos_right}
 use Rattle.std.proofs.lemmas.Bool.{cases_lt, lt-ltb}
 use Rattle.std.proofs.lemmas.List.{length-map}
@@ -73,30 +73,35 @@ last_before_next kind.Adams t c d s l =
     let b = min d ((t * d + (MAX_LEVEL - 1)) / MAX_LEVEL) in
     lt-ltb (d * (a - 1)) (c * b) (rounded_up t c (a - 1) d b MAX_LEVEL (omega arith) (omega arith) (omega arith) (omega arith))
 
-pub at_level_of_none : (kind : RuleKind) (t : ℕ) → at_level kind t 0 ≡ 0
-at_level_of_none kind.Order t = refl
-at_level_of_none kind.Equal t = omega arith
-at_level_of_none kind.Losses t = omega arith
-at_level_of_none kind.Jefferson t = omega arith
-at_level_of_none kind.Webster t = omega arith
-at_level_of_none kind.Adams t = omega arith
+-- a claim gets no more than it is at a level, no less at the next, and, in the limit, at most one unit more
+pub record IsLevel (kind : RuleKind) (t c : ℕ) : Type 0 where
+  pub within : at_level kind t c ≤ c
+  pub rises : at_level kind t c ≤ at_level kind (t + 1) c
+  pub more : c ≤ MAX_CLAIM → at_level kind (t + 1) c ≤ at_level kind t c + 1
 
-pub at_level_within : (kind : RuleKind) (t c : ℕ) → at_level kind t c ≤ c
-at_level_within kind.Order t c = omega arith
-at_level_within kind.Equal t c = omega arith
-at_level_within kind.Losses t c = omega arith
-at_level_within kind.Jefferson t c = omega arith
-at_level_within kind.Webster t c = omega arith
-at_level_within kind.Adams t c = omega arith
+pub is_level : (kind : RuleKind) (t c : ℕ) → IsLevel kind t c
+is_level kind.Order t c = record { within = omega arith; rises = omega arith; more = λ l. omega arith }
+is_level kind.Equal t c = record { within = omega arith; rises = omega arith; more = λ l. omega arith }
+is_level kind.Losses t c = record { within = omega arith; rises = omega arith; more = λ l. omega arith }
+is_level kind.Jefferson t c = record { within = omega arith; rises = omega arith; more = λ l. omega arith }
+is_level kind.Webster t c = record { within = omega arith; rises = omega arith; more = λ l. omega arith }
+is_level kind.Adams t c = record { within = omega arith; rises = omega arith; more = λ l. omega arith }
+
+pub at_level_of_none : (kind : RuleKind) (t : ℕ) → at_level kind t 0 ≡ 0
+at_level_of_none kind t = omega (arith, (is_level kind t 0).within)
+
+-- what f makes of the items of a list, read at a place or past the end
+pub get_or-map_zero : (f : ℕ → ℕ) → f 0 ≡ 0 → (xs : List ℕ) (k : ℕ) → get_or (map f xs) k 0 ≡ f (get_or xs k 0)
+get_or-map_zero f none [] k = sym none
+get_or-map_zero f none (x ∷ xs) zero = refl
+get_or-map_zero f none (x ∷ xs) (suc k) = get_or-map_zero f none xs k
 
 pub level_awards_at : (kind : RuleKind) (t : ℕ) (claims : List ℕ) (k : ℕ)
     → get_or (level_awards kind t claims) k 0 ≡ at_level kind t (get_or claims k 0)
-level_awards_at kind t [] k = sym (at_level_of_none kind t)
-level_awards_at kind t (x ∷ claims) zero = refl
-level_awards_at kind t (x ∷ claims) (suc k) = level_awards_at kind t claims k
+level_awards_at kind t = get_or-map_zero (at_level kind t) (at_level_of_none kind t)
 
 pub level_awards_within : (kind : RuleKind) (t : ℕ) (claims : List ℕ) → IsWithin claims (level_awards kind t claims)
 level_awards_within kind t claims = record {
   as_many = length-map claims (at_level kind t);
-  within = λ k. omega (arith, level_awards_at kind t claims k, at_level_within kind t (get_or claims k 0));
+  within = λ k. omega (arith, level_awards_at kind t claims k, (is_level kind t (get_or claims k 0)).within);
 }

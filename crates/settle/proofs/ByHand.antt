@@ -1,16 +1,13 @@
 -- A round whose seats a caller hands out and takes back.
 use Rattle.std.proofs.Common.{◌≡◌, ℕ, zero, suc, ◌+◌, ◌-◌, ◌≤◌, true, false, List, length, inl, refl, ◌∙◌, subst, arith}
-use Rattle.std.specs.Prelude.{◌&&◌, ◌||◌, not}
-use Rattle.std.proofs.lemmas.List.{get_or-replicate, length-map, length-replicate}
+use Rattle.std.proofs.lemmas.List.{get_or-replicate}
 use Rattle.clr_net.specs.Limits.{IsNetwork}
-use Rattle.clr_net.specs.Net.{Net, debtor_of, creditor_of}
+use Rattle.clr_net.specs.Net.{Net}
 use Rattle.clear_core.specs.declared.event.Raise.{Raise}
 use Rattle.bank_worker.specs.Views.{Crew}
-use Rattle.pay_words.specs.declared.payment.Payment.{Payment}
 use Rattle.pay_words.specs.declared.view.Shown.{Shown}
 use Rattle.pay_words.specs.Traces.{last_payment, start_of}
-use Rattle.pay_words.specs.Views.{Panel, IsOver, holds, is_of_worker, opening, rejoined, without}
-use Rattle.pay_words.proofs.Marks.{length-chosen}
+use Rattle.pay_words.specs.Views.{Panel, IsOver, opening}
 use Rattle.pay_words.proofs.Tables.{length-tabled}
 use Rattle.settle.specs.Between.{AreOfBoard, IsBack, IsBetween, crews, without_first}
 use Rattle.settle.specs.ByHand.{after_round, with_last}
@@ -20,74 +17,23 @@ use Rattle.settle.specs.declared.plan.Plan.{Plan}
 use Rattle.settle.proofs.Handed.{first_rest, length-crews}
 use Rattle.settle.proofs.Returned.{back_more, back_none, known_banks}
 use Rattle.settle.proofs.Rounded.{between_again, of_board}
+use Rattle.pay_words.proofs.Lengths.{over_without, over_rejoined, over_opening}
 
 -- the lists of a seat keep their lengths while seats are handed out and taken back
-over_without : (w i : ℕ) (s : Shown) → IsOver s → IsOver (without w i s)
-over_without w i s o = record {
-  banks = length-tabled (length s.net.banks) (λ b. holds s b && not (is_of_worker w i b));
-  sights = o.sights;
-  sight_stamps = o.sight_stamps;
-  looks = o.looks;
-  paid = o.paid;
-  paid_stamps = o.paid_stamps;
-  floor = o.floor;
-  pending = o.pending;
-  owes_ring = o.owes_ring;
-  fresh = o.fresh;
-}
-
 over_first : (w n : ℕ) (s : Shown) → IsOver s → IsOver (without_first w n s)
 over_first w zero s o = o
 over_first w (suc n) s o = over_without w n (without_first w n s) (over_first w n s o)
 
-over_rejoined : (s t : Shown) → IsOver (rejoined s t)
-over_rejoined s t =
-    let owes = λ (x : ℕ). holds t (debtor_of s.net x) in
-    let gets = λ (x : ℕ). holds t (creditor_of s.net x) in
-    let debts = length s.net.debts in
-    record {
-      banks = length-tabled (length s.net.banks) (λ b. holds s b || holds t b);
-      sights = length-chosen 0 debts gets s.sights t.sights;
-      sight_stamps = length-chosen 0 debts gets s.sight_stamps t.sight_stamps;
-      looks = length-chosen 0 debts gets s.looks t.looks;
-      paid = length-chosen 0 debts owes s.paid t.paid;
-      paid_stamps = length-chosen 0 debts owes s.paid_stamps t.paid_stamps;
-      floor = length-chosen 0 debts owes s.floor t.paid;
-      pending = length-chosen false debts gets s.pending t.pending;
-      owes_ring = length-chosen false debts owes s.owes_ring t.owes_ring;
-      fresh = length-chosen false (length s.net.banks) (holds t) s.fresh t.fresh;
-    }
-
 over_last : (ws : List Crew) (n k : ℕ) (s : Shown) → IsOver s → IsOver (with_last ws n k s)
 over_last ws n zero s o = o
-over_last ws n (suc k) s o = over_rejoined (with_last ws n k s) (crew_at ws (n - suc k)).seat.shows
-
--- an opened board
-over_opening : (net : Net) (past : List Raise) → IsOver (opening net (start_of net past))
-over_opening net past =
-    let start = start_of net past in
-    let size = length-tabled (length net.debts) (λ x. last_payment x past) in
-    let values = length-map start (λ (p : Payment). p.value) ∙ size in
-    let stamps = length-map start (λ (p : Payment). p.stamp) ∙ size in
-    record {
-      banks = length-replicate (length net.banks) true;
-      sights = values;
-      sight_stamps = stamps;
-      looks = length-replicate (length net.debts) 0;
-      paid = values;
-      paid_stamps = stamps;
-      floor = values;
-      pending = length-replicate (length net.debts) false;
-      owes_ring = length-replicate (length net.debts) false;
-      fresh = length-replicate (length net.banks) true;
-    }
+over_last ws n (suc k) s o = let cur = with_last ws n k s in over_rejoined cur.net cur (crew_at ws (n - suc k)).seat.shows refl
 
 pub opened_stands : (net : Net) (past : List Raise) → IsNetwork net → IsBetween net (opening net (start_of net past))
 opened_stands net past network = record {
   network = network;
   net_is = refl;
   master = refl;
-  over = over_opening net past;
+  over = over_opening net (start_of net past) (length-tabled (length net.debts) (λ x. last_payment x past));
   holds_all = λ b lb. get_or-replicate (length net.banks) b true false lb;
   no_rings = λ x lx. get_or-replicate (length net.debts) x false false lx;
   calm = λ x lx. get_or-replicate (length net.debts) x false false lx;

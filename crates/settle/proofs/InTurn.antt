@@ -7,10 +7,11 @@ use Rattle.pay_words.specs.Views.{Panel}
 use Rattle.bank_worker.specs.BankSets.{is_in}
 use Rattle.bank_worker.specs.Called.{AreCalledOrAtRest, KeepsOthers}
 use Rattle.bank_worker.specs.Views.{Crew, desk_at}
-use Rattle.bank_worker.specs.Visits.{IsRounded, IsSameCrew, VisitsByBells}
 use Rattle.settle.specs.Calls.{AllCalledOrAtRest, AreApart}
 use Rattle.settle.specs.Rounds.{AreReady, AreRounded, IsReady, crew_at, no_crew}
 use Rattle.settle.proofs.Joined.{rounded_append, rounded_one}
+use Rattle.bank_worker.specs.Grows.{MakesRound}
+use Rattle.bank_worker.specs.declared.visit.Visit.TheVariants.{Raised}
 
 -- the first n workers made their rounds, by so many units, and the others did nothing yet; each bank of these is called, or it is at rest
 pub record TurnTo (sweeps units : ℕ) (olds news : List Crew) (n : ℕ) (called : List ℕ) : Type 0 where
@@ -55,16 +56,16 @@ others_called olds n i old new apart ln li less keeps h k lk out =
 
 -- one worker more
 pub turn_more : (sweeps units more : ℕ) (olds news : List Crew) (n : ℕ) (old new : List ℕ) (o w : Crew) → n < length olds → AreApart olds → TurnTo sweeps units olds news n old
-    → o ≡ crew_at olds n → IsSameCrew o w → VisitsByBells sweeps o w → IsRounded more o w → more ≤ 1000000 * MAX_OWED
-    → KeepsOthers o.seat.shows old new → TurnTo sweeps (units + more) olds (set news n w) (n + 1) new
-turn_more sweeps units more olds news n old new o w lt apart h here same visits r few keeps =
+    → o ≡ crew_at olds n → MakesRound sweeps (Raised more) o w → KeepsOthers o.seat.shows old new
+    → TurnTo sweeps (units + more) olds (set news n w) (n + 1) new
+turn_more sweeps units more olds news n old new o w lt apart h here m keeps =
     let lt' : n < length news = omega (arith, lt, h.as_many) in
     record {
       as_many = length-set news n w ∙ h.as_many;
       rounded =
           subst (λ os. AreRounded sweeps (units + more) os (take (n + 1) (set news n w))) (sym (take_more olds n no_crew lt ∙ ap (λ (c : Crew). take n olds ++ c ∷ []) (sym here)))
           (subst (AreRounded sweeps (units + more) (take n olds ++ o ∷ [])) (sym (take_more_set news n w lt'))
-          (rounded_append sweeps units more (take n olds) (o ∷ []) (take n news) (w ∷ []) h.rounded (rounded_one sweeps more o w same visits r few)));
+          (rounded_append sweeps units more (take n olds) (o ∷ []) (take n news) (w ∷ []) h.rounded (rounded_one sweeps more o w m)));
       left = λ i le. get_or-set_other news n i w no_crew (λ e. omega (arith, e, le)) ∙ h.left i (omega (arith, le));
       waiting = λ i le li. others_called olds n i old new apart lt li (omega (arith, le)) (subst (λ (c : Crew). KeepsOthers c.seat.shows old new) here keeps) (h.waiting i (omega (arith, le)) li);
     }

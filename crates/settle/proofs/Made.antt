@@ -62,7 +62,7 @@ made_in_round net plan units visits s t r =
       no_act = ap (λ (c : Crew). c.seat.shows.acts) is;
       no_raise = ap (λ (c : Crew). c.seat.shows.raises) is;
       units = m.units;
-      by_visits = m.rounded.by_visits;
+      by_visits = m.rounded.gone.by_visits;
     })
 
 -- the workers of rounds one after another

@@ -1,5 +1,5 @@
 -- What a round of all workers leaves, once the seats are back.
-use Rattle.std.proofs.Common.{◌≡◌, ◌≢◌, ℕ, suc, ◌+◌, ◌*◌, ◌<◌, ◌≤◌, true, true≢false, List, [], ◌∷◌, ◌++◌, length, get_or, map, sum, inr, refl, sym, ap, ◌∙◌, subst, ⊎_elim, arith, eq-eqb, eqb-true}
+use Rattle.std.proofs.Common.{◌≡◌, ◌≢◌, ℕ, suc, ◌+◌, ◌*◌, ◌<◌, ◌≤◌, true, true≢false, List, [], ◌∷◌, ◌++◌, length, get_or, map, sum, inr, refl, sym, ap, ◌∙◌, subst, ⊎_elim, arith, eq-eqb, eqb-true, length-append}
 use Rattle.std.specs.Prelude.{◌%◌, sum_by, slice_index}
 use Rattle.std.proofs.lemmas.Bool.{cases_lt}
 use Rattle.std.proofs.lemmas.List.{get_or-map, get_or_past, length-map}
@@ -46,6 +46,12 @@ lists_equal_sums d f [] (y ∷ ys) l h = absurd (omega (arith, l))
 lists_equal_sums d f (x ∷ xs) [] l h = absurd (omega (arith, l))
 lists_equal_sums d f (x ∷ xs) (y ∷ ys) l h = omega (arith, sum_by-cons f x xs, sum_by-cons f y ys, h 0 (omega arith), lists_equal_sums d f xs ys (omega (arith, l)) (λ k lk. h (suc k) (omega (arith, lk))))
 
+-- how many raises there are of all workers
+length-raises_of_all : (ws : List Crew) → length (raises_of_all ws) ≡ sum_by raises_by ws
+length-raises_of_all [] = refl
+length-raises_of_all (w ∷ ws) = omega
+    (arith, length-append (raises_of_all ws) w.seat.shows.raises, sum_by-cons raises_by w ws, length-raises_of_all ws)
+
 module _ (board : Panel) (net : Net) (s : Shown) (w sweeps n : ℕ) (news : List Crew) (here : net ≡ board.net) (workers : w ≡ board.table.workers) (some : 1 ≤ w) (few_sweeps : sweeps ≤ 1000)
     (between : IsBetween net s) (rounded : AreRounded sweeps n (crews w board.table s w) news) where
   as_many : length news ≡ w
@@ -72,7 +78,7 @@ module _ (board : Panel) (net : Net) (s : Shown) (w sweeps n : ℕ) (news : List
             m.same.seat.banks
             ∙ ap (λ (m : Net). tabled (length m.banks) (is_of_worker w i)) (between.net_is ∙ here)
             ∙ ap (λ k. tabled (length board.net.banks) (is_of_worker k i)) workers;
-        no_rings = m.rounded.no_rings;
+        no_rings = m.rounded.gone.no_rings;
         by_bells = omega (arith, m.visits.by_bells);
         few_visits = omega (arith, m.visits.at_most, few_in_all sweeps (length (desks_held (handed w i s))) few_sweeps (omega arith));
       }
@@ -112,8 +118,8 @@ module _ (board : Panel) (net : Net) (s : Shown) (w sweeps n : ℕ) (news : List
       let m = made_round i li in
       let zero : raises_by (crew_at news i) ≡ 0 = omega (arith, none, get_or-le-sum_by raises_by news i no_crew (omega (arith, li, as_many))) in
       dite (ℕ_discrete m.units 0)
-      (λ u. omega (arith, m.rounded.rose, u))
-      (λ more. absurd (omega (arith, m.rounded.raises.1 more, zero)))))))
+      (λ u. omega (arith, m.rounded.gone.grows.rose, u))
+      (λ more. absurd (omega (arith, m.rounded.gone.grows.seat.raises.1 more, zero)))))))
       (λ some. omega (arith, some))
 
   -- the worker of the bank b has brought it to rest
@@ -152,7 +158,8 @@ module _ (board : Panel) (net : Net) (s : Shown) (w sweeps n : ℕ) (news : List
         omega (arith, seen, ap (λ fs. get_or fs x 0) m.same.seat.floor, between.floor x lx)
 
     pub not_fallen : (x : ℕ) → x < length net.debts → get_or s.paid x 0 ≤ get_or (crew_at news (b % w)).seat.shows.paid x 0
-    not_fallen x lx = (made_round (b % w) worker_of).rounded.none_fell x (omega (arith, lx, ap (λ (m : Net). length m.debts) between.net_is))
+    not_fallen x lx = (made_round (b % w) worker_of).rounded.gone.grows.seat.none_fell x
+        (omega (arith, lx, ap (λ (m : Net). length m.debts) between.net_is))
 
   -- once all seats are back
   module _ (m t : Shown) (over : IsOver t) (back : IsBack board.table.workers board.net m news t 0) where
@@ -200,7 +207,7 @@ module _ (board : Panel) (net : Net) (s : Shown) (w sweeps n : ℕ) (news : List
           let li = worker_of b lb in
           let same = net_of i li in
           back'.rings x lx (omega arith) (lw b)
-          ∙ (made_round i li).rounded.no_rings x (omega (arith, lx, ap (λ (m : Net). length m.debts) same))
+          ∙ (made_round i li).rounded.gone.no_rings x (omega (arith, lx, ap (λ (m : Net). length m.debts) same))
           (ap (λ (m : Net). holds (crew_at news i).seat.shows (debtor_of m x)) same ∙ holds_it b lb);
       calm = λ x lx.
           let b = creditor_of net x in
@@ -209,7 +216,7 @@ module _ (board : Panel) (net : Net) (s : Shown) (w sweeps n : ℕ) (news : List
           let li = worker_of b lb in
           let same = net_of i li in
           back'.pending x lx (omega arith) (lw b)
-          ∙ (made_round i li).rounded.calm b (omega (arith, lb, ap (λ (m : Net). length m.banks) same))
+          ∙ (made_round i li).rounded.gone.calm b (omega (arith, lb, ap (λ (m : Net). length m.banks) same))
           (holds_it b lb)
           x (omega (arith, lx, ap (λ (m : Net). length m.debts) same)) (ap (λ (m : Net). creditor_of m x) same);
       rest = λ b lb. inr (all_divide b lb);
@@ -229,13 +236,13 @@ module _ (board : Panel) (net : Net) (s : Shown) (w sweeps n : ℕ) (news : List
           (λ (r : IsRaisedIn (crew_at news i).seat.shows.raises x).
           absurd (true≢false (sym (calls i (omega arith) (lw (debtor_of net x)) x lx r) ∙ ap (is_in called) here ∙ out)))
           (λ (same : get_or (crew_at news i).seat.shows.paid x 0 ≡ get_or s.paid x 0). omega (arith, again.floor x lx, paid_is x lx, same, all_seen x lx))
-          ((made_round i li).rounded.told x (omega (arith, lx, ap (λ (m : Net). length m.debts) between.net_is)));
+          ((made_round i li).rounded.gone.grows.told x (omega (arith, lx, ap (λ (m : Net). length m.debts) between.net_is)));
     }
 
     -- what a worker's debts are paid more than before
     fell_nowhere : (i : ℕ) → i < w → (x : ℕ) → get_or s.paid x 0 ≤ get_or (crew_at news i).seat.shows.paid x 0
     fell_nowhere i li x = ⊎_elim
-        (λ (lx : x < length s.net.debts). (made_round i li).rounded.none_fell x lx)
+        (λ (lx : x < length s.net.debts). (made_round i li).rounded.gone.grows.seat.none_fell x lx)
         (λ (ge : length s.net.debts ≤ x). omega (arith, get_or_past s.paid x 0 (omega (arith, ge, between.over.paid))))
         (cases_lt x (length s.net.debts))
 
@@ -250,7 +257,8 @@ module _ (board : Panel) (net : Net) (s : Shown) (w sweeps n : ℕ) (news : List
         let u = (crew_at news i).seat.shows in
         let crew_same : paid_by_crew (crew_at olds i) ≡ paid_by_crew (crew_at news i) =
         agree_where_sums_do no_crew paid_by_crew paid_by_crew olds news rounded.as_many
-        (λ k lk. let lk' : k < w = omega (arith, lk, length-crews w board.table s w) in omega (arith, ap paid_by_crew (crew_there w board.table s w k lk'), (made_round k lk').rounded.rose))
+        (λ k lk. let lk' : k < w = omega (arith, lk, length-crews w board.table s w) in omega
+        (arith, ap paid_by_crew (crew_there w board.table s w k lk'), (made_round k lk').rounded.gone.grows.rose))
         (omega (arith, rounded.rose)) i (omega (arith, li, length-crews w board.table s w)) in
         let desks = (crew_at news i).desks in
         let all_same : paid_by_all u desks ≡ paid_by_all s desks = sym crew_same ∙ ap paid_by_crew (crew_there w board.table s w i li) ∙ ap (λ ds. paid_by_all s ds) (sym (made_round i li).same.desks) in
@@ -295,12 +303,19 @@ module _ (board : Panel) (net : Net) (s : Shown) (w sweeps n : ℕ) (news : List
 
     -- the round, where the master shows so many takes and the workers' raises more, and nothing above the least payments
     pub round_is : (visits : ℕ) → m ≡ without_first w w s → t.taken ≡ m.taken + visits → visits ≡ sum_by (λ (k : Crew). k.visits) news
-        → length t.raises ≡ length m.raises + sum_by raises_by news → t.raises ≡ m.raises ++ raises_of_all news
+        → t.raises ≡ m.raises ++ raises_of_all news
         → IsAtMost t.paid (least t.net) → IsAtMost t.sights (least t.net) → IsRoundOf net (record { workers = w; sweeps = sweeps }) n visits s t
-    round_is visits is taken in_all many made paid_low sights_low =
+    round_is visits is taken in_all made paid_low sights_low =
         let rest = subst (IsRest w s) (sym is) (first_rest w w s) in
+        let many : length t.raises ≡ length m.raises + sum_by raises_by news = omega
+        (arith, ap length made, length-append m.raises (raises_of_all news), length-raises_of_all news) in
         record {
-          none_fell = none_fell;
+          grown = record {
+            net = back'.net_is ∙ sym between.net_is;
+            none_fell = λ x lx. none_fell x (omega (arith, lx, ap (λ (m : Net). length m.debts) between.net_is));
+            taken = omega (arith, taken, rest.taken);
+            raises = (omega (arith, many, ap length rest.raises), λ some. omega (arith, many, ap length rest.raises, some_raise some));
+          };
           some_rose = some_rose;
           none_rose = none_rose;
           divide = all_divide;
@@ -308,7 +323,6 @@ module _ (board : Panel) (net : Net) (s : Shown) (w sweeps n : ℕ) (news : List
           visits_are = omega (arith, taken, rest.taken);
           visits_by_banks = subst (λ k. k ≤ sweeps * length net.banks) (sym in_all) few_in_round;
           seats = back'.seats ∙ rest.seats;
-          raises = (omega (arith, many, ap length rest.raises), λ some. omega (arith, many, ap length rest.raises, some_raise some));
           paid_low = subst (λ (k : Net). IsAtMost t.paid (least k)) back'.net_is paid_low;
           sights_low = subst (λ (k : Net). IsAtMost t.sights (least k)) back'.net_is sights_low;
           by_visits = record {

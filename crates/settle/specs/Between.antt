@@ -13,7 +13,7 @@ use Rattle.raise_journal.specs.Gathered.{HasGrownBy}
 use Rattle.settle.specs.declared.plan.Plan.{Plan}
 use Rattle.settle.specs.Rounds.{AreRounded, crew_at}
 use Rattle.bank_worker.specs.Views.{Crew, Divides, desks_held}
-use Rattle.bank_worker.specs.Visits.{AddsRaises}
+use Rattle.bank_worker.specs.Grows.{SeatGrows}
 
 -- between two rounds the master holds all banks, and nothing is pending or owes a ring; each bank
 -- is fresh or pays its division at what was last seen; and the floor is what is paid
@@ -116,7 +116,7 @@ pub record IsRoundByVisits (net : Net) (plan : Plan) (units visits : ℕ) (s t :
 -- a round that raised so many units by so many visits, from the master that shows s to the one that
 -- shows t
 pub record IsRoundOf (net : Net) (plan : Plan) (units visits : ℕ) (s t : Shown) : Type 0 where
-  pub none_fell : (x : ℕ) → x < length net.debts → slice_index s.paid x ≤ slice_index t.paid x
+  pub grown : SeatGrows units s t
   pub some_rose : units ≢ 0 → sum s.paid + 1 ≤ sum t.paid
   pub none_rose : units ≡ 0 → (x : ℕ) → x < length net.debts
       → slice_index t.paid x ≡ slice_index s.paid x
@@ -125,7 +125,6 @@ pub record IsRoundOf (net : Net) (plan : Plan) (units visits : ℕ) (s t : Shown
   pub visits_are : t.taken ≡ s.taken + visits
   pub visits_by_banks : visits ≤ plan.sweeps * length net.banks
   pub seats : t.seats ≡ s.seats + plan.workers
-  pub raises : AddsRaises units s t
   pub paid_low : IsAtMost t.paid (least net)
   pub sights_low : IsAtMost t.sights (least net)
   pub by_visits : IsRoundByVisits net plan units visits s t

@@ -11,6 +11,7 @@ use Rattle.settle.specs.Bells.{IsIdle}
 use Rattle.settle.specs.Between.{IsRoundOf}
 use Rattle.settle.specs.declared.plan.Driven.{Driven}
 use Rattle.settle.specs.declared.plan.Plan.{Plan}
+use Rattle.bank_worker.specs.Grows.{SeatGrows}
 
 -- the limits of a plan
 pub record IsPlan (plan : Plan) : Type 0 where
@@ -50,12 +51,14 @@ AreRoundsFrom net plan s [] t = t ≡ s
 AreRoundsFrom net plan s (n ∷ ns) t = (m : Shown) × (visits : ℕ) × AreRoundsFrom net plan s ns m
     × IsRoundOf net plan n visits m t
 
--- so many rounds: the last raised nothing, and each before it raised a unit
+-- so many rounds: the last raised nothing, and each before it raised a unit; and what grows in each
+-- of them grew in all
 pub record EndsAtRest (net : Net) (plan : Plan) (s t : Shown) (rounds : ℕ) : Type 0 where
   pub raised : List ℕ
   pub each_some : All (λ n. 1 ≤ n) raised
   pub as_many : rounds ≡ length raised + 1
   pub ran : AreRoundsFrom net plan s (0 ∷ raised) t
+  pub grown : SeatGrows (sum raised) s t
 
 -- the rounds on a board, from the master that shows s to the one that shows t
 pub record IsDriven (net : Net) (past : List Raise) (plan : Plan) (s t : Shown) (d : Driven)

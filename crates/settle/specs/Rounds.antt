@@ -3,7 +3,8 @@ use Rattle.std.specs.Prelude.{◌≡◌, ℕ, ◌+◌, ◌*◌, ◌^◌, ◌<◌
 use Rattle.clr_net.specs.declared.TheConstants.{MAX_OWED}
 use Rattle.pay_words.specs.Views.{Panel, Place, IsAt, OwesNoRing, opening}
 use Rattle.bank_worker.specs.Views.{Crew, paid_by_all}
-use Rattle.bank_worker.specs.Visits.{IsAllCalm, IsRounded, IsSameCrew, MayRest, VisitsByBells}
+use Rattle.bank_worker.specs.Grows.{IsRounded, VisitsByBells}
+use Rattle.bank_worker.specs.Visits.{IsAllCalm, IsSameCrew, MayRest}
 
 -- the worker may make a round on the board
 pub record IsReady (board : Panel) (w : Crew) : Type 0 where

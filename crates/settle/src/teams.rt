@@ -3,7 +3,7 @@ ghost use Rattle.pay_words.specs.Views.{IsAt};
 ghost use Rattle.settle.specs.Asks.{IsReady};
 ghost use Rattle.settle.specs.Bells.{IsIdle};
 ghost use Rattle.settle.specs.Between.{AreOfBoard, HaveGrownAlike, IsBack, IsBetween, IsRoundOf};
-ghost use Rattle.settle.specs.Between.{crews, raises_by, raises_of_all, without_first};
+ghost use Rattle.settle.specs.Between.{crews, raises_of_all, without_first};
 ghost use Rattle.raise_journal.specs.Gathered.{HasMerged};
 ghost use Rattle.settle.specs.Calls.{HaveCalledFrom, OthersAreAtRest};
 ghost use Rattle.settle.specs.Offices.{AreOffices, with_cash_of};
@@ -104,8 +104,6 @@ fn close_workers<R: Threads + Sync, G: Gate + Sync>(
     ensures sum { IfOk result (λ n. n ≡ sum_by (λ w. w.visits) workers.items) }
     ensures offices { OnOk result (AreOffices run.now.board.now.net run.now.board.now.table.workers
         run.now.board.now.table.workers state.new.offices.items) }
-    ensures raises { OnOk result (length master.new.shows.raises
-        ≡ length master.old.shows.raises + sum_by raises_by workers.items) }
     ensures made { OnOk result (master.new.shows.raises
         ≡ master.old.shows.raises ++ raises_of_all workers.items) }
     ensures called { OnOk result

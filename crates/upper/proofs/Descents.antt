@@ -7,7 +7,7 @@ use Rattle.std.proofs.lemmas.List.FromFn.{fill_by_all, get_or-map-range_with_len
 use Rattle.clr_net.specs.Amounts.{IsAtMost}
 use Rattle.clr_net.specs.Limits.{IsNetwork}
 use Rattle.clr_net.specs.Net.{Net, units_owed}
-use Rattle.clr_net.proofs.Lists.{same_from_sum, zeros_at}
+use Rattle.clr_net.proofs.Lists.{sum_rises, zeros_at}
 use Rattle.clr_net.proofs.RowsAndColumns.{claim_of_at}
 use Rattle.clear_core.specs.Buffers.{AreInLimit}
 use Rattle.clear_core.specs.Clearing.{NeverFalls, pay_by, estate, least}
@@ -32,70 +32,56 @@ pub record IsDown (net : Net) (f : ℕ → ℕ → ℕ) (n : ℕ) (P : List ℕ)
   pub at : P ≡ falling_by net f n
   pub units : sum P + n ≤ units_owed net
 
-module _ (net : Net) (f : ℕ → ℕ → ℕ) where
-  -- before the first round
-  pub down_first : (P : List ℕ) → NeverFalls f → P ≡ all_claims net → IsDown net f 0 P
-  unfolding rounds_of
-  down_first P never e = record {
-    never = never;
-    as_many = ap length e ∙ length-map net.debts (λ d. d.claim);
-    at = e;
-    units = omega (arith, ap sum e, sum-map (λ d. d.claim) net.debts);
-  }
+-- before the first round
+pub down_first : (net : Net) (f : ℕ → ℕ → ℕ) (P : List ℕ) → NeverFalls f → P ≡ all_claims net → IsDown net f 0 P
+unfolding rounds_of
+down_first net f P never e = record {
+  never = never;
+  as_many = ap length e ∙ length-map net.debts (λ d. d.claim);
+  at = e;
+  units = omega (arith, ap sum e, sum-map (λ d. d.claim) net.debts);
+}
 
+module _ {net : Net} {f : ℕ → ℕ → ℕ} {n : ℕ} {P : List ℕ} (d : IsDown net f n P) where
   -- a round only takes off
-  pub down_falls : (n : ℕ) (P : List ℕ) → IsDown net f n P → IsAtMost (pay_by net f P) P
-  down_falls n P d =
-      subst (λ R. IsAtMost (pay_by net f R) R) (sym d.at) (falling_falls net f d.never n)
+  pub down_falls : IsAtMost (pay_by net f P) P
+  down_falls = subst (λ R. IsAtMost (pay_by net f R) R) (sym d.at) (falling_falls net f d.never n)
 
   -- so payments stay within the claims
-  pub down_in_limit : (n : ℕ) (P : List ℕ) → IsNetwork net → IsDown net f n P → AreInLimit P
+  pub down_in_limit : IsNetwork net → AreInLimit P
   unfolding rounds_of
-  down_in_limit n P network d k = omega (
-    arith,
-    ap (λ (R : List ℕ). get_or R k 0) d.at,
-    subst (λ m. IsAtMost (falling_by net f m) (falling_by net f 0)) (add_nothing n)
-        (falling_back net f d.never 0 n) k,
-    claim_of_at net k,
-    claim_in_limit net k network,
-  )
-    where
-      add_nothing : (n : ℕ) → n + 0 ≡ n
-      add_nothing n = omega arith
+  down_in_limit network k =
+      let first : n + 0 ≡ n = omega arith in
+      omega (
+        arith,
+        ap (λ (R : List ℕ). get_or R k 0) d.at,
+        (rw first at (falling_back net f d.never 0 n)) k,
+        claim_of_at net k,
+        claim_in_limit net k network,
+      )
 
-  -- and one that changes something takes off a unit
-  pub down_less : (n : ℕ) (P Q : List ℕ) → IsDown net f n P → Q ≡ pay_by net f P → P ≢ Q
-      → sum Q < sum P
-  down_less n P Q d e ne = ⊎_elim
-      (λ (l : sum Q < sum P). l)
-      (λ (g : sum P ≤ sum Q).
-      let as_many = ap length e ∙ length-pay_by net f P ∙ sym d.as_many in
-      let lower : IsAtMost Q P = subst (λ R. IsAtMost R P) (sym e) (down_falls n P d) in
-      absurd (ne (sym (same_from_sum Q P as_many lower g))))
-      (cases_lt (sum Q) (sum P))
-
-  -- n rounds and one are n + 1
-  pub down_more : (n : ℕ) (P Q : List ℕ) → IsDown net f n P → Q ≡ pay_by net f P → P ≢ Q
-      → IsDown net f (n + 1) Q
+  -- n rounds and one that changes something, which takes off a unit, are n + 1
+  pub down_more : (Q : List ℕ) → Q ≡ pay_by net f P → P ≢ Q → IsDown net f (n + 1) Q
   unfolding rounds_of
-  down_more n P Q d e ne = record {
-    never = d.never;
-    as_many = ap length e ∙ length-pay_by net f P;
-    at = let more : suc n ≡ n + 1 = omega arith in
-        e ∙ ap (pay_by net f) d.at ∙ ap (falling_by net f) more;
-    units = omega (arith, down_less n P Q d e ne, d.units);
-  }
+  down_more Q e ne =
+      let as_many = ap length e ∙ length-pay_by net f P in
+      let lower : IsAtMost Q P = rw e down_falls in
+      record {
+        never = d.never;
+        as_many = as_many;
+        at = let more : suc n ≡ n + 1 = omega arith in
+            e ∙ ap (pay_by net f) d.at ∙ ap (falling_by net f) more;
+        units = omega (arith, sum_rises Q P (as_many ∙ sym d.as_many) lower (λ s. ne (sym s)), d.units);
+      }
 
   -- payments that a round does not change are those of every later round
-  pub down_stays : (n : ℕ) (P : List ℕ) → IsDown net f n P → pay_by net f P ≡ P → (m : ℕ) → n ≤ m
-      → falling_by net f m ≡ P
-  down_stays n P d c m g =
+  pub down_stays : pay_by net f P ≡ P → (m : ℕ) → n ≤ m → falling_by net f m ≡ P
+  down_stays c m g =
       falling_settled net f d.never n m (subst (λ R. pay_by net f R ≡ R) d.at c) g ∙ sym d.at
 
   -- and so the greatest
-  pub down_ends : (n : ℕ) (P : List ℕ) → IsDown net f n P → pay_by net f P ≡ P
-      → P ≡ greatest_by net f
-  down_ends n P d c = sym (down_stays n P d c (units_owed net) (omega (arith, d.units)))
+  pub down_ends : pay_by net f P ≡ P → P ≡ greatest_by net f
+  down_ends c = sym (down_stays c (units_owed net) (omega (arith, d.units)))
 
 -- before the first round no wave is known
 pub waves_none : (net : Net) (R : ℕ → List ℕ) → AreWavesTo net R 0 (replicate (length net.banks) 0)
@@ -152,10 +138,10 @@ waves_more net R n P before after at old marked = record {
 }
 
 -- once nothing changes, the waves are known
-pub waves_end : (net : Net) (f : ℕ → ℕ → ℕ) (n : ℕ) (P ws : List ℕ) → IsDown net f n P
+pub waves_end : {net : Net} {f : ℕ → ℕ → ℕ} {n : ℕ} {P : List ℕ} (ws : List ℕ) → IsDown net f n P
     → pay_by net f P ≡ P → AreWavesTo net (falling_by net f) (n + 1) ws
     → ws ≡ waves_in net (falling_by net f)
-waves_end net f n P ws d c known =
+waves_end {net = net} {f = f} {n = n} ws d c known =
     fill_by_all (wave_in net (falling_by net f)) ws (length net.banks) 0 known.as_many
     (λ i l. wave_in_known net f d.never i (get_or ws i 0)
     (whole i (get_or ws i 0) (known.each i l)))
@@ -166,12 +152,8 @@ waves_end net f n P ws d c known =
       falls = λ m e. ((to.falls m e).1, (to.falls m e).2);
       never = λ e m. ⊎_elim
           (λ (l : m < n + 1). to.never e m l)
-          (λ (g : n + 1 ≤ m). omega (
-            arith,
-            to.never e n (omega arith),
-            ap (λ (R : List ℕ). estate net R i) (down_stays net f n P d c m (omega arith)),
-            ap (λ (R : List ℕ). estate net R i) (down_stays net f n P d c n (omega arith)),
-          ))
+          (λ (g : n + 1 ≤ m). rw (down_stays d c m (omega arith), ← down_stays d c n (omega arith))
+          (to.never e n (omega arith)))
           (cases_lt m (n + 1));
     }
 

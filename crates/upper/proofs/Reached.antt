@@ -100,10 +100,9 @@ reached_first net s P next last falls ws network never claims same ones zeros no
 }
 
 -- a round in which some bank's receipts fell
-module _ (net : Net) (s : ℕ → ℕ → ℕ) (n : ℕ) (P Q next last f g ws marked : List ℕ)
-    (banks : List BankId) (old : IsReached net s n P next last f ws)
-    (marks : AreMarked net P (n + 1) ws marked) (paid : Q ≡ pay_by net s P)
-    (noted : AreNoted net P Q f g) (hit : AreHit g banks) where
+module _ {net : Net} {s : ℕ → ℕ → ℕ} {n : ℕ} {P Q next last f g ws marked : List ℕ} {banks : List BankId}
+    (old : IsReached net s n P next last f ws) (marks : AreMarked net P (n + 1) ws marked)
+    (paid : Q ≡ pay_by net s P) (noted : AreNoted net P Q f g) (hit : AreHit g banks) where
   -- took off a unit
   pub reached_less : length banks ≢ 0 → sum Q < sum P
   reached_less some =
@@ -121,7 +120,7 @@ module _ (net : Net) (s : ℕ → ℕ → ℕ) (n : ℕ) (P Q next last f g ws m
       → zeros ≡ replicate (length last) 0
       → IsReached net s (n + 1) Q R g zeros marked
   reached_more some R zeros same wiped = record {
-    down = down_more net s n P Q old.down paid
+    down = down_more old.down Q paid
         (λ same. absurd (omega (arith, reached_less some, ap sum same)));
     waves = waves_more net (falling_by net s) n P ws marked old.down.at old.waves marks;
     same = same;
@@ -153,8 +152,8 @@ module _ (net : Net) (s : ℕ → ℕ → ℕ) (n : ℕ) (P Q next last f g ws m
       let same : Q ≡ P = ext_get_or 0 Q P noted.payments
       (λ x l. noted.told x (spared (creditor_of net x))) in
       let clears : pay_by net s P ≡ P = sym paid ∙ same in (
-        same ∙ down_ends net s n P old.down clears,
-        waves_end net s n P marked old.down clears
+        same ∙ down_ends old.down clears,
+        waves_end marked old.down clears
             (waves_more net (falling_by net s) n P ws marked old.down.at old.waves marks),
       )
     where

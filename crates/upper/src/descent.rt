@@ -9,10 +9,10 @@ ghost use Rattle.upper.specs.Greatest.{IsGreatestBy, falling_by, greatest_by as 
 ghost use Rattle.upper.specs.Waves.{waves_in};
 
 use crate::bounds::Upper;
-use crate::divider::Divider;
 use crate::falls::Falls;
 use crate::round::{pay_round, take_over};
 use crate::short::mark_short;
+use clear_core::Scratch;
 use clear_least::{Spending, WithoutCosts};
 use clr_net::{Amounts, DebtId, Mem, Network};
 use std::alloc::Global;
@@ -90,7 +90,7 @@ fn descend_in_room<S: Spending>(
 {
     let mut next = Amounts::zeros(alloc, net.debts() as usize)?;
     let mut room = Room {
-        divider: Divider::of(alloc, net)?,
+        scratch: Scratch::of(alloc, net)?,
         // In the first round every bank divides.
         last: Falls::of_all(alloc, net)?,
         falls: Falls::none(alloc, net)?,
@@ -102,7 +102,7 @@ fn descend_in_room<S: Spending>(
 // What the rounds need beside lists of payments.
 #[derive(Drop)]
 struct Room {
-    divider: Divider,
+    scratch: Scratch,
     // By how much receipts fell in the last round, and in this one.
     last: Falls,
     falls: Falls,
@@ -122,7 +122,7 @@ fn descend<S: Spending>(
     requires paid { length paid.old ≡ length net.now.debts }
     requires waves { waves.old ≡ replicate (length net.now.banks) 0 }
     requires next { length next.old ≡ length net.now.debts }
-    requires divider { HasRoom net.now room.old.divider }
+    requires scratch { HasRoom net.now room.old.scratch }
     requires last { room.old.last ≡ replicate (length net.now.banks) 1 }
     requires falls { room.old.falls ≡ replicate (length net.now.banks) 0 }
     ensures paid { paid.new ≡ greatest_payments net.now (S.spends spending.now net.now) }
@@ -135,7 +135,7 @@ fn descend<S: Spending>(
     loop {
         round += 1;
         mark_short(net, &room.last, paid, round, waves);
-        pay_round(net, spending, &room.last, paid, next, &mut room.divider);
+        pay_round(net, spending, &room.last, paid, next, &mut room.scratch);
         take_over(net, &room.last, next, paid, &mut room.falls);
         if room.falls.banks().is_empty() {
             return;

@@ -16,7 +16,6 @@
 
 mod bounds;
 mod descent;
-mod divider;
 mod falls;
 pub mod laws;
 mod round;

@@ -7,9 +7,8 @@ ghost use Rattle.clr_net.specs.declared.TheConstants.{MAX_OWED};
 ghost use Rattle.std.specs.Prelude.{◌≡◌, ◌≢◌, ◌+◌, ◌<◌, ◌≤◌, ℕ, length, slice_index, sum};
 ghost use Rattle.upper.specs.Descent.{AreCurrent, AreNoted};
 
-use crate::divider::Divider;
 use crate::falls::Falls;
-use clear_core::receipts_of;
+use clear_core::{Scratch, receipts_of};
 use clear_least::Spending;
 use clr_net::{BankId, Network};
 
@@ -22,7 +21,7 @@ pub(crate) fn pay_round<S: Spending>(
     last: &Falls,
     paid: &[u64],
     next: &mut [u64],
-    divider: &mut Divider,
+    scratch: &mut Scratch,
 )
     requires network { IsNetwork net.now }
     requires banks { length last.now ≡ length net.now.banks }
@@ -31,12 +30,12 @@ pub(crate) fn pay_round<S: Spending>(
     requires next { length next.old ≡ length net.now.debts }
     requires current { AreCurrent net.now (S.spends spending.now net.now) last.now paid.now
         next.old }
-    requires room { HasRoom net.now divider.old }
+    requires room { HasRoom net.now scratch.old }
     ensures next { next.new ≡ pay_by net.now (S.spends spending.now net.now) paid.now }
-    ensures room { divider.new ≡ divider.old }
+    ensures room { scratch.new ≡ scratch.old }
 {
     for bank in last.banks() {
-        pay_bank(net, spending, *bank, paid, next, divider);
+        pay_bank(net, spending, *bank, paid, next, scratch);
     }
 }
 
@@ -47,23 +46,23 @@ fn pay_bank<S: Spending>(
     bank: BankId,
     paid: &[u64],
     next: &mut [u64],
-    divider: &mut Divider,
+    scratch: &mut Scratch,
 )
     requires network { IsNetwork net.now }
     requires bank { bank.0 < length net.now.banks }
     requires paid { length paid.now ≡ length net.now.debts }
     requires paid_in_limit { AreInLimit paid.now }
     requires next { length next.old ≡ length net.now.debts }
-    requires room { HasRoom net.now divider.old }
+    requires room { HasRoom net.now scratch.old }
     ensures in_row { (x : ℕ) → x < length net.now.debts → debtor_of net.now x ≡ bank.0
         → slice_index next.new x
         ≡ slice_index (pay_by net.now (S.spends spending.now net.now) paid.now) x }
     ensures others { (x : ℕ) → debtor_of net.now x ≢ bank.0
         → slice_index next.new x ≡ slice_index next.old x }
-    ensures room { divider.new ≡ divider.old }
+    ensures room { scratch.new ≡ scratch.old }
 {
     let receipts = receipts_of(net, bank, paid);
-    divider.pay_row(net, bank, spending.spend(net, bank, receipts), next);
+    scratch.divide_row(net, bank, spending.spend(net, bank, receipts), next);
 }
 
 // Brings `paid` down to `next`, and notes by how much the receipts of each bank fall by that. What

@@ -1,5 +1,5 @@
 use Rattle.clear_top.specs.declared.status.Status.TheVariants as status
-use Rattle.std.proofs.Common.{rules, ◌≡◌, Some, length, sym, ap, ◌∙◌, subst}
+use Rattle.std.proofs.Common.{rules, ◌<◌, ◌≡◌, All, Some, length, sym, ap, ◌∙◌, subst}
 use Rattle.clear_report.specs.Rescues.{rescued_text}
 use Rattle.rescue.specs.Rescue.{added}
 use Rattle.settle.specs.Runs.{CanGoOn}
@@ -16,6 +16,13 @@ pub saved_text-requires-clause-over : goal.saved_text-requires-clause-over
 saved_text-requires-clause-over g c =
     ap length (c.as_slice.ensures ∙ c.in_ok-paid.ensures.settled.paid) ∙ least_places c.in_ok-saved.saved
     ∙ ap (λ n. length n.debts) c.in_ok-saved.ensures
+
+-- the raises of the record are of debts of its network
+pub with_record-requires : goal.with_record-requires
+with_record-requires g c =
+    let settled = c.in_ok-paid.ensures.settled in
+    subst (λ n. All (λ r. r.debt.0 < length n.debts) c.in_ok-paid.field-0.sealed.journal)
+    (sym settled.record_is.net_is) settled.within_limits.debts
 
 pub returns : goal.returns
 returns g c =

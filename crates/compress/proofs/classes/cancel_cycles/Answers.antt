@@ -1,6 +1,5 @@
-use Rattle.std.proofs.Common.{◌≡◌, ◌<◌, ◌≤◌, ◌∙◌, length, replicate, ap, ⊎_elim, arith}
+use Rattle.std.proofs.Common.{◌≡◌, ◌<◌, ◌≤◌, ◌∙◌, ap, ⊎_elim, arith}
 use Rattle.std.proofs.lemmas.Bool.{cases_lt}
-use Rattle.compress.specs.declared.mark.Mark.TheVariants.{New}
 use Rattle.compress.specs.Walk.{mark_of}
 use Rattle.compress.proofs.Steps.{kept_both}
 use Rattle.compress.proofs.classes.cancel_cycles.Goals as goal
@@ -13,9 +12,7 @@ loop-number-preserved c =
     let marks = c.walk_from.new.walk.marks.items in
     record {
       rest = said.rest;
-      kept = kept_both net c.args.class c.args.claims.now c.loop-number.claims
-          c.walk_from.new.claims (replicate (length net.banks) New) c.loop-number.walk.marks.items
-          marks old.kept said.kept;
+      kept = kept_both old.kept said.kept;
       all = λ b l. ⊎_elim
           (λ (g : b < c.loop-number.number). said.kept.stays b (old.all b g))
           (λ (g : c.loop-number.number ≤ b).

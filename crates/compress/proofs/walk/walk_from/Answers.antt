@@ -77,9 +77,7 @@ loop-claims-preserved-else-retire c =
     record {
       under_way = search rules;
       start = c.retire.ensures.start ∙ old.start;
-      kept = kept_both c.args.net.now c.args.class c.args.claims.now c.loop-claims.claims
-          c.loop-claims.claims c.args.walk.now.marks.items c.loop-claims.walk.marks.items
-          c.retire.new.walk.marks.items old.kept c.retire.ensures.kept;
+      kept = kept_both old.kept c.retire.ensures.kept;
     }
 
 pub loop-claims-preserved-in-Walked : goal.loop-claims-preserved-in-Walked
@@ -88,9 +86,7 @@ loop-claims-preserved-in-Walked c =
     record {
       under_way = c.cancel.ensures.under_way;
       start = c.cancel.ensures.start ∙ old.start;
-      kept = kept_both c.args.net.now c.args.class c.args.claims.now c.loop-claims.claims
-          c.cancel.new.claims c.args.walk.now.marks.items c.loop-claims.walk.marks.items
-          c.cancel.new.walk.marks.items old.kept c.cancel.ensures.kept;
+      kept = kept_both old.kept c.cancel.ensures.kept;
     }
 
 pub loop-claims-preserved : goal.loop-claims-preserved
@@ -100,9 +96,7 @@ loop-claims-preserved c =
     record {
       under_way = said.under_way;
       start = said.start ∙ old.start;
-      kept = kept_both c.args.net.now c.args.class c.args.claims.now c.loop-claims.claims
-          c.loop-claims.claims c.args.walk.now.marks.items c.loop-claims.walk.marks.items
-          c.grow.new.walk.marks.items old.kept said.kept;
+      kept = kept_both old.kept said.kept;
     }
 
 pub cancel-requires-clause-under_way : goal.cancel-requires-clause-under_way

@@ -11,8 +11,8 @@ loop-low-init c =
     let mine = c.args.claims.now in
     let around = c.levels_around-low.ensures in
     let greatest = c.greatest_claim.result in
-    let none = sum_none kind c.levels_around-low.result.0 greatest around.none mine c.greatest_claim.ensures.greatest in
-    let met = sum_met kind c.levels_around-low.result.1 greatest around.met mine c.greatest_claim.ensures.greatest in
+    let none = sum_none kind c.levels_around-low.result.0 greatest mine c.greatest_claim.ensures.greatest around.none in
+    let met = sum_met kind c.levels_around-low.result.1 greatest mine c.greatest_claim.ensures.greatest around.met in
     elim c.if-units-eq0.branch [
       | then-units-eq0 w ↦ record {
         between = omega (arith, w.high-is);

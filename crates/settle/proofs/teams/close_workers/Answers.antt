@@ -1,4 +1,4 @@
-use Rattle.std.proofs.Common.{◌≡◌, ◌+◌, ◌-◌, ◌≤◌, ◌++◌, ◌∷◌, [], drop, length, length-append, sym, ap, ◌∙◌, subst, arith, rules, sum_by}
+use Rattle.std.proofs.Common.{◌≡◌, ◌+◌, ◌-◌, ◌≤◌, ◌++◌, ◌∷◌, [], drop, length, sym, ap, ◌∙◌, subst, arith, rules, sum_by}
 use Rattle.std.proofs.lemmas.List.Sums.{sum_by_push}
 use Rattle.pay_words.specs.declared.view.Shown.{Shown}
 use Rattle.pay_words.specs.Views.{OwesNoRing, rejoined}
@@ -6,7 +6,7 @@ use Rattle.bank_worker.specs.Called.{AreCreditorsIn}
 use Rattle.bank_worker.specs.Views.{Crew}
 use Rattle.clr_net.specs.Net.{Net}
 use Rattle.raise_journal.specs.Gathered.{HasMerged}
-use Rattle.settle.specs.Between.{IsBack, IsOfBoard, raises_by, raises_of_all}
+use Rattle.settle.specs.Between.{IsBack, IsOfBoard, raises_of_all}
 use Rattle.settle.specs.Calls.{HaveCalledFrom}
 use Rattle.settle.specs.Offices.{AreOffices}
 use Rattle.settle.specs.Rounds.{crew_at}
@@ -82,15 +82,6 @@ loop-worker-preserved g c =
           (subst (λ (m : Net). AreCreditorsIn m c.call_creditors.new.called w.journal) h.own.at.1 c.call_creditors.ensures.creditors);
       visits = omega (arith, ap (λ (u : Shown). u.taken) shown, inv.visits, c.visits-visits.ensures, h.own.by_bells, ap (λ (k : Crew). k.seat.shows.taken) h.is);
       sum = omega (arith, inv.sum, ap (λ ks. sum_by (λ (k : Crew). k.visits) ks) is, sum_by_push (λ (k : Crew). k.visits) rest w, c.visits-visits.ensures);
-      raises = omega (
-        arith,
-        ap (λ (u : Shown). length u.raises) shown,
-        length-append m.raises (crew_at ws n).seat.shows.raises,
-        inv.raises,
-        ap (λ ks. sum_by raises_by ks) is,
-        sum_by_push raises_by rest w,
-        ap raises_by h.is,
-      );
       made = raises_more s m c.take_back.new.master.shows ws n (length c.loop-worker.workers.items) h.more (omega (arith, h.more, inv.left.few)) inv.made shown;
       low = omega (arith, h.more, inv.low, c.visits-visits.ensures, h.own.few_visits);
     }

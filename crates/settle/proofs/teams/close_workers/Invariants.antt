@@ -1,5 +1,5 @@
 use Rattle.std.proofs.Common.{◌≡◌, ◌+◌, ◌-◌, ◌*◌, ◌≤◌, ◌++◌, drop, length, sum_by}
-use Rattle.settle.specs.Between.{HaveGrownAlike, IsBack, raises_by, raises_of_all}
+use Rattle.settle.specs.Between.{HaveGrownAlike, IsBack, raises_of_all}
 use Rattle.settle.specs.Calls.{HaveCalledFrom}
 use Rattle.settle.specs.Offices.{AreOffices}
 use Rattle.settle.proofs.Returned.{AreFirst}
@@ -15,7 +15,6 @@ invariant-loop-worker g l = record {
   called : HaveCalledFrom (length l.workers.items) l.run.board.now.net l.state.called l.fn.workers.items;
   visits : l.master.shows.taken ≡ l.fn.master.shows.taken + l.visits;
   sum : l.visits + sum_by (λ w. w.visits) l.workers.items ≡ sum_by (λ w. w.visits) l.fn.workers.items;
-  raises : length l.master.shows.raises + sum_by raises_by l.workers.items ≡ length l.fn.master.shows.raises + sum_by raises_by l.fn.workers.items;
   made : l.master.shows.raises ≡ l.fn.master.shows.raises ++ raises_of_all (drop (length l.workers.items) l.fn.workers.items);
   low : l.visits + 1000000 * length l.workers.items ≤ 1000000 * length l.fn.workers.items;
 }

@@ -108,7 +108,7 @@ returns g c =
       called = others_at_rest board net s w sweeps units news here workers some few between rounded m t clock.over closed.back c.close_workers.new.state.called again
           (subst (λ (m : Net). HaveCalledFrom 0 m c.close_workers.new.state.called news) (sym here) closed.called);
       round = round_is board net s w sweeps units news here workers some few between rounded m t clock.over closed.back c.in_ok-visits.visits
-          c.in_ok-workers.ensures.rest closed.visits closed.sum closed.raises closed.made clock.paid_below_least clock.sights_below_least;
+          c.in_ok-workers.ensures.rest closed.visits closed.sum closed.made clock.paid_below_least clock.sights_below_least;
       noted = subst (λ rs. HaveGrownAlike c.args.state.now.journal.raises c.close_workers.new.state.journal.raises rs t.raises)
           (ap (λ (u : Shown). u.raises) c.in_ok-workers.ensures.rest ∙ (first_rest w w s).raises) closed.noted;
     }

@@ -23,9 +23,8 @@ round_called-requires g c =
 pub overflow_add-units : goal.overflow_add-units
 overflow_add-units g c =
     let l = c.loop-worker in
-    record {
-      fits = omega (arith, few_in_turn c.args.sweeps l.units c.args.workers.now l.workers l.worker-index l.called c.requires.few l.invariant, c.in-Raised.ensures.few);
-    }
+    let few = few_in_turn c.args.sweeps l.units c.args.workers.now l.workers l.worker-index l.called c.requires.few l.invariant in
+    record { fits = omega (arith, few, c.in-Raised.ensures.round.few) }
 
 pub loop-worker-preserved : goal.loop-worker-preserved
 loop-worker-preserved g c =
@@ -36,7 +35,7 @@ loop-worker-preserved g c =
     let does = c.in-Raised.ensures in
     turn_more c.args.sweeps l.units c.in-Raised.more c.args.workers.now l.workers n l.called c.round_called.new.called (get_or l.workers n w) c.round_called.new.self lt c.requires.apart l.invariant
     (turn_of c.args.sweeps l.units c.args.workers.now l.workers n l.called w lt l.invariant)
-    does.same does.visits does.raised does.few does.others
+    does.round does.others
 
 pub returns : goal.returns
 returns g c =

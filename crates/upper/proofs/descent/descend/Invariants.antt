@@ -6,7 +6,7 @@ abbrev pub invariant-loop-round : goal.invariant-loop-round
 invariant-loop-round g l = record {
   reached : IsReached l.net (g.S.Spending.spends l.spending l.net) l.round l.paid l.next
       l.room.last l.room.falls l.waves;
-  room : l.room.divider ≡ l.fn.room.divider;
+  room : l.room.scratch ≡ l.fn.room.scratch;
 }
 
 abbrev pub decreases-loop-round : goal.decreases-loop-round

@@ -7,5 +7,5 @@ abbrev pub invariant-loop-bank : goal.invariant-loop-bank
 invariant-loop-bank g l = record {
   paid : ArePaidFor l.net l.bank-items (pay_by l.net (g.S.Spending.spends l.spending l.net) l.paid)
       l.fn.next l.next l.bank-index;
-  room : l.divider ≡ l.fn.divider;
+  room : l.scratch ≡ l.fn.scratch;
 }

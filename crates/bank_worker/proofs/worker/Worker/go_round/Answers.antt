@@ -1,7 +1,5 @@
-use Rattle.std.proofs.Common.{◌+◌, length, ap, ◌∙◌, arith}
-use Rattle.pay_words.specs.Views.{is_marked}
-use Rattle.bank_worker.specs.Called.{KeepsOthers}
-use Rattle.bank_worker.proofs.Calling.{called_still, calls_more, calls_none}
+use Rattle.std.proofs.Common.{◌+◌, length, ap, arith}
+use Rattle.bank_worker.proofs.Calling.{called_still, calls_none, calls_on}
 use Rattle.bank_worker.proofs.Sweeping.{few_in_all, round_made, round_more, round_start, round_stopped}
 use Rattle.bank_worker.proofs.worker.Worker.go_round.Goals as goal
 
@@ -29,37 +27,41 @@ pub loop-preserved : goal.loop-preserved
 loop-preserved g c =
     let e = c.in-Raised.ensures in
     let h = c.loop.invariant in
-    let stay = c.call_anew.ensures.kept in
-    let kept : KeepsOthers c.loop.self.seat.shows c.loop.called c.sweep.new.called = λ b other is. e.others b other (stay b is) in
+    let calls = calls_on c.args.self.now c.loop.self c.sweep.new.self c.args.called.now c.loop.called c.call_anew.new.called
+    c.sweep.new.called
+    h.round.gone.grows.same.seat c.call_anew.ensures.kept (h.others, h.rung) (e.others, e.rung) in
     record {
-      round = round_more c.args.self.now c.loop.self c.sweep.new.self c.loop.counter c.in-Raised.more c.loop.units e.visits e.gone e.at_rest e.few h.round;
-      called = λ k lk _. record { divides = e.at_rest.divide k lk; seen = e.at_rest.seen k lk };
-      others = λ b other is. kept b (ap (λ bs. is_marked bs b) h.round.gone.grows.same.seat.banks ∙ other) (h.others b other is);
-      rung = calls_more c.args.self.now c.loop.self c.sweep.new.self c.loop.called c.sweep.new.called h.round.gone.grows.same.seat kept h.rung e.rung;
+      round = round_more c.args.self.now c.loop.self c.sweep.new.self c.loop.counter c.in-Raised.more c.loop.units e.round e.few h.round;
+      called = λ k lk _. record { divides = e.round.raised.at_rest.divide k lk; seen = e.round.raised.at_rest.seen k lk };
+      others = calls.0;
+      rung = calls.1;
     }
 
 pub returns-in-Mem : goal.returns-in-Mem
 returns-in-Mem g c =
     let e = c.in-Mem.ensures in
     let h = c.loop.invariant in
-    let stay = c.call_anew.ensures.kept in
-    let kept : KeepsOthers c.loop.self.seat.shows c.loop.called c.sweep.new.called = λ b other is. e.others b other (stay b is) in
+    let calls = calls_on c.args.self.now c.loop.self c.sweep.new.self c.args.called.now c.loop.called c.call_anew.new.called
+    c.sweep.new.called
+    h.round.gone.grows.same.seat c.call_anew.ensures.kept (h.others, h.rung) (e.others, e.rung) in
     record {
-      round = round_stopped c.args.self.now c.loop.self c.sweep.new.self c.args.sweeps c.loop.counter c.loop.units (omega arith) h.round e.same e.visits e.mem;
-      others = λ b other is. kept b (ap (λ bs. is_marked bs b) h.round.gone.grows.same.seat.banks ∙ other) (h.others b other is);
-      rung = calls_more c.args.self.now c.loop.self c.sweep.new.self c.loop.called c.sweep.new.called h.round.gone.grows.same.seat kept h.rung e.rung;
+      round = round_stopped c.args.self.now c.loop.self c.sweep.new.self c.args.sweeps c.loop.counter c.loop.units (omega arith) h.round
+          e.round;
+      others = calls.0;
+      rung = calls.1;
     }
 
 pub returns-then-self-visits : goal.returns-then-self-visits
 returns-then-self-visits g c =
     let e = c.in-Raised.ensures in
     let h = c.loop.invariant in
-    let stay = c.call_anew.ensures.kept in
-    let kept : KeepsOthers c.loop.self.seat.shows c.loop.called c.sweep.new.called = λ b other is. e.others b other (stay b is) in
+    let calls = calls_on c.args.self.now c.loop.self c.sweep.new.self c.args.called.now c.loop.called c.call_anew.new.called
+    c.sweep.new.called
+    h.round.gone.grows.same.seat c.call_anew.ensures.kept (h.others, h.rung) (e.others, e.rung) in
     record {
       round = round_made c.args.self.now c.sweep.new.self (c.loop.counter + 1) c.args.sweeps (c.loop.units + c.in-Raised.more) (omega arith) (omega arith) c.requires.sweeps.1
           (omega (arith, c.desks-desks.ensures.desks, c.desks-desks.ensures.few))
-          (round_more c.args.self.now c.loop.self c.sweep.new.self c.loop.counter c.in-Raised.more c.loop.units e.visits e.gone e.at_rest e.few h.round);
-      others = λ b other is. kept b (ap (λ bs. is_marked bs b) h.round.gone.grows.same.seat.banks ∙ other) (h.others b other is);
-      rung = calls_more c.args.self.now c.loop.self c.sweep.new.self c.loop.called c.sweep.new.called h.round.gone.grows.same.seat kept h.rung e.rung;
+          (round_more c.args.self.now c.loop.self c.sweep.new.self c.loop.counter c.in-Raised.more c.loop.units e.round e.few h.round);
+      others = calls.0;
+      rung = calls.1;
     }

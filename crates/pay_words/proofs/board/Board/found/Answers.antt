@@ -3,8 +3,8 @@ use Rattle.atomic_table.specs.Table.{Me}
 use Rattle.clr_net.specs.Net.{Net}
 use Rattle.pay_words.specs.declared.deed.Deed.{Deed}
 use Rattle.pay_words.specs.declared.view.View.{View}
-use Rattle.pay_words.specs.Kept.{IsKept, opening_view}
-use Rattle.pay_words.specs.Seats.{IsKeptIn, IsLaidOut, purse}
+use Rattle.pay_words.specs.BoardRule.{MeetsRule, opening_view}
+use Rattle.pay_words.specs.Seats.{IsInMemory, IsLaidOut, purse}
 use Rattle.pay_words.specs.Words.{word_of}
 use Rattle.pay_words.proofs.Openings.{opening_words, opens_past, start_fits, start_values_fit, kept_opening}
 use Rattle.pay_words.proofs.Pasts.{start_over}
@@ -25,7 +25,7 @@ of_words-requires g c =
     let is : c.in_ok-deed.deed.me.0 ≡ deed = c.in_ok-deed.ensures ∙ c.requires.deed in
     let words : c.as_slice.result.now ≡ opening_words c.args.net.now c.args.start.now =
     c.as_slice.ensures.value ∙ c.in_ok-words.ensures ∙ ap (λ (n : ℕ). 1 ∷ (map word_of c.args.start.now ++ replicate n 1)) c.banks.ensures.banks in
-    subst (λ (y : Deed × List ℕ). IsKept y.0 y.1 (opening_view y.0 ∷ [])) (λ i. (sym is i, sym words i)) (opens_past deed _ c.banks.ensures.network c.requires.belongs)
+    subst (λ (y : Deed × List ℕ). MeetsRule y.0 y.1 (opening_view y.0 ∷ [])) (λ i. (sym is i, sym words i)) (opens_past deed _ c.banks.ensures.network c.requires.belongs)
 
 pub invariant_of-board : goal.invariant_of-board
 invariant_of-board g c =
@@ -60,6 +60,6 @@ invariant_of-master g c =
     let me : c.in_ok-table.seat.me ≡ (opening_view deed, []) = made.4 ∙ ap (λ (d : Deed). (opening_view d, [])) is in
     let kept = kept_opening deed _ c.banks.ensures.network c.requires.belongs c.greatest_stamp.result c.args.workers _ c.in_ok-debtors.ensures c.greatest_stamp.ensures (omega (arith, c.requires.workers)) in (
       ap (λ (m : Me (Unit {0}) View). m.1) me,
-      subst (λ (y : Me (Unit {0}) View × List ℕ × List (List ℕ)). IsKeptIn y.0.0 (purse y.1 y.2 c.in_ok-debtors.debtors.items c.args.workers 0) c.greatest_stamp.result 0)
+      subst (λ (y : Me (Unit {0}) View × List ℕ × List (List ℕ)). IsInMemory y.0.0 (purse y.1 y.2 c.in_ok-debtors.debtors.items c.args.workers 0) c.greatest_stamp.result 0)
           (λ i. (sym me i, sym c.none.ensures i, sym c.in_ok-lists.ensures i)) kept,
     )

@@ -2,8 +2,8 @@ use Rattle.std.proofs.Common.{◌≡◌, ℕ, ◌+◌, ◌<◌, ◌∙◌, List,
 use Rattle.std.proofs.lemmas.List.{get_or_read}
 use Rattle.atomic_table.specs.Table.{Me}
 use Rattle.pay_words.specs.declared.view.View.{View}
-use Rattle.pay_words.specs.Seats.{IsKeptIn, purse}
-use Rattle.pay_words.specs.Kept.{part_of, rest_of}
+use Rattle.pay_words.specs.Seats.{IsInMemory, purse}
+use Rattle.pay_words.specs.BoardRule.{part_of, rest_of}
 use Rattle.pay_words.specs.Views.{Panel, Chair}
 use Rattle.pay_words.proofs.Rolls.{rolls}
 use Rattle.pay_words.proofs.Splits.{MayHand, splits}
@@ -45,7 +45,7 @@ invariant_of-result g c =
     let there : c.args.worker < length lists = omega (arith, low, (c.master.invariant.1.at_master chief).lists) in
     let list = sym (c.replace-own.ensures.value ∙ get_or_read lists c.args.worker _ there c.index_mut.ensures.value []) in (
       ap (λ (m : Me (Unit {0}) View). m.1) c.split_seat-seat.ensures.4,
-      subst (λ (y : View × List ℕ × List (List ℕ) × List ℕ × ℕ). IsKeptIn y.0 (purse y.1 y.2 y.3 y.4 c.args.worker) c.master.inside.clock 0)
+      subst (λ (y : View × List ℕ × List (List ℕ) × List ℕ × ℕ). IsInMemory y.0 (purse y.1 y.2 y.3 y.4 c.args.worker) c.master.inside.clock 0)
           (λ i. (view i, list i, sym c.new.ensures.items i, sym c.new-2.ensures.items i, own i)) here,
     )
 
@@ -63,6 +63,6 @@ invariant_of-master g c =
     ∙ ap (λ (m : Me (Unit {0}) View). m.0) (sym told) in
     let blank = sym (c.replace-own.ensures.after ∙ c.none.ensures) in (
       ap (λ (m : Me (Unit {0}) View). m.1) told ∙ ap (λ (m : Me (Unit {0}) View). m.1) c.store.ensures.2 ∙ c.master.invariant.0,
-      subst (λ (y : View × List ℕ). IsKeptIn y.0 (purse c.master.inside.own (set c.master.inside.lists.items c.args.worker y.1) c.master.inside.debtors.items c.master.inside.workers c.master.inside.worker) c.master.inside.clock (c.master.inside.seats + 1))
+      subst (λ (y : View × List ℕ). IsInMemory y.0 (purse c.master.inside.own (set c.master.inside.lists.items c.args.worker y.1) c.master.inside.debtors.items c.master.inside.workers c.master.inside.worker) c.master.inside.clock (c.master.inside.seats + 1))
           (λ i. (view i, blank i)) here,
     )

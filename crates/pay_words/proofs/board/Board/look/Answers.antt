@@ -2,7 +2,7 @@ use Rattle.std.proofs.Common.{◌≡◌, true, ◌<◌, ◌∙◌, length, ap, r
 use Rattle.clr_net.specs.Net.{creditor_of}
 use Rattle.atomic_table.specs.Table.{Me}
 use Rattle.pay_words.specs.declared.view.View.{View}
-use Rattle.pay_words.specs.Seats.{IsKeptIn, purse}
+use Rattle.pay_words.specs.Seats.{IsInMemory, purse}
 use Rattle.pay_words.specs.Views.{Panel, Chair, holds}
 use Rattle.pay_words.proofs.Looks.{looks}
 use Rattle.pay_words.proofs.Seats.{kept_look}
@@ -18,6 +18,6 @@ pub invariant_of-seat : goal.invariant_of-seat
 invariant_of-seat c =
     let told = c.load-word.ensures.2 c.args.debt.0 refl in (
       ap (λ (m : Me (Unit {0}) View). m.1) told.0 ∙ c.seat.invariant.0,
-      subst (λ (m : Me (Unit {0}) View). IsKeptIn m.0 (purse c.seat.inside.own c.seat.inside.lists.items c.seat.inside.debtors.items c.seat.inside.workers c.seat.inside.worker) c.max-seat-inside.result c.seat.inside.seats) (sym told.0)
+      subst (λ (m : Me (Unit {0}) View). IsInMemory m.0 (purse c.seat.inside.own c.seat.inside.lists.items c.seat.inside.debtors.items c.seat.inside.workers c.seat.inside.worker) c.max-seat-inside.result c.seat.inside.seats) (sym told.0)
           (kept_look _ _ _ _ c.seat.invariant.1 c.args.debt.0 _ _ (search rules) told.1.sound),
     )

@@ -1,8 +1,8 @@
 use Rattle.std.proofs.Common.{◌≡◌, ◌∙◌, true, ap, refl, sym, subst, rules, arith}
 use Rattle.atomic_table.specs.Table.{Me}
 use Rattle.pay_words.specs.declared.view.View.{View}
-use Rattle.pay_words.specs.Kept.{TakeTells, after_take}
-use Rattle.pay_words.specs.Seats.{IsKeptIn, purse}
+use Rattle.pay_words.specs.BoardRule.{TakeTells, after_take}
+use Rattle.pay_words.specs.Seats.{IsInMemory, purse}
 use Rattle.pay_words.specs.Views.{Chair, holds}
 use Rattle.pay_words.proofs.Rings.{bank_held, takes}
 use Rattle.pay_words.proofs.Seats.{bell_place, kept_take, net_within}
@@ -23,7 +23,7 @@ invariant_of-seat c =
     let over = net_within _ _ _ _ c.seat.view_is c.self.view_is c.requires.seat.1 in
     let told = c.swap.ensures.2 c.args.bank.0 (bell_place _ _ c.self.inside.debts c.args.bank.0 c.self.invariant.0.debts_are over) in (
       ap (λ (m : Me (Unit {0}) View). m.1) told.0 ∙ c.seat.invariant.0,
-      subst (λ (m : Me (Unit {0}) View). IsKeptIn m.0 (purse c.seat.inside.own c.seat.inside.lists.items c.seat.inside.debtors.items c.seat.inside.workers c.seat.inside.worker) c.seat.inside.clock c.seat.inside.seats) (sym told.0)
+      subst (λ (m : Me (Unit {0}) View). IsInMemory m.0 (purse c.seat.inside.own c.seat.inside.lists.items c.seat.inside.debtors.items c.seat.inside.workers c.seat.inside.worker) c.seat.inside.clock c.seat.inside.seats) (sym told.0)
           (kept_take _ _ _ _ c.args.bank.0 c.swap.result c.seat.invariant.1),
     )
 

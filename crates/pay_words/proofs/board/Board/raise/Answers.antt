@@ -3,8 +3,8 @@ use Rattle.atomic_table.specs.Table.{Me}
 use Rattle.clr_net.specs.declared.TheConstants.{MAX_CLAIM}
 use Rattle.clr_net.specs.Net.{Net}
 use Rattle.pay_words.specs.declared.view.View.{View}
-use Rattle.pay_words.specs.Kept.{showing}
-use Rattle.pay_words.specs.Seats.{IsKeptIn, purse}
+use Rattle.pay_words.specs.BoardRule.{showing}
+use Rattle.pay_words.specs.Seats.{IsInMemory, purse}
 use Rattle.pay_words.specs.Views.{Chair, IsSound, raised}
 use Rattle.pay_words.proofs.Seats.{clock_in_limit, kept_raise, may_within, net_within, own_there, payment_in_limit, raises_by}
 use Rattle.pay_words.proofs.board.Board.raise.Goals as goal
@@ -39,9 +39,9 @@ invariant_of-seat c =
     let value : c.word.result % 4294967296 ≡ c.args.to = omega (arith, low, c.word.ensures) in
     let lt : c.args.debt.0 < length c.seat.inside.seat.me.0.shown.net.debts = omega (arith, c.requires.debt, ap (λ (n : Net). length n.debts) c.requires.seat.1, ap (λ (s : Chair). length s.shows.net.debts) c.seat.view_is) in
     let kept = kept_raise _ _ _ _ c.seat.invariant.1 c.args.debt.0 c.args.to lt may.not_the_master (subst (λ (n : ℕ). IsSound (raised c.seat.inside.seat.me.0.shown c.args.debt.0 n)) value told.1) in
-    let there = subst (λ (n : ℕ). IsKeptIn (showing c.seat.inside.seat.me.0 (raised c.seat.inside.seat.me.0.shown c.args.debt.0 n)) (purse (set c.seat.inside.own c.args.debt.0 c.args.to) c.seat.inside.lists.items c.seat.inside.debtors.items c.seat.inside.workers c.seat.inside.worker) (c.seat.inside.clock + 1) c.seat.inside.seats) (sym value) kept in (
+    let there = subst (λ (n : ℕ). IsInMemory (showing c.seat.inside.seat.me.0 (raised c.seat.inside.seat.me.0.shown c.args.debt.0 n)) (purse (set c.seat.inside.own c.args.debt.0 c.args.to) c.seat.inside.lists.items c.seat.inside.debtors.items c.seat.inside.workers c.seat.inside.worker) (c.seat.inside.clock + 1) c.seat.inside.seats) (sym value) kept in (
       ap (λ (m : Me (Unit {0}) View). m.1) told.0 ∙ c.seat.invariant.0,
-      subst (λ (y : Me (Unit {0}) View × List ℕ). IsKeptIn y.0.0 (purse y.1 c.seat.inside.lists.items c.seat.inside.debtors.items c.seat.inside.workers c.seat.inside.worker) (c.seat.inside.clock + 1) c.seat.inside.seats)
+      subst (λ (y : Me (Unit {0}) View × List ℕ). IsInMemory y.0.0 (purse y.1 c.seat.inside.lists.items c.seat.inside.debtors.items c.seat.inside.workers c.seat.inside.worker) (c.seat.inside.clock + 1) c.seat.inside.seats)
           (λ i. (sym told.0 i, sym c.set.ensures i)) there,
     )
 

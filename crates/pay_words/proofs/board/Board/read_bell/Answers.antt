@@ -1,5 +1,5 @@
 use Rattle.std.proofs.Common.{◌≡◌, true, refl, sym, subst, rules, arith}
-use Rattle.pay_words.specs.Kept.{TakeTells}
+use Rattle.pay_words.specs.BoardRule.{TakeTells}
 use Rattle.pay_words.specs.Views.{Chair, holds}
 use Rattle.pay_words.proofs.Rings.{bank_held, glances}
 use Rattle.pay_words.proofs.Seats.{bell_place, net_within}

@@ -1,7 +1,7 @@
 use Rattle.std.proofs.Common.{◌∙◌, ap, refl, sym, subst, rules, arith}
 use Rattle.atomic_table.specs.Table.{Me}
 use Rattle.pay_words.specs.declared.view.View.{View}
-use Rattle.pay_words.specs.Seats.{IsKeptIn, purse}
+use Rattle.pay_words.specs.Seats.{IsInMemory, purse}
 use Rattle.pay_words.specs.Views.{Chair, OwesRing, rung}
 use Rattle.pay_words.proofs.Rings.{bank_of_ring, rings}
 use Rattle.pay_words.proofs.Seats.{bell_place, kept_rung, net_within}
@@ -22,7 +22,7 @@ invariant_of-seat c =
     let over = net_within _ _ _ _ c.seat.view_is c.self.view_is c.requires.seat.1 in
     let told = c.store.ensures.2 c.args.bank.0 (bell_place _ _ c.self.inside.debts c.args.bank.0 c.self.invariant.0.debts_are over) in (
       ap (λ (m : Me (Unit {0}) View). m.1) told ∙ c.seat.invariant.0,
-      subst (λ (m : Me (Unit {0}) View). IsKeptIn m.0 (purse c.seat.inside.own c.seat.inside.lists.items c.seat.inside.debtors.items c.seat.inside.workers c.seat.inside.worker) c.seat.inside.clock c.seat.inside.seats) (sym told)
+      subst (λ (m : Me (Unit {0}) View). IsInMemory m.0 (purse c.seat.inside.own c.seat.inside.lists.items c.seat.inside.debtors.items c.seat.inside.workers c.seat.inside.worker) c.seat.inside.clock c.seat.inside.seats) (sym told)
           (kept_rung _ _ _ _ c.args.bank.0 c.seat.invariant.1),
     )
 

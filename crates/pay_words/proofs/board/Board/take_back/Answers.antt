@@ -1,7 +1,7 @@
 use Rattle.std.proofs.Common.{◌∙◌, set, ap, sym, subst, rules, arith}
 use Rattle.atomic_table.specs.Table.{Me}
 use Rattle.pay_words.specs.declared.view.View.{View}
-use Rattle.pay_words.specs.Seats.{IsKeptIn, purse}
+use Rattle.pay_words.specs.Seats.{IsInMemory, purse}
 use Rattle.pay_words.specs.Views.{Chair, OwesNoRing}
 use Rattle.pay_words.proofs.Joins.{joins}
 use Rattle.pay_words.proofs.Seats.{kept_both, list_there, net_within, same_workers}
@@ -42,5 +42,5 @@ invariant_of-master c =
     (ap (λ (s : Chair). s.shows.master) c.seat.view_is ∙ c.requires.not_the_master)
     workers c.max-master-inside.result c.max-master-inside.ensures in (
       ap (λ (m : Me (Unit {0}) View). m.1) c.join_seat.ensures.2 ∙ c.master.invariant.0,
-      subst (λ (m : Me (Unit {0}) View). IsKeptIn m.0 (purse c.master.inside.own (set c.master.inside.lists.items c.seat.inside.worker c.seat.inside.own) c.master.inside.debtors.items c.master.inside.workers c.master.inside.worker) c.max-master-inside.result c.master.inside.seats) (sym c.join_seat.ensures.2) kept,
+      subst (λ (m : Me (Unit {0}) View). IsInMemory m.0 (purse c.master.inside.own (set c.master.inside.lists.items c.seat.inside.worker c.seat.inside.own) c.master.inside.debtors.items c.master.inside.workers c.master.inside.worker) c.max-master-inside.result c.master.inside.seats) (sym c.join_seat.ensures.2) kept,
     )

@@ -3,7 +3,7 @@ use Rattle.clr_net.specs.declared.TheConstants.{MAX_CLAIM, MAX_CLASS}
 use Rattle.clr_net.specs.Division.{AreClasses}
 use Rattle.clr_net.proofs.RowsAndColumns.{sum-claims_of_le, classes_of_are}
 use Rattle.clear_core.proofs.Rows.{claims_in_limit}
-use Rattle.clear_core.proofs.scratch.divide_laid_out.Goals as goal
+use Rattle.clear_core.proofs.row_buffer.divide_laid_out.Goals as goal
 
 pub share_by_level-requires-clause-limit : goal.share_by_level-requires-clause-limit
 share_by_level-requires-clause-limit c =

@@ -1,7 +1,7 @@
 use Rattle.std.proofs.Common.{◌<◌, length, ◌∙◌, arith}
 use Rattle.clr_net.specs.Net.{row, claim_of, class_of}
 use Rattle.clear_core.proofs.Rows.{as_many_numbers, number_at, debt_of_row, claim_read, class_read, laid_more}
-use Rattle.clear_core.proofs.scratch.lay_out_row.Goals as goal
+use Rattle.clear_core.proofs.row_buffer.lay_out_row.Goals as goal
 
 pub debt-debt-requires : goal.debt-debt-requires
 debt-debt-requires c =

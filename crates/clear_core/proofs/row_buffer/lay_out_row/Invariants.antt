@@ -1,6 +1,6 @@
 use Rattle.std.proofs.Common.{◌≡◌, map, take, vec_capacity}
 use Rattle.clr_net.specs.Net.{row, claim_of, class_of}
-use Rattle.clear_core.proofs.scratch.lay_out_row.Given as goal
+use Rattle.clear_core.proofs.row_buffer.lay_out_row.Given as goal
 
 abbrev pub invariant-loop-id : goal.invariant-loop-id
 invariant-loop-id l = record {

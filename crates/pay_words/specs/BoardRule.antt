@@ -1,7 +1,7 @@
 -- The rule of a board, which holds between any two atomic steps, and what the steps tell.
 -- Word 0 is the roll word, the words of the debts follow, and then the bells of the banks.
-use Rattle.std.specs.Prelude.{◌≡◌, ◌⊎◌, ℕ, ◌+◌, ◌<◌, ◌≤◌, ◌==◌, ◌++◌, if◌then◌else◌, Bool, true}
-use Rattle.std.specs.Prelude.{false, List, [], length, slice_index, sum, sum_by}
+use Rattle.std.specs.Prelude.{◌≡◌, ◌⊎◌, ℕ, ◌+◌, ◌<◌, ◌≤◌, ◌==◌, ◌++◌, if◌then◌else◌, Bool, true, []}
+use Rattle.std.specs.Prelude.{false, All, List, length, slice_index, sum, sum_by}
 use mathlib.Core.Option.{some}
 use lib.ListN.{get_elem?}
 use Rattle.atomic_table.specs.Table.{Me, Step}
@@ -14,7 +14,8 @@ use Rattle.pay_words.specs.declared.payment.Payment.{Payment}
 use Rattle.pay_words.specs.declared.view.Shown.{Shown}
 use Rattle.pay_words.specs.declared.view.View.{View}
 use Rattle.pay_words.specs.Words.{word_of, payment_of}
-use Rattle.pay_words.specs.Traces.{Traces, IsLawful, In, Stood, raises_of, ending, start_of, total}
+use Rattle.pay_words.specs.Traces.{Traces, AreLawfulTraces, Stood, raises_of, ending, start_of, total}
+use Rattle.pay_words.specs.Ends.{AreAfter}
 use Rattle.pay_words.specs.Views.{IsSound, IsCalm, HasSeenFloor, HasSeenAll, HoldsAll, OwesNoRing}
 use Rattle.pay_words.specs.Views.{tabled, is_marked, holds, opening, looked, raised, rung, took}
 use Rattle.pay_words.specs.Views.{handed, without, rejoined}
@@ -52,8 +53,8 @@ pub record Suits (d : Deed) (k : Ledger) (roll count id : ℕ) (v : View) : Type
   -- made no other raise
   pub told : (x : ℕ) → x < length d.net.debts → holds v.shown (debtor_of d.net x) ≡ true
       → k.trace x ≡ raises_of x k.base ++ raises_of x (own_raises v.shown.master v.shown.raises)
-  pub only : (r : Raise) → In r (own_raises v.shown.master v.shown.raises)
-      → (r.debt.0 < length d.net.debts) × (holds v.shown (debtor_of d.net r.debt.0) ≡ true)
+  pub only : All (λ r. (r.debt.0 < length d.net.debts)
+      × (holds v.shown (debtor_of d.net r.debt.0) ≡ true)) (own_raises v.shown.master v.shown.raises)
   -- each sight stood once, and no floor is above what is paid
   pub stood : (x : ℕ) → x < length d.net.debts
       → Stood (k.trace x) (slice_index v.shown.sights x) (slice_index v.shown.sight_stamps x)
@@ -63,8 +64,8 @@ pub record Suits (d : Deed) (k : Ledger) (roll count id : ℕ) (v : View) : Type
   pub seen_by_clock : (x : ℕ) → slice_index v.shown.sight_stamps x ≤ v.shown.clock
   pub paid_by_clock : (x : ℕ) → x < length d.net.debts
       → holds v.shown (debtor_of d.net x) ≡ true → (ending (k.trace x)).stamp ≤ v.shown.clock
-  pub past_by_clock : (r : Raise) → In r d.past → r.stamp ≤ v.shown.clock
-  pub late : (r : Raise) → In r v.shown.raises → (p : Raise) → In p d.past → p.stamp < r.stamp
+  pub past_by_clock : All (λ r. r.stamp ≤ v.shown.clock) d.past
+  pub late : AreAfter d.past v.shown.raises
   pub clock_low : v.shown.clock ≤ total d.net k.trace
   pub leads : Leads d k roll count id v
 
@@ -139,15 +140,15 @@ pub record IsRung (d : Deed) (t : Traces) (words : List ℕ) (views : List View)
       ≤ length d.net.banks + sum_by made_of views
   pub has : (id : ℕ) (v : View) → get_elem? views id ≡ some v → v.live ≡ true → HasBells d tower v
 
-pub record IsKept (d : Deed) (words : List ℕ) (views : List View) : Type 0 where
+pub record MeetsRule (d : Deed) (words : List ℕ) (views : List View) : Type 0 where
   pub ledger : Ledger
   pub network : IsNetwork d.net
   pub size : length words ≡ 1 + length d.net.debts + length d.net.banks
   -- each payment word is that of the debt's last raise, and all raises are lawful
   pub stands : (x : ℕ) → x < length d.net.debts
       → slice_index words (x + 1) ≡ word_of (ending (ledger.trace x))
-  pub lawful : IsLawful d.net ledger.trace
-  pub known : (r : Raise) → In r ledger.base → r.debt.0 < length d.net.debts
+  pub lawful : AreLawfulTraces d.net ledger.trace
+  pub known : All (λ r. r.debt.0 < length d.net.debts) ledger.base
   -- each bank is held by the one seat that owns it, and there is a master
   pub held : (b : ℕ) → b < length d.net.banks
       → Sits views (ledger.owner b) (λ v. holds v.shown b ≡ true)

@@ -1,8 +1,0 @@
-use Rattle.std.proofs.Common.{◌≡◌, vec_len, vec_capacity}
-use Rattle.upper.proofs.divider.blank.Given as goal
-
-abbrev pub invariant-loop : goal.invariant-loop
-invariant-loop l = record {
-  places : vec_len l.awards ≡ l.counter;
-  room : vec_capacity l.awards ≡ vec_capacity l.fn.awards;
-}
