@@ -133,6 +133,7 @@ class Launcher(Case):
         # What was proved is kept, and what was begun.
         self.assertTrue((self.root / "crates/low/out/rlib/stamp").exists())
         self.assertTrue((self.root / "crates/left/out/incremental/begun").exists())
+        self.assertFalse((self.root / "crates/clear_main/out/build.parts").exists(), "the copies stay")
         self.calls.write_text("")
         self.assertEqual(self.run_at(self.root).returncode, 0)
         self.assertEqual(self.times.read_text().count("low begins"), 1)
@@ -258,9 +259,11 @@ class Launcher(Case):
         self.ends()
         # What was begun stands in the repository again, once the build has put it there.
         begun, deadline = self.root / "crates/low/out/incremental/begun", time.monotonic() + 20
-        while not begun.exists() and time.monotonic() < deadline:
+        parts = self.root / "crates/clear_main/out/build.parts"
+        while (parts.exists() or not begun.exists()) and time.monotonic() < deadline:
             time.sleep(0.1)
         self.assertTrue(begun.exists())
+        self.assertFalse(parts.exists(), "the copies stay")
 
     def test_what_a_killed_build_left_is_gone_on_with(self):
         going = self.going()

@@ -13,6 +13,14 @@ case "$*" in
 esac
 """
 
+# And one that says something else each time where the threads are its own.
+FICKLE = """#!/bin/sh
+case "$1" in
+breaking | impact | rescues | outcomes) echo "$$" ;;
+esac
+exec "{program}" "$@"
+"""
+
 
 @needs("cc")
 class Races(Case):
@@ -34,3 +42,11 @@ class Races(Case):
             self.assertEqual(status, 1, lines)
             wrong = re.fullmatch("12 runs, ([0-9]+) wrong", lines[-1])
             self.assertGreaterEqual(int(wrong[1]), 5, lines)
+
+    def test_a_task_on_threads_of_its_own_that_says_something_else_is_found(self):
+        program = self.file("fickle", FICKLE.format(program=os.path.realpath(PROGRAM)))
+        program.chmod(0o755)
+        status, lines = self.races(program, 48)
+        self.assertEqual(status, 1, lines)
+        told = [line for line in lines if "another text than undisturbed" in line]
+        self.assertTrue(told and len(told) == int(lines[-1].split()[2]), lines)

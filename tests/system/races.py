@@ -26,6 +26,7 @@ _spec.loader.exec_module(audit)
 
 WORKERS = [2, 3, 4, 8, 64]
 SIZES = [2, 2, 3, 4, 5, 8, 8, 13, 20, 30, 50, 100, 200, 500, 1000]
+OWN_THREADS = {"breaking", "impact", "rescues", "outcomes"}
 FILES = ["--banks", "banks.csv", "--debts", "debts.csv"]
 LIMIT = 600  # seconds of a run; on a busy machine one of the least priority waits long
 PROCESSORS = sorted(os.sched_getaffinity(0))
@@ -234,12 +235,13 @@ class Races:
         return ["--workers", str(workers), "--sweeps", str(rng.choice([1, 1, 2, 7, 1000]))]
 
     def other_task(self, rng, net):
-        """The words of another task that has workers."""
+        """The words of another task that runs on threads: by as many workers as it is told, or by a number of its own."""
         bank = net.banks[rng.randrange(len(net.banks))].name
         pathlib.Path("cuts.toml").write_text("".join(f'[[scenario]]\nname = "{cut}"\ncut = {cut}\n' for cut in (0, 1, 250, 500, 1000)))
         return rng.choice([
             ["defaults", *FILES], ["bounds", *FILES], ["rescue", *FILES, "--bank", bank], ["stress", *FILES, "--scenarios", "cuts.toml"],
             ["gen", "--seed", str(rng.randrange(99)), "--size", str(len(net.banks)), "--tries", str(8 * len(net.banks))],
+            ["breaking", *FILES], ["impact", *FILES], ["rescues", *FILES], ["outcomes", *FILES, "--scenarios", "cuts.toml"],
         ])
 
     def one_network(self, number, most):
@@ -260,9 +262,10 @@ class Races:
                 continue
 
             def beside(other=other, more=more):
-                alone = self.plain(*other, "--workers", "1")
-                if self.shaken_run(rng, [*other, *more]) != alone:
-                    raise Wrong("another text than by one worker")
+                told = other[0] not in OWN_THREADS
+                alone = self.plain(*other, *(["--workers", "1"] if told else []))
+                if self.shaken_run(rng, [*other, *(more if told else [])]) != alone:
+                    raise Wrong("another text than by one worker" if told else "another text than undisturbed")
 
             self.attempt(number, beside)
         self.networks += 1

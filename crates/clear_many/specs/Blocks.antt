@@ -1,15 +1,14 @@
 -- The blocks that the cuts are parted into, and the places in which they are gone through.
-use Rattle.std.specs.Prelude.{◌≡◌, ℕ, ◌+◌, ◌*◌, ◌/◌, ◌%◌, Vec, map}
+use Rattle.std.specs.Prelude.{◌≡◌, ℕ, ◌+◌, ◌*◌, ◌/◌, ◌%◌, Vec, map, min}
 use Rattle.std.specs.Global.{Global}
 use Rattle.cascade.specs.Standings.{bank_numbers}
 use Rattle.clr_net.specs.Net.{Net}
 use Rattle.stress.specs.Breaking.{breaking_within}
-use Rattle.stress.specs.declared.TheConstants.{MAX_CUT}
 use Rattle.stress.specs.declared.broken.Broken.{Broken}
 
--- the cut at which a block begins, of 16 that have as many cuts, or one more
+-- the cut at which a block begins, of 16 that get shorter towards the greatest cut
 abbrev pub edge : ℕ → ℕ
-edge block = block * (MAX_CUT + 1) / 16
+edge block = min (min (min (75 * block) (396 + 42 * block)) (788 + 14 * block)) (953 + 3 * block)
 
 -- the block that is gone through in a place, and the place of a block: row by row of a square of 4 by
 -- 4 the places stand, and column by column the blocks

@@ -12,7 +12,7 @@ use clr_net::{Mem, Network};
 use shares::{Made, Piecework, THREADS, in_shares};
 use std::alloc::Global;
 use std::thread::Threads;
-use stress::{Broken, MAX_CUT, breaking_within, joined};
+use stress::{Broken, breaking_within, joined};
 
 /// The text of the least cut that breaks each bank, and of how the bank stands at it. `Mem` for want
 /// of memory alone.
@@ -34,12 +34,17 @@ pub fn tell_breaking<R: Threads + Sync>(
 // How many blocks the cuts are parted into: as many for each thread as there are threads.
 const BLOCKS: usize = THREADS * THREADS;
 
-// The cut at which a block begins, and at which the one before it has ended.
+// The cut at which a block begins, and at which the one before it has ended: 0, 75, 150 and so on up to 900, then 942, 984, 998 and
+// 1001. A clearing after which hardly any cash is left takes the longest by far, so the last blocks have few cuts.
 fn edge(block: usize) -> u32
     requires { block ≤ BLOCKS }
     ensures { result ≡ edge_of block }
 {
-    block as u32 * (MAX_CUT as u32 + 1) / BLOCKS as u32
+    let block = block as u32;
+    (75 * block)
+        .min(396 + 42 * block)
+        .min(788 + 14 * block)
+        .min(953 + 3 * block)
 }
 
 // The block that is gone through in a place, and the place of a block. The higher the cuts, the more

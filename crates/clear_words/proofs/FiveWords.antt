@@ -116,42 +116,12 @@ five_matches task banks debts is_task is_banks is_debts =
 -- the word of a task names it
 task_of_word : (t : Task) → task_named (word_of t) ≡ Some t
 task_of_word task.Check = refl
-task_of_word task.Clear = refl
-task_of_word task.Central = refl
-task_of_word task.Defaults = refl
-task_of_word task.Stress = refl
-task_of_word task.Replay = refl
-task_of_word task.Gen = refl
-task_of_word task.Convert = refl
-task_of_word task.Bounds = refl
-task_of_word task.Rescue = refl
-task_of_word task.Compress = refl
-task_of_word task.Costs = refl
-task_of_word task.Breaking = refl
-task_of_word task.Impact = refl
-task_of_word task.Rescues = refl
-task_of_word task.Outcomes = refl
-task_of_word task.CostBounds = refl
+task_of_word t = refl
 
 -- and is no option
 may_name : (t : Task) → may_name_a_file (word_of t) ≡ true
 may_name task.Check = refl
-may_name task.Clear = refl
-may_name task.Central = refl
-may_name task.Defaults = refl
-may_name task.Stress = refl
-may_name task.Replay = refl
-may_name task.Gen = refl
-may_name task.Convert = refl
-may_name task.Bounds = refl
-may_name task.Rescue = refl
-may_name task.Compress = refl
-may_name task.Costs = refl
-may_name task.Breaking = refl
-may_name task.Impact = refl
-may_name task.Rescues = refl
-may_name task.Outcomes = refl
-may_name task.CostBounds = refl
+may_name t = refl
 
 -- what is left of the tests where the other options are not there
 fit : (t : Task) (banks debts : Text) → may_name_a_file banks ≡ true → may_name_a_file debts ≡ true
@@ -166,23 +136,14 @@ enough : (t : Task) (banks debts : Text) → needs_files_alone t ≡ true
     → may_name_a_file banks ≡ true → may_name_a_file debts ≡ true
     → job_for (five_rows (word_of t) banks debts) t ≡ Some (on_both_files t banks debts)
 unfolding clap_on_literals command
-enough task.Check banks debts alone b d = fit task.Check banks debts b d
-enough task.Clear banks debts alone b d = fit task.Clear banks debts b d
-enough task.Central banks debts alone b d = fit task.Central banks debts b d
-enough task.Defaults banks debts alone b d = fit task.Defaults banks debts b d
 enough task.Stress banks debts alone b d = absurd (cc)
 enough task.Replay banks debts alone b d = absurd (cc)
 enough task.Gen banks debts alone b d = absurd (cc)
-enough task.Convert banks debts alone b d = fit task.Convert banks debts b d
-enough task.Bounds banks debts alone b d = fit task.Bounds banks debts b d
 enough task.Rescue banks debts alone b d = absurd (cc)
-enough task.Compress banks debts alone b d = fit task.Compress banks debts b d
 enough task.Costs banks debts alone b d = absurd (cc)
-enough task.Breaking banks debts alone b d = fit task.Breaking banks debts b d
-enough task.Impact banks debts alone b d = fit task.Impact banks debts b d
-enough task.Rescues banks debts alone b d = fit task.Rescues banks debts b d
 enough task.Outcomes banks debts alone b d = absurd (cc)
 enough task.CostBounds banks debts alone b d = absurd (cc)
+enough t banks debts alone b d = fit t banks debts b d
 
 -- the word of the task, and both files by their options, are the job of the task on these files
 pub five_words : (t : Task) (banks debts : Text) → needs_files_alone t ≡ true

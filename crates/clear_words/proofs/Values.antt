@@ -22,26 +22,10 @@ pub job_of-refused : (words : List Text) → is_taken words ≡ false → job_of
 unfolding job_of
 job_of-refused words refused = rw refused refl
 
--- by whether each option is as the task wants it
-by_test : (rows : List Row) (t : Task) (is : Bool) → task_in rows ≡ Some t
+-- by whether each option is as the task wants it, they ask for the job of the task or for none
+pub job_in-by_test : (rows : List Row) (t : Task) (is : Bool) → task_in rows ≡ Some t
     → is ≡ list_all (is_well (uses_of t) rows) all_options
     → job_in rows ≡ (if is then Some (job_on rows t) else None)
-by_test rows t is found tells =
+job_in-by_test rows t is found tells =
     ap (option_and_then (job_for rows)) found
     ∙ ap (λ b. if b then Some (job_on rows t) else None) (sym tells)
-
--- no task, no job
-pub job_in-no_task : (rows : List Row) → task_in rows ≡ None → job_in rows ≡ None
-job_in-no_task rows none = ap (option_and_then (job_for rows)) none
-
--- nor where an option is not as the task wants it
-pub job_in-unwell : (rows : List Row) (t : Task) → task_in rows ≡ Some t
-    → false ≡ list_all (is_well (uses_of t) rows) all_options
-    → job_in rows ≡ None
-job_in-unwell rows t found tells = by_test rows t false found tells
-
--- and otherwise that of the task
-pub job_in-well : (rows : List Row) (t : Task) → task_in rows ≡ Some t
-    → true ≡ list_all (is_well (uses_of t) rows) all_options
-    → job_in rows ≡ Some (job_on rows t)
-job_in-well rows t found tells = by_test rows t true found tells

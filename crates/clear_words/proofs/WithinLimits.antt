@@ -1,6 +1,6 @@
 -- The numbers of a job are within their limits.
 use Rattle.std.proofs.Common.{◌≡◌, ◌≤◌, ◌<◌, ◌&&◌, Bool, List, None, Option, Some, arith}
-use Rattle.std.proofs.Common.{false, get_or, length, refl, subst, true, ℕ}
+use Rattle.std.proofs.Common.{false, get_or, length, min, refl, subst, true, ℕ}
 use Rattle.std.proofs.lemmas.Bool.{leb-true}
 use Rattle.std.proofs.lemmas.List.Elements.{All-get_or}
 use Rattle.std.proofs.lemmas.List.Sums.{AllPass-from_list_all}
@@ -26,70 +26,46 @@ use Rattle.clear_words.specs.declared.task.Use.TheVariants.{Required}
 abbrev kept : Bool → Bool → ℕ → ℕ → ℕ
 kept above below n otherwise = unwrap_or (if above && below then Some n else None) otherwise
 
--- by the answers of the tests, it is not below the range
-kept_above : (above below : Bool) (least n otherwise : ℕ) → (above ≡ true → least ≤ n)
-    → least ≤ otherwise → least ≤ kept above below n otherwise
-kept_above true true least n otherwise tells l = tells refl
-kept_above true false least n otherwise tells l = l
-kept_above false below least n otherwise tells l = l
+-- a number that is not above the most of a range, and not below its least or what stands for it
+abbrev Within : ℕ → ℕ → ℕ → ℕ → Type 0
+Within least most otherwise n = (min least otherwise ≤ n) × (n ≤ most)
 
--- nor above it
-kept_below : (above below : Bool) (most n otherwise : ℕ) → (below ≡ true → n ≤ most)
-    → otherwise ≤ most → kept above below n otherwise ≤ most
-kept_below true true most n otherwise tells l = tells refl
-kept_below true false most n otherwise tells l = l
-kept_below false below most n otherwise tells l = l
+-- by the answers of the tests, it is in the range
+kept_within : (above below : Bool) (least most n otherwise : ℕ) → (above ≡ true → least ≤ n)
+    → (below ≡ true → n ≤ most) → otherwise ≤ most
+    → Within least most otherwise (kept above below n otherwise)
+kept_within true true least most n otherwise over under l = (omega (arith, over refl), under refl)
+kept_within true false least most n otherwise over under l = (omega arith, l)
+kept_within false below least most n otherwise over under l = (omega arith, l)
 
--- and where it is there, whatever would stand for it
-there_above : (above below : Bool) (least n otherwise : ℕ) → (above ≡ true → least ≤ n)
-    → is_some (if above && below then Some n else None) ≡ true
-    → least ≤ kept above below n otherwise
-there_above true true least n otherwise tells there = tells refl
-there_above true false least n otherwise tells there = absurd (cc)
-there_above false below least n otherwise tells there = absurd (cc)
+-- so is a number that a range lets through, or what stands for it
+range_within : (least most otherwise : ℕ) (n : Option ℕ) → otherwise ≤ most
+    → Within least most otherwise (unwrap_or (option_and_then (if_between least most) n) otherwise)
+range_within least most otherwise None l = (omega arith, l)
+range_within least most otherwise (Some n) l =
+    kept_within (nat_le least n) (nat_le n most) least most n otherwise (leb-true least n)
+    (leb-true n most) l
 
--- a number that a range lets through, or what stands for it, is not below the range
-kept_least : (least most otherwise : ℕ) (n : Option ℕ) → least ≤ otherwise
-    → least ≤ unwrap_or (option_and_then (if_between least most) n) otherwise
-kept_least least most otherwise None l = l
-kept_least least most otherwise (Some n) l =
-    kept_above (nat_le least n) (nat_le n most) least n otherwise (leb-true least n) l
+-- and the number that an option gives
+number_within : (least most otherwise : ℕ) (value : Option Text) → otherwise ≤ most
+    → Within least most otherwise
+    (unwrap_or (option_and_then (number_of (Number least most)) value) otherwise)
+number_within least most otherwise None l = (omega arith, l)
+number_within least most otherwise (Some text) l =
+    range_within least most otherwise (number_in text) l
 
--- nor above it
-kept_most : (least most otherwise : ℕ) (n : Option ℕ) → otherwise ≤ most
-    → unwrap_or (option_and_then (if_between least most) n) otherwise ≤ most
-kept_most least most otherwise None l = l
-kept_most least most otherwise (Some n) l =
-    kept_below (nat_le least n) (nat_le n most) most n otherwise (leb-true n most) l
-
--- the same of the number that an option gives
-number_least : (least most otherwise : ℕ) (value : Option Text) → least ≤ otherwise
-    → least ≤ unwrap_or (option_and_then (number_of (Number least most)) value) otherwise
-number_least least most otherwise None l = l
-number_least least most otherwise (Some text) l =
-    kept_least least most otherwise (number_in text) l
-
-number_most : (least most otherwise : ℕ) (value : Option Text) → otherwise ≤ most
-    → unwrap_or (option_and_then (number_of (Number least most)) value) otherwise ≤ most
-number_most least most otherwise None l = l
-number_most least most otherwise (Some text) l =
-    kept_most least most otherwise (number_in text) l
-
--- a number that is there is not below its range, whatever would stand for it
-there_least : (least most otherwise : ℕ) (n : Option ℕ)
-    → is_some (option_and_then (if_between least most) n) ≡ true
-    → least ≤ unwrap_or (option_and_then (if_between least most) n) otherwise
-there_least least most otherwise None there = absurd (cc)
-there_least least most otherwise (Some n) there =
-    there_above (nat_le least n) (nat_le n most) least n otherwise (leb-true least n) there
+-- a number that is there is the same, whatever would stand for it
+there : (n : Option ℕ) (a b : ℕ) → is_some n ≡ true → unwrap_or n a ≡ unwrap_or n b
+there None a b is = absurd (cc)
+there (Some n) a b is = refl
 
 -- so of an option that has to be there
-required_least : (least most otherwise : ℕ) (value : Option Text)
+required : (least most a b : ℕ) (value : Option Text)
     → is_welcome Required (Number least most) value ≡ true
-    → least ≤ unwrap_or (option_and_then (number_of (Number least most)) value) otherwise
-required_least least most otherwise None well = absurd (cc)
-required_least least most otherwise (Some text) well =
-    there_least least most otherwise (number_in text) well
+    → unwrap_or (option_and_then (number_of (Number least most)) value) a
+    ≡ unwrap_or (option_and_then (number_of (Number least most)) value) b
+required least most a b None well = absurd (cc)
+required least most a b (Some text) well = there (number_of (Number least most) text) a b well
 
 -- each of the options is as the task wants it, where all are
 each_is_well : (rows : List Row) (t : Task) (i : ℕ) → i < length all_options
@@ -103,22 +79,23 @@ each_is_well rows t i l all =
 size_is_there : (rows : List Row) (t : Task) → t ≡ task.Gen
     → list_all (is_well (uses_of t) rows) all_options ≡ true → 1 ≤ (job_on rows t).size
 size_is_there rows task.Gen is all =
-    required_least 1 1000 0 (value_of rows option.Size)
-    (each_is_well rows task.Gen 9 (omega arith) all)
+    let size = value_of rows option.Size in
+    let same = required 1 1000 0 1 size (each_is_well rows task.Gen 9 (omega arith) all) in
+    omega (arith, same, number_within 1 1000 1 size (omega arith))
 size_is_there rows _ is all = absurd (cc)
 
 -- the job of a task on what the command found
 job_on_is_job : (rows : List Row) (t : Task)
     → list_all (is_well (uses_of t) rows) all_options ≡ true → IsJob (job_on rows t)
 job_on_is_job rows t all = record {
-  least_workers = number_least 1 64 4 (value_of rows option.Workers) (omega arith);
-  most_workers = number_most 1 64 4 (value_of rows option.Workers) (omega arith);
-  least_sweeps = number_least 1 1000 1 (value_of rows option.Sweeps) (omega arith);
-  most_sweeps = number_most 1 1000 1 (value_of rows option.Sweeps) (omega arith);
+  least_workers = (number_within 1 64 4 (value_of rows option.Workers) (omega arith)).0;
+  most_workers = (number_within 1 64 4 (value_of rows option.Workers) (omega arith)).1;
+  least_sweeps = (number_within 1 1000 1 (value_of rows option.Sweeps) (omega arith)).0;
+  most_sweeps = (number_within 1 1000 1 (value_of rows option.Sweeps) (omega arith)).1;
   least_size = λ gen. size_is_there rows t gen all;
-  most_size = number_most 1 1000 0 (value_of rows option.Size) (omega arith);
-  most_tries = number_most 0 20000 0 (value_of rows option.Tries) (omega arith);
-  most_keep = number_most 0 1000 0 (value_of rows option.Keep) (omega arith);
+  most_size = (number_within 1 1000 0 (value_of rows option.Size) (omega arith)).1;
+  most_tries = (number_within 0 20000 0 (value_of rows option.Tries) (omega arith)).1;
+  most_keep = (number_within 0 1000 0 (value_of rows option.Keep) (omega arith)).1;
 }
 
 -- by the test of the options

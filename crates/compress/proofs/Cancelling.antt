@@ -1,7 +1,7 @@
 -- Taking a walk back debt by debt, while the debts of a cycle are lowered.
 use Rattle.std.proofs.Common.{◌≡◌, ◌≢◌, ℕ, zero, suc, ◌+◌, ◌-◌, ◌<◌, ◌≤◌, List, [], ◌∷◌, ◌++◌, length, length-set, get_or, set, map, take, slice_get, Some, sum, sum_by, refl, sym, ap, ◌∙◌, subst, ⊎_elim, arith}
 use Rattle.std.proofs.Math.ListN.{get_or-append}
-use Rattle.std.proofs.lemmas.Bool.{cases_eq, cases_lt}
+use Rattle.std.proofs.lemmas.Bool.{cases_lt}
 use Rattle.std.proofs.lemmas.List.{get_or_push, get_or-set_same, get_or-set_other, length_push, length-map, length-take, map-append, take_more, take_all}
 use Rattle.std.proofs.lemmas.List.Sums.{sum_by-set}
 use Rattle.clr_net.specs.Amounts.{IsAtMost}
@@ -49,32 +49,21 @@ leads_push from to i j (x ∷ xs) y leads e = (leads.0, leads_push from to (to x
 
 lowered_le : (C : List ℕ) (m : ℕ) (xs : List ℕ) → IsAtMost (lowered C m xs) C
 lowered_le C m [] = λ k. omega arith
-lowered_le C m (x ∷ xs) = λ k. ⊎_elim
-    (λ (l : x < length C). ⊎_elim
-    (λ (e : k ≡ x). rw e (omega (
-      arith,
-      lowered_le (set C x (get_or C x 0 - m)) m xs x,
-      get_or-set_same C x (get_or C x 0 - m) 0 l,
-    )))
-    (λ (ne : k ≢ x). omega (
-      arith,
-      lowered_le (set C x (get_or C x 0 - m)) m xs k,
-      get_or-set_other C x k (get_or C x 0 - m) 0 ne,
-    ))
-    (cases_eq k x))
-    (λ (g : length C ≤ x). rw (past C x g) (lowered_le C m xs k))
-    (cases_lt x (length C))
+lowered_le C m (x ∷ xs) = λ k.
+    omega (arith, lowered_le (set C x (get_or C x 0 - m)) m xs k, one C x k)
   where
-    past : (C : List ℕ) (x : ℕ) → length C ≤ x → set C x (get_or C x 0 - m) ≡ C
-    past [] x g = refl
-    past (c ∷ C) zero g = absurd (omega arith)
-    past (c ∷ C) (suc x) g = ap (λ (cs : List ℕ). c ∷ cs) (past C x (omega arith))
+    one : (C : List ℕ) (x k : ℕ) → get_or (set C x (get_or C x 0 - m)) k 0 ≤ get_or C k 0
+    one [] x k = omega arith
+    one (c ∷ C) zero zero = omega arith
+    one (c ∷ C) zero (suc k) = omega arith
+    one (c ∷ C) (suc x) zero = omega arith
+    one (c ∷ C) (suc x) (suc k) = one C x k
 
 -- the last debt of a walk stands in no earlier place
-pub last_apart : (net : Net) (c s : ℕ) (C W : List ℕ) (marks : List Mark) (x k : ℕ)
+pub last_apart : {net : Net} {c s : ℕ} {C : List ℕ} {marks : List Mark} (W : List ℕ) (x k : ℕ)
     → IsWalk net c s C (W ++ x ∷ []) marks → k < length W
     → get_or W k 0 ≢ x
-last_apart net c s C W marks x k w l e =
+last_apart {net = net} {s = s} {marks = marks} W x k w l e =
     let last : get_or (stops net s (W ++ x ∷ [])) (length W + 1) 0
     ≡ debtor_of net x = stop_last net s W x (length W + 1) refl in
     let here : get_or (stops net s (W ++ x ∷ [])) (k + 1) 0 ≡ debtor_of net x =
@@ -86,10 +75,10 @@ last_apart net c s C W marks x k w l e =
     omega (arith, same)
 
 -- and a debt to the end of a walk stands in none
-pub closing_apart : (net : Net) (c s : ℕ) (C W : List ℕ) (marks : List Mark) (x k : ℕ)
+pub closing_apart : {net : Net} {c s : ℕ} {C W : List ℕ} {marks : List Mark} (x k : ℕ)
     → IsWalk net c s C W marks → k < length W
     → creditor_of net x ≡ end_of net s W → get_or W k 0 ≢ x
-closing_apart net c s C W marks x k w l link e =
+closing_apart {net = net} {W = W} {marks = marks} x k w l link e =
     let both : Walked k ≡ Walked (length W) =
     sym (w.marked k (omega arith)) ∙ ap (mark_of marks) (sym (w.links k l)
     ∙ ap (creditor_of net) e ∙ link) ∙ w.marked (length W) (omega arith) in
@@ -97,10 +86,10 @@ closing_apart net c s C W marks x k w l link e =
     omega (arith, same)
 
 -- a walk along debts whose claims stay is one as others change
-walk_stays : (net : Net) (c s : ℕ) (C D W : List ℕ) (marks : List Mark) → IsWalk net c s C W marks
+walk_stays : {net : Net} {c s : ℕ} {C W : List ℕ} {marks : List Mark} (D : List ℕ) → IsWalk net c s C W marks
     → ((k : ℕ) → k < length W → get_or D (get_or W k 0) 0 ≡ get_or C (get_or W k 0) 0)
     → IsWalk net c s D W marks
-walk_stays net c s C D W marks w same = record {
+walk_stays D w same = record {
   live = λ k l. let old = w.live k l in record
       { debt = old.debt; class = old.class; claim = omega (arith, old.claim, same k l) };
   links = w.links;
@@ -139,7 +128,7 @@ cancelling_begins net c s place m C W marks x l w live link in_walk closed pos e
     let same : (k : ℕ) → k < length W → get_or (set C x (get_or C x 0 - m)) (get_or W k 0) 0
     ≡ get_or C (get_or W k 0) 0 =
     λ k b. get_or-set_other C x (get_or W k 0) (get_or C x 0 - m) 0
-    (closing_apart net c s C W marks x k w b link) in
+    (closing_apart x k w b link) in
     let r : x < length C = omega (arith, live.debt) in
     record {
       xs = x ∷ [];
@@ -148,7 +137,7 @@ cancelling_begins net c s place m C W marks x l w live link in_walk closed pos e
       classes = λ k b. at k (omega arith);
       leads = (sym closed, link);
       within = in_walk;
-      walk = walk_stays net c s C (set C x (get_or C x 0 - m)) W marks w same;
+      walk = walk_stays (set C x (get_or C x 0 - m)) w same;
       enough = λ k g b. omega (arith, all k g b, same k b);
       others = λ y other. get_or-set_other C x y (get_or C x 0 - m) 0
           (λ e. other (ap (class_of net) e ∙ live.class));
@@ -171,11 +160,11 @@ pub record IsLast (net : Net) (c m : ℕ) (D : List ℕ) (y : ℕ) : Type 0 wher
   pub enough : m ≤ get_or D y 0
   pub in_claims : y < length D
 
-pub cancelling_last : (net : Net) (c s place m : ℕ) (C : List ℕ) (before : List Mark)
-    (D W : List ℕ) (marks : List Mark) (y : ℕ)
+pub cancelling_last : {net : Net} {c s place m : ℕ} {C : List ℕ} {before : List Mark}
+    {D : List ℕ} {marks : List Mark} (W : List ℕ) (y : ℕ)
     → length C ≡ length net.debts → IsCancelling net c s place m C before D (W ++ y ∷ []) marks
     → place < length W + 1 → IsLast net c m D y
-cancelling_last net c s place m C before D W marks y l old in_walk =
+cancelling_last {net = net} {c = c} {m = m} {C = C} {D = D} W y l old in_walk =
     let live = subst (IsLive net D c) (get_or_push W y 0 (length W) refl)
     (old.walk.live (length W) (omega (arith, length_push W y))) in
     record {
@@ -195,7 +184,7 @@ pub cancelling_goes_on : (net : Net) (c s place m : ℕ) (C : List ℕ) (before 
 cancelling_goes_on net c s place m C before D W marks y network l bl old in_walk pos =
     let w = old.walk in
     let n = length_push W y in
-    let last = cancelling_last net c s place m C before D W marks y l old in_walk in
+    let last = cancelling_last W y l old in_walk in
     let live = last.live in
     let enough = last.enough in
     let link : creditor_of net y ≡ end_of net s W =
@@ -234,7 +223,7 @@ cancelling_goes_on net c s place m C before D W marks y network l bl old in_walk
           (λ k e. absurd (cc));
       enough = λ k g h. omega (
         arith,
-        same (get_or W k 0) (last_apart net c s D W marks y k w h),
+        same (get_or W k 0) (last_apart W y k w h),
         subst (λ x. m ≤ get_or D x 0) (get_or-append W (y ∷ []) 0 k h)
             (old.enough k g (omega (arith, n))),
       );
@@ -261,11 +250,11 @@ cancelling_goes_on net c s place m C before D W marks y network l bl old in_walk
     }
 
 -- once the walk is back at the place, the cycle is closed and every balance is as before
-pub cancelling_ends : (net : Net) (c s place m : ℕ) (C : List ℕ) (before : List Mark)
-    (D W : List ℕ) (marks : List Mark)
+pub cancelling_ends : {net : Net} {c s place m : ℕ} {C : List ℕ} {before : List Mark}
+    {D W : List ℕ} {marks : List Mark}
     → length C ≡ length net.debts → IsCancelling net c s place m C before D W marks
     → length W ≤ place → IsKept net c C D before marks
-cancelling_ends net c s place m C before D W marks l old back =
+cancelling_ends {net = net} {c = c} {s = s} {place = place} {m = m} {C = C} {W = W} l old back =
     let at : place ≡ length W = omega (arith, old.within) in
     record {
       as_many = ap length old.claims ∙ length-lowered C m old.xs;
@@ -309,7 +298,7 @@ module _ {net : Net} {c s place m : ℕ} {C : List ℕ} {before : List Mark} {D 
   in_front = omega (arith, length-map ks (λ id. id.0), ap length e, length-take (n - 1) ids)
 
   pub step_last : IsLast net c m D d.0
-  step_last = cancelling_last net c s place m C before D (numbers ks) marks d.0 l parted in_front
+  step_last = cancelling_last (numbers ks) d.0 l parted in_front
 
   pub step_more : (debt : Debt) → slice_get net.debts d.0 ≡ Some debt → 0 < m
       → IsCancelling net c s place m C before (set D d.0 (get_or D d.0 0 - m)) (numbers ks)
@@ -319,12 +308,3 @@ module _ {net : Net} {c s place m : ℕ} {C : List ℕ} {before : List Mark} {D 
       (numbers ks) (set marks b New)) (debtor_read net d.0 debt read)
       (cancelling_goes_on net c s place m C before D
       (numbers ks) marks d.0 network l bl parted in_front pos)
-
-  pub step_bank : (debt : Debt) → slice_get net.debts d.0 ≡ Some debt → debt.debtor.0 < length marks
-  step_bank debt read =
-      omega (
-        arith,
-        debtor_read net d.0 debt read,
-        (network.each_debt d.0 step_last.live.debt).debtor_known,
-        old.banks,
-      )

@@ -8,9 +8,9 @@ use Rattle.compress.specs.Walk.{IsPassed, ArePassed, IsKept, IsReady}
 use Rattle.compress.proofs.Searching.{ready_from_column}
 
 -- claims only fall and what is done stays done, so what is passed stays passed
-pub passed_kept : (net : Net) (c : ℕ) (C D : List ℕ) (before after : List Mark) (K : List ℕ)
+pub passed_kept : {net : Net} {c : ℕ} {C D : List ℕ} {before after : List Mark} (K : List ℕ)
     → IsKept net c C D before after → ArePassed net c C before K → ArePassed net c D after K
-passed_kept net c C D before after K kept passed b k l live =
+passed_kept {net = net} K kept passed b k l live =
     let x = get_or (column net b) k 0 in
     kept.stays (debtor_of net x) (passed b k l record {
       debt = live.debt;

@@ -36,6 +36,11 @@ in_column net x l =
     (omega arith) l (eq-eqb i i refl) in
     (f.0, f.1.within, f.1.at)
 
+-- a debt above 0 passes the test of one
+pub live_is : (net : Net) (C : List ℕ) (c x : ℕ) → IsLive net C c x → is_live net C c x ≡ true
+live_is net C c x live = and_from (class_of net x == c) (ltb 0 (get_or C x 0))
+    (eq-eqb (class_of net x) c live.class) (lt-ltb 0 (get_or C x 0) live.claim)
+
 -- the numbers rise along each debt above 0
 pub rank_rises : (net : Net) (C : List ℕ) (rank : ℕ → ℕ) (c x : ℕ) → IsLive net C c x
     → rank (creditor_of net x) ≡ rank_above net C rank c (creditor_of net x)
@@ -43,13 +48,10 @@ pub rank_rises : (net : Net) (C : List ℕ) (rank : ℕ → ℕ) (c x : ℕ) →
 rank_rises net C rank c x live e =
     let place = in_column net x live.debt in
     let f = λ (y : ℕ). rank (debtor_of net y) + 1 in
-    let passes : is_live net C c x ≡ true = and_from (class_of net x == c) (ltb 0 (get_or C x 0))
-    (eq-eqb (class_of net x) c live.class) (lt-ltb 0 (get_or C x 0) live.claim) in
-    let at = place.2 in
     let below : f x ≤ rank_above net C rank c (creditor_of net x) =
-    subst (λ y. f y ≤ rank_above net C rank c (creditor_of net x)) at
+    subst (λ y. f y ≤ rank_above net C rank c (creditor_of net x)) place.2
     (most_ge f (is_live net C c) (column net (creditor_of net x)) place.0 place.1
-    (ap (is_live net C c) at ∙ passes)) in
+    (ap (is_live net C c) place.2 ∙ live_is net C c x live)) in
     omega (arith, below, e)
 
 -- along debts above 0 the numbers never fall

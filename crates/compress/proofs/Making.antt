@@ -64,20 +64,20 @@ compressed_more net c C D R T H before marks network pos made kept done all l pu
         ∙ rank_same net D D (λ j. get_or H j 0) (rank_of net T c) c i (λ x class owed. refl)
         (λ x live owed. sym (new (debtor_of net x) (network.each_debt x live.debt).debtor_known))
 
-pub left_le : (net : Net) (c : ℕ) (C R : List ℕ) → IsCompressedTo net c C R → sum C ≤ units_owed net
-left_le net c C R made = omega (
+pub left_le : {net : Net} {c : ℕ} {C R : List ℕ} → IsCompressedTo net c C R → sum C ≤ units_owed net
+left_le {net = net} {C = C} made = omega (
   arith,
   sum-le C (all_claims net) made.within,
   sum-map (λ d. d.claim) net.debts,
 )
 
-pub compressed_all : (net : Net) (C R : List ℕ) (n : ℕ) → IsCompressedTo net (MAX_CLASS + 1) C R
+pub compressed_all : {net : Net} {C R : List ℕ} (n : ℕ) → IsCompressedTo net (MAX_CLASS + 1) C R
     → n ≡ units_owed net - sum C → Compression net C R n
-compressed_all net C R n made e = record {
+compressed_all n made e = record {
   as_many = made.as_many;
   within = made.within;
   balances = made.balances;
   places = made.places;
   ranks = λ k i g l m. made.ranks k i g (omega arith) m;
-  cancelled = omega (arith, left_le net (MAX_CLASS + 1) C R made, e);
+  cancelled = omega (arith, left_le made, e);
 }

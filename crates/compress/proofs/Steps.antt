@@ -123,8 +123,3 @@ popped net c s C marks items ids None w some at = absurd (cc)
 popped net c s C marks items ids (Some y) w some at =
     retired_back net c s C (numbers items) marks w (numbers ids) y.0
     (ap numbers at ∙ map-append (λ (id : DebtId). id.0) ids (y ∷ []))
-
--- a list without an element is empty
-pub no_debts : (ids : List DebtId) → length ids ≡ 0 → ids ≡ []
-no_debts [] l = refl
-no_debts (y ∷ ids) l = absurd (omega arith)

@@ -30,13 +30,13 @@ begun_kept net c C marks s new =
     kept_done net c C marks s (Walked 0) (λ e. new_not_done (sym new ∙ e))
 
 -- a walk begins there
-pub begun : (net : Net) (c : ℕ) (C : List ℕ) (w : Walk) (start : BankId) → IsAtRest net c C w
+pub begun : {net : Net} {c : ℕ} {C : List ℕ} {w : Walk} (start : BankId) → IsAtRest net c C w
     → start.0 < length w.marks.items → mark_of w.marks.items start.0 ≡ New
     → IsUnderWay net c C (record w {
       start = start;
       marks = with_item w.marks start.0 (Walked 0);
     })
-begun net c C w start rest known new =
+begun {net = net} {c = c} {C = C} {w = w} start rest known new =
     let marks = w.marks.items in
     let after = set marks start.0 (Walked 0) in
     let sizes = rest.told.sizes in
@@ -46,8 +46,7 @@ begun net c C w start rest known new =
       told = record {
         done = done_marked start.0 (Walked 0) rest.told.done known
             (λ e. new_not_done (sym new ∙ e)) (walked_not_done 0);
-        passed = passed_kept net c C C marks after w.cursors.items
-            (begun_kept net c C marks start.0 new) rest.told.passed;
+        passed = passed_kept w.cursors.items (begun_kept net c C marks start.0 new) rest.told.passed;
         sizes = record {
           marks = omega (arith, length-set {A = Mark}, sizes.marks);
           cursors = sizes.cursors;
@@ -57,10 +56,10 @@ begun net c C w start rest known new =
     }
 
 -- the cursors are moved
-pub looked_on : (net : Net) (c : ℕ) (C : List ℕ) (w : Walk) (K : List ℕ) → IsUnderWay net c C w
+pub looked_on : {net : Net} {c : ℕ} {C : List ℕ} {w : Walk} (K : List ℕ) → IsUnderWay net c C w
     → length K ≡ length w.cursors.items → ArePassed net c C w.marks.items K
     → IsUnderWay net c C (record w { cursors = with_items w.cursors K })
-looked_on net c C w K old l passed =
+looked_on {net = net} {c = c} {C = C} {w = w} K old l passed =
     let moved : (with_items w.cursors K).items ≡ K = with_items_is w.cursors K (omega (arith, l)) in
     record {
       walk = old.walk;
@@ -76,7 +75,7 @@ looked_on net c C w K old l passed =
     }
 
 -- the last bank of a walk is done: what is told of the banks is so
-pub retired_told : (net : Net) (c : ℕ) (C : List ℕ) (w : Walk) (ids : Vec DebtId) (e v : ℕ)
+pub retired_told : {net : Net} {c : ℕ} {C : List ℕ} {w : Walk} (ids : Vec DebtId) (e v : ℕ)
     → IsUnderWay net c C w → e ≡ end_of net w.start.0 (numbers w.debts.items)
     → IsReady net c e C w.marks.items → v ≡ rank_above net C (λ j. get_or w.ranks.items j 0) c e
     → IsTold net c C (record w {
@@ -84,7 +83,7 @@ pub retired_told : (net : Net) (c : ℕ) (C : List ℕ) (w : Walk) (ids : Vec De
       marks = with_item w.marks e Done;
       ranks = with_item w.ranks e v;
     })
-retired_told net c C w ids e v old at ready is =
+retired_told {net = net} {c = c} {C = C} {w = w} ids e v old at ready is =
     let s = w.start.0 in
     let W = numbers w.debts.items in
     let marks = w.marks.items in
@@ -98,8 +97,7 @@ retired_told net c C w ids e v old at ready is =
           (retired_done net c s C W marks old.walk R v old.told.done
           (omega (arith, sizes.ranks, sizes.marks)) ready_end is_end);
       passed = subst (λ b. ArePassed net c C (set marks b Done) w.cursors.items) (sym at)
-          (passed_kept net c C C marks (set marks (end_of net s W) Done) w.cursors.items
-          (retired_kept net c s C W marks old.walk) old.told.passed);
+          (passed_kept w.cursors.items (retired_kept net c s C W marks old.walk) old.told.passed);
       sizes = record {
         marks = omega (arith, length-set {A = Mark}, sizes.marks);
         cursors = sizes.cursors;
@@ -108,14 +106,13 @@ retired_told net c C w ids e v old at ready is =
     }
 
 -- the walk is back at the first bank of the cycle, and what is told of the banks is so
-pub cancelled_told : (net : Net) (c : ℕ) (C D : List ℕ) (w v : Walk)
+pub cancelled_told : {net : Net} {c : ℕ} {C D : List ℕ} {w : Walk} (v : Walk)
     → IsTold net c C w → IsKept net c C D w.marks.items v.marks.items
     → ((R : List ℕ) → AreDone net c C R w.marks.items → AreDone net c D R v.marks.items)
     → v.cursors ≡ w.cursors → v.ranks ≡ w.ranks → IsTold net c D v
-cancelled_told net c C D w v told kept done cursors ranks = record {
+cancelled_told {w = w} v told kept done cursors ranks = record {
   done = rw ranks (done w.ranks.items told.done);
-  passed = rw cursors
-      (passed_kept net c C D w.marks.items v.marks.items w.cursors.items kept told.passed);
+  passed = rw cursors (passed_kept w.cursors.items kept told.passed);
   sizes = record {
     marks = kept.banks ∙ told.sizes.marks;
     cursors = rw cursors told.sizes.cursors;

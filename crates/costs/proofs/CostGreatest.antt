@@ -1,6 +1,6 @@
 -- With costs too there are greatest payments that clear: they are no more where less is kept, and
 -- the old greatest where all is.
-use Rattle.std.proofs.Common.{◌≡◌, ℕ, ◌≤◌, List, sym, ap, subst, arith}
+use Rattle.std.proofs.Common.{◌≡◌, ℕ, ◌≤◌, List, ap, subst, arith}
 use Rattle.clr_net.specs.Amounts.{IsAtMost}
 use Rattle.clr_net.specs.Net.{Net, units_owed}
 use Rattle.clear_core.specs.Clearing.{pay}
@@ -49,6 +49,5 @@ cost_greatest_all net = ap (greatest_by net) (cost_spend_all net)
 pub no_more_than_greatest : (net : Net) (k : ℕ) (P : List ℕ) → k ≤ 1000 → P ≡ cost_greatest net k
     → IsAtMost P (greatest net)
 no_more_than_greatest net k P l e =
-    let below = cost_greatest_mono net k 1000 l (omega arith) in
-    subst (λ R. IsAtMost R (greatest net)) (sym e)
-    (subst (λ R. IsAtMost (cost_greatest net k) R) (cost_greatest_all net) below)
+    rw e (subst (IsAtMost (cost_greatest net k)) (cost_greatest_all net)
+    (cost_greatest_mono net k 1000 l (omega arith)))

@@ -1,6 +1,6 @@
 -- With costs too there are least payments that clear: they are no more where less is kept, and the
 -- old least where all is.
-use Rattle.std.proofs.Common.{◌≡◌, ℕ, ◌≤◌, List, sym, ap, subst, arith}
+use Rattle.std.proofs.Common.{◌≡◌, ℕ, ◌≤◌, List, ap, subst, arith}
 use Rattle.clr_net.specs.Amounts.{IsAtMost}
 use Rattle.clr_net.specs.Net.{Net}
 use Rattle.clear_core.specs.Clearing.{least_by, pay, rounds, least}
@@ -34,6 +34,5 @@ cost_least_all net = ap (least_by net) (cost_spend_all net)
 pub no_more_than_least : (net : Net) (k : ℕ) (P : List ℕ) → k ≤ 1000 → P ≡ cost_least net k
     → IsAtMost P (least net)
 no_more_than_least net k P l e =
-    let below = cost_least_mono net k 1000 l (omega arith) in
-    subst (λ R. IsAtMost R (least net)) (sym e)
-    (subst (λ R. IsAtMost (cost_least net k) R) (cost_least_all net) below)
+    rw e (subst (IsAtMost (cost_least net k)) (cost_least_all net)
+    (cost_least_mono net k 1000 l (omega arith)))

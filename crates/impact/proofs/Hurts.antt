@@ -1,10 +1,10 @@
 -- How banks stand before and after a ruin, and whom it hurts, one bank after another.
-use Rattle.std.proofs.Common.{◌≡◌, ℕ, ◌+◌, ◌-◌, ◌<◌, ◌≤◌, ◌==◌, ◌&&◌, not, Bool, true, false, cond, All, List, [], ◌∷◌, ◌++◌, length, map, filter, count_by, get_or, refl, sym, ap, ◌∙◌, subst, arith}
+use Rattle.std.proofs.Common.{◌≡◌, ℕ, ◌+◌, ◌-◌, ◌<◌, ◌≤◌, ◌==◌, ◌&&◌, not, Bool, true, false, cond, All, List, [], ◌∷◌, ◌++◌, length, map, filter, count_by, get_or, refl, sym, ap, ◌∙◌, arith}
 use Rattle.std.specs.List.{range_with_len}
 use mir.Val.{bool_byte}
 use Rattle.std.proofs.Math.Path.{ap₂}
 use Rattle.std.proofs.lemmas.List.Elements.{All-filter, All-map, filter-append}
-use Rattle.std.proofs.lemmas.List.FromFn.{get_or-map-range_with_len, get_or-range_with_len, length-map-range_with_len, length-range_with_len, map-range_with_len_more}
+use Rattle.std.proofs.lemmas.List.FromFn.{get_or-map-range_with_len, get_or-range_with_len, length-map-range_with_len, length-range_with_len, map-range_with_len_more, filter_of_map_range_with_len_more}
 use Rattle.std.proofs.lemmas.List.Sums.{sum_by_push}
 use Rattle.std.proofs.lemmas.List.{append-nil, map-id}
 use Rattle.clr_net.specs.Limits.{IsNetwork}
@@ -18,51 +18,43 @@ use Rattle.cascade.proofs.Ruin.{costs_its_cash}
 use Rattle.impact.specs.declared.hurt.Hurt.{Hurt}
 use Rattle.impact.specs.Impact.{falls_with, hurt_by, hurt_to, is_hurt}
 
--- what a bank keeps is within its estate
-pub kept_within : (net : Net) (P : List ℕ) (i : ℕ) (s : Standing) → s ≡ standing net P i
-    → s.equity + s.outside_paid ≤ s.estate
-kept_within net P i s e =
-    subst (λ (s : Standing). s.equity + s.outside_paid ≤ s.estate) (sym e) (omega arith)
+-- of a bank i of those that stand so under some payments
+module _ (net : Net) (P : List ℕ) (i : ℕ) (all : List Standing) (are : all ≡ standings net P)
+    (bank : i < length net.banks) where
+  -- it has its place
+  pub has_place : i < length all
+  has_place = omega (
+    arith,
+    ap length are,
+    length-map-range_with_len (standing net P) 0 (length net.banks),
+  )
+
+  -- there it stands so
+  pub stands : (d : Standing) → get_or all i d ≡ standing net P i
+  stands d =
+      ap (λ (all : List Standing). get_or all i d) are
+      ∙ get_or-map-range_with_len (standing net P) 0 (length net.banks) i i d bank (omega arith)
+
+  -- and what it keeps is within its estate
+  pub kept_within : (d : Standing) → (get_or all i d).equity + (get_or all i d).outside_paid
+      ≤ (get_or all i d).estate
+  kept_within d = rw (stands d) (omega arith)
+
+-- the network is as large after a ruin
+pub bank_after : (net : Net) (j i : ℕ) → i < length net.banks → i < length (hit net j).banks
+bank_after net j i bank = omega (arith, length-with_cash net j 0)
 
 -- of a bank i, where all banks stand so before and so after the ruin of the bank j
 module _ (net : Net) (j i : ℕ) (before after : List Standing)
     (was : before ≡ standings net (least net))
     (is : after ≡ standings (hit net j) (least (hit net j))) (bank : i < length net.banks) where
-  -- it has its place before
-  pub place_before : i < length before
-  place_before = omega (
-    arith,
-    ap length was,
-    length-map-range_with_len (standing net (least net)) 0 (length net.banks),
-  )
-
-  -- the network is as large after
-  bank_after : i < length (hit net j).banks
-  bank_after = omega (arith, length-with_cash net j 0)
-
-  -- and it has its place after
-  pub place_after : i < length after
-  place_after = omega (
-    arith,
-    ap length is,
-    bank_after,
-    length-map-range_with_len (standing (hit net j) (least (hit net j))) 0
-        (length (hit net j).banks),
-  )
-
-  -- there it stands so before
-  pub stood : (d : Standing) → get_or before i d ≡ standing net (least net) i
-  stood d =
-      ap (λ (all : List Standing). get_or all i d) was
-      ∙ get_or-map-range_with_len (standing net (least net)) 0 (length net.banks) i i d bank
-      (omega arith)
+  -- it stood so before
+  stood : (d : Standing) → get_or before i d ≡ standing net (least net) i
+  stood = stands net (least net) i before was bank
 
   -- and so after
-  pub stands : (d : Standing) → get_or after i d ≡ standing (hit net j) (least (hit net j)) i
-  stands d =
-      ap (λ (all : List Standing). get_or all i d) is
-      ∙ get_or-map-range_with_len (standing (hit net j) (least (hit net j))) 0
-      (length (hit net j).banks) i i d bank_after (omega arith)
+  stood_after : (d : Standing) → get_or after i d ≡ standing (hit net j) (least (hit net j)) i
+  stood_after = stands (hit net j) (least (hit net j)) i after is (bank_after net j i bank)
 
   -- what it keeps less by the two
   pub keeps_less : (d e : Standing) (a b : ℕ)
@@ -72,7 +64,7 @@ module _ (net : Net) (j i : ℕ) (before after : List Standing)
   keeps_less d e a b first second =
       ap₂ (λ (x y : ℕ). x - y)
       (first ∙ ap (λ (s : Standing). s.equity + s.outside_paid) (stood d))
-      (second ∙ ap (λ (s : Standing). s.equity + s.outside_paid) (stands e))
+      (second ∙ ap (λ (s : Standing). s.equity + s.outside_paid) (stood_after e))
 
   -- and that it does not keep more
   pub no_more : IsNetwork net → j < length net.banks → (d e : Standing) (a b : ℕ)
@@ -84,7 +76,7 @@ module _ (net : Net) (j i : ℕ) (before after : List Standing)
     first,
     second,
     ap (λ (s : Standing). s.equity + s.outside_paid) (stood d),
-    ap (λ (s : Standing). s.equity + s.outside_paid) (stands e),
+    ap (λ (s : Standing). s.equity + s.outside_paid) (stood_after e),
     (costs_its_cash net j network l).nobody_gains.keeps i,
   )
 
@@ -95,7 +87,7 @@ module _ (net : Net) (j i : ℕ) (before after : List Standing)
   told d e lost fell less broken =
       ap₂ (λ (n : ℕ) (b : Bool). record { bank = record { 0 = i }; lost = n; falls = b }) less
       (broken
-      ∙ ap₂ (λ (s t : Standing). is_sound s.health && not (is_sound t.health)) (stood d) (stands e))
+      ∙ ap₂ (λ (s t : Standing). is_sound s.health && not (is_sound t.health)) (stood d) (stood_after e))
 
 -- one number more
 range_more : (n : ℕ) → range_with_len 0 (n + 1) ≡ range_with_len 0 n ++ n ∷ []
@@ -104,23 +96,19 @@ range_more n =
     ∙ map-range_with_len_more (λ (x : ℕ). x) 0 n n (omega arith)
     ∙ ap (λ xs. xs ++ n ∷ []) (map-id (range_with_len 0 n))
 
--- those that pass both tests, counted with one more
-counted_push : (p q : ℕ → Bool) (xs : List ℕ) (x : ℕ)
-    → count_by p (filter q (xs ++ x ∷ [])) ≡ count_by p (filter q xs) + cond (q x && p x) 1 0
-counted_push p q xs x =
-    ap (count_by p) (filter-append q xs (x ∷ [])) ∙ one (q x)
-  where
-    one : (b : Bool) → count_by p (filter q xs ++ cond b (x ∷ []) [])
-        ≡ count_by p (filter q xs) + cond (b && p x) 1 0
-    one true = sum_by_push (λ y. cond (p y) 1 0) (filter q xs) x
-    one false = omega (arith, ap (count_by p) (append-nil (filter q xs)))
-
--- and so of a range
+-- those of a range that pass both tests, counted with one more
 count_more : (p q : ℕ → Bool) (n : ℕ)
     → count_by p (filter q (range_with_len 0 (n + 1)))
     ≡ count_by p (filter q (range_with_len 0 n)) + cond (q n && p n) 1 0
 count_more p q n =
-    ap (λ xs. count_by p (filter q xs)) (range_more n) ∙ counted_push p q (range_with_len 0 n) n
+    ap (λ xs. count_by p (filter q xs)) (range_more n)
+    ∙ ap (count_by p) (filter-append q (range_with_len 0 n) (n ∷ []))
+    ∙ one (q n)
+  where
+    one : (b : Bool) → count_by p (filter q (range_with_len 0 n) ++ cond b (n ∷ []) [])
+        ≡ count_by p (filter q (range_with_len 0 n)) + cond (b && p n) 1 0
+    one true = sum_by_push (λ y. cond (p y) 1 0) (filter q (range_with_len 0 n)) n
+    one false = omega (arith, ap (count_by p) (append-nil (filter q (range_with_len 0 n))))
 
 -- a test as a number
 as_number : (b : Bool) → (bool_byte b ≡ cond b 1 0) × (bool_byte b ≤ 1)
@@ -147,38 +135,16 @@ fallen_more net j n count one b so_far e is = (
 )
 
 -- the banks that are hurt, with the bank n, which is or is not
-module _ (net : Net) (j n : ℕ) where
-  -- one bank more
-  hurts_push : filter is_hurt (map (hurt_to net j) (range_with_len 0 (n + 1)))
-      ≡ filter is_hurt (map (hurt_to net j) (range_with_len 0 n))
-      ++ cond (is_hurt (hurt_to net j n)) (hurt_to net j n ∷ []) []
-  hurts_push =
-      ap (filter is_hurt) (map-range_with_len_more (hurt_to net j) 0 n n (omega arith))
-      ∙ filter-append is_hurt (map (hurt_to net j) (range_with_len 0 n)) (hurt_to net j n ∷ [])
-
-  -- it is
-  pub hurts_with : (all more : List Hurt) (h : Hurt)
-      → all ≡ filter is_hurt (map (hurt_to net j) (range_with_len 0 n))
-      → h ≡ hurt_to net j n → is_hurt h ≡ true → more ≡ all ++ h ∷ []
-      → more ≡ filter is_hurt (map (hurt_to net j) (range_with_len 0 (n + 1)))
-  hurts_with all more h so_far e is m =
-      m
-      ∙ ap₂ (λ (xs : List Hurt) (h : Hurt). xs ++ h ∷ []) so_far e
-      ∙ ap (λ b. filter is_hurt (map (hurt_to net j) (range_with_len 0 n)) ++ cond b (hurt_to net j n ∷ []) [])
-      (sym (sym (ap is_hurt e) ∙ is))
-      ∙ sym hurts_push
-
-  -- it is not
-  pub hurts_without : (all : List Hurt) (h : Hurt)
-      → all ≡ filter is_hurt (map (hurt_to net j) (range_with_len 0 n))
-      → h ≡ hurt_to net j n → is_hurt h ≡ false
-      → all ≡ filter is_hurt (map (hurt_to net j) (range_with_len 0 (n + 1)))
-  hurts_without all h so_far e fails =
-      so_far
-      ∙ sym (append-nil (filter is_hurt (map (hurt_to net j) (range_with_len 0 n))))
-      ∙ ap (λ b. filter is_hurt (map (hurt_to net j) (range_with_len 0 n)) ++ cond b (hurt_to net j n ∷ []) [])
-      (sym (sym (ap is_hurt e) ∙ fails))
-      ∙ sym hurts_push
+pub hurts_more : (net : Net) (j n : ℕ) (all more : List Hurt) (h : Hurt) (b : Bool)
+    → all ≡ filter is_hurt (map (hurt_to net j) (range_with_len 0 n))
+    → h ≡ hurt_to net j n → is_hurt h ≡ b → more ≡ all ++ cond b (h ∷ []) []
+    → more ≡ filter is_hurt (map (hurt_to net j) (range_with_len 0 (n + 1)))
+hurts_more net j n all more h b so_far e is m =
+    m
+    ∙ ap₂ (λ (xs : List Hurt) (b : Bool). xs ++ cond b (h ∷ []) []) so_far (sym is)
+    ∙ ap (λ (h : Hurt). filter is_hurt (map (hurt_to net j) (range_with_len 0 n))
+    ++ cond (is_hurt h) (h ∷ []) []) e
+    ∙ sym (filter_of_map_range_with_len_more is_hurt (hurt_to net j) 0 n n (omega arith))
 
 -- all that are hurt are banks of the network
 pub hurt_are_banks : (net : Net) (j : ℕ) → All (λ h. h.bank.0 < length net.banks) (hurt_by net j)

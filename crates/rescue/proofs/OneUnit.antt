@@ -78,22 +78,15 @@ module _ (net : Net) (i : ℕ) (network : IsNetwork net) (bank : i < length net.
 
   -- where it passes nothing on, it would pay no more at once with the unit
   pays_no_more : PassesNothingOn net i → paid_by net (pay more P) i ≡ paid_by net P i
-  pays_no_more (inl sound) = omega (
-    arith,
-    sound_enough net P i (pays i) sound,
-    pays i,
-    pays_at_once net network banks P i,
-    cash_added net i 1 bank,
-    outside_stays net i (cash_of net i + 1) i,
-  )
-  pays_no_more (inr taken) = omega (
-    arith,
-    taken,
-    pays i,
-    pays_at_once net network banks P i,
-    cash_added net i 1 bank,
-    outside_stays net i (cash_of net i + 1) i,
-  )
+  pays_no_more h =
+      let before = pays i in
+      let at_once = pays_at_once net network banks P i in
+      let cash = cash_added net i 1 bank in
+      let outside = outside_stays net i (cash_of net i + 1) i in
+      elim h [
+        | inl sound ↦ omega (arith, sound_enough net P i before sound)
+        | inr taken ↦ omega arith
+      ]
 
   -- and no other bank would
   others_pay_no_more : (j : ℕ) → (j ≡ i → ⊥) → paid_by net (pay more P) j ≡ paid_by net P j

@@ -2,7 +2,7 @@
 use Rattle.std.proofs.Common.{◌≡◌, ℕ, ◌+◌, ◌<◌, ◌==◌, ◌&&◌, not, Bool, true, false, cond, List, [], ◌∷◌, ◌++◌, length, map, filter, count_by, get_or, refl, sym, ap, ◌∙◌, subst, arith}
 use Rattle.std.specs.List.{range_with_len}
 use Rattle.std.proofs.Math.Path.{ap₂}
-use Rattle.std.proofs.lemmas.List.{append-nil, map-id}
+use Rattle.std.proofs.lemmas.List.{map-id}
 use Rattle.std.proofs.lemmas.List.{map-append}
 use Rattle.std.proofs.lemmas.List.FromFn.{filter_of_map_range_with_len_more, get_or-map-range_with_len, length-map-range_with_len}
 use Rattle.std.proofs.lemmas.List.Sums.{sum_by-cons}
@@ -13,8 +13,9 @@ use Rattle.clear_core.specs.Clearing.{least}
 use Rattle.cascade.specs.MoreCash.{NobodyLoses, is_sound_at_least}
 use Rattle.cascade.specs.declared.standing.Standing.{Standing}
 use Rattle.cascade.specs.Standings.{bank_numbers, is_sound, standing, standings}
-use Rattle.cascade.proofs.CashAt.{cash_at, length-with_cash}
-use Rattle.cascade.proofs.MoreCash.{nobody_loses}
+use Rattle.cascade.proofs.CashAt.{length-with_cash}
+use Rattle.cascade.proofs.MoreCash.{nobody_loses_by_cash}
+use Rattle.cascade.specs.MoreCash.{HasMoreCash}
 use Rattle.rescue.specs.Rescue.{added, rescue}
 use Rattle.rescue.specs.Saved.{is_saved_with, left_in_default, rescued}
 use Rattle.rescue.proofs.MoreCash.{added_nothing, more_by_more}
@@ -22,9 +23,9 @@ use Rattle.rescue.proofs.MoreCash.{added_nothing, more_by_more}
 -- cash that is added hurts nobody
 pub added_hurts_nobody : (net : Net) (i a : ℕ) → IsNetwork net → NobodyLoses net (added net i a)
 added_hurts_nobody net i a network =
-    subst (λ (n : Net). NobodyLoses n (added net i a)) (added_nothing net i)
-    (nobody_loses net (cash_at net.banks i (cash_of net i + 0))
-    (cash_at net.banks i (cash_of net i + a)) (more_by_more net i 0 a (omega arith)) network)
+    nobody_loses_by_cash net (added net i a) network
+    (subst (λ (n : Net). HasMoreCash n (added net i a)) (added_nothing net i)
+    (more_by_more net i 0 a (omega arith)))
 
 -- the network has as many banks once the bank i is saved
 pub as_many_rescued : (net : Net) (i : ℕ) → length (rescued net i).banks ≡ length net.banks
@@ -86,32 +87,19 @@ saving_told net i k before after was is bank d e other cured o t =
     (stands_there more (least more) after is k e (omega (arith, as_many_rescued net i, bank))))
 
 -- the banks that pass, with the bank n, which does or does not
-module _ (p : ℕ → Bool) (n : ℕ) where
-  -- one number more
-  passing_push : filter p (range_with_len 0 (n + 1))
-      ≡ filter p (range_with_len 0 n) ++ cond (p n) (n ∷ []) []
-  passing_push =
-      ap (filter p) (sym (map-id (range_with_len 0 (n + 1))))
-      ∙ filter_of_map_range_with_len_more p (λ (k : ℕ). k) 0 n n (omega arith)
-      ∙ ap (λ xs. filter p xs ++ cond (p n) (n ∷ []) []) (map-id (range_with_len 0 n))
-
-  -- it does
-  pub passing_with : (all more : List BankId) (b : BankId)
-      → map (λ b. b.0) all ≡ filter p (range_with_len 0 n) → b.0 ≡ n → p n ≡ true
-      → more ≡ all ++ b ∷ [] → map (λ b. b.0) more ≡ filter p (range_with_len 0 (n + 1))
-  passing_with all more b so_far e passes m =
-      ap (map (λ (b : BankId). b.0)) m
-      ∙ map-append (λ (b : BankId). b.0) all (b ∷ [])
-      ∙ ap₂ (λ (xs : List ℕ) (k : ℕ). xs ++ k ∷ []) so_far e
-      ∙ ap (λ v. filter p (range_with_len 0 n) ++ cond v (n ∷ []) []) (sym passes)
-      ∙ sym passing_push
-
-  -- it does not
-  pub passing_without : (all : List BankId)
-      → map (λ b. b.0) all ≡ filter p (range_with_len 0 n) → p n ≡ false
-      → map (λ b. b.0) all ≡ filter p (range_with_len 0 (n + 1))
-  passing_without all so_far fails =
-      so_far
-      ∙ sym (append-nil (filter p (range_with_len 0 n)))
-      ∙ ap (λ v. filter p (range_with_len 0 n) ++ cond v (n ∷ []) []) (sym fails)
-      ∙ sym passing_push
+pub passing_more : (p : ℕ → Bool) (n : ℕ) (all more : List BankId) (b : BankId) (v : Bool)
+    → map (λ b. b.0) all ≡ filter p (range_with_len 0 n) → b.0 ≡ n → p n ≡ v
+    → more ≡ all ++ cond v (b ∷ []) []
+    → map (λ b. b.0) more ≡ filter p (range_with_len 0 (n + 1))
+passing_more p n all more b v so_far e is m =
+    ap (map (λ (b : BankId). b.0)) m
+    ∙ map-append (λ (b : BankId). b.0) all (cond v (b ∷ []) [])
+    ∙ ap₂ (λ (xs ys : List ℕ). xs ++ ys) so_far (one v)
+    ∙ ap (λ v. filter p (range_with_len 0 n) ++ cond v (n ∷ []) []) (sym is)
+    ∙ ap (λ xs. filter p xs ++ cond (p n) (n ∷ []) []) (sym (map-id (range_with_len 0 n)))
+    ∙ sym (filter_of_map_range_with_len_more p (λ (k : ℕ). k) 0 n n (omega arith))
+    ∙ ap (filter p) (map-id (range_with_len 0 (n + 1)))
+  where
+    one : (v : Bool) → map (λ b. b.0) (cond v (b ∷ []) []) ≡ cond v (n ∷ []) []
+    one true = ap (λ k. k ∷ []) e
+    one false = refl

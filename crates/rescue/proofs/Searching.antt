@@ -114,8 +114,8 @@ module _ (net : Net) (i : ℕ) (network : IsNetwork net) (b : Bank)
   }
 
 -- a step of the search, to `middle`
-module _ (net : Net) (i : ℕ) (network : IsNetwork net) (low high middle short : ℕ)
-    (known : List ℕ) (s : IsSearched net i low high known short) where
+module _ {net : Net} {i low high short : ℕ} {known : List ℕ} (network : IsNetwork net) (middle : ℕ)
+    (s : IsSearched net i low high known short) where
   -- it saves the bank: no greater sum is sought
   pub search_lower : low ≤ middle → middle < high → lacks net i middle ≡ 0
       → IsSearched net i low middle known short

@@ -1,5 +1,5 @@
 -- The list of the banks that were hit, kept as falls are added and wiped.
-use Rattle.std.proofs.Common.{◌≡◌, ◌≢◌, ℕ, suc, ◌<◌, ◌≤◌, ◌==◌, ◌||◌, Bool, true, false, List, [], ◌∷◌, length, get_or, replicate, sym, ap, ◌∙◌, refl, ⊎_elim, arith, ne_eqb}
+use Rattle.std.proofs.Common.{◌≡◌, ◌≢◌, ℕ, suc, ◌<◌, ◌≤◌, true, List, [], ◌∷◌, length, get_or, replicate, sym, ap, ◌∙◌, ⊎_elim, arith, ne_eqb}
 use Rattle.std.proofs.lemmas.Bool.{cases_eq}
 use Rattle.std.proofs.lemmas.List.{ext_get_or, length-replicate}
 use Rattle.clr_net.specs.declared.debt.BankId.{BankId}
@@ -18,14 +18,9 @@ listed_place [] i e = absurd (cc)
 listed_place (b ∷ banks) i e = ⊎_elim
     (λ (s : b.0 ≡ i). (0, record { within = omega arith; at = s }))
     (λ (ne : b.0 ≢ i).
-    let rest = listed_place banks i (later (b.0 == i) (is_listed banks i) (ne_eqb b.0 i ne) e) in
+    let rest = listed_place banks i (rw (ne_eqb b.0 i ne) at e) in
     (suc rest.0, record { within = omega (arith, rest.1.within); at = rest.1.at }))
     (cases_eq b.0 i)
-  where
-    later : (a b : Bool) → a ≡ false → (a || b) ≡ true → b ≡ true
-    later a true e h = refl
-    later true false e h = absurd (cc)
-    later false false e h = h
 
 -- once each bank of the list is wiped, and no other gained anything, nothing is left
 pub all_wiped : (start now : List ℕ) (banks : List BankId) (j : ℕ) → AreHit start banks

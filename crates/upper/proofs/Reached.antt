@@ -1,12 +1,12 @@
 -- What is known between two rounds, and what the last one tells.
-use Rattle.std.proofs.Common.{◌≡◌, ◌≢◌, ℕ, ◌+◌, ◌<◌, ◌≤◌, ◌==◌, Bool, true, false, cond, List, [], ◌∷◌, length, get_or, filter, replicate, sum, sum_by, sym, ap, ◌∙◌, refl, ⊎_elim, subst, arith}
-use Rattle.std.proofs.lemmas.Bool.{cases_eq, cases_lt, eqb-true}
+use Rattle.std.proofs.Common.{◌≡◌, ◌≢◌, ℕ, ◌+◌, ◌<◌, ◌≤◌, List, [], length, get_or, replicate, sum, sym, ap, ◌∙◌, ⊎_elim, subst, arith}
+use Rattle.std.proofs.lemmas.Bool.{cases_eq, cases_lt}
 use Rattle.std.proofs.lemmas.List.{ext_get_or, get_or-replicate, length-replicate}
-use Rattle.std.proofs.lemmas.List.Sums.{sum_by-cons}
 use Rattle.clr_net.specs.declared.debt.BankId.{BankId}
 use Rattle.clr_net.specs.Limits.{IsNetwork}
-use Rattle.clr_net.specs.Net.{Net, creditor_of, debtor_of, debt_numbers}
-use Rattle.clr_net.proofs.Lists.{zeros_at}
+use Rattle.clr_net.specs.Net.{Net, column, creditor_of, debtor_of}
+use Rattle.clr_net.proofs.Lists.{sums_agree, zeros_at}
+use Rattle.clr_net.proofs.RowsAndColumns.{column_place}
 use Rattle.clear_core.specs.Clearing.{NeverFalls, pay_by, part_by, receipts, estate}
 use Rattle.cascade.specs.Standings.{due}
 use Rattle.clear_core.proofs.Pay.{pay_by_at}
@@ -18,28 +18,13 @@ use Rattle.upper.specs.Falls.{bank_at, AreHit}
 use Rattle.upper.proofs.Descents.{IsDown, down_first, down_more, down_ends, waves_none, waves_more, waves_end}
 use Rattle.upper.proofs.Hits.{listed_place}
 
--- the same terms where a test passes, the same sum over those that pass
-same_where : (b : Bool) (p : ℕ → Bool) (f g : ℕ → ℕ) (x : ℕ) (xs : List ℕ) → p x ≡ b
-    → ((y : ℕ) → p y ≡ true → f y ≡ g y)
-    → sum_by f xs ≡ sum_by g xs → sum_by f (cond b (x ∷ xs) xs) ≡ sum_by g (cond b (x ∷ xs) xs)
-same_where true p f g x xs e h rest =
-    omega (arith, sum_by-cons f x xs, sum_by-cons g x xs, h x e, rest)
-same_where false p f g x xs e h rest = rest
-
--- so over any list
-sum_by-filter_same : (p : ℕ → Bool) (f g : ℕ → ℕ) (xs : List ℕ) → ((y : ℕ) → p y ≡ true → f y ≡ g y)
-    → sum_by f (filter p xs) ≡ sum_by g (filter p xs)
-sum_by-filter_same p f g [] h = refl
-sum_by-filter_same p f g (x ∷ xs) h = same_where (p x) p f g x (filter p xs) refl h
-    (sum_by-filter_same p f g xs h)
-
 -- where a bank's receipts did not fall, they are the same
 receipts_same : (net : Net) (P Q f g : List ℕ) (i : ℕ) → AreNoted net P Q f g → get_or g i 0 ≡ 0
     → receipts net Q i ≡ receipts net P i
 receipts_same net P Q f g i noted e =
-    sum_by-filter_same (λ x. creditor_of net x == i) (λ x. get_or Q x 0) (λ x. get_or P x 0)
-    (debt_numbers net)
-    (λ x passes. noted.told x (ap (λ i. get_or g i 0) (eqb-true (creditor_of net x) i passes) ∙ e))
+    sums_agree 0 (λ x. get_or Q x 0) (λ x. get_or P x 0) (column net i) (λ k l.
+    noted.told (get_or (column net i) k 0)
+    (ap (λ i. get_or g i 0) (column_place net i k l).1 ∙ e))
 
 -- and so is what it pays
 pay_same : (net : Net) (s : ℕ → ℕ → ℕ) (P Q f g : List ℕ) (x : ℕ) → AreNoted net P Q f g

@@ -2,8 +2,9 @@ use Rattle.std.proofs.Common.{◌≤◌, List, length, get_or, refl, ap, subst, 
 use Rattle.std.proofs.lemmas.List.{length-map}
 use Rattle.clr_net.specs.declared.debt.DebtId.{DebtId}
 use Rattle.clr_net.specs.Net.{numbers}
-use Rattle.compress.proofs.Cancelling.{cancelling_begins, cancelling_ends, step_last, step_more, step_bank}
+use Rattle.compress.proofs.Cancelling.{cancelling_begins, cancelling_ends, step_last, step_more, debtor_read, IsLast}
 use Rattle.compress.proofs.Telling.{cancelled_told}
+use Rattle.compress.proofs.cancel.cancel.Goals.{After-truncate}
 use Rattle.compress.proofs.cancel.cancel.Goals as goal
 
 pub loop-walk-init : goal.loop-walk-init
@@ -24,42 +25,38 @@ loop-walk-init c =
     )))) in
     record { cancelling = begins; start = refl; cursors = refl; ranks = refl }
 
-pub bounds-claims-id : goal.bounds-claims-id
-bounds-claims-id c =
-    (step_last c.loop-walk.walk.debts.items c.requires.network c.requires.claims
-    c.requires.under_way.told.sizes.marks
-    c.truncate.ensures.items (omega (arith, c.len-last.ensures)) c.index-id.ensures
-    (omega (arith, c.len.ensures, c.len-last.ensures)) c.loop-walk.invariant.cancelling).in_claims
-
-pub overflow_sub-claims-in-loop-walk : goal.overflow_sub-claims-in-loop-walk
-overflow_sub-claims-in-loop-walk c =
-    (step_last c.loop-walk.walk.debts.items c.requires.network c.requires.claims
-    c.requires.under_way.told.sizes.marks
-    c.truncate.ensures.items (omega (arith, c.len-last.ensures)) c.index-id.ensures
-    (omega (arith, c.len.ensures, c.len-last.ensures)) c.loop-walk.invariant.cancelling).enough
-
-pub bounds-claims-id-in-loop-walk : goal.bounds-claims-id-in-loop-walk
-bounds-claims-id-in-loop-walk c =
-    (step_last c.loop-walk.walk.debts.items c.requires.network c.requires.claims
-    c.requires.under_way.told.sizes.marks
-    c.truncate.ensures.items (omega (arith, c.len-last.ensures)) c.index-id.ensures
-    (omega (arith, c.len.ensures, c.len-last.ensures)) c.loop-walk.invariant.cancelling).in_claims
-
-pub debt-requires : goal.debt-requires
-debt-requires c =
-    (step_last c.loop-walk.walk.debts.items c.requires.network c.requires.claims
-    c.requires.under_way.told.sizes.marks
-    c.truncate.ensures.items (omega (arith, c.len-last.ensures)) c.index-id.ensures
-    (omega (arith, c.len.ensures, c.len-last.ensures)) c.loop-walk.invariant.cancelling).live.debt
-
-pub index_mut-requires : goal.index_mut-requires
-index_mut-requires c =
-    let known = step_bank c.loop-walk.walk.debts.items c.requires.network c.requires.claims
+-- the last debt of the walk, which is lowered
+last : (c : After-truncate) → IsLast c.args.net.now c.args.class c.least_claim-least.result
+    c.loop-walk.claims c.index-id.result.now.0
+last c = step_last c.loop-walk.walk.debts.items c.requires.network c.requires.claims
     c.requires.under_way.told.sizes.marks c.truncate.ensures.items
     (omega (arith, c.len-last.ensures)) c.index-id.ensures
     (omega (arith, c.len.ensures, c.len-last.ensures)) c.loop-walk.invariant.cancelling
-    c.debt.result c.debt.ensures in
-    omega (arith, known)
+
+pub bounds-claims-id : goal.bounds-claims-id
+bounds-claims-id c = (last (goal.at.bounds-claims-id c).After-truncate).in_claims
+
+pub overflow_sub-claims-in-loop-walk : goal.overflow_sub-claims-in-loop-walk
+overflow_sub-claims-in-loop-walk c =
+    (last (goal.at.overflow_sub-claims-in-loop-walk c).After-truncate).enough
+
+pub bounds-claims-id-in-loop-walk : goal.bounds-claims-id-in-loop-walk
+bounds-claims-id-in-loop-walk c =
+    (last (goal.at.bounds-claims-id-in-loop-walk c).After-truncate).in_claims
+
+pub debt-requires : goal.debt-requires
+debt-requires c = (last (goal.at.debt-requires c).After-truncate).live.debt
+
+pub index_mut-requires : goal.index_mut-requires
+index_mut-requires c =
+    let known = (last (goal.at.index_mut-requires c).After-truncate).live.debt in
+    omega (
+      arith,
+      debtor_read c.args.net.now _ c.debt.result c.debt.ensures,
+      (c.requires.network.each_debt _ known).debtor_known,
+      c.loop-walk.invariant.cancelling.banks,
+      c.requires.under_way.told.sizes.marks,
+    )
 
 pub loop-walk-preserved : goal.loop-walk-preserved
 loop-walk-preserved c = record {
@@ -75,17 +72,13 @@ loop-walk-preserved c = record {
 
 pub returns-clause-kept : goal.returns-clause-kept
 returns-clause-kept c =
-    cancelling_ends c.args.net.now c.args.class c.loop-walk.walk.start.0 c.args.place
-    c.least_claim-least.result c.args.claims.now c.args.walk.now.marks.items c.loop-walk.claims
-    (numbers c.loop-walk.walk.debts.items) c.loop-walk.walk.marks.items c.requires.claims
-    c.loop-walk.invariant.cancelling
+    cancelling_ends c.requires.claims c.loop-walk.invariant.cancelling
     (omega (arith, length-map c.loop-walk.walk.debts.items (λ id. id.0), c.len.ensures))
 
 pub returns-clause-under_way : goal.returns-clause-under_way
 returns-clause-under_way c = record {
   walk = c.loop-walk.invariant.cancelling.walk;
-  told = cancelled_told c.args.net.now c.args.class c.args.claims.now c.loop-walk.claims
-      c.args.walk.now c.loop-walk.walk c.requires.under_way.told (returns-clause-kept c)
+  told = cancelled_told c.loop-walk.walk c.requires.under_way.told (returns-clause-kept c)
       c.loop-walk.invariant.cancelling.done c.loop-walk.invariant.cursors
       c.loop-walk.invariant.ranks;
 }

@@ -1,43 +1,38 @@
-use Rattle.std.proofs.Common.{◌≡◌, true, false, length, get_or, sym, ap, ◌∙◌, subst, ⊎_elim, below_more, arith}
+use Rattle.std.proofs.lemmas.List.{length-map}
+use Rattle.std.proofs.Common.{◌≡◌, true, false, length, sym, ap, ◌∙◌, subst, ⊎_elim, below_more, arith}
 use Rattle.std.proofs.lemmas.Bool.{true≢false}
-use Rattle.clr_net.specs.Net.{debtor_of, column}
+use Rattle.clr_net.specs.Net.{debtor_of}
 use Rattle.compress.specs.Compression.{IsLive}
 use Rattle.compress.specs.declared.mark.Mark.TheVariants.{Done}
 use Rattle.compress.specs.Walk.{mark_of, ArePassed, IsPassed}
 use Rattle.compress.proofs.Dones.{live_from}
-use Rattle.compress.proofs.Searching.{as_many_numbers, stands_in_column, live_is}
+use Rattle.compress.proofs.Searching.{stands_in_column}
+use Rattle.compress.proofs.Cycles.{live_is}
 use Rattle.compress.proofs.Cursors.{passed_moved, ready_when_passed}
 use Rattle.compress.proofs.search.next_back.Goals as goal
 
 pub debtor_of-debtor-requires : goal.debtor_of-debtor-requires
 debtor_of-debtor-requires c =
-    (stands_in_column c.args.net.now c.args.bank.0 c.column-column.result.now c.loop-place.place
-    (record { 0 = 0 }) c.column-column.ensures (omega arith)).in_range
+    (stands_in_column c.args.net.now _ _ c.loop-place.place (record { 0 = 0 })
+    c.column-column.ensures (omega arith)).in_range
 
 pub bounds-marks-debtor : goal.bounds-marks-debtor
 bounds-marks-debtor c =
-    let id = get_or c.column-column.result.now c.loop-place.place (record { 0 = 0 }) in
-    let stands = stands_in_column c.args.net.now c.args.bank.0 c.column-column.result.now
-    c.loop-place.place (record { 0 = 0 }) c.column-column.ensures (omega arith) in
-    omega (
-      arith,
-      c.requires.marks,
-      c.debtor_of-debtor.ensures,
-      (c.banks.ensures.network.each_debt id.0 stands.in_range).debtor_known,
-    )
+    let stands = stands_in_column c.args.net.now _ _ c.loop-place.place (record { 0 = 0 })
+    c.column-column.ensures (omega arith) in
+    omega (arith, (c.banks.ensures.network.each_debt _ stands.in_range).debtor_known)
 
 pub is_live-requires-clause-debt : goal.is_live-requires-clause-debt
 is_live-requires-clause-debt c =
-    (stands_in_column c.args.net.now c.args.bank.0 c.column-column.result.now c.loop-place.place
-    (record { 0 = 0 }) c.column-column.ensures (omega arith)).in_range
+    (stands_in_column c.args.net.now _ _ c.loop-place.place (record { 0 = 0 })
+    c.column-column.ensures (omega arith)).in_range
 
 pub returns-then-not-done-clause-next : goal.returns-then-not-done-clause-next
 returns-then-not-done-clause-next c =
-    let id = get_or c.column-column.result.now c.loop-place.place (record { 0 = 0 }) in
-    let stands = stands_in_column c.args.net.now c.args.bank.0 c.column-column.result.now
-    c.loop-place.place (record { 0 = 0 }) c.column-column.ensures (omega arith) in
+    let stands = stands_in_column c.args.net.now _ _ c.loop-place.place (record { 0 = 0 })
+    c.column-column.ensures (omega arith) in
     record {
-      live = live_from c.args.net.now c.args.claims.now c.args.class id.0 stands.in_range
+      live = live_from c.args.net.now c.args.claims.now c.args.class _ stands.in_range
           (sym c.is_live.ensures ∙ c.if-is_live.true);
       owed = stands.owed;
       unfinished = λ e. true≢false (sym (c.is_done-done.ensures.1
@@ -59,9 +54,8 @@ loop-place-preserved c =
     let net = c.args.net.now in
     let C = c.args.claims.now in
     let marks = c.args.marks.now in
-    let id = get_or c.column-column.result.now c.loop-place.place (record { 0 = 0 }) in
-    let stands = stands_in_column net c.args.bank.0 c.column-column.result.now
-    c.loop-place.place (record { 0 = 0 }) c.column-column.ensures (omega arith) in
+    let stands = stands_in_column net _ _ c.loop-place.place (record { 0 = 0 })
+    c.column-column.ensures (omega arith) in
     record {
       passed = below_more (IsPassed net c.args.class C marks c.args.bank.0) c.loop-place.place
           c.loop-place.invariant.passed
@@ -71,7 +65,7 @@ loop-place-preserved c =
           ap (mark_of marks) (sym c.debtor_of-debtor.ensures.debtor)
           ∙ c.is_done-done.ensures.0 both.1)
           (λ (not_live : c.is_live.result ≡ false). absurd (true≢false
-          (sym (live_is net C c.args.class id.0 live) ∙ sym c.is_live.ensures ∙ not_live)))
+          (sym (live_is net C c.args.class _ live) ∙ sym c.is_live.ensures ∙ not_live)))
           c.else-is_live.either));
       cursors = c.loop-place.invariant.cursors;
     }
@@ -79,13 +73,11 @@ loop-place-preserved c =
 pub returns-clause-next : goal.returns-clause-next
 returns-clause-next c =
     ready_when_passed c.args.net.now c.args.class c.args.bank.0 c.args.claims.now c.args.marks.now
-    c.loop-place.place
-    (omega (
+    c.loop-place.place (omega (
       arith,
-      as_many_numbers c.column-column.result.now (column c.args.net.now c.args.bank.0)
-          c.column-column.ensures,
-    ))
-    c.loop-place.invariant.passed
+      length-map c.column-column.result.now (λ id. id.0),
+      ap length c.column-column.ensures,
+    )) c.loop-place.invariant.passed
 
 pub returns-clause-passed : goal.returns-clause-passed
 returns-clause-passed c =

@@ -1,46 +1,43 @@
-use Rattle.std.proofs.Common.{ℕ, ◌+◌, get_or, sym, ap, ◌∙◌, arith}
+use Rattle.std.proofs.Common.{false, Bool, true, ◌≡◌, ℕ, ◌+◌, get_or, sym, ap, ◌∙◌, arith}
 use Rattle.clr_net.specs.Net.{debtor_of, column}
 use Rattle.compress.specs.Compression.{is_live}
-use Rattle.compress.proofs.Searching.{stands_in_column, most_yes, most_no}
+use Rattle.compress.proofs.Searching.{stands_in_column, most_more}
 use Rattle.compress.proofs.search.rank_here.Goals.{then-is_live, else-is_live}
 use Rattle.compress.proofs.search.rank_here.Goals as goal
 
 pub debtor_of-debtor-requires : goal.debtor_of-debtor-requires
 debtor_of-debtor-requires c =
-    (stands_in_column c.args.net.now c.args.bank.0 c.column-id-items.result.now c.loop-id.id-index
-    (record { 0 = 0 }) c.column-id-items.ensures c.loop-id-test.true).in_range
+    (stands_in_column c.args.net.now _ _ c.loop-id.id-index (record { 0 = 0 })
+    c.column-id-items.ensures c.loop-id-test.true).in_range
 
 pub is_live-requires-clause-debt : goal.is_live-requires-clause-debt
 is_live-requires-clause-debt c =
-    (stands_in_column c.args.net.now c.args.bank.0 c.column-id-items.result.now c.loop-id.id-index
-    (record { 0 = 0 }) c.column-id-items.ensures c.loop-id-test.true).in_range
+    (stands_in_column c.args.net.now _ _ c.loop-id.id-index (record { 0 = 0 })
+    c.column-id-items.ensures c.loop-id-test.true).in_range
 
 pub loop-id-preserved : goal.loop-id-preserved
 loop-id-preserved c =
     let net = c.args.net.now in
     let R = c.args.ranks.now in
     let f = λ (y : ℕ). get_or R (debtor_of net y) 0 + 1 in
-    let x = (get_or c.column-id-items.result.now c.loop-id.id-index (record { 0 = 0 })).0 in
-    let stands = stands_in_column net c.args.bank.0 c.column-id-items.result.now
-    c.loop-id.id-index (record { 0 = 0 }) c.column-id-items.ensures c.loop-id-test.true in
-    let k = c.loop-id.id-index in
+    let stands = stands_in_column net _ _ c.loop-id.id-index (record { 0 = 0 })
+    c.column-id-items.ensures c.loop-id-test.true in
+    let more = λ (b : Bool) (is : c.is_live.result ≡ b).
+    most_more f (is_live net c.args.claims.now c.args.class) (column net c.args.bank.0) _ _ b
+    stands.place stands.at (sym c.is_live.ensures ∙ is) in
     elim c.if-is_live.branch [
       | then-is_live w ↦ omega (
         arith,
         w.most-is,
         w.greater-most.ensures,
         c.loop-id.invariant,
-        most_yes f (is_live net c.args.claims.now c.args.class)
-            (column net c.args.bank.0) k x stands.place stands.at
-            (sym c.is_live.ensures ∙ w.if-is_live.true),
+        more true w.if-is_live.true,
         ap (λ j. get_or R j 0) c.debtor_of-debtor.ensures.debtor,
       )
       | else-is_live w ↦ omega (
         arith,
         w.most-is,
         c.loop-id.invariant,
-        most_no f (is_live net c.args.claims.now c.args.class)
-            (column net c.args.bank.0) k x stands.place stands.at
-            (sym c.is_live.ensures ∙ w.if-is_live.false),
+        more false w.if-is_live.false,
       )
     ]

@@ -48,8 +48,8 @@ returns-clause-under_way c =
         done = subst (AreDone net k C w.ranks.items) marked
             (grown_done net k s C W marks x old.walk on new w.ranks.items old.told.done);
         passed = subst (λ after. ArePassed net k C after w.cursors.items) marked
-            (passed_kept net k C C marks (set marks (debtor_of net x) (Walked (length W + 1)))
-            w.cursors.items (grown_kept net k s C W marks x old.walk on new) old.told.passed);
+            (passed_kept w.cursors.items (grown_kept net k s C W marks x old.walk on new)
+            old.told.passed);
         sizes = record {
           marks = omega (arith, length-set {A = Mark}, old.told.sizes.marks);
           cursors = old.told.sizes.cursors;

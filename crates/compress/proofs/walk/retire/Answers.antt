@@ -4,20 +4,21 @@ use Rattle.std.proofs.lemmas.Bool.{eqb-true, eqb-false}
 use Rattle.clr_net.specs.Net.{numbers}
 use Rattle.compress.specs.Compression.{rank_above}
 use Rattle.compress.proofs.Telling.{retired_told}
-use Rattle.compress.proofs.Steps.{popped, retired_ends, no_debts}
+use Rattle.compress.proofs.Steps.{popped, retired_ends}
+use Rattle.std.proofs.lemmas.List.{nil_from_length}
 use Rattle.compress.proofs.walk.retire.Goals as goal
 
 pub returns-then-is_empty-clause-rest : goal.returns-then-is_empty-clause-rest
 returns-then-is_empty-clause-rest c =
     let w = c.args.walk.now in
     let old = c.requires.under_way in
-    let none : w.debts.items ≡ [] = no_debts w.debts.items (omega (arith, eqb-true (vec_len w.debts) 0 (sym c.is_empty.ensures ∙ c.if-is_empty.true))) in
+    let none : w.debts.items ≡ [] = nil_from_length w.debts.items (omega (arith, eqb-true (vec_len w.debts) 0 (sym c.is_empty.ensures ∙ c.if-is_empty.true))) in
     record {
       empty = none;
       no_walk = rw c.requires.end
           (retired_ends c.args.net.now c.args.class w.start.0 c.args.claims.now (numbers w.debts.items) w.marks.items
           old.walk (ap numbers none)).0;
-      told = retired_told c.args.net.now c.args.class c.args.claims.now w w.debts c.args.end.0 c.rank_here.result old
+      told = retired_told w.debts c.args.end.0 c.rank_here.result old
           c.requires.end c.requires.ready (c.rank_here.ensures
           ∙ ap (λ ranks. rank_above c.args.net.now c.args.claims.now (λ j. get_or ranks j 0) c.args.class c.args.end.0)
           c.as_slice.ensures.value);
@@ -32,8 +33,7 @@ returns-clause-under_way c =
       walk = rw c.requires.end
           (popped c.args.net.now c.args.class w.start.0 c.args.claims.now w.marks.items w.debts.items
           c.pop.new.self.items c.pop.result old.walk (c.pop.ensures.variant.1 (omega (arith, some))) c.pop.ensures.items);
-      told = retired_told c.args.net.now c.args.class c.args.claims.now w c.pop.new.self c.args.end.0
-          c.rank_here.result old c.requires.end c.requires.ready (c.rank_here.ensures
+      told = retired_told c.pop.new.self c.args.end.0 c.rank_here.result old c.requires.end c.requires.ready (c.rank_here.ensures
           ∙ ap (λ ranks. rank_above c.args.net.now c.args.claims.now (λ j. get_or ranks j 0) c.args.class c.args.end.0)
           c.as_slice.ensures.value);
     }

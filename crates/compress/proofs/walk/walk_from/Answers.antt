@@ -1,42 +1,55 @@
 use Rattle.std.proofs.Common.{◌≡◌, length, refl, sym, ap, ◌∙◌, subst, arith, rules}
 use Rattle.clr_net.specs.declared.debt.BankId.{BankId}
 use Rattle.clr_net.specs.Net.{debtor_of, numbers}
-use Rattle.compress.specs.Walk.{ArePassed, LeadsOn, end_of, mark_of}
+use Rattle.compress.specs.Walk.{ArePassed, IsUnderWay, LeadsOn, end_of, mark_of}
+use Rattle.std.specs.Vec.{with_items}
 use Rattle.compress.proofs.Cancelling.{debtor_read}
 use Rattle.compress.proofs.Opening.{new_from}
 use Rattle.compress.proofs.Steps.{kept_both}
 use Rattle.compress.proofs.Telling.{begun, begun_kept, looked_on, read_mark}
+use Rattle.compress.proofs.walk.walk_from.Goals.{After-index, After-next_back}
 use Rattle.compress.proofs.walk.walk_from.Goals as goal
 
 pub loop-claims-init : goal.loop-claims-init
 loop-claims-init c = record {
-  under_way = begun c.args.net.now c.args.class c.args.claims.now c.args.walk.now c.args.start
-      c.requires.rest (omega (arith, c.requires.rest.told.sizes.marks, c.banks.ensures.banks))
+  under_way = begun c.args.start c.requires.rest
+      (omega (arith, c.requires.rest.told.sizes.marks, c.banks.ensures.banks))
       c.requires.new;
   start = refl;
   kept = begun_kept c.args.net.now c.args.class c.args.claims.now c.args.walk.now.marks.items
       c.args.start.0 c.requires.new;
 }
 
-pub retire-requires-clause-under_way : goal.retire-requires-clause-under_way
-retire-requires-clause-under_way c =
-    let marks = c.as_slice-marks.ensures.value in
-    looked_on c.args.net.now c.args.class c.loop-claims.claims c.loop-claims.walk
-    c.next_back.new.cursors c.loop-claims.invariant.under_way
+-- the walk is under way with the cursors moved
+looked : (c : After-next_back) → IsUnderWay c.args.net.now c.args.class c.loop-claims.claims
+    (record c.loop-claims.walk {
+      cursors = with_items c.loop-claims.walk.cursors c.next_back.new.cursors;
+    })
+looked c = looked_on c.next_back.new.cursors c.loop-claims.invariant.under_way
     (c.next_back.ensures.cursors ∙ ap length c.as_mut_slice.ensures.value)
     (subst (λ m. ArePassed c.args.net.now c.args.class c.loop-claims.claims m
-    c.next_back.new.cursors) marks c.next_back.ensures.passed)
+    c.next_back.new.cursors) c.as_slice-marks.ensures.value c.next_back.ensures.passed)
+
+-- the mark of the debtor of the next debt
+marked : (c : After-index) → mark_of c.loop-claims.walk.marks.items c.debt.result.debtor.0
+    ≡ c.index.result.now
+marked c = read_mark c.loop-claims.walk.marks.items c.debt.result.debtor.0 c.index.result.now
+    (omega (
+      arith,
+      debtor_read c.args.net.now c.in-Some.id.0 c.debt.result c.debt.ensures,
+      (c.banks.ensures.network.each_debt _ c.in-Some.ensures.next.live.debt).debtor_known,
+      c.loop-claims.invariant.under_way.told.sizes.marks,
+    )) c.index.ensures
+
+pub retire-requires-clause-under_way : goal.retire-requires-clause-under_way
+retire-requires-clause-under_way c =
+    looked (goal.at.retire-requires-clause-under_way c).After-next_back
 
 pub cancel-requires-clause-place : goal.cancel-requires-clause-place
 cancel-requires-clause-place c =
-    let net = c.args.net.now in
-    let old = c.loop-claims.invariant.under_way in
-    let known = (c.banks.ensures.network.each_debt c.in-Some.id.0
-    c.in-Some.ensures.next.live.debt).debtor_known in
-    let read = debtor_read net c.in-Some.id.0 c.debt.result c.debt.ensures in
-    let mark = read_mark c.loop-claims.walk.marks.items c.debt.result.debtor.0 c.index.result.now
-    (omega (arith, read, known, old.told.sizes.marks)) c.index.ensures in
-    (old.walk.placed c.debt.result.debtor.0 c.in-Walked.place (mark ∙ c.in-Walked.is)).0
+    let mark = marked (goal.at.cancel-requires-clause-place c).After-index in
+    (c.loop-claims.invariant.under_way.walk.placed c.debt.result.debtor.0 c.in-Walked.place
+    (mark ∙ c.in-Walked.is)).0
 
 pub grow-requires : goal.grow-requires
 grow-requires c =
@@ -54,17 +67,10 @@ grow-requires c =
     c.loop-claims.claims m c.in-Some.id.0) marks
     (subst (λ b. LeadsOn net c.args.class b c.loop-claims.claims c.as_slice-marks.result.now
     c.in-Some.id.0) end c.in-Some.ensures.next) in
-    let known = (c.banks.ensures.network.each_debt c.in-Some.id.0 next.live.debt).debtor_known in
     let read = debtor_read net c.in-Some.id.0 c.debt.result c.debt.ensures in
-    let mark = read_mark w.marks.items c.debt.result.debtor.0 c.index.result.now
-    (omega (arith, read, known, c.loop-claims.invariant.under_way.told.sizes.marks))
-    c.index.ensures in
+    let mark = marked (goal.at.grow-requires c).After-index in
     record {
-      under_way = looked_on net c.args.class c.loop-claims.claims w c.next_back.new.cursors
-          c.loop-claims.invariant.under_way
-          (c.next_back.ensures.cursors ∙ ap length c.as_mut_slice.ensures.value)
-          (subst (λ m. ArePassed net c.args.class c.loop-claims.claims m
-          c.next_back.new.cursors) marks c.next_back.ensures.passed);
+      under_way = looked (goal.at.grow-requires c).After-next_back;
       next = next;
       new = new_from (mark_of w.marks.items (debtor_of net c.in-Some.id.0)) next.unfinished
           (λ p e. c.in_default.not-Walked p
@@ -101,8 +107,4 @@ loop-claims-preserved c =
 
 pub cancel-requires-clause-under_way : goal.cancel-requires-clause-under_way
 cancel-requires-clause-under_way c =
-    looked_on c.args.net.now c.args.class c.loop-claims.claims c.loop-claims.walk
-    c.next_back.new.cursors c.loop-claims.invariant.under_way
-    (c.next_back.ensures.cursors ∙ ap length c.as_mut_slice.ensures.value)
-    (subst (λ m. ArePassed c.args.net.now c.args.class c.loop-claims.claims m
-    c.next_back.new.cursors) c.as_slice-marks.ensures.value c.next_back.ensures.passed)
+    looked (goal.at.cancel-requires-clause-under_way c).After-next_back

@@ -1,9 +1,7 @@
-use Rattle.std.proofs.Common.{◌≡◌, replicate, ap, ◌∙◌}
+use Rattle.std.proofs.Common.{replicate, ap, ◌∙◌}
 use Rattle.std.proofs.lemmas.Result.{IfOk-weaker}
-use Rattle.clr_net.specs.Amounts.{IsAtMost}
-use Rattle.clear_core.specs.Clearing.{least}
 use Rattle.clear_core.proofs.Least.{begins_by}
-use Rattle.costs.specs.Costs.{cost_least, cost_spend}
+use Rattle.costs.specs.Costs.{cost_spend}
 use Rattle.costs.proofs.CostPay.{cost_spend_never_falls}
 use Rattle.costs.proofs.CostLeast.{no_more_than_least}
 use Rattle.costs.proofs.least.least_with_costs.Goals as goal
@@ -19,8 +17,6 @@ least_by-requires-clause-way c =
 
 pub returns-clause-at_most : goal.returns-clause-at_most
 returns-clause-at_most c =
-    let net = c.args.net.now in
-    let keep = c.args.keep in
-    IfOk-weaker c.least_by.result (λ paid. paid ≡ cost_least net keep)
-    (λ paid. IsAtMost paid (least net)) (λ paid. no_more_than_least net keep paid c.requires)
+    IfOk-weaker c.least_by.result _ _
+    (λ paid. no_more_than_least c.args.net.now c.args.keep paid c.requires)
     c.least_by.ensures.payments

@@ -1,8 +1,6 @@
-use Rattle.std.proofs.Common.{◌++◌, ◌∷◌, [], List, map, sym, ap, ◌∙◌, arith}
-use Rattle.std.specs.List.{range_with_len}
+use Rattle.std.proofs.Common.{[], sym, arith}
 use Rattle.std.proofs.lemmas.List.FromFn.{map-range_with_len_more}
 use Rattle.costs.specs.CostStandings.{cost_standing}
-use Rattle.costs.specs.declared.standing.CostStanding.{CostStanding}
 use Rattle.costs.proofs.PayingOut.{cost_pays_out, cost_adds_up}
 use Rattle.costs.proofs.standings.cost_standings.Goals as goal
 
@@ -10,13 +8,8 @@ pub loop-number-preserved : goal.loop-number-preserved
 loop-number-preserved c =
     let n = c.loop-number.number in
     let f = cost_standing c.args.net.now c.args.keep c.args.paid.now in
-    let one = c.standing_of.result in
-    ◌∙◌ {A = List CostStanding} c.in_ok-push.ensures.items
-    (◌∙◌ {A = List CostStanding}
-    (ap (λ (xs : List CostStanding). xs ++ one ∷ []) c.loop-number.invariant)
-    (◌∙◌ {A = List CostStanding}
-    (ap (λ (s : CostStanding). map f (range_with_len 0 n) ++ s ∷ []) c.standing_of.ensures)
-    (sym (map-range_with_len_more f 0 n n (omega arith)))))
+    rw (c.in_ok-push.ensures.items, c.loop-number.invariant, c.standing_of.ensures)
+    (sym (map-range_with_len_more f 0 n n (omega arith)))
 
 pub returns-clause-pays_from_kept : goal.returns-clause-pays_from_kept
 returns-clause-pays_from_kept c =

@@ -1,4 +1,4 @@
-use Rattle.std.proofs.Common.{◌<◌, length, ap, arith}
+use Rattle.std.proofs.Common.{◌+◌, ◌≡◌, ◌<◌, length, ap, arith}
 use Rattle.std.specs.Option.{option_map_or}
 use Rattle.std.proofs.lemmas.List.Elements.{All-same}
 use Rattle.clr_net.specs.declared.bank.Bank.{Bank}
@@ -6,15 +6,22 @@ use Rattle.impact.specs.declared.hurt.Hurt.{Hurt}
 use Rattle.impact.specs.Impact.{hurt_by}
 use Rattle.impact.proofs.Hurts.{hurt_are_banks}
 use Rattle.impact.proofs.Others.{own_and_others_are_cash}
+use Rattle.impact.specs.Impact.{lost_by_others}
+use Rattle.impact.proofs.compare.compared.Goals.{After-bank}
 use Rattle.impact.proofs.compare.compared.Goals as goal
 
-pub overflow_sub-result : goal.overflow_sub-result
-overflow_sub-result c = omega (
+-- what the ruined bank keeps less, and what all others do, is its cash
+cash_is : (c : After-bank) → c.hurt_of-own.result.lost
+    + lost_by_others c.args.net.now c.args.ruined.0 ≡ c.bank.result.now.cash
+cash_is c = omega (
   arith,
   ap (λ (h : Hurt). h.lost) c.hurt_of-own.ensures,
   ap (λ o. option_map_or (λ (b : Bank). b.cash) o 0) c.bank.ensures,
   own_and_others_are_cash c.args.net.now c.args.ruined.0 c.banks.ensures.network c.requires.ruined,
 )
+
+pub overflow_sub-result : goal.overflow_sub-result
+overflow_sub-result c = omega (arith, cash_is (goal.at.overflow_sub-result c).After-bank)
 
 pub returns-clause-impact : goal.returns-clause-impact
 returns-clause-impact c =
@@ -22,12 +29,7 @@ returns-clause-impact c =
     let j = c.args.ruined.0 in
     record {
       own = ap (λ (h : Hurt). h.lost) c.hurt_of-own.ensures;
-      others = omega (
-        arith,
-        ap (λ (h : Hurt). h.lost) c.hurt_of-own.ensures,
-        ap (λ o. option_map_or (λ (b : Bank). b.cash) o 0) c.bank.ensures,
-        own_and_others_are_cash net j c.banks.ensures.network c.requires.ruined,
-      );
+      others = omega (arith, cash_is (goal.at.returns-clause-impact c).After-bank);
       falls = c.fallen.ensures;
       hurts = c.in_ok-hurts.ensures;
       known = All-same (λ (h : Hurt). h.bank.0 < length net.banks) _ (hurt_by net j)
@@ -37,7 +39,6 @@ returns-clause-impact c =
 pub returns-clause-cash : goal.returns-clause-cash
 returns-clause-cash c = omega (
   arith,
-  ap (λ (h : Hurt). h.lost) c.hurt_of-own.ensures,
+  cash_is (goal.at.returns-clause-cash c).After-bank,
   ap (λ o. option_map_or (λ (b : Bank). b.cash) o 0) c.bank.ensures,
-  own_and_others_are_cash c.args.net.now c.args.ruined.0 c.banks.ensures.network c.requires.ruined,
 )

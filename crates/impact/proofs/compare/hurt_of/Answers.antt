@@ -1,33 +1,24 @@
-use Rattle.clear_core.specs.Clearing.{least}
 use Rattle.cascade.specs.Ruin.{hit}
-use Rattle.impact.proofs.Hurts.{keeps_less, kept_within, no_more, place_after, place_before}
-use Rattle.impact.proofs.Hurts.{stands, stood, told}
+use Rattle.impact.proofs.Hurts.{bank_after, has_place, keeps_less, kept_within, no_more, told}
 use Rattle.impact.proofs.compare.hurt_of.Goals as goal
 
 pub bounds-before-place : goal.bounds-before-place
 bounds-before-place c =
-    place_before c.args.net.now c.args.ruined.0 c.args.bank.0 c.args.before.now c.args.after.now
-    c.requires.before c.requires.after c.requires.bank
+    has_place c.args.net.now _ c.args.bank.0 _ c.requires.before c.requires.bank
 
 pub bounds-after-place : goal.bounds-after-place
 bounds-after-place c =
-    place_after c.args.net.now c.args.ruined.0 c.args.bank.0 c.args.before.now c.args.after.now
-    c.requires.before c.requires.after c.requires.bank
+    has_place (hit c.args.net.now c.args.ruined.0) _ c.args.bank.0 _ c.requires.after
+    (bank_after c.args.net.now c.args.ruined.0 c.args.bank.0 c.requires.bank)
 
 pub kept-requires : goal.kept-requires
 kept-requires c =
-    let net = c.args.net.now in
-    kept_within net (least net) c.args.bank.0 _
-    (stood net c.args.ruined.0 c.args.bank.0 c.args.before.now c.args.after.now
-    c.requires.before c.requires.after c.requires.bank _)
+    kept_within c.args.net.now _ c.args.bank.0 _ c.requires.before c.requires.bank _
 
 pub kept-requires-2 : goal.kept-requires-2
 kept-requires-2 c =
-    let net = c.args.net.now in
-    let left = hit net c.args.ruined.0 in
-    kept_within left (least left) c.args.bank.0 _
-    (stands net c.args.ruined.0 c.args.bank.0 c.args.before.now c.args.after.now
-    c.requires.before c.requires.after c.requires.bank _)
+    kept_within (hit c.args.net.now c.args.ruined.0) _ c.args.bank.0 _ c.requires.after
+    (bank_after c.args.net.now c.args.ruined.0 c.args.bank.0 c.requires.bank) _
 
 pub overflow_sub-result : goal.overflow_sub-result
 overflow_sub-result c =

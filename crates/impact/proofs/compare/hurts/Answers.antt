@@ -1,21 +1,19 @@
-use Rattle.std.proofs.Common.{◌∙◌, sym, ap}
-use Rattle.impact.proofs.Hurts.{hurts_with, hurts_without}
+use Rattle.std.proofs.lemmas.List.{append-nil}
+use Rattle.std.proofs.Common.{false, Bool, true, ◌≡◌, ◌∙◌, sym, ap}
+use Rattle.impact.proofs.Hurts.{hurts_more}
 use Rattle.impact.proofs.compare.hurts.Goals as goal
 use Rattle.impact.proofs.compare.hurts.Goals.{then-is_hurt+in_ok-push, else-is_hurt}
 
 pub loop-number-preserved : goal.loop-number-preserved
 loop-number-preserved c =
-    let net = c.args.net.now in
-    let j = c.args.ruined.0 in
-    let n = c.loop-number.number in
-    let h = c.hurt_of-hurt.result in
+    let all = c.loop-number.all.items in
+    let more = λ (b : Bool) (is : c.is_hurt.result ≡ b).
+    hurts_more c.args.net.now c.args.ruined.0 c.loop-number.number all c.if-is_hurt.all.items
+    c.hurt_of-hurt.result b c.loop-number.invariant c.hurt_of-hurt.ensures
+    (sym c.is_hurt.ensures ∙ is) in
     elim c.if-is_hurt.branch [
       | then-is_hurt+in_ok-push w ↦
-          hurts_with net j n c.loop-number.all.items c.if-is_hurt.all.items h
-          c.loop-number.invariant c.hurt_of-hurt.ensures (sym c.is_hurt.ensures ∙ w.if-is_hurt.true)
-          (ap (λ v. v.items) w.all-is ∙ w.in_ok-push.ensures.items)
+          more true w.if-is_hurt.true (ap (λ v. v.items) w.all-is ∙ w.in_ok-push.ensures.items)
       | else-is_hurt w ↦
-          ap (λ v. v.items) w.all-is
-          ∙ hurts_without net j n c.loop-number.all.items h c.loop-number.invariant
-          c.hurt_of-hurt.ensures (sym c.is_hurt.ensures ∙ w.if-is_hurt.false)
+          more false w.if-is_hurt.false (ap (λ v. v.items) w.all-is ∙ sym (append-nil all))
     ]

@@ -89,9 +89,8 @@ loop-low-preserved-then-lacking-eq0 c =
     let at = goal.at.loop-low-preserved-then-lacking-eq0 c in
     let lacking = is_lacking at.After-lacks-lacking _ (is_added at.After-as_slice) in
     record {
-      searched = search_lower c.args.net.now c.args.bank.0 c.banks.ensures.network l.low l.high
-          (middle l.low l.high) l.short l.known l.invariant.searched (omega arith) (omega arith)
-          (omega (arith, lacking, c.if-lacking-eq0.true));
+      searched = search_lower c.banks.ensures.network (middle l.low l.high) l.invariant.searched
+          (omega arith) (omega arith) (omega (arith, lacking, c.if-lacking-eq0.true));
       differ = differs at.After-as_slice;
     }
 
@@ -101,24 +100,19 @@ loop-low-preserved c =
     let at = goal.at.loop-low-preserved c in
     let set = is_added at.After-as_slice in
     record {
-      searched = search_higher c.args.net.now c.args.bank.0 c.banks.ensures.network l.low l.high
-          (middle l.low l.high) l.short l.known l.invariant.searched c.lacks-lacking.result
-          c.in_ok-paid.paid (omega arith) (is_lacking at.After-lacks-lacking _ set)
+      searched = search_higher c.banks.ensures.network (middle l.low l.high) l.invariant.searched
+          c.lacks-lacking.result c.in_ok-paid.paid (omega arith) (is_lacking at.After-lacks-lacking _ set)
           (omega (arith, c.if-lacking-eq0.false)) (c.in_ok-paid.ensures.payments ∙ ap least set);
       differ = differs at.After-as_slice;
     }
 
 pub returns-clause-added : goal.returns-clause-added
 returns-clause-added c =
-    let l = c.loop-low in
-    found_is c.args.net.now c.args.bank.0 c.banks.ensures.network l.low l.high 0 l.short l.known
-    l.invariant.searched (omega arith) c.requires.bank
+    found_is c.banks.ensures.network 0 c.loop-low.invariant.searched (omega arith) c.requires.bank
 
 pub returns-clause-rescue : goal.returns-clause-rescue
 returns-clause-rescue c =
-    let l = c.loop-low in
-    search_ends c.args.net.now c.args.bank.0 c.banks.ensures.network l.low l.high 0 l.short l.known
-    l.invariant.searched (omega arith)
+    search_ends c.banks.ensures.network 0 c.loop-low.invariant.searched (omega arith)
 
 pub returns-clause-fits : goal.returns-clause-fits
 returns-clause-fits c =
@@ -128,6 +122,4 @@ returns-clause-fits c =
 
 pub returns-clause-lacking : goal.returns-clause-lacking
 returns-clause-lacking c =
-    let l = c.loop-low in
-    short_found c.args.net.now c.args.bank.0 c.banks.ensures.network l.low l.high 0 l.short l.known
-    l.invariant.searched (omega arith)
+    short_found c.banks.ensures.network 0 c.loop-low.invariant.searched (omega arith)

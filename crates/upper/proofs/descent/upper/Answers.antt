@@ -4,7 +4,7 @@ use Rattle.clr_net.specs.Limits.{IsNetwork}
 use Rattle.clr_net.specs.Net.{Net}
 use Rattle.clear_core.specs.Clearing.{pay}
 use Rattle.clear_core.proofs.Pay.{spend_mono}
-use Rattle.upper.specs.Bounds.{greatest, waves, IsGreatest, WavesTellHealth}
+use Rattle.upper.specs.Bounds.{greatest, waves, WavesTellHealth}
 use Rattle.upper.specs.declared.bounds.Upper.{Upper}
 use Rattle.upper.proofs.Descents.{is_greatest, waves_tell, equities_are_fixed}
 use Rattle.upper.proofs.descent.upper.Goals as goal
@@ -18,9 +18,7 @@ returns-clause-greatest c = c.descend_by.ensures.greatest
 
 pub returns-clause-is_greatest : goal.returns-clause-is_greatest
 returns-clause-is_greatest c =
-    let net = c.args.net.now in
-    IfOk-weaker c.descend_by.result (λ found. found.greatest ≡ greatest net)
-    (λ found. IsGreatest net found.greatest) (λ found. is_greatest net found.greatest)
+    IfOk-weaker c.descend_by.result _ _ (λ found. is_greatest c.args.net.now found.greatest)
     (returns-clause-greatest c)
 
 pub returns-clause-waves : goal.returns-clause-waves
