@@ -60,7 +60,7 @@ class Quick(Case):
         self.assertEqual(self.run_with("low", faulty="repository must-fail low").returncode, 1)
 
     def test_other_words_are_refused(self):
-        for words in ([], ["nothing"], ["--fast", "low"]):
+        for words in ([], ["nothing"], ["l.w"], ["--fast", "low"]):
             done = self.run_with(*words)
             self.assertEqual((done.returncode, self.called()), (2, []))
             self.assertIn("quick.sh: error:", done.stderr)

@@ -33,6 +33,7 @@ for word in "$@"; do
     --no-edits) edits= ;;
     --no-above) above= ;;
     -*) usage "no option $word" ;;
+    *[!a-z0-9_]*) usage "no crate $word in crates.txt" ;;
     *)
         grep -q "^$word\( staticlib\)\{0,1\}:" "$root/crates.txt" || usage "no crate $word in crates.txt"
         crates="$crates $word"
