@@ -198,6 +198,11 @@ class Names(unittest.TestCase):
         self.assertEqual(wrong_commands("```console\n$ tools/no.sh x\n$ python3 tools/lint.py --nonsense\n$ nothing\n```\n"),
                          ["tools/no.sh x", "tools/no.sh", "tools/lint.py --nonsense", "nothing"])
 
+    def test_the_laws_that_are_tried_at_networks_are_counted(self):
+        laws = sum(len(re.findall(r"^pub fn ", path.read_text(), re.MULTILINE)) for path in ROOT.glob("crates/*/src/laws.rt"))
+        tried = {name for path in ROOT.glob("crates/law_tests/src/*.rt") for name in re.findall(r"\w+::laws::\w+", path.read_text())}
+        self.assertIn(f"`law_tests`, of {len(tried)} of the {laws} laws", (ROOT / "docs/PROVED.md").read_text())
+
     def test_no_page_speaks_of_the_commit_that_it_stands_in(self):
         """What was measured or run names its commit, since a page outlives the one that it was written in."""
         self.each(lambda path, text: re.findall(r"(?i)\bthis\s+(?:commit|text's|program's\s+sources)", text))

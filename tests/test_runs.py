@@ -27,6 +27,12 @@ class Runs(Case):
         self.assertEqual(table, "| date | commit | program | `edge.sh` | `races.sh` | wrong |\n|---|---|---|---|---|---|\n"
                                 "| 2026-11-03 | `abcdef0+` | `01234567` | 12 | - | 3 |\n| 2026-11-02 | - | - | - | 1,000 | 0 |\n")
 
+    def test_runs_without_a_commit_stand_in_one_row(self):
+        lines = ["2026-11-03\tabcdef0123\t0123456789\tedge.sh\t\t5\t0", "2026-11-04\tnone\tnone\traces.sh\t\t7\t0",
+                 "2026-11-05\tnone\t9999999999\tedge.sh\t\t2\t1"]
+        rows = runs.table_of(runs.rows_of(HEAD + "\n".join(lines) + "\n")).splitlines()[2:]
+        self.assertEqual(rows, ["| 2026-11-03 | `abcdef0` | `01234567` | 5 | - | 0 |", "| 2026-11-05 | - | - | 2 | 7 | 1 |"])
+
     def test_a_file_in_another_form_is_told(self):
         for text, told in (("date\n", "another head"), (HEAD + "2026-11-01\tx\n", "line 2"), (HEAD + "d\tc\tp\ts\ta\tmany\t0\n", "line 2")):
             with self.assertRaisesRegex(SystemExit, told):

@@ -6,7 +6,8 @@
 
 In:  docs/runs.tsv, to which the scripts of tests/system add a line where they are started with --record.
 Out: a row for each program, the newest first: when it was run, the commit of its sources, its checksum, and for each script the cases
-     that all its runs tried, and how many of them were wrong. A file that says none of a commit or a program knows none.
+     that all its runs tried, and how many of them were wrong. A file that says none of a commit or a program knows none; runs
+     without a commit stand together in one row, the last.
 
 Ends with 0, or with 1 and a message where the file is not in its form, or the document has no place for the table.
 """
@@ -33,9 +34,12 @@ def rows_of(text):
 
 
 def sums_of(rows):
-    """For each program, newest first, its last row, and by script the cases and the wrong ones of all its runs."""
+    """For each program, newest first, its last row, and by script the cases and the wrong ones of all its runs. Runs of which no
+    commit is known are taken for those of one program, the oldest."""
     programs = {}
-    for row in rows:
+    for row in sorted(rows, key=lambda row: row["commit"] != "none"):
+        if row["commit"] == "none":
+            row = {**row, "program": "none"}
         last, sums = programs.pop(row["program"], (row, {}))
         tried, wrong = sums.get(row["script"], (0, 0))
         sums[row["script"]] = (tried + int(row["cases"]), wrong + int(row["wrong"]))

@@ -36,7 +36,8 @@ fn is_answered(
     state.apply(net, event, scratch) == wanted
 }
 
-// Whether the second bank of the chain pays on what it has seen, and on no more.
+// Whether the second bank of the chain pays on what it has seen, and on no more; whether a raise
+// lifts what is paid; and whether a load shows what is paid on its debt alone.
 fn pays_on_the_seen(net: &Network, state: &mut State, scratch: &mut Scratch) -> bool
     requires over { IsOver net.now state.old }
     requires debts { length net.now.debts ≡ 2 }
@@ -44,13 +45,16 @@ fn pays_on_the_seen(net: &Network, state: &mut State, scratch: &mut Scratch) -> 
 {
     let (first, second) = (DebtId(0), DebtId(1));
     let too_much = Err(Illegal { had: 0, allowed: 1 });
+    let no_more = Err(Illegal { had: 7, allowed: 7 });
     let early = is_answered(net, state, scratch, Event::Raise(second, 2), too_much);
     let raise = is_answered(net, state, scratch, Event::Raise(first, 7), Ok(()));
+    let again = is_answered(net, state, scratch, Event::Raise(first, 7), no_more);
     let unseen = is_answered(net, state, scratch, Event::Raise(second, 8), too_much);
     let load = is_answered(net, state, scratch, Event::Load(first), Ok(()));
     let seen = is_answered(net, state, scratch, Event::Raise(second, 8), Ok(()));
+    let reload = is_answered(net, state, scratch, Event::Load(first), Ok(()));
     let last = state.paid() == [7, 8].as_slice() && state.seen() == [7, 0].as_slice();
-    early && raise && unseen && load && seen && last
+    early && raise && again && unseen && load && seen && reload && last
 }
 
 // The same from the first state on.

@@ -181,7 +181,7 @@ fn twelve_banks_by_every_task(rt: HostRuntime) -> Result<(), Fail> {
     has_texts(&rt, rt.alloc(), &mut files, &ON_TWELVE)
 }
 
-const ON_TWO_HUNDRED: [Text<'static>; 10] = [
+const ON_TWO_HUNDRED: [Text<'static>; 15] = [
     (
         "check --banks b.csv --debts d.csv",
         32411,
@@ -231,6 +231,31 @@ const ON_TWO_HUNDRED: [Text<'static>; 10] = [
         "compress --banks b.csv --debts d.csv",
         33481,
         0x3977_535a_8b1e_566e,
+    ),
+    (
+        "breaking --banks b.csv --debts d.csv",
+        3690,
+        0xc7d0_a5e3_0df6_4c2e,
+    ),
+    (
+        "impact --banks b.csv --debts d.csv",
+        24183,
+        0xf535_aa1b_4dd7_f91f,
+    ),
+    (
+        "rescues --banks b.csv --debts d.csv",
+        1084,
+        0x1ce3_7574_4eac_4de6,
+    ),
+    (
+        "outcomes --banks b.csv --debts d.csv --scenarios s.toml",
+        1849,
+        0xfa7a_de02_ab33_abfe,
+    ),
+    (
+        "cost-bounds --banks b.csv --debts d.csv --keep 500",
+        48958,
+        0x03b2_6283_b9ee_5a02,
     ),
 ];
 

@@ -1,0 +1,7 @@
+use Rattle.std.proofs.Common.{[], ◌∷◌, refl, lit<, lit≤, sym, ◌∙◌}
+use Rattle.clr_net.specs.Samples.{chain}
+use Rattle.law_tests.proofs.Facts.{one_saves}
+use Rattle.law_tests.proofs.standings.a_sum_saves_and_a_greater_too.Goals as goal
+
+pub returns : goal.returns
+returns c = c.greater_sum_saves_too.ensures chain 1 1 5 c.chain_is_network.ensures (lit≤ tt) one_saves

@@ -1,0 +1,7 @@
+use Rattle.clr_net.specs.Samples.{chain}
+use Rattle.law_tests.specs.Nets.{two_ordered}
+use Rattle.law_tests.proofs.Facts.{keeps, in_limits}
+use Rattle.law_tests.proofs.work.journal_is_read_back.Goals as goal
+
+pub returns : goal.returns
+returns c = c.printed_journals_are_read_back.ensures chain two_ordered c.chain_is_network.ensures keeps in_limits
