@@ -1,13 +1,14 @@
+ghost use Rattle.pay_words.specs.Views.{HoldsAll, IsAt};
 ghost use Rattle.settle.specs.Between.{IsBetween};
 ghost use Rattle.settle.specs.Drives.{IsPlan};
-ghost use Rattle.std.specs.Prelude.{◌≡◌, ◌≤◌};
+ghost use Rattle.std.specs.Prelude.{◌≡◌, ◌≤◌, length};
 
 use crate::boards::{new_board, new_state, take_bells};
 use crate::gates::{LONG, new_meeting};
 use crate::nets::{Sample, net_of};
 use clr_edge::{Gate, OpenGate};
-use clr_net::{Mem, Network};
-use pay_words::PaySeat;
+use clr_net::{BankId, Mem, Network};
+use pay_words::{Board, PaySeat};
 use settle::{Plan, Run, calls_two_workers, nobody_can_pay_more, round_and_ask};
 use std::alloc::Global;
 use std::sync::atomic::Ordering;
@@ -77,7 +78,7 @@ fn asked_of<R: Threads + Sync, G: Gate + Sync>(
 
 // A network, the sweeps of one worker, so many rounds, and whether all bells are down then. A plain
 // model of visits makes as many rounds on the 30 banks.
-const ASKED: [(Sample, u32, u32, bool); 17] = [
+const ASKED: [(Sample, u32, u32, bool); 19] = [
     (Sample::NoBank, 1, 0, true),
     (Sample::NoBank, 1, 1, true),
     (Sample::Chain, 1, 0, false),
@@ -88,6 +89,8 @@ const ASKED: [(Sample, u32, u32, bool); 17] = [
     (Sample::Ring, 7, 1, true),
     (Sample::TwoPairs, 1, 1, false),
     (Sample::TwoPairs, 1, 2, true),
+    (Sample::TwoPoorPairs, 1, 0, false),
+    (Sample::TwoPoorPairs, 1, 1, true),
     (Sample::Woven(30), 1, 0, false),
     (Sample::Woven(30), 1, 3, false),
     (Sample::Woven(30), 1, 4, true),
@@ -151,6 +154,16 @@ fn a_round_by_hand_has_all_workers_at_once(rt: HostRuntime) -> Result<(), Fail> 
     Ok(())
 }
 
+#[test]
+fn each_number_of_workers_is_at_once_by_hand(rt: HostRuntime) -> Result<(), Fail> {
+    for number in 2..65_u32 {
+        let workers = number.clamp(1, 64);
+        let met = met_by_hand(&rt, rt.alloc(), Sample::TwoPairs, workers, 1)?;
+        assert_eq!(rt; met, u64::from(workers), "{workers}");
+    }
+    Ok(())
+}
+
 // Whether bells of two workers are up, where those of these banks alone are.
 fn two_called(alloc: Global, net: &Network, workers: u32, up: [u32; 3]) -> Result<bool, Mem>
     requires { (1 ≤ workers) × (workers ≤ 64) }
@@ -195,9 +208,56 @@ fn first_uncalled(alloc: Global) -> Result<Option<usize>, Mem> {
     Ok(None)
 }
 
+// The first number of workers that two bells of one worker call, or that those of two do not. Of
+// these banks all but the last are of one worker.
+fn first_number_uncalled(alloc: Global) -> Result<Option<u32>, Mem> {
+    let net = net_of(alloc, Sample::TwoPoorPairs)?;
+    for number in 2..65_u32 {
+        let workers = number.clamp(1, 64);
+        let one = two_called(alloc, &net, workers, [5, 5 + workers, 5 + 2 * workers])?;
+        let two = two_called(alloc, &net, workers, [5, 5 + workers, 6 + 2 * workers])?;
+        if one || !two {
+            return Ok(Some(workers));
+        }
+    }
+    Ok(None)
+}
+
 #[test]
 fn bells_of_two_workers_call_both(rt: HostRuntime) -> Result<(), Fail> {
     let wrong = first_uncalled(rt.alloc())?;
+    assert_eq!(rt; wrong, None);
+    let wrong = first_number_uncalled(rt.alloc())?;
+    assert_eq!(rt; wrong, None);
+    Ok(())
+}
+
+// The first bank whose bell is not told as up, and then as down once it was taken.
+fn first_mistold(board: &Board, master: &mut PaySeat, banks: u32) -> Option<u32>
+    requires seat { IsAt board.now master.old }
+    requires held { HoldsAll master.old.shows }
+    requires banks { banks ≤ length board.now.net.banks }
+{
+    for bank in 0..banks {
+        let up = board.is_up(BankId(bank));
+        let taken = board.take(master, BankId(bank));
+        if !up || !taken || board.is_up(BankId(bank)) {
+            return Some(bank);
+        }
+    }
+    None
+}
+
+// The same, on a new board of 1,000 banks.
+fn first_mistold_anew(alloc: Global) -> Result<Option<u32>, Mem> {
+    let net = net_of(alloc, Sample::TwoPoorPairs)?;
+    let (board, mut master) = new_board(alloc, &net, 1)?;
+    Ok(first_mistold(&board, &mut master, net.banks()))
+}
+
+#[test]
+fn each_bell_is_up_until_it_is_taken(rt: HostRuntime) -> Result<(), Fail> {
+    let wrong = first_mistold_anew(rt.alloc())?;
     assert_eq!(rt; wrong, None);
     Ok(())
 }

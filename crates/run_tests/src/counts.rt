@@ -13,20 +13,33 @@ use std::thread::Threads;
 // its gate, those of a first visit, those of a wrong one, and the workers.
 type Counted = (Sample, u32, u32, [u64; 4], [u64; 4]);
 
-// On the long ring there are two visits in each of 150 rounds and one in the last, numbered anew in
-// each; by sweeps enough all are of the first. Of the 700 banks two are visited a second time. A
-// plain model of visits counts as many on the 30 banks.
-const COUNTED: [Counted; 9] = [
+// On the long ring there are two visits for each unit and one in the end; by one sweep they are of a
+// round for each, numbered anew, and by sweeps enough all are of the first. Of the 700 banks two are
+// visited a second time. A plain model of visits counts as many on the 30 banks.
+const COUNTED: [Counted; 10] = [
     (Sample::NoBank, 1, 1, [1, 0, 0, 1], [0, 0, 0, 0]),
     (Sample::Ring, 1, 1, [6, 11, 10, 6], [11, 6, 0, 1]),
     (
-        Sample::LongRing,
+        Sample::LongRing(150),
         1,
         1,
         [151, 301, 300, 151],
         [301, 151, 0, 1],
     ),
-    (Sample::LongRing, 1, 1000, [2, 301, 300, 2], [301, 1, 0, 1]),
+    (
+        Sample::LongRing(150),
+        1,
+        1000,
+        [2, 301, 300, 2],
+        [301, 1, 0, 1],
+    ),
+    (
+        Sample::LongRing(900),
+        1,
+        1000,
+        [2, 1801, 1800, 2],
+        [1801, 1, 0, 1],
+    ),
     (Sample::TwoPairs, 1, 1, [2, 702, 2, 2], [702, 2, 0, 1]),
     (Sample::TwoPairs, 4, 1, [2, 702, 2, 8], [702, 6, 0, 4]),
     (

@@ -84,7 +84,7 @@ fn all_meet<R: Threads + Clock + Sync + Abort>(
 }
 
 // On networks of two debts, and of three debts a bank.
-const AT_FIRST: [Case; 24] = [
+const AT_FIRST: [Case; 27] = [
     (Run::Settled, Sample::Chain, [2, 1], 0, 2, 2),
     (Run::Settled, Sample::TwoPairs, [2, 1], 0, 2, 2),
     (Run::Settled, Sample::TwoPairs, [3, 1], 0, 3, 3),
@@ -104,16 +104,30 @@ const AT_FIRST: [Case; 24] = [
     (Run::Settled, Sample::Woven(700), [3, 3], 0, 3, 3),
     (Run::Settled, Sample::Woven(700), [8, 3], 0, 8, 8),
     (Run::Settled, Sample::Woven(700), [64, 1], 0, 64, 64),
+    (Run::Settled, Sample::Woven(1000), [2, 1], 0, 2, 2),
+    (Run::Settled, Sample::Woven(1000), [64, 3], 0, 64, 64),
     (Run::Driven, Sample::Chain, [2, 1], 0, 2, 2),
     (Run::Driven, Sample::TwoPairs, [3, 3], 0, 3, 3),
     (Run::Driven, Sample::Woven(30), [2, 1], 0, 2, 2),
     (Run::Driven, Sample::Woven(30), [8, 3], 0, 8, 8),
     (Run::Driven, Sample::Woven(700), [64, 1], 0, 64, 64),
+    (Run::Driven, Sample::Woven(1000), [64, 1], 0, 64, 64),
 ];
 
 #[test]
 fn all_workers_work_at_once(rt: HostRuntime) -> Result<(), Fail> {
     all_meet(&rt, rt.alloc(), &AT_FIRST, LONG)
+}
+
+#[test]
+fn each_number_of_workers_works_at_once(rt: HostRuntime) -> Result<(), Fail> {
+    for workers in 2..65_u32 {
+        let all = u64::from(workers);
+        let case = (Run::Settled, Sample::TwoPairs, [workers, 1], 0, all, all);
+        let met = met_in(&rt, rt.alloc(), case, LONG)?;
+        assert_eq!(rt; met, all, "{workers}");
+    }
+    Ok(())
 }
 
 // Of the two pairs, two of two or four workers have a visit in the second round. Down the stairs,
@@ -156,4 +170,18 @@ const ALONE: [Case; 6] = [
 #[test]
 fn alone_no_worker_works_beside_another(rt: HostRuntime) -> Result<(), Fail> {
     all_meet(&rt, rt.alloc(), &ALONE, SHORT)
+}
+
+// Down these stairs a round has too few visits for threads to be worth while, and all of them
+// together have enough.
+const FEW: [Case; 4] = [
+    (Run::Settled, Sample::Stairs(400, 2), [2, 1], 1, 2, 1),
+    (Run::Settled, Sample::Stairs(400, 2), [2, 1], 2, 2, 1),
+    (Run::Settled, Sample::Stairs(400, 4), [4, 1], 5, 2, 3),
+    (Run::Driven, Sample::Stairs(400, 2), [2, 1], 2, 2, 1),
+];
+
+#[test]
+fn after_a_round_of_few_visits_no_worker_works_beside_another(rt: HostRuntime) -> Result<(), Fail> {
+    all_meet(&rt, rt.alloc(), &FEW, SHORT)
 }

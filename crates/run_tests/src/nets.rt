@@ -10,8 +10,8 @@ pub(crate) enum Sample {
     NoBank,
     Chain,
     Ring,
-    // A ring whose debts are of 150 units.
-    LongRing,
+    // A ring whose debts are of so many units.
+    LongRing(u64),
     // 700 banks.
     TwoPairs,
     // 1,000 banks, none of which has a unit.
@@ -30,12 +30,12 @@ fn add_numbered(alloc: Global, net: &mut Network, number: u32, cash: u64) -> Res
     add_bank(alloc, net, &name, cash)
 }
 
-// Adds A and B, which owe one another 150 units. A has one.
-fn add_long_ring(alloc: Global, net: &mut Network) -> Result<(), Mem> {
+// Adds A and B, which owe one another so many units. A has one.
+fn add_long_ring(alloc: Global, net: &mut Network, units: u64) -> Result<(), Mem> {
     add_bank(alloc, net, b"A", 1)?;
     add_bank(alloc, net, b"B", 0)?;
-    add_debt(net, 0, 1, 150)?;
-    add_debt(net, 1, 0, 150)
+    add_debt(net, 0, 1, units)?;
+    add_debt(net, 1, 0, units)
 }
 
 // Adds so many banks of nothing, but that the bank 6 owes the bank 2 a unit and the bank 7 owes the
@@ -68,7 +68,7 @@ fn add_stairs(alloc: Global, net: &mut Network, banks: u32, step: u32) -> Result
 fn made_by_hand(alloc: Global, sample: Sample) -> Result<Network, Mem> {
     let mut net = Network::empty(alloc);
     match sample {
-        Sample::LongRing => add_long_ring(alloc, &mut net)?,
+        Sample::LongRing(units) => add_long_ring(alloc, &mut net, units.min(1000))?,
         Sample::TwoPairs => add_two_pairs(alloc, &mut net, 700, 1)?,
         Sample::TwoPoorPairs => add_two_pairs(alloc, &mut net, 1000, 0)?,
         Sample::Stairs(banks, step) => {

@@ -235,13 +235,31 @@ fn reads_the_jobs(rt: HostRuntime) {
     }
 }
 
-const REFUSED: [&[&str]; 38] = [
+const REFUSED: [&[&str]; 55] = [
     // no task, another one, or a word too many
     &[],
     &["--banks", "b", "--debts", "d"],
     &["Clear", "--banks", "b", "--debts", "d"],
     &["clear", "--banks", "b", "--debts", "d", "e"],
     &["clear", "--banks", "b", "--debts", "d", ""],
+    // the tasks without what they require
+    &["check"],
+    &["clear"],
+    &["central"],
+    &["defaults"],
+    &["stress"],
+    &["replay"],
+    &["gen"],
+    &["convert"],
+    &["bounds"],
+    &["rescue"],
+    &["compress"],
+    &["costs"],
+    &["breaking"],
+    &["impact"],
+    &["rescues"],
+    &["outcomes"],
+    &["cost-bounds"],
     // the options: each once, with one value
     &["clear", "--banks", "b"],
     &["clear", "--banks", "--debts", "d"],

@@ -306,7 +306,7 @@ fn payments_of_small_networks(rt: HostRuntime) -> Result<(), Fail> {
     all_done(&rt, rt.alloc(), &PAYMENTS)
 }
 
-const FAULTS: [Refused<'static>; 10] = [
+const FAULTS: [Refused<'static>; 15] = [
     (
         "name,cash,rule\nA,1000000000000,order\nB,0,order\n",
         "debtor,creditor,class,claim\nA,B,1,1000001\n",
@@ -353,6 +353,31 @@ const FAULTS: [Refused<'static>; 10] = [
         TWO_BANKS,
         TOTAL_AND_ONE_MORE,
         "clearing: debts row 11: total (13)\n",
+    ),
+    (
+        "name,cash,rule\nA,7,order\nB,1,order\nA,x,order\n",
+        CHAIN_DEBTS,
+        "clearing: banks row 3: double bank (7)\n",
+    ),
+    (
+        CHAIN_BANKS,
+        "debtor,creditor,class,claim\nA,B,1,10\nA,X,0,x\n",
+        "clearing: debts row 2: unknown bank (8)\n",
+    ),
+    (
+        CHAIN_BANKS,
+        "debtor,creditor,class,claim\nX,A,1,1\n",
+        "clearing: debts row 1: unknown bank (8)\n",
+    ),
+    (
+        CHAIN_BANKS,
+        "debtor,creditor,class,claim\nA,B,1,10\nB,\"A,B\",0,x\n",
+        "clearing: debts row 2: name (3)\n",
+    ),
+    (
+        CHAIN_BANKS,
+        "debtor,creditor,class,claim\nA,B,0,x\n",
+        "clearing: debts row 1: class (10)\n",
     ),
 ];
 

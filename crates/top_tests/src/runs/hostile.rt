@@ -201,8 +201,8 @@ fn hostile_fields(rt: HostRuntime) -> Result<(), Fail> {
     )
 }
 
-// Journals on the chain, and what is told of their first row.
-const JOURNALS: [(&str, &str); 6] = [
+// Journals on the chain, and what is told of them.
+const JOURNALS: [(&str, &str); 13] = [
     // The closing record closes where it is the last alone.
     (
         "stamp,debtor,creditor,class,to\nrounds,2\n1,A,B,1,7\n",
@@ -227,6 +227,31 @@ const JOURNALS: [(&str, &str); 6] = [
     (
         "stamp,debtor,creditor,class,to\n1,A,C,1,1\n",
         "clearing: journal row 1: unknown debt (15)\n",
+    ),
+    ("", "clearing: journal row 0: header (1)\n"),
+    (
+        "stamp,debtor,creditor,class\n1,A,B,1,7\n",
+        "clearing: journal row 0: header (1)\n",
+    ),
+    (
+        "stamp,debtor,creditor,class,to\n1,A,B,1\n",
+        "clearing: journal row 1: fields (2)\n",
+    ),
+    (
+        "stamp,debtor,creditor,class,to\nx,X,B,1,7\n",
+        "clearing: journal row 1: number (4)\n",
+    ),
+    (
+        "stamp,debtor,creditor,class,to\n1,A,X,0,7\n",
+        "clearing: journal row 1: unknown bank (8)\n",
+    ),
+    (
+        "stamp,debtor,creditor,class,to\n1,A,\"A,B\",0,7\n",
+        "clearing: journal row 1: name (3)\n",
+    ),
+    (
+        "stamp,debtor,creditor,class,to\n1,A,B,0,x\n",
+        "clearing: journal row 1: class (10)\n",
     ),
 ];
 
