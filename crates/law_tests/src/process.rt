@@ -2,14 +2,14 @@ ghost use Rattle.clr_net.specs.Amounts.{IsAtMost};
 ghost use Rattle.clr_net.specs.Samples.{chain};
 ghost use Rattle.clr_net.specs.Net.{row};
 ghost use Rattle.clr_net.specs.Limits.{IsNetwork};
-ghost use Rattle.clear_core.specs.Clearing.{IsLeast, least, pay};
+ghost use Rattle.clear_core.specs.Clearing.{least, pay};
 ghost use Rattle.clear_core.specs.History.{IsTraced, Stands, ordered, replayed};
 ghost use Rattle.clear_core.specs.Process.{IsBelowLeast, after, opening};
 ghost use Rattle.clear_core.specs.Rounds.{rounds_of};
 ghost use Rattle.pay_words.specs.Belongs.{Belongs};
 ghost use Rattle.pay_words.specs.Traces.{start_of};
-ghost use Rattle.law_tests.specs.Nets.{events, richer, two, two_ordered, raise, chain_banks, chain_debts, dry_ring};
-ghost use Rattle.law_tests.specs.Nets.{dry_banks, dry_debts, cycle, cycle_banks, cycle_debts};
+ghost use Rattle.law_tests.specs.Nets.{events, richer, two, two_ordered, raise, dry_ring};
+ghost use Rattle.law_tests.specs.Nets.{cycle};
 ghost use Rattle.std.specs.Prelude.{◌≡◌, ◌++◌, ◌∷◌, [], ◌≤◌, slice_index, sum_by};
 
 // Events that are legal where they stand leave payments below the least.

@@ -1,5 +1,4 @@
 ghost use Rattle.clr_net.specs.Samples.{chain};
-ghost use Rattle.clr_net.specs.Net.{all_cash, cash_of};
 ghost use Rattle.cascade.specs.MoreCash.{NobodyLoses};
 ghost use Rattle.cascade.specs.Ruin.{CostsItsCash};
 ghost use Rattle.cascade.specs.Standings.{AddsUp, equity, health_of};
@@ -8,11 +7,9 @@ ghost use Rattle.clear_core.specs.Clearing.{least, spend};
 ghost use Rattle.costs.specs.CostStandings.{CostAddsUp};
 ghost use Rattle.impact.specs.Impact.{lost_by_others};
 ghost use Rattle.cascade.specs.Ruin.{kept_less};
-ghost use Rattle.rescue.specs.OneUnit.{CountsOnce};
-ghost use Rattle.rescue.specs.Rescue.{added, IsRescue, Saves};
+ghost use Rattle.rescue.specs.Rescue.{added, Saves};
 ghost use Rattle.stress.specs.Shocks.{shocked};
 ghost use Rattle.upper.specs.Greatest.{IsGreatestBy, greatest_by};
-ghost use Rattle.upper.specs.Bounds.{TellsHealth, gridlocked, is_gridlocked, wave};
 ghost use Rattle.law_tests.specs.Nets.{richer, dry_ring, loss, scenario};
 ghost use Rattle.std.specs.Prelude.{◌≡◌, ◌≢◌, ◌+◌, ◌≤◌, ◌∷◌, [], true, sum};
 

@@ -1,5 +1,5 @@
 ghost use Rattle.clr_net.specs.Samples.{chain};
-ghost use Rattle.clr_net.specs.Claims.{all_claims, with_claims};
+ghost use Rattle.clr_net.specs.Claims.{with_claims};
 ghost use Rattle.clr_net.specs.Division.{award, next_of};
 ghost use Rattle.clr_net.specs.Limits.{IsNetwork};
 ghost use Rattle.clr_net.specs.declared.rule.RuleKind.TheVariants as kind;
