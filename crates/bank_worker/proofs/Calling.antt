@@ -1,5 +1,5 @@
 -- The next called bank of a worker, and the creditors that are called.
-use Rattle.std.proofs.Common.{◌≡◌, ℕ, ◌+◌, ◌/◌, ◌<◌, ◌≤◌, ◌++◌, Bool, true, false, true≢false, List, [], append_assoc, append-nil, drop, length, get_or, refl, sym, ap, ◌∙◌, subst, ⊎_elim, arith, eq-eqb}
+use Rattle.std.proofs.Common.{◌≡◌, ℕ, ◌+◌, ◌/◌, ◌<◌, ◌≤◌, ◌++◌, Bool, true, false, true≢false, List, [], append_assoc, append-nil, drop, length, get_or, refl, sym, ap, ◌∙◌, subst, arith, eq-eqb, below_more, inl, inr}
 use Rattle.std.specs.Prelude.{◌==◌, ◌||◌}
 use Rattle.std.proofs.lemmas.List.{get_or_past, get_or_default}
 use Rattle.std.proofs.Math.Seq.{drop-append_seam}
@@ -13,59 +13,42 @@ use Rattle.pay_words.specs.declared.view.Shown.{Shown}
 use Rattle.pay_words.specs.Views.{holds, is_marked}
 use Rattle.bank_worker.specs.BankSets.{AreSetOut, HaveNoneInBoth, is_in}
 use Rattle.bank_worker.specs.Called.{AreCalledOrAtRest, AreCalledTo, AreCreditorsIn, CallsOthers, KeepsOthers, StayIn}
-use Rattle.bank_worker.specs.Raises.{IsRaisedIn, debts_of}
+use Rattle.bank_worker.specs.Raises.{debts_of}
 use Rattle.bank_worker.specs.Rings.{creditors_of}
-use Rattle.bank_worker.proofs.Basics.{below_more_cases}
 use Rattle.bank_worker.specs.Rising.{Rises}
 use Rattle.bank_worker.specs.Views.{Crew, banks_held, banks_of, desk_at, desks_held}
 use Rattle.bank_worker.specs.Visits.{IsSameCrew, IsSameSeat, Notes, with_bell}
 use Rattle.bank_worker.proofs.Filtered.{filter_rises}
-use Rattle.bank_worker.proofs.Manned.{bank_at, desk_is, length_banks}
+use Rattle.bank_worker.proofs.Manned.{desk_is}
 use Rattle.bank_worker.proofs.PlacesOfBanks.{banks_of_desks, not_after}
 use Rattle.bank_worker.proofs.Raising.{raised_in_either, length-debts_of}
 use Rattle.bank_worker.proofs.Ringing.{creditor_noted, debt_of_raise, length-creditors_of}
-use Rattle.bank_worker.proofs.Sweeping.{after_take}
 
 -- the banks of a worker's desks, which rise, and of which there is a set
 pub record AreInPlace (banks mine : List ℕ) (workers : ℕ) : Type 0 where
   pub rise : Rises banks
   pub out : AreSetOut mine workers banks
 
--- those of the desks of a seat are so, with the set and the number of workers that are known
-pub in_place : (s : Shown) {desks : List BankView} {banks mine known : List ℕ} {workers n : ℕ} → desks ≡ desks_held s → banks ≡ banks_of desks
-    → mine ≡ known → workers ≡ n → AreSetOut known n (banks_held s) → AreInPlace banks mine workers
-in_place s {desks} {banks} {mine} {known} {workers} {n} are banks_are mine_is count out =
-    let same : banks_held s ≡ banks = sym (banks_are ∙ ap banks_of are ∙ banks_of_desks s.net (banks_held s)) in
-    let rise = filter_rises (holds s) 0 (length s.net.banks) in
-    subst (λ bs. AreInPlace bs mine workers) same
-    (subst (λ k. AreInPlace (banks_held s) mine k) (sym count) (subst (λ m. AreInPlace (banks_held s) m n) (sym mine_is) (record { rise = rise; out = out })))
+-- those of the desks of a seat are so
+pub in_place : (s : Shown) (desks : List BankView) (banks mine : List ℕ) (workers : ℕ) → desks ≡ desks_held s → banks ≡ banks_of desks
+    → AreSetOut mine workers (banks_held s) → AreInPlace banks mine workers
+in_place s desks banks mine workers are banks_are out =
+    rw (banks_are ∙ ap banks_of are ∙ banks_of_desks s.net (banks_held s)) (record { rise = filter_rises (holds s) 0 (length s.net.banks); out = out })
 
--- a bank of the set from one on stands in no earlier place
-pub place_ahead : (banks mine : List ℕ) (workers from b : ℕ) → AreInPlace banks mine workers → from < length banks
-    → get_or banks from 0 ≤ b → is_in mine b ≡ true → from ≤ b / workers
-place_ahead banks mine workers from b h lt ge e =
+-- a bank of the set from one on stands in no earlier place, and where none before it is in both sets, none that stands between
+-- them is called
+pub next_place : (banks mine called : List ℕ) (workers from b : ℕ) → AreInPlace banks mine workers → from < length banks → get_or banks from 0 ≤ b → is_in mine b ≡ true
+    → HaveNoneInBoth mine called (get_or banks from 0) b
+    → (from ≤ b / workers) × ((k : ℕ) → from ≤ k → k < b / workers → is_in called (get_or banks k 0) ≡ false)
+next_place banks mine called workers from b h lt ge e none =
     let p = h.out.only b e in
-    let place : b / workers ≡ p.0 = ap (λ n. n / workers) (sym p.2) ∙ (h.out.placed p.0 p.1).1 in
-    ⊎_elim
-    (λ (less : p.0 < from). absurd (omega (arith, p.2, h.rise p.0 from 0 less lt)))
-    (λ (le : from ≤ p.0). omega (arith, place))
-    (cases_lt p.0 from)
-
--- the banks of earlier places are smaller
-pub before_place : (banks mine : List ℕ) (workers b k : ℕ) → AreInPlace banks mine workers → is_in mine b ≡ true → k < b / workers → get_or banks k 0 < b
-before_place banks mine workers b k h e lt =
-    let p = h.out.only b e in
-    let place : b / workers ≡ p.0 = ap (λ n. n / workers) (sym p.2) ∙ (h.out.placed p.0 p.1).1 in
-    omega (arith, p.2, h.rise k p.0 0 (omega (arith, place)) p.1)
-
--- where no bank is in both sets up to some number, none of the banks up to there is called
-pub none_called : (s : Shown) (desks : List BankView) (banks mine called : List ℕ) (workers from k to : ℕ) → desks ≡ desks_held s → banks ≡ banks_of desks
-    → AreInPlace banks mine workers → HaveNoneInBoth mine called (get_or banks from 0) to → from ≤ k → k < length desks
-    → get_or banks k 0 < to → is_in called (desk_at desks k).bank ≡ false
-none_called s desks banks mine called workers from k to are banks_are h none ge l low =
-    let l' : k < length banks = omega (arith, l, length_banks desks banks banks_are) in
-    ap (is_in called) (sym (bank_at s desks banks k are banks_are l).bank)
-    ∙ none (get_or banks k 0) (not_after banks from k h.rise ge l') low (h.out.placed k l').0
+    let place : b / workers ≡ p.0 = ap (λ n. n / workers) (sym p.2) ∙ (h.out.placed p.0 p.1).1 in (
+      elim (cases_lt p.0 from) [ inl less ↦ absurd (omega (arith, p.2, h.rise p.0 from 0 less lt)) | inr le ↦ omega (arith, place) ],
+      λ k le less.
+          let l : k < p.0 = omega (arith, place) in
+          let in_list : k < length banks = omega (arith, p.1) in
+          none (get_or banks k 0) (not_after banks from k h.rise le in_list) (omega (arith, p.2, h.rise k p.0 0 l p.1)) (h.out.placed k in_list).0,
+    )
 
 -- where all banks are called, so are those of the desks
 pub all_called : (s : Shown) (desks : List BankView) (called : List ℕ) → IsNetwork s.net → desks ≡ desks_held s
@@ -76,12 +59,12 @@ all_called s desks called network are all k l out =
 
 -- the creditors that are noted are banks that there may be
 pub known_creditors : (net : Net) (noted : List ℕ) → IsNetwork net → noted ≡ creditors_of net → (x : ℕ) → get_or noted x 0 < MAX_BANKS
-known_creditors net noted network are x = ⊎_elim
-    (λ (lt : x < length noted).
-    let known : x < length net.debts = omega (arith, lt, ap length are, length-creditors_of net) in
-    omega (arith, creditor_noted net noted x are known, (network.each_debt x known).creditor_known, network.banks_in_limit))
-    (λ (ge : length noted ≤ x). omega (arith, get_or_past noted x 0 ge))
-    (cases_lt x (length noted))
+known_creditors net noted network are x = elim (cases_lt x (length noted)) [
+  | inl lt ↦
+      let known : x < length net.debts = omega (arith, lt, ap length are, length-creditors_of net) in
+      omega (arith, creditor_noted net noted x are known, (network.each_debt x known).creditor_known, network.banks_in_limit)
+  | inr ge ↦ omega (arith, get_or_past noted x 0 ge)
+]
 
 -- a set with more banks has those that it had
 pub stay_in : (old new : List ℕ) (more : ℕ → Bool) → ((b : ℕ) → is_in new b ≡ (is_in old b || more b)) → StayIn old new
@@ -103,12 +86,9 @@ called_still s desks old new stay h k l out =
 -- the bank of one raise more
 pub called_more : (noted old new : List ℕ) (rs : List Raise) (n : ℕ) (d : Raise) → n < length rs → AreCalledTo noted old rs n → StayIn old new
     → ((get_or rs n d).debt.0 < length noted → is_in new (get_or noted (get_or rs n d).debt.0 0) ≡ true) → AreCalledTo noted new rs (n + 1)
-called_more noted old new rs n d lt h stay here x lx j lj at = ⊎_elim
-    (λ (l : j < n). stay (get_or noted x 0) (h x lx j l at))
-    (λ (same : j ≡ n).
-    let e : (get_or rs n d).debt.0 ≡ x = sym (debt_of_raise rs n d lt) ∙ ap (λ i. get_or (debts_of rs) i 0) (sym same) ∙ at in
-    subst (λ y. is_in new (get_or noted y 0) ≡ true) e (here (omega (arith, e, lx))))
-    (below_more_cases j n lj)
+called_more noted old new rs n d lt h stay here x lx = below_more (λ j. get_or (debts_of rs) j 0 ≡ x → is_in new (get_or noted x 0) ≡ true) n
+    (λ j l at. stay (get_or noted x 0) (h x lx j l at))
+    (λ is. let e = sym (debt_of_raise rs n d lt) ∙ is in rw e at (here (rw e lx)))
 
 -- where the list has the creditor of each debt, all creditors are called
 pub creditors_called : (net : Net) (noted called : List ℕ) (rs : List Raise) → noted ≡ creditors_of net → AreCalledTo noted called rs (length rs) → AreCreditorsIn net called rs
@@ -137,15 +117,12 @@ calls_more old cur new called now same kept a b = record {
   made = a.made ++ b.made;
   grew = b.grew ∙ ap (λ rs. rs ++ b.made) a.grew ∙ append_assoc old.journal a.made b.made;
   rung = λ x lx o other.
-      let s = old.seat.shows in
-      let t = cur.seat.shows in
-      let creditor : creditor_of t.net x ≡ creditor_of s.net x = ap (λ (m : Net). creditor_of m x) same.net in
-      let not_held : holds t (creditor_of s.net x) ≡ false = ap (λ bs. is_marked bs (creditor_of s.net x)) same.banks ∙ other in
-      let lt : x < length t.net.debts = omega (arith, lx, ap (λ (m : Net). length m.debts) same.net) in
-      ⊎_elim
-      (λ (first : IsRaisedIn a.made x). kept (creditor_of s.net x) not_held (a.rung x lx first other))
-      (λ (last : IsRaisedIn b.made x). ap (is_in now) (sym creditor) ∙ b.rung x lt last (ap (holds t) creditor ∙ not_held))
-      (raised_in_either a.made b.made x o);
+      let theirs = creditor_of old.seat.shows.net x in
+      let not_held : holds cur.seat.shows theirs ≡ false = rw same.banks other in
+      elim (raised_in_either a.made b.made x o) [
+        | inl first ↦ kept theirs not_held (a.rung x lx first other)
+        | inr last ↦ rw same.net at (b.rung x (rw same.net lx) last (rw same.net not_held))
+      ];
 }
 
 -- so it is from step to step, where more banks are called between them
@@ -159,17 +136,14 @@ calls_on old cur new first called more now same stay a b =
     )
 
 -- the creditors of the debts that a visit raised are called
-pub calls_visit : (cur taken new : Crew) (up : Bool) (b from : ℕ) (desk : BankView) (now : List ℕ) → taken ≡ after_take cur b up → up ≡ true → IsSameCrew taken new
+pub calls_visit : (cur taken new : Crew) (b from : ℕ) (desk : BankView) (now : List ℕ) → taken ≡ with_bell cur b → IsSameCrew taken new
     → Notes desk taken new → from ≡ length taken.journal → AreCreditorsIn new.seat.shows.net now (drop from new.journal) → CallsOthers cur new now
-calls_visit cur taken new up b from desk now e is same notes at h =
+calls_visit cur taken new b from desk now is same notes from_is h =
     let made = notes.seat.made in
-    let e' : taken ≡ with_bell cur b = e ∙ ap (after_take cur b) is in
-    let net : new.seat.shows.net ≡ cur.seat.shows.net = same.seat.net ∙ ap (λ (w : Crew). w.seat.shows.net) e' in
-    let noted : drop from new.journal ≡ made = ap (λ n. drop n new.journal) at ∙ ap (drop (length taken.journal)) notes.journal ∙ drop-append_seam taken.journal made in
+    let net : new.seat.shows.net ≡ cur.seat.shows.net = same.seat.net ∙ ap (λ (w : Crew). w.seat.shows.net) is in
+    let noted : drop from new.journal ≡ made = rw (from_is, notes.journal) (drop-append_seam taken.journal made) in
     record {
       made = made;
-      grew = notes.journal ∙ ap (λ (w : Crew). w.journal ++ made) e';
-      rung = λ x lx o other.
-          ap (is_in now) (sym (ap (λ (m : Net). creditor_of m x) net))
-          ∙ h x (omega (arith, lx, ap (λ (m : Net). length m.debts) net)) (subst (λ rs. IsRaisedIn rs x) (sym noted) o);
+      grew = notes.journal ∙ ap (λ (w : Crew). w.journal ++ made) is;
+      rung = λ x lx o other. rw net at (h x (rw net lx) (rw noted o));
     }

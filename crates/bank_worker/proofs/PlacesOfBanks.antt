@@ -4,7 +4,7 @@ use Rattle.std.specs.Prelude.{All}
 use Rattle.std.specs.List.{range_with_len}
 use Rattle.std.proofs.lemmas.Bool.{cases_eq, cases_lt}
 use Rattle.std.proofs.lemmas.List.{get_or_default}
-use Rattle.std.proofs.lemmas.List.Folds.{Any-from_list_any, list_any-from_Any}
+use Rattle.std.proofs.lemmas.List.Folds.{Any-from_list_any, list_any_at}
 use Rattle.std.proofs.lemmas.List.Elements.{All-from_get_or}
 use Rattle.std.proofs.lemmas.Nat.{div-mul-add, mod_below, mod-mul-add}
 use Rattle.clr_net.specs.Net.{Net}
@@ -23,18 +23,6 @@ use Rattle.bank_worker.proofs.Filtered.{Stands, filter_finds, filter_passes, fil
 pub banks_of_desks : (net : Net) (banks : List ℕ) → banks_of (map (desk_of net) banks) ≡ banks
 banks_of_desks net [] = refl
 banks_of_desks net (b ∷ banks) = ap (λ bs. b ∷ bs) (banks_of_desks net banks)
-
--- what stands in a place is among the list
-among_at : (xs : List ℕ) (k : ℕ) → k < length xs → is_among xs (get_or xs k 0) ≡ true
-among_at xs k l =
-    let x = get_or xs k 0 in
-    list_any-from_Any (λ y. x == y) xs (k, x, l, get_or_default xs k x 0 l, eq-eqb x x refl)
-
--- and what is among it stands in some place
-place_among : (xs : List ℕ) (c : ℕ) → is_among xs c ≡ true → Stands xs c
-place_among xs c e =
-    let p = Any-from_list_any (λ y. c == y) xs e in
-    (p.0, p.2, get_or_default xs p.0 0 p.1 p.2 ∙ p.3 ∙ sym (eqb-true c p.1 p.4))
 
 -- the numbers below n that are of the worker i among w
 abbrev of_worker : ℕ → ℕ → ℕ → List ℕ
@@ -100,13 +88,13 @@ set_out net set workers i some are =
       some = some;
       placed = λ k l.
           let low = (one_of n workers i k some l).low in
-          (are (get_or banks k 0) ∙ among_at banks k l, ap (λ b. b / workers) (placed n workers i k some l) ∙ div-mul-add k workers i low);
-      only = λ b e. place_among banks b (sym (are b) ∙ e);
+          (are (get_or banks k 0) ∙ list_any_at (λ y. get_or banks k 0 == y) banks k 0 l (eq-eqb (get_or banks k 0) (get_or banks k 0) refl), ap (λ b. b / workers) (placed n workers i k some l) ∙ div-mul-add k workers i low);
+      only = λ b e.
+          let p = Any-from_list_any (λ y. b == y) banks (sym (are b) ∙ e) in
+          (p.0, p.2, get_or_default banks p.0 0 p.1 p.2 ∙ p.3 ∙ sym (eqb-true b p.1 p.4));
     }
 
 -- each bank of a worker is below the most that there may be
 pub known_banks : (net : Net) (banks : List ℕ) (workers i : ℕ) → IsNetwork net → banks ≡ banks_of_worker net workers i → All (λ b. b < MAX_BANKS) banks
-known_banks net banks workers i network e = All-from_get_or (λ b. b < MAX_BANKS) banks 0
-    (λ k l.
-    let l' : k < length (banks_of_worker net workers i) = omega (arith, l, ap length e) in
-    omega (arith, ap (λ bs. get_or bs k 0) e, (filter_passes (is_of_worker workers i) (length net.banks) k l').0, network.banks_in_limit))
+known_banks net banks workers i network e = rw e (All-from_get_or (λ b. b < MAX_BANKS) (banks_of_worker net workers i) 0
+    (λ k l. omega (arith, (filter_passes (is_of_worker workers i) (length net.banks) k l).0, network.banks_in_limit)))

@@ -1,7 +1,6 @@
 -- What the acts of a seat tell of the visits of its worker.
-use Rattle.std.proofs.Common.{◌≡◌, ℕ, ◌+◌, ◌<◌, false, List, [], ◌∷◌, ◌++◌, length, map, sym, ap, ◌∙◌, subst, arith, append-nil, append_assoc, length-append, refl}
+use Rattle.std.proofs.Common.{◌≡◌, ℕ, ◌+◌, ◌<◌, false, List, [], ◌∷◌, ◌++◌, length, map, sym, ap, arith, append-nil, append_assoc, length-append, refl}
 use Rattle.std.specs.Prelude.{cond, flat_map}
-use Rattle.std.proofs.lemmas.List.{flat_map_more}
 use Rattle.std.proofs.lemmas.List.Concat.{flat_map-cons}
 use Rattle.std.proofs.lemmas.List.Elements.{All-push}
 use Rattle.std.proofs.lemmas.List.Sums.{sum_by-append, sum_by-cons}
@@ -14,7 +13,8 @@ use Rattle.bank_worker.specs.Rings.{called_by}
 use Rattle.bank_worker.specs.Told.{AreTold, VisitMade, acts_with_take, is_take, takes_in}
 use Rattle.bank_worker.specs.Views.{Crew, desk_at}
 use Rattle.bank_worker.specs.Visits.{AreVisitsFrom, IsAllVisits, IsCalledVisit, IsSameCrew, acts_of}
-use Rattle.bank_worker.proofs.Sweeping.{same_crew_then, same_as_it_was}
+use Rattle.bank_worker.proofs.Sweeping.{same_crew_then}
+use Rattle.std.proofs.lemmas.Grind.{flat_map-append}
 
 -- no visit
 told_none : (w : Crew) → AreTold w w
@@ -31,30 +31,18 @@ told_none w = record {
 told_more : (old cur new : Crew) (place n : ℕ) → IsSameCrew old cur → AreTold old cur → IsCalledVisit place n cur new → AreTold old new
 told_more old cur new place n same h v =
     let notes = v.visited.notes in
-    let made = notes.seat.made in
-    let last : VisitMade = record { place = place; made = made } in
-    let f = acts_with_take old.seat.shows.net old.desks in
-    let raises_of = λ (v : VisitMade). v.made in
-    let here : acts_with_take cur.seat.shows.net cur.desks last ≡ f last =
-    ap (λ (m : Net). acts_with_take m cur.desks last) same.seat.net ∙ ap (λ (ds : List BankView). acts_with_take old.seat.shows.net ds last) same.desks in
-    let s = cur.seat.shows in
-    let bank = (desk_at cur.desks place).bank in
+    let last : VisitMade = record { place = place; made = notes.seat.made } in
     record {
       visits = h.visits ++ last ∷ [];
       as_many = omega (arith, v.counted, h.as_many, length-append h.visits (last ∷ []));
-      known = All-push (λ (v : VisitMade). v.place < length old.desks) h.visits last h.known (omega (arith, v.known, ap length same.desks));
-      acts =
-          notes.seat.acts
-          ∙ append_assoc s.acts (take_of bank ∷ []) (acts_of s.net (desk_at cur.desks place) made)
-          ∙ ap (λ xs. s.acts ++ xs) here
-          ∙ ap (λ xs. xs ++ f last) h.acts
-          ∙ flat_map_more f old.seat.shows.acts h.visits last;
-      raises = notes.seat.grew ∙ ap (λ rs. rs ++ made) h.raises ∙ flat_map_more raises_of old.seat.shows.raises h.visits last;
-      journal = notes.journal ∙ ap (λ rs. rs ++ made) h.journal ∙ flat_map_more raises_of old.journal h.visits last;
+      known = All-push (λ (v : VisitMade). v.place < length old.desks) h.visits last h.known (rw same.desks at v.known);
+      acts = simp (notes.seat.acts, h.acts, same.seat.net, same.desks, flat_map-append, append-nil, append_assoc);
+      raises = simp (notes.seat.grew, h.raises, flat_map-append, append-nil, append_assoc);
+      journal = simp (notes.journal, h.journal, flat_map-append, append-nil, append_assoc);
     }
 
 told_from : (old new : Crew) (ns : List ℕ) → AreVisitsFrom old ns new → IsSameCrew old new × AreTold old new
-told_from old new [] is = (subst (IsSameCrew old) (sym is) (same_as_it_was old), subst (AreTold old) (sym is) (told_none old))
+told_from old new [] is = rw is (assumption (told_none old))
 told_from old new (n ∷ ns) v =
     let h = told_from old v.0 ns v.2 in
     (same_crew_then old v.0 new h.0 v.3.same, told_more old v.0 new v.1 n h.0 h.1 v.3)
@@ -69,12 +57,7 @@ takes_both xs ys = sum_by-append (λ x. cond (is_take x) 1 0) xs ys
 -- what is no take counts for none
 takes_none : {A : Type 0} (f : A → Act) (xs : List A) → ((x : A) → is_take (f x) ≡ false) → takes_in (map f xs) ≡ 0
 takes_none f [] none = refl
-takes_none f (x ∷ xs) none = omega (
-  arith,
-  sum_by-cons (λ a. cond (is_take a) 1 0) (f x) (map f xs),
-  ap {B = ℕ} (λ b. cond b 1 0) (none x),
-  takes_none f xs none,
-)
+takes_none f (x ∷ xs) none = rw (sum_by-cons (λ a. cond {A = ℕ} (is_take a) 1 0) (f x) (map f xs), none x) (omega (arith, takes_none f xs none))
 
 -- each visit begins with a take, and has no other
 takes_each : (net : Net) (desks : List BankView) (vs : List VisitMade) → takes_in (flat_map (acts_with_take net desks) vs) ≡ length vs
@@ -83,13 +66,12 @@ takes_each net desks (v ∷ vs) =
     let desk = desk_at desks v.place in
     let looks = map look_at desk.debts_in in
     let raises = map raise_of (debts_of v.made) in
-    let rings = map ring_of (called_by net v.made) in
     omega (
       arith,
       ap takes_in (flat_map-cons (acts_with_take net desks) v vs),
       takes_both (acts_with_take net desks v) (flat_map (acts_with_take net desks) vs),
       sum_by-cons (λ a. cond (is_take a) 1 0) (take_of desk.bank) (acts_of net desk v.made),
-      takes_both (looks ++ raises) rings,
+      takes_both (looks ++ raises) (map ring_of (called_by net v.made)),
       takes_both looks raises,
       takes_none look_at desk.debts_in (λ x. refl),
       takes_none raise_of (debts_of v.made) (λ x. refl),

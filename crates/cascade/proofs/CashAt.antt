@@ -1,12 +1,14 @@
 -- What another cash at one bank changes, and what it leaves.
-use Rattle.std.proofs.Common.{◌≡◌, ℕ, zero, suc, ◌+◌, ◌<◌, ◌≤◌, List, [], ◌∷◌, length, slice_get, sum_by, refl, sym, ap, ◌∙◌, arith}
+use Rattle.std.proofs.Common.{◌≡◌, ℕ, zero, suc, ◌+◌, ◌<◌, ◌≤◌, List, [], ◌∷◌, length, get_or, slice_get, sum_by, Some, refl, sym, ap, ◌∙◌, arith}
 use Rattle.std.specs.Option.{option_map_or}
+use Rattle.std.proofs.lemmas.List.{length-map}
 use Rattle.std.proofs.lemmas.List.Sums.{sum_by-cons}
 use Rattle.clr_net.specs.declared.bank.Bank.{Bank}
 use Rattle.clr_net.specs.declared.rule.RuleKind.TheVariants as kind
 use Rattle.clr_net.specs.Net.{Net, changed_at, of_cash, with_cash, cash_of, outside_of, rule_of, all_cash}
 use Rattle.cascade.specs.MoreCash.{HasMoreCash}
-use Rattle.cascade.proofs.MoreCash.{with_banks}
+use Rattle.clr_net.proofs.ChangedAt.{map-changed_at}
+use Rattle.cascade.proofs.PayingOut.{banks_at, with_banks}
 
 -- the cash of the bank j of a list
 abbrev cash_in : List Bank → ℕ → ℕ
@@ -20,11 +22,10 @@ cash_at banks i c = changed_at (of_cash c) banks i
 unseen : {X : Type 0} (g : Bank → X) (d : X) (c : ℕ) → ((b : Bank) → g (of_cash c b) ≡ g b)
     → (banks : List Bank) (i j : ℕ)
     → option_map_or g (slice_get (cash_at banks i c) j) d ≡ option_map_or g (slice_get banks j) d
-unseen g d c h [] i j = refl
-unseen g d c h (b ∷ banks) zero zero = h b
-unseen g d c h (b ∷ banks) zero (suc j) = refl
-unseen g d c h (b ∷ banks) (suc i) zero = refl
-unseen g d c h (b ∷ banks) (suc i) (suc j) = unseen g d c h banks i j
+unseen g d c h banks i j =
+    sym (banks_at g (cash_at banks i c) j d)
+    ∙ ap (λ xs. get_or xs j d) (map-changed_at g (of_cash c) h banks i)
+    ∙ banks_at g banks j d
 
 -- so the rules stay
 rule_stays : (net : Net) (i c j : ℕ) → rule_of (with_cash net i c) j ≡ rule_of net j
@@ -35,14 +36,16 @@ pub outside_stays : (net : Net) (i c j : ℕ) → outside_of (with_cash net i c)
 outside_stays net i c j = unseen (λ b. b.outside) 0 c (λ b. refl) net.banks i j
 
 -- there are as many banks as before
-length-cash_at : (banks : List Bank) (i c : ℕ) → length (cash_at banks i c) ≡ length banks
-length-cash_at [] i c = refl
-length-cash_at (b ∷ banks) zero c = refl
-length-cash_at (b ∷ banks) (suc i) c = ap suc (length-cash_at banks i c)
-
--- and so in the network
 pub length-with_cash : (net : Net) (i c : ℕ) → length (with_cash net i c).banks ≡ length net.banks
-length-with_cash net i c = length-cash_at net.banks i c
+length-with_cash net i c =
+    sym (length-map (cash_at net.banks i c) (of_cash 0))
+    ∙ ap length (map-changed_at (of_cash 0) (of_cash c) (λ b. refl) net.banks i)
+    ∙ length-map net.banks (of_cash 0)
+
+-- a bank that is read has the cash of its number
+pub cash_read : (net : Net) (i : ℕ) (b : Bank) → slice_get net.banks i ≡ Some b
+    → cash_of net i ≡ b.cash
+cash_read net i b at = ap (λ o. option_map_or (λ (b : Bank). b.cash) o 0) at
 
 -- the bank has the new cash
 cash_in_place : (banks : List Bank) (i c : ℕ) → i < length banks → cash_in (cash_at banks i c) i ≡ c
@@ -55,18 +58,17 @@ pub cash_is_set : (net : Net) (i c : ℕ) → i < length net.banks → cash_of (
 cash_is_set net i c l = cash_in_place net.banks i c l
 
 -- and every other bank what it had
-cash_in_others : (banks : List Bank) (i c j : ℕ) → (j ≡ i → ⊥)
-    → cash_in (cash_at banks i c) j ≡ cash_in banks j
-cash_in_others [] i c j ne = refl
-cash_in_others (b ∷ banks) zero c zero ne = absurd (ne refl)
-cash_in_others (b ∷ banks) zero c (suc j) ne = refl
-cash_in_others (b ∷ banks) (suc i) c zero ne = refl
-cash_in_others (b ∷ banks) (suc i) c (suc j) ne = cash_in_others banks i c j (λ e. ne (ap suc e))
+cash_beside : (banks : List Bank) (i c j : ℕ) → (j ≡ i → ⊥) → cash_in (cash_at banks i c) j ≡ cash_in banks j
+cash_beside [] i c j ne = refl
+cash_beside (b ∷ banks) zero c zero ne = absurd (ne refl)
+cash_beside (b ∷ banks) zero c (suc j) ne = refl
+cash_beside (b ∷ banks) (suc i) c zero ne = refl
+cash_beside (b ∷ banks) (suc i) c (suc j) ne = cash_beside banks i c j (λ e. ne (ap suc e))
 
--- and so in the network
+-- so in the network
 pub cash_stays : (net : Net) (i c j : ℕ) → (j ≡ i → ⊥)
     → cash_of (with_cash net i c) j ≡ cash_of net j
-cash_stays net i c j ne = cash_in_others net.banks i c j ne
+cash_stays net i c j ne = cash_beside net.banks i c j ne
 
 -- with more, no bank has less
 cash_in_mono : (banks : List Bank) (i c d j : ℕ) → c ≤ d
@@ -118,17 +120,13 @@ given_back net i c d e = later_cash_counts net i c d ∙ own_cash net i d e
 sum-cash_at : (banks : List Bank) (i c : ℕ) → i < length banks
     → sum_by (λ b. b.cash) (cash_at banks i c) + cash_in banks i ≡ sum_by (λ b. b.cash) banks + c
 sum-cash_at [] i c l = absurd (omega arith)
-sum-cash_at (b ∷ banks) zero c l = omega (
-  arith,
-  sum_by-cons (λ (b : Bank). b.cash) b banks,
-  sum_by-cons (λ (b : Bank). b.cash) (of_cash c b) banks,
-)
-sum-cash_at (b ∷ banks) (suc i) c l = omega (
-  arith,
-  sum_by-cons (λ (b : Bank). b.cash) b banks,
-  sum_by-cons (λ (b : Bank). b.cash) b (cash_at banks i c),
-  sum-cash_at banks i c (omega arith),
-)
+sum-cash_at (b ∷ banks) zero c l =
+    let was = sum_by-cons (λ (b : Bank). b.cash) b banks in
+    omega (arith, sum_by-cons (λ (b : Bank). b.cash) (of_cash c b) banks)
+sum-cash_at (b ∷ banks) (suc i) c l =
+    let was = sum_by-cons (λ (b : Bank). b.cash) b banks in
+    let is = sum_by-cons (λ (b : Bank). b.cash) b (cash_at banks i c) in
+    omega (arith, sum-cash_at banks i c (omega arith))
 
 -- and so in the network
 pub all_cash_changes : (net : Net) (i c : ℕ) → i < length net.banks

@@ -1,12 +1,13 @@
 -- Which payments of those that clear are made changes no equity, and nothing that is paid outside.
-use Rattle.std.proofs.Common.{◌≡◌, ℕ, ◌+◌, ◌-◌, ◌<◌, ◌≤◌, List, length, sym, ◌∙◌, arith, zero-le}
+use Rattle.std.proofs.Common.{◌≡◌, ℕ, ◌+◌, ◌-◌, ◌<◌, ◌≤◌, List, length, get_or, sym, ◌∙◌, arith}
+use Rattle.std.proofs.lemmas.List.FromFn.{get_or-range_with_len, length-range_with_len}
 use Rattle.clr_net.specs.Amounts.{IsAtMost}
 use Rattle.clr_net.specs.Limits.{IsNetwork}
 use Rattle.clr_net.specs.Net.{Net}
 use Rattle.clear_core.specs.Clearing.{estate, least, Clears}
 use Rattle.clear_core.proofs.Least.{least_rounds, least_clears}
 use Rattle.clear_core.proofs.Pay.{receipts_mono}
-use Rattle.cascade.specs.Standings.{due, equity, outside_paid}
+use Rattle.cascade.specs.Standings.{bank_numbers, due, equity, outside_paid}
 use Rattle.cascade.proofs.Sums.{same_terms}
 use Rattle.cascade.proofs.PayingOut.{paid_is, adds_up}
 
@@ -27,11 +28,15 @@ same_equities net P Q network p q h i l =
     let kept = λ (R : List ℕ) (j : ℕ). equity net R j + outside_paid net R j in
     let rises : (j : ℕ) → kept P j ≤ kept Q j =
     λ j. omega (arith, equity_is net P network p j, equity_is net Q network q j, estate_mono net P Q j h) in
-    let same : kept P i ≡ kept Q i = same_terms (kept P) (kept Q) 0 (length net.banks) rises
-    (omega (arith, (adds_up net P network p).equities, (adds_up net Q network q).equities)) i zero-le (omega arith) in (
-      omega (arith, same, equity_is net P network p i, equity_is net Q network q i, estate_mono net P Q i h),
-      omega (arith, same, equity_is net P network p i, equity_is net Q network q i, estate_mono net P Q i h),
-    )
+    let here : get_or (bank_numbers net) i 0 ≡ i =
+    omega (arith, get_or-range_with_len 0 (length net.banks) i 0 l) in
+    let same : kept P i ≡ kept Q i = rw here at (same_terms (kept P) (kept Q) (bank_numbers net)
+    rises (omega (arith, (adds_up net P network p).equities, (adds_up net Q network q).equities)) i
+    (omega (arith, length-range_with_len 0 (length net.banks)))) in
+    let less = equity_is net P network p i in
+    let more = equity_is net Q network q i in
+    let rise = estate_mono net P Q i h in
+    (omega arith, omega arith)
 
 -- and all that clear are at least the least
 pub equities_are_one : (net : Net) (P Q : List ℕ) → IsNetwork net → Clears net P → Clears net Q

@@ -1,5 +1,6 @@
 pub mod Sums
 pub mod Limits
+pub mod Stands
 pub mod PayingOut
 pub mod Healths
 pub mod Equities

@@ -23,7 +23,7 @@ clearing_in_limit net P network c x = omega (arith, clearing_within net P c x, c
 
 -- no bank has more under them than if all its debtors paid it in full
 pub estate_le_worth : (net : Net) (P : List ℕ) → Clears net P → (i : ℕ) → estate net P i ≤ worth net i
-estate_le_worth net P c i = omega (
-  arith,
-  sum_by-le-sum_by (λ x. get_or P x 0) (claim_of net) (column net i) (clearing_within net P c),
-)
+estate_le_worth net P c i =
+    let received = sum_by-le-sum_by (λ x. get_or P x 0) (claim_of net) (column net i)
+    (clearing_within net P c) in
+    omega arith

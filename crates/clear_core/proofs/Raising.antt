@@ -1,6 +1,8 @@
 -- The debts of one bank are raised to its awards, place by place of its row.
-use Rattle.std.proofs.Common.{◌≡◌, ◌≢◌, ℕ, ◌+◌, ◌<◌, ◌≤◌, Bool, true, false, List, length, get_or, set, sum, refl, sym, ap, ◌∙◌, subst, ⊎_elim, arith}
-use Rattle.std.proofs.lemmas.Bool.{cases_eq, cases_Bool, true≢false}
+use Rattle.std.proofs.Common.{◌≡◌, ◌≢◌, ℕ, ◌+◌, ◌<◌, ◌≤◌, ◌||◌, Bool, true, false, List, length, get_or, set, sum, refl, sym, ap, ◌∙◌, subst, ⊎_elim, arith}
+use Rattle.std.proofs.Math.Bool.{or-true, or-false}
+use Rattle.std.proofs.Math.Dec.{ltb}
+use Rattle.std.proofs.lemmas.Bool.{cases_eq, cases_Bool, true≢false, ltb-true, ltb-false}
 use Rattle.std.proofs.lemmas.List.{get_or-set_same, get_or-set_other, length-set, set-get_or}
 use Rattle.std.proofs.lemmas.List.Sums.{sum_by-set}
 use Rattle.clr_net.specs.Net.{Net, debtor_of, creditor_of, row}
@@ -47,7 +49,7 @@ module _ (net : Net) (i : ℕ) (awards P Q : List ℕ) (marks after : List Bool)
   in_range = omega (arith, stands.in_range, raised.as_many)
 
   -- a debt that is paid its award already is left
-  pub raised_skip : get_or awards j 0 ≤ get_or Q x 0
+  raised_skip : get_or awards j 0 ≤ get_or Q x 0
       → IsRaisedTo net i awards P Q marks after (j + 1) any
   raised_skip g = record {
     as_many = raised.as_many;
@@ -84,7 +86,7 @@ module _ (net : Net) (i : ℕ) (awards P Q : List ℕ) (marks after : List Bool)
     award : get_or awards j 0 ≡ awarded net awards x
     award = ap (λ k. get_or awards k 0) (sym stands.in_place)
 
-    pub raised_more : IsRaisedTo net i awards P (set Q x (get_or awards j 0)) marks
+    raised_more : IsRaisedTo net i awards P (set Q x (get_or awards j 0)) marks
         (set after c true) (j + 1) true
     raised_more = record {
       as_many = length-set Q x (get_or awards j 0) ∙ raised.as_many;
@@ -105,6 +107,25 @@ module _ (net : Net) (i : ℕ) (awards P Q : List ℕ) (marks after : List Bool)
       same = λ e. absurd (true≢false e);
       more = λ e. omega (arith, no_less, sum_by-set (λ n. n) Q x (get_or awards j 0) 0 in_range, less);
     }
+
+-- whether one is paid less or not, it is paid its award, and its creditor marked in the one case
+module _ (net : Net) (i : ℕ) (awards P Q : List ℕ) (marks after : List Bool) (j : ℕ) (any : Bool)
+    (raised : IsRaisedTo net i awards P Q marks after j any) (over : length P ≡ length net.debts)
+    (x : ℕ) (stands : StandsInRow net i j x) (c : ℕ) (credited : creditor_of net x ≡ c)
+    (known : c < length after) where
+  abbrev at : Bool → Type 0
+  at more = IsRaisedTo net i awards P (set Q x (get_or awards j 0)) marks
+      (set after c (is_marked after c || more)) (j + 1) (any || more)
+
+  pub raised_place : (more : Bool) → more ≡ ltb (get_or Q x 0) (get_or awards j 0) → at more
+  raised_place true e = rw (or-true (is_marked after c), or-true any)
+      (raised_more net i awards P Q marks after j any raised over x stands c (ltb-true _ _ (sym e)) credited known)
+  raised_place false e =
+      let enough : get_or awards j 0 ≤ get_or Q x 0 = ltb-false _ _ (sym e) in
+      let same : get_or awards j 0 ≡ get_or Q x 0 =
+      omega (arith, enough, raised.within x stands.in_range stands.owed, ap (λ k. get_or awards k 0) stands.in_place) in
+      rw (or-false (is_marked after c), or-false any, same, set-get_or Q x 0, set-get_or after c false)
+      (raised_skip net i awards P Q marks after j any raised over x stands enough)
 
 -- the whole row
 pub row_raised : (net : Net) (i : ℕ) (awards P Q : List ℕ) (marks after : List Bool) (j : ℕ)

@@ -180,13 +180,14 @@ fn raise(net: &Network, bank: BankId, awards: &[u64], paid: &mut [u64], marks: &
     ensures same { OnFalse result (paid.new ≡ paid.old) }
 {
     let mut any = false;
+    // Without a branch: nobody can foretell which debts are paid more.
     for (place, id) in net.row(bank).iter().enumerate() {
         let award = awards[place];
-        if paid[id.0 as usize] < award {
-            paid[id.0 as usize] = award;
-            marks[net.debt(*id).creditor.0 as usize] = true;
-            any = true;
-        }
+        let creditor = net.debt(*id).creditor.0 as usize;
+        let more = paid[id.0 as usize] < award;
+        paid[id.0 as usize] = award;
+        marks[creditor] = marks[creditor] | more;
+        any |= more;
     }
     any
 }

@@ -6,7 +6,6 @@ use Rattle.clr_net.specs.Net.{Net}
 use Rattle.clr_net.specs.declared.debt.BankId.{BankId}
 use Rattle.cascade.specs.Standings.{bank_numbers}
 use Rattle.clear_report.specs.Pieces.{ArePieces}
-use Rattle.clear_report.specs.Words.{empty_line, one_above_other}
 use Rattle.clear_report.specs.declared.piece.Piece.{Piece}
 use Rattle.clear_many.specs.Texts.{text_of}
 use Rattle.shares.specs.Made.{AreInOrder}
@@ -36,33 +35,11 @@ pieces_of_some banks line_of lines_of pieces as_many are =
           (λ k p is. is.1 ∙ ap (λ j. lines_of (get_or banks j 0)) (none k)) as_many are;
     }
 
--- one piece more
-pub text_pushed : (pieces all : List (Vec ℕ Global)) (piece : Vec ℕ Global) → all ≡ pieces ++ piece ∷ []
-    → text_of all ≡ text_of pieces ++ piece.items
-text_pushed pieces all piece grown =
-    ap text_of grown
-    ∙ flat_map-append (λ (p : Vec ℕ Global). p.items) pieces (piece ∷ [])
-    ∙ ap (λ t. text_of pieces ++ t) (append-nil piece.items)
-
--- and some more
-pub text_appended : (front back all : List (Vec ℕ Global)) → all ≡ front ++ back → text_of all ≡ text_of front ++ text_of back
-text_appended front back all grown =
-    ap text_of grown ∙ flat_map-append (λ (p : Vec ℕ Global). p.items) front back
-
 -- a header, lines, an empty line and a text below them
-pub laid_out : (none one more two all lines : List (Vec ℕ Global)) (header between below : Vec ℕ Global) (head text : List ℕ)
-    → none ≡ [] → one ≡ none ++ header ∷ [] → more ≡ one ++ lines → two ≡ more ++ between ∷ [] → all ≡ two ++ below ∷ []
-    → header.items ≡ head → between.items ≡ empty_line → below.items ≡ text
-    → text_of all ≡ one_above_other (head ++ text_of lines) text
-laid_out none one more two all lines header between below head text nothing begun lined spaced ended h e t =
-    text_pushed two all below ended
-    ∙ ap (λ (x : List ℕ). x ++ below.items) (text_pushed more two between spaced)
-    ∙ ap (λ (x : List ℕ). (x ++ between.items) ++ below.items) (text_appended one lines more lined)
-    ∙ ap (λ (x : List ℕ). ((x ++ text_of lines) ++ between.items) ++ below.items)
-    (text_pushed none one header begun ∙ ap (λ (ps : List (Vec ℕ Global)). text_of ps ++ header.items) nothing)
-    ∙ ap (λ (x : List ℕ). ((x ++ text_of lines) ++ between.items) ++ below.items) h
-    ∙ ap (λ (x : List ℕ). ((head ++ text_of lines) ++ x) ++ below.items) e
-    ∙ ap (λ (x : List ℕ). ((head ++ text_of lines) ++ empty_line) ++ x) t
+pub laid_out : (header between below : Vec ℕ Global) (lines : List (Vec ℕ Global))
+    → text_of (((([] ++ header ∷ []) ++ lines) ++ between ∷ []) ++ below ∷ [])
+    ≡ ((header.items ++ text_of lines) ++ between.items) ++ below.items
+laid_out header between below lines = simp (flat_map-append, append-nil)
 
 -- the number of the bank in a place is that of its place among the numbers
 pub number_in_place : (banks : List BankId) (numbers : List ℕ) (k : ℕ) (d : BankId) → map (λ b. b.0) banks ≡ numbers

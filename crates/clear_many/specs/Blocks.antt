@@ -8,7 +8,7 @@ use Rattle.stress.specs.declared.broken.Broken.{Broken}
 
 -- the cut at which a block begins, of 16 that get shorter towards the greatest cut
 abbrev pub edge : ℕ → ℕ
-edge block = min (min (min (75 * block) (396 + 42 * block)) (788 + 14 * block)) (953 + 3 * block)
+edge block = min (min (67 * block) (98 + 60 * block)) (953 + 3 * block)
 
 -- the block that is gone through in a place, and the place of a block: row by row of a square of 4 by
 -- 4 the places stand, and column by column the blocks

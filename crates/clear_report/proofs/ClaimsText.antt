@@ -30,10 +30,8 @@ line_of : (net : Net) (C : List ℕ) (k : ℕ) (o : Option Debt) (e : Debt) → 
     → claim_line net C k ≡ debt_line (with_claims net C) e
 line_of net C k None e at is = absurd (cc)
 line_of net C k (Some d) e at is =
-    subst (λ x. claim_line net C k ≡ debt_line (with_claims net C) x) (some_is is) (rw (at) refl)
-  where
-    some_is : {a b : Debt} → Some a ≡ Some b → a ≡ b
-    some_is e = cc
+    let same : of_claim (get_or C k 0) d ≡ e = cc in
+    subst (λ x. claim_line net C k ≡ debt_line (with_claims net C) x) same (rw (at) refl)
 
 pub claims_text_is : (net : Net) (C : List ℕ) → length C ≡ length net.debts
     → claims_text net C ≡ debts_text (with_claims net C)

@@ -22,11 +22,6 @@ same_name (b ∷ banks) (o ∷ others) (suc i) h =
     let rest : map (of_cash 0) others ≡ map (of_cash 0) banks = cc in
     same_name banks others i rest
 
--- what is done with each is the same
-map_alike : {A B : Type 0} (f g : A → B) (xs : List A) → ((x : A) → f x ≡ g x) → map f xs ≡ map g xs
-map_alike f g [] h = refl
-map_alike f g (x ∷ xs) h = ap (λ y. y ∷ map f xs) (h x) ∙ ap (λ ys. g x ∷ ys) (map_alike f g xs h)
-
 -- the beginning of the line of the debt x
 head_kept : (net : Net) (others : List Bank) → map (of_cash 0) others ≡ map (of_cash 0) net.banks → (x : ℕ)
     → head_of (record { banks = others; debts = net.debts }) x ≡ head_of net x
@@ -38,4 +33,4 @@ head_kept net others alike x =
 pub heads_kept : (net other : Net) → IsOfOtherCash net other → heads_of other ≡ heads_of net
 heads_kept net other alike =
     ap (λ (debts : List Debt). (let m : Net = record { banks = other.banks; debts = debts } in heads_of m)) alike.1
-    ∙ map_alike (head_of (record { banks = other.banks; debts = net.debts })) (head_of net) (debt_numbers net) (head_kept net other.banks alike.0)
+    ∙ (λ i. map (λ x. head_kept net other.banks alike.0 x i) (debt_numbers net))

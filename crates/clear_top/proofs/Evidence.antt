@@ -31,10 +31,9 @@ use Rattle.clear_top.specs.declared.source.Source.TheVariants as source
 -- two files, the network that they give, and that it is all that was read
 record TwoFiles (r : Read (List ℕ × List ℕ)) (on : Input) : Type 0 where
   both : List ℕ × List ℕ
-  net : Net
   both_are : r ≡ Some (Ok both)
-  net_is : net_in both ≡ Ok net
-  on_is : alone net ≡ on
+  net_is : net_in both ≡ Ok on.net
+  on_is : alone on.net ≡ on
 
 two_files : (r : Read (List ℕ × List ℕ)) (on : Input)
     → then_read r (λ both. Some (contents both)) ≡ Some (Ok on) → TwoFiles r on
@@ -43,26 +42,13 @@ two_files (Some (Err f)) on h = absurd (cc)
 two_files (Some (Ok both)) on h =
     let is : contents both ≡ Ok on = cc in
     let found = and_then-ok (net_in both) (λ net. Ok (alone net)) on is in
-    record { both = both; net = found.0; both_are = refl; net_is = found.1; on_is = (cc) }
-
--- both files by what is there under their names
-both_by : Option (List ℕ) → Option (List ℕ) → Read (List ℕ × List ℕ)
-both_by banks debts =
-    then_read (option_map (in_size file.Banks) banks) (λ b.
-    then_read (option_map (in_size file.Debts) debts) (λ d. Some (Ok (b, d))))
-
--- the same two files give the same
-same_both : (files later : Files) (job again : Job) → later again.banks ≡ files job.banks
-    → later again.debts ≡ files job.debts → both_whole later again ≡ both_whole files job
-unfolding both_by
-same_both files later job again banks debts = λ i. both_by (banks i) (debts i)
-
--- a journal that is read from a text is not longer than a file may be
-text_fits : (net : Net) (text : List ℕ) (journal : List Raise) → journal_of net text ≡ Ok journal
-    → is_within_limit file.Journal text ≡ true
-text_fits net text journal h =
-    (fault_unless-ok (is_within_limit file.Journal text) (fault_at file.Journal 0 fault.FileSize)
-    (raises_in_file net text) journal h).0
+    let same : alone found.0 ≡ on = cc in
+    record {
+      both = both;
+      both_are = refl;
+      net_is = found.1 ∙ ap (λ g. Ok g.net) same;
+      on_is = sym (ap (λ g. alone g.net) same) ∙ same;
+    }
 
 -- two files and the text of a journal are read as the network and the journal
 journal_read : (later : Files) (again : Job) (both : List ℕ × List ℕ) (net : Net) (text : List ℕ)
@@ -71,7 +57,8 @@ journal_read : (later : Files) (again : Job) (both : List ℕ × List ℕ) (net 
     → net_in both ≡ Ok net → journal_of net text ≡ Ok journal
     → reading later again ≡ Some (Ok (record (alone net) { journal = journal }))
 journal_read later again both net text journal of_journal both_are third net_is read =
-    let fits = text_fits net text journal read in
+    let fits = (fault_unless-ok (is_within_limit file.Journal text) (fault_at file.Journal 0 fault.FileSize)
+    (raises_in_file net text) journal read).0 in
     let whole_third : whole later file.Journal again.third ≡ Some (Ok text) = rw (third, fits) refl in
     let all : all_whole later again file.Journal ≡ Some (Ok (both, text)) = rw (both_are, whole_third) refl in
     rw of_journal (rw all (rw (net_is, read) refl))
@@ -90,44 +77,31 @@ one_answer net journal later again p replays read lawful (on, given, comes) =
     subst (λ g. p ≡ answer_to g.net g.journal (judged g.net g.journal).verdict) is here in
     there ∙ ap (answer_to net journal) lawful
 
-module _ (files later : Files) (job again : Job) (o : Outcome) where
-  -- of a run whose text was saved, on the network of two files
-  by_run : (both : List ℕ × List ℕ) (net : Net) (sealed : Sealed) (rounds : ℕ)
-      → ReplaysText files job later again o.text → both_whole files job ≡ Some (Ok both)
-      → net_in both ≡ Ok net → reading files job ≡ Some (Ok (alone net))
-      → IsRun net sealed.journal rounds → o.sealed ≡ Some sealed
-      → o.text ≡ journal_and_rounds net sealed.journal rounds → IsEvidence files job o later again
-  by_run both net sealed rounds (replays, banks, debts, third) both_are net_is cleared run sealed_is text_is =
-      let network : IsNetwork net = network_of_ok both.0 both.1 net net_is in
-      let keeps = network_of_names both.0 both.1 net net_is in
-      let few : rounds < 10 ^ 20 = omega (arith, run.few_rounds, network.owed_in_limit) in
-      let back = closed_journal_back net sealed.journal rounds network keeps run.in_limits few in
-      let read : reading later again ≡ Some (Ok (record (alone net) { journal = sealed.journal })) =
-      journal_read later again both net (journal_and_rounds net sealed.journal rounds) sealed.journal
-      (ap source_of replays) (same_both files later job again banks debts ∙ both_are)
-      (third ∙ ap Some text_is) net_is back in
-      record {
-        net = net;
-        sealed = sealed;
-        cleared = cleared;
-        record_is = sealed_is;
-        read = read;
-        replayed = λ p means. one_answer net sealed.journal later again p replays read run.lawful means;
-      }
-
-  -- what is shown of a run and saved is evidence
-  pub shown_is_evidence : ShowsJournal job → Means files job o → ReplaysText files job later again o.text
-      → IsEvidence files job o later again
-  shown_is_evidence (clears, shows) (on, given, comes) saved =
-      let read : reading_by source.Files files job ≡ Some (Ok on) =
-      subst (λ t. reading_by (source_of t) files job ≡ Some (Ok on)) clears given in
-      let found = two_files (both_whole files job) on read in
-      let cleared : ComesTo task.Clear job on o = subst (λ t. ComesTo t job on o) clears comes in
-      let settled : Settles on.net (plan_of job) (clear_text show.Journal on.net) o =
-      subst (λ s. Settles on.net (plan_of job) (clear_text s on.net) o) shows cleared in
-      let net_is : on.net ≡ found.net = ap (λ g. g.net) (sym found.on_is) in
-      by_run found.both found.net settled.settled.sealed settled.settled.rounds saved found.both_are found.net_is
-      (given ∙ ap (λ g. Some (Ok g)) (sym found.on_is))
-      (subst (λ n. IsRun n settled.settled.sealed.journal settled.settled.rounds) net_is settled.run)
-      (ap (λ p. p.sealed) settled.comes)
-      (ap (λ p. p.text) settled.comes ∙ ap (λ n. journal_and_rounds n settled.settled.sealed.journal settled.settled.rounds) net_is)
+-- what is shown of a run and saved is evidence
+pub shown_is_evidence : (files later : Files) (job again : Job) (o : Outcome) → ShowsJournal job → Means files job o
+    → ReplaysText files job later again o.text → IsEvidence files job o later again
+shown_is_evidence files later job again o (clears, shows) (on, given, comes) (replays, banks, debts, third) =
+    let is_read : reading_by source.Files files job ≡ Some (Ok on) =
+    subst (λ t. reading_by (source_of t) files job ≡ Some (Ok on)) clears given in
+    let found = two_files (both_whole files job) on is_read in
+    let cleared : ComesTo task.Clear job on o = subst (λ t. ComesTo t job on o) clears comes in
+    let made : Settles on.net (plan_of job) (clear_text show.Journal on.net) o =
+    subst (λ s. Settles on.net (plan_of job) (clear_text s on.net) o) shows cleared in
+    let run = made.run in
+    let journal = made.settled.sealed.journal in
+    let network : IsNetwork on.net = network_of_ok found.both.0 found.both.1 on.net found.net_is in
+    let keeps = network_of_names found.both.0 found.both.1 on.net found.net_is in
+    let few : made.settled.rounds < 10 ^ 20 = omega (arith, run.few_rounds, network.owed_in_limit) in
+    let back = closed_journal_back on.net journal made.settled.rounds network keeps run.in_limits few in
+    let both : both_whole later again ≡ Some (Ok found.both) = simp (banks, debts) found.both_are in
+    let read : reading later again ≡ Some (Ok (record (alone on.net) { journal = journal })) =
+    journal_read later again found.both on.net (journal_and_rounds on.net journal made.settled.rounds) journal
+    (ap source_of replays) both (third ∙ ap (λ p. Some p.text) made.comes) found.net_is back in
+    record {
+      net = on.net;
+      sealed = made.settled.sealed;
+      cleared = given ∙ ap (λ g. Some (Ok g)) (sym found.on_is);
+      record_is = ap (λ p. p.sealed) made.comes;
+      read = read;
+      replayed = λ p means. one_answer on.net journal later again p replays read run.lawful means;
+    }

@@ -5,13 +5,12 @@ use Rattle.clear_words.specs.declared.task.Task.TheVariants as task
 use Rattle.net_check.specs.declared.fault.FileKind.{FileKind}
 use Rattle.net_gen.specs.Generated.{generated}
 use Rattle.pay_words.specs.Sealed.{Sealed}
-use Rattle.clear_top.specs.Ending.{AreRead, BlamesNoFile, Gives, JobEnds, RunEnds, ShelfCall, SinkCall}
+use Rattle.clear_top.specs.Ending.{AreRead, BlamesNoFile, Gives, JobEnds, ShelfCall, SinkCall}
 use Rattle.clear_top.specs.Ending.{Works, WritesText, WroteSummary}
 use Rattle.clear_top.specs.Meaning.{ComesTo, Settles, plan_of, summary_report}
 use Rattle.clear_top.specs.Outcome.{Outcome}
 use Rattle.clear_top.specs.Reading.{Files, Input, alone, reading, reading_by}
 use Rattle.clear_top.specs.Sources.{name_by, name_in, source_of}
-use Rattle.clear_top.specs.declared.status.Ended.{Ended}
 use Rattle.clear_top.specs.declared.status.Status.{Status}
 use Rattle.clear_top.specs.declared.status.Status.TheVariants as status
 
@@ -47,20 +46,14 @@ module _ (files : Option Files) (job : Job) (is_gen : job.task ≡ task.Gen) whe
       (ap (λ (i : Input). i.net) (gives_generated on gives)) (subst (λ t. ComesTo t job on o) is_gen comes)
 
 module _ (shelf : ShelfCall) (sink : SinkCall) (job : Job) (is_gen : job.task ≡ task.Gen) where
-  by_status : (s : Status) (sealed : Option Sealed) → JobEnds shelf sink job s sealed
+  -- what is written is of the network that the numbers make, and no file is at fault
+  pub by_status : (s : Status) (sealed : Option Sealed) → JobEnds shelf sink job s sealed
       → BlamesNoFile s × (WritesText s → WroteSummary sink job (record { status = s; sealed = sealed }))
-  by_status status.Done sealed (text, works, taken) =
-      (tt, λ is. (text, works_on_generated shelf.files job is_gen _ works, taken))
-  by_status (status.Unlawful v) sealed (text, works, taken) =
-      (tt, λ is. (text, works_on_generated shelf.files job is_gen _ works, taken))
   by_status status.WriteFault sealed ends = (tt, λ is. absurd is)
   by_status status.Usage sealed ends = absurd ends
   by_status (status.ReadFault k) sealed ends =
       absurd (names_no_file shelf.files job is_gen k ends.0.0.0 ends.0.0.1)
   by_status (status.Refused f) sealed ends = absurd (gives_no_fault shelf.files job is_gen ends.0)
   by_status status.Mem sealed ends = (tt, λ is. absurd is)
-
--- what is written is of the network that the numbers make, and no file is at fault
-pub gen_prints : (shelf : ShelfCall) (sink : SinkCall) (job : Job) (e : Ended) → job.task ≡ task.Gen
-    → RunEnds shelf sink (Some job) e → BlamesNoFile e.status × (WritesText e.status → WroteSummary sink job e)
-gen_prints shelf sink job e is_gen ends = by_status shelf sink job is_gen e.status e.sealed ends
+  by_status s sealed (text, works, taken) =
+      (tt, λ is. (text, works_on_generated shelf.files job is_gen _ works, taken))

@@ -2,15 +2,11 @@ pub mod Ending
 pub mod Pieces
 pub mod Loading
 pub mod Runs
-pub mod Answering
-pub mod Stacking
-pub mod Rescuing
 pub mod Writing
 pub mod Shocked
 pub mod Made
 pub mod Begun
 pub mod Evidence
 pub mod Records
-pub mod Showing
 pub mod Outcomes
 pub mod Generating

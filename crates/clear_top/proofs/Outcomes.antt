@@ -63,16 +63,12 @@ ran t on net plan shown o has alone h = inr (inr (
   (h.settled.sealed, ap (λ q. q.sealed) h.comes, alone _ (by_run net [] plan h.settled h.is_settled)),
 ))
 
--- a row for each task
+-- a row for each task that comes to more than a text alone
 pub kind_of : (t : Task) (job : Job) (on : Input) (o : Outcome) → ComesTo t job on o → IsOfAKind t on o
-kind_of task.Check job on o comes = bare task.Check on _ o refl comes
 kind_of task.Clear job on o comes = ran task.Clear on _ _ _ o refl (λ s h. h) comes
-kind_of task.Central job on o comes = bare task.Central on _ o refl comes
 kind_of task.Defaults job on o comes = ran task.Defaults on _ _ _ o refl (λ s h. h) comes
-kind_of task.Stress job on o comes = bare task.Stress on _ o refl comes
 kind_of task.Replay job on o comes = inr (inl (refl, comes))
 kind_of task.Gen job on o comes = ran task.Gen on _ _ _ o refl (λ s h. h) comes
-kind_of task.Convert job on o comes = bare task.Convert on _ o refl comes
 kind_of task.Bounds job on o comes = ran task.Bounds on _ _ _ o refl (λ s h. h) comes
 kind_of task.Rescue job on o h = inr (inr (
   refl,
@@ -84,9 +80,4 @@ kind_of task.Rescue job on o h = inr (inr (
   ),
 ))
 kind_of task.Compress job on o (claims, ranks, n, compresses, plain) = bare task.Compress on _ o refl plain
-kind_of task.Costs job on o comes = bare task.Costs on _ o refl comes
-kind_of task.Breaking job on o comes = bare task.Breaking on _ o refl comes
-kind_of task.Impact job on o comes = bare task.Impact on _ o refl comes
-kind_of task.Rescues job on o comes = bare task.Rescues on _ o refl comes
-kind_of task.Outcomes job on o comes = bare task.Outcomes on _ o refl comes
-kind_of task.CostBounds job on o comes = bare task.CostBounds on _ o refl comes
+kind_of t job on o comes = bare t on _ o refl comes

@@ -10,7 +10,7 @@ use Rattle.pay_words.specs.Sealed.{Sealed}
 use Rattle.raise_journal.specs.Verdicts.{judged}
 use Rattle.raise_journal.specs.declared.verdict.Verdict.{Verdict}
 use Rattle.raise_journal.specs.declared.verdict.Verdict.TheVariants as verdict
-use Rattle.clear_top.specs.Ending.{AnswersRecord, AreRead, IsFoundUnlawful, JobEnds, OnFiles, RunEnds, ShelfCall}
+use Rattle.clear_top.specs.Ending.{WritesNothing, AnswersRecord, AreRead, IsFoundUnlawful, JobEnds, OnFiles, RunEnds, ShelfCall}
 use Rattle.clear_top.specs.Ending.{SinkCall, Works, WritesText}
 use Rattle.clear_top.specs.Meaning.{ComesTo, answer_to}
 use Rattle.clear_top.specs.Visited.{IsAllByBells}
@@ -18,15 +18,12 @@ use Rattle.clear_top.proofs.Outcomes.{IsOfAKind, kind_of}
 use Rattle.clear_top.specs.Reading.{Files, Input}
 use Rattle.clear_top.specs.Outcome.{Outcome}
 use Rattle.clear_top.specs.Sources.{has_record, source_of}
-use Rattle.clear_top.specs.declared.status.Ended.{Ended}
 use Rattle.clear_top.specs.declared.status.Status.{Status}
 use Rattle.clear_top.specs.declared.status.Status.TheVariants as status
 
 answer_without : (net : Net) (rs : List Raise) (v : Verdict) → (answer_to net rs v).sealed ≡ None
 answer_without net rs verdict.Lawful = refl
-answer_without net rs (verdict.Unlawful entry had allowed) = refl
-answer_without net rs (verdict.Falls entry last stamp) = refl
-answer_without net rs (verdict.Unfinished bank) = refl
+answer_without net rs v = refl
 
 -- an answer to a journal has no record
 no_record : (on : Input) (o : Outcome) → o ≡ answer_to on.net on.journal (judged on.net on.journal).verdict → o.sealed ≡ None
@@ -43,43 +40,35 @@ none_is_no_record : (sealed : Option Sealed) → sealed ≡ None → IsSome seal
 none_is_no_record sealed none some = let apart : false ≡ true = sym (ap is_some none) ∙ some in cc
 
 -- work that was written, whole or in part
-of_work : (files : Option Files) (job : Job) (o : Outcome) → Works files job o
-    → is_some o.sealed ≡ has_record job.task
-of_work files job o (on, given, comes) = kind_with job.task on o (kind_of job.task job on o comes)
+of_work : (files : Option Files) (job : Job) (o : Outcome) (s : Status) → Works files job o
+    → ¬ (WritesNothing s) → IsSome o.sealed ↔ AnswersRecord (Some job) s
+of_work files job o s (on, given, comes) written =
+    let is = kind_with job.task on o (kind_of job.task job on o comes) in
+    (λ some. (sym is ∙ some, written), λ has. is ∙ has.0)
 
 module _ (shelf : ShelfCall) (sink : SinkCall) where
   -- a record is there exactly for its tasks and statuses
-  recorded_by : (job : Job) (s : Status) (sealed : Option Sealed) → JobEnds shelf sink job s sealed
-      → IsSome sealed ↔ AnswersRecord (Some job) s
-  recorded_by job status.Done sealed (text, works, taken) =
-      let is = of_work shelf.files job _ works in
-      (λ some. (sym is ∙ some, λ nothing. nothing), λ has. is ∙ has.0)
-  recorded_by job (status.Unlawful v) sealed (text, works, taken) =
-      let is = of_work shelf.files job _ works in
-      (λ some. (sym is ∙ some, λ nothing. nothing), λ has. is ∙ has.0)
-  recorded_by job status.WriteFault sealed (ending, text, works, part) =
-      let is = of_work shelf.files job _ works in
-      (λ some. (sym is ∙ some, λ nothing. nothing), λ has. is ∙ has.0)
-  recorded_by job status.Usage sealed ends = absurd ends
-  recorded_by job (status.ReadFault k) sealed ends =
+  pub recorded_by : (job : Option Job) (s : Status) (sealed : Option Sealed)
+      → RunEnds shelf sink job (record { status = s; sealed = sealed })
+      → IsSome sealed ↔ AnswersRecord job s
+  recorded_by None s sealed ends =
+      (λ some. absurd (none_is_no_record sealed ends.1.1 some), λ has. absurd has)
+  recorded_by (Some job) status.Usage sealed ends = absurd ends
+  recorded_by (Some job) (status.ReadFault k) sealed ends =
       (λ some. absurd (none_is_no_record sealed ends.1.1 some), λ has. absurd (has.1 tt))
-  recorded_by job (status.Refused f) sealed ends =
+  recorded_by (Some job) (status.Refused f) sealed ends =
       (λ some. absurd (none_is_no_record sealed ends.1.1 some), λ has. absurd (has.1 tt))
-  recorded_by job status.Mem sealed ends =
+  recorded_by (Some job) status.Mem sealed ends =
       (λ some. absurd (none_is_no_record sealed ends.1 some), λ has. absurd (has.1 tt))
-
-  pub recorded : (job : Option Job) (e : Ended) → RunEnds shelf sink job e
-      → IsSome e.sealed ↔ AnswersRecord job e.status
-  recorded None e ends = (λ some. absurd (none_is_no_record e.sealed ends.1.1 some), λ has. absurd has)
-  recorded (Some job) e ends = recorded_by job e.status e.sealed ends
+  recorded_by (Some job) status.WriteFault sealed (ending, text, works, part) =
+      of_work shelf.files job _ status.WriteFault works (λ nothing. nothing)
+  recorded_by (Some job) s sealed ends = of_work shelf.files job _ s ends.1 (λ nothing. nothing)
 
 -- the status that a verdict has
 told_of : (net : Net) (rs : List Raise) (v w : Verdict) → (answer_to net rs w).status ≡ status.Unlawful v
     → (w ≡ v) × (v ≢ verdict.Lawful)
 told_of net rs v verdict.Lawful is = absurd (cc)
-told_of net rs v (verdict.Unlawful entry had allowed) is = (cc, λ lawful. cc)
-told_of net rs v (verdict.Falls entry last stamp) is = (cc, λ lawful. cc)
-told_of net rs v (verdict.Unfinished bank) is = (cc, λ lawful. cc)
+told_of net rs v w is = (cc, λ lawful. cc)
 
 -- work that comes to an unlawful journal is a replay of it
 is_replay : (t : Task) (on : Input) (o : Outcome) (v : Verdict) → IsOfAKind t on o → o.status ≡ status.Unlawful v
@@ -94,9 +83,7 @@ is_replay t on o v (inr (inr (has, done, kept))) is = absurd (let both = sym don
 answer_told : (net : Net) (rs : List Raise) (w : Verdict) → w ≢ verdict.Lawful
     → (answer_to net rs w).status ≡ status.Unlawful w
 answer_told net rs verdict.Lawful bad = absurd (bad refl)
-answer_told net rs (verdict.Unlawful entry had allowed) bad = refl
-answer_told net rs (verdict.Falls entry last stamp) bad = refl
-answer_told net rs (verdict.Unfinished bank) bad = refl
+answer_told net rs w bad = refl
 
 -- the work on a journal that is found unlawful comes to that status
 found_told : (told : Files) (files : Option Files) (job : Job) (o : Outcome) (v : Verdict) → AreRead (source_of job.task) files told
@@ -113,7 +100,7 @@ found_told told files job o v tells (on, given, comes) (seen, replays, read, is,
 
 module _ (shelf : ShelfCall) (sink : SinkCall) where
   -- a journal is told unlawful exactly where it is found so and its line is written whole
-  unlawful_by : (job : Job) (s : Status) (sealed : Option Sealed) (v : Verdict) → JobEnds shelf sink job s sealed
+  pub unlawful_by : (job : Job) (s : Status) (sealed : Option Sealed) (v : Verdict) → JobEnds shelf sink job s sealed
       → OnFiles shelf.files job (λ told. (s ≡ status.Unlawful v) ↔ (IsFoundUnlawful told job v × WritesText s))
   unlawful_by job status.Done sealed v (text, works, taken) told tells =
       (λ is. absurd (cc), λ found. found_told told shelf.files job _ v tells works found.0)
@@ -123,15 +110,7 @@ module _ (shelf : ShelfCall) (sink : SinkCall) where
         ((on, found.0, given told tells, found.1 ∙ same, λ lawful. found.2 (same ∙ lawful)), tt),
     λ found. found_told told shelf.files job _ v tells (on, given, comes) found.0,
   )
-  unlawful_by job status.WriteFault sealed v ends told tells = (λ is. absurd (cc), λ found. absurd found.1)
-  unlawful_by job status.Usage sealed v ends told tells = absurd ends
-  unlawful_by job (status.ReadFault k) sealed v ends told tells = (λ is. absurd (cc), λ found. absurd found.1)
-  unlawful_by job (status.Refused f) sealed v ends told tells = (λ is. absurd (cc), λ found. absurd found.1)
-  unlawful_by job status.Mem sealed v ends told tells = (λ is. absurd (cc), λ found. absurd found.1)
-
-  pub unlawful_told : (job : Job) (e : Ended) (v : Verdict) → RunEnds shelf sink (Some job) e
-      → OnFiles shelf.files job (λ told. (e.status ≡ status.Unlawful v) ↔ (IsFoundUnlawful told job v × WritesText e.status))
-  unlawful_told job e v ends told tells = unlawful_by job e.status e.sealed v ends told tells
+  unlawful_by job s sealed v ends told tells = (λ is. absurd (cc), λ found. absurd found.1)
 
 -- the record of what a task comes to is by bells
 record_of : (t : Task) (on : Input) (o : Outcome) (sealed : Sealed) → IsOfAKind t on o → o.sealed ≡ Some sealed
@@ -151,17 +130,12 @@ module _ (shelf : ShelfCall) (sink : SinkCall) (job : Job) (sealed : Sealed) whe
   of_none : (given : Option Sealed) → given ≡ None → given ≡ Some sealed → IsAllByBells job.task sealed
   of_none given none is = absurd (let both : Some sealed ≡ None = sym is ∙ none in cc)
 
-  by_status : (s : Status) (given : Option Sealed) → JobEnds shelf sink job s given → given ≡ Some sealed
+  -- every raise of the record that a run answers was made in a visit to which a bell called
+  pub by_bells : (s : Status) (given : Option Sealed) → JobEnds shelf sink job s given → given ≡ Some sealed
       → IsAllByBells job.task sealed
-  by_status status.Done given (text, works, taken) is = of_works _ works is
-  by_status (status.Unlawful v) given (text, works, taken) is = of_works _ works is
-  by_status status.WriteFault given (s, text, works, part) is = of_works _ works is
-  by_status status.Usage given ends is = absurd ends
-  by_status (status.ReadFault k) given ends is = of_none given ends.1.1 is
-  by_status (status.Refused f) given ends is = of_none given ends.1.1 is
-  by_status status.Mem given ends is = of_none given ends.1 is
-
--- every raise of the record that a run answers was made in a visit to which a bell called
-pub record_by_bells : (shelf : ShelfCall) (sink : SinkCall) (job : Job) (e : Ended) (sealed : Sealed)
-    → RunEnds shelf sink (Some job) e → e.sealed ≡ Some sealed → IsAllByBells job.task sealed
-record_by_bells shelf sink job e sealed ends is = by_status shelf sink job sealed e.status e.sealed ends is
+  by_bells status.WriteFault given (s, text, works, part) is = of_works _ works is
+  by_bells status.Usage given ends is = absurd ends
+  by_bells (status.ReadFault k) given ends is = of_none given ends.1.1 is
+  by_bells (status.Refused f) given ends is = of_none given ends.1.1 is
+  by_bells status.Mem given ends is = of_none given ends.1 is
+  by_bells s given ends is = of_works _ ends.1 is

@@ -1,5 +1,6 @@
 -- What a run of settle comes to, and the lists that its reports are made of.
-use Rattle.std.proofs.Common.{◌≡◌, ℕ, ◌+◌, ◌≤◌, List, length, sum, All, Result, Ok, Err, IfOk, Vec, Global, sym, ap, ◌∙◌, subst, arith}
+use Rattle.cascade.proofs.Limits.{clearing_over}
+use Rattle.std.proofs.Common.{◌≡◌, ℕ, ◌+◌, ◌≤◌, List, length, sum, All, Result, Ok, Err, IfOk, Vec, Global, ap, ◌∙◌, subst, arith}
 use Rattle.std.proofs.lemmas.List.{length-append}
 use Rattle.std.proofs.lemmas.List.FromFn.{length-map-range_with_len}
 use Rattle.clr_net.specs.Limits.{IsNetwork}
@@ -7,7 +8,6 @@ use Rattle.clr_net.specs.Net.{Net}
 use Rattle.cascade.specs.Standings.{standing, standings}
 use Rattle.cascade.specs.declared.standing.Standing.{Standing}
 use Rattle.clear_core.proofs.Least.{least_clears}
-use Rattle.clear_core.proofs.Pay.{length-pay}
 use Rattle.clear_core.specs.Clearing.{Clears, least}
 use Rattle.clear_core.specs.declared.event.Raise.{Raise}
 use Rattle.raise_journal.proofs.Lawful.{lawful_pays_least}
@@ -19,20 +19,7 @@ use Rattle.clear_top.specs.Meaning.{IsRun}
 
 -- the least payments have a place for each debt
 pub least_places : (net : Net) → length (least net) ≡ length net.debts
-least_places net = ap length (sym (least_clears net)) ∙ length-pay net (least net)
-
--- payments that are the least clear
-pub clears_at_least : (net : Net) (P : List ℕ) → P ≡ least net → Clears net P
-clears_at_least net P is = rw is (least_clears net)
-
--- there is a standing for each bank
-pub as_many_standings : (net : Net) (P : List ℕ) → length (standings net P) ≡ length net.banks
-as_many_standings net P = length-map-range_with_len (standing net P) 0 (length net.banks)
-
-pub as_many_in : {E : Type 0} (net : Net) (P : List ℕ) (r : Result (Vec Standing Global) E)
-    → IfOk r (λ all. all.items ≡ standings net P) → IfOk r (λ all. length all.items ≡ length net.banks)
-as_many_in net P (Ok all) is = ap length is ∙ as_many_standings net P
-as_many_in net P (Err e) is = tt
+least_places net = clearing_over net (least net) (least_clears net)
 
 -- what was settled, from whatever past, is a run
 pub run_of : (net : Net) → IsNetwork net → (past : List Raise) (plan : Plan) (s : Settled) → IsSettled net past plan s

@@ -43,48 +43,14 @@ with_value w word =
     after_step rules word w (plain_word rules w.waiting word w.held).0
     (plain_word rules w.waiting word w.held).1
 
-abbrev after_task : Text → Walk
-after_task task = with_value (walk_from nothing_held) task
-
 abbrev before_banks : Text → Walk
-before_banks task = walked rules [] (after_task task) banks_word
-
-abbrev after_banks : Text → Text → Walk
-after_banks task banks = with_value (before_banks task) banks
+before_banks task = walked rules [] (with_value (walk_from nothing_held) task) banks_word
 
 abbrev before_debts : Text → Text → Walk
-before_debts task banks = walked rules [] (after_banks task banks) debts_word
+before_debts task banks = walked rules [] (with_value (before_banks task) banks) debts_word
 
 abbrev after_debts : Text → Text → Text → Walk
 after_debts task banks debts = with_value (before_debts task banks) debts
-
--- the walk goes through all five words
-five_walked : (task banks debts : Text) → IsPlainWord task → IsPlainWord banks → IsPlainWord debts
-    → walk rules [] nothing_held (words task banks debts) ≡ after_debts task banks debts
-unfolding clap_on_literals command
-five_walked task banks debts is_task is_banks is_debts =
-    ap
-    (λ w. walked rules []
-    (walked rules [] (walked rules [] (walked rules [] w banks_word) banks) debts_word) debts)
-    (plain_walked rules nothing_held idle 1 task is_task refl)
-    ∙ ap (λ w. walked rules [] (walked rules [] w debts_word) debts)
-    (plain_walked rules (before_banks task).held (before_banks task).waiting
-    (before_banks task).position banks is_banks refl)
-    ∙ plain_walked rules (before_debts task banks).held (before_debts task banks).waiting
-    (before_debts task banks).position debts is_debts refl
-
--- and meets no fault
-five_walk_fault : (task banks debts : Text) → IsPlainWord task → IsPlainWord banks
-    → IsPlainWord debts
-    → walk_fault shape [] (walk_from nothing_held) (words task banks debts) ≡ []
-unfolding clap_on_literals command
-five_walk_fault task banks debts is_task is_banks is_debts =
-    plain_walk_fault shape nothing_held idle 1 task
-    (banks_word ∷ banks ∷ debts_word ∷ debts ∷ []) is_task refl
-    ∙ plain_walk_fault shape (before_banks task).held (before_banks task).waiting
-    (before_banks task).position banks (debts_word ∷ debts ∷ []) is_banks refl
-    ∙ plain_walk_fault shape (before_debts task banks).held (before_debts task banks).waiting
-    (before_debts task banks).position debts [] is_debts refl
 
 -- the fault of a parse, by that of its walk and by where the walk ends
 abbrev fault_after : Kinds → Walk → Kinds
@@ -94,42 +60,51 @@ fault_after fault w = or_else fault
     (or_else (defaults_fault (settled rules w.held).rows rules)
     (check_fault shape (finished rules w.held) (is_some (entered app w.stopped))))))
 
--- so the command finds none in them
-five_fault : (task banks debts : Text) → IsPlainWord task → IsPlainWord banks → IsPlainWord debts
-    → fault_of command (words task banks debts) ≡ []
-unfolding clap_on_literals command
-five_fault task banks debts is_task is_banks is_debts = ap₂ fault_after
-    (five_walk_fault task banks debts is_task is_banks is_debts)
-    (five_walked task banks debts is_task is_banks is_debts)
-
 -- what the command finds in them
 abbrev five_rows : Text → Text → Text → List Row
 five_rows task banks debts = finished rules (after_debts task banks debts).held
 
--- that it finds just this
-five_matches : (task banks debts : Text) → IsPlainWord task → IsPlainWord banks → IsPlainWord debts
-    → matches_of command (words task banks debts) ≡ five_rows task banks debts
-unfolding clap_on_literals command
-five_matches task banks debts is_task is_banks is_debts =
-    ap (λ w. finished rules w.held) (five_walked task banks debts is_task is_banks is_debts)
+module _ (task banks debts : Text) (is_task : IsPlainWord task) (is_banks : IsPlainWord banks)
+    (is_debts : IsPlainWord debts) where
+  -- the walk goes through all five words
+  five_walked : walk rules [] nothing_held (words task banks debts) ≡ after_debts task banks debts
+  unfolding clap_on_literals command
+  five_walked =
+      ap
+      (λ w. walked rules []
+      (walked rules [] (walked rules [] (walked rules [] w banks_word) banks) debts_word) debts)
+      (plain_walked rules nothing_held idle 1 task is_task refl)
+      ∙ ap (λ w. walked rules [] (walked rules [] w debts_word) debts)
+      (plain_walked rules (before_banks task).held (before_banks task).waiting
+      (before_banks task).position banks is_banks refl)
+      ∙ plain_walked rules (before_debts task banks).held (before_debts task banks).waiting
+      (before_debts task banks).position debts is_debts refl
 
--- the word of a task names it
-task_of_word : (t : Task) → task_named (word_of t) ≡ Some t
-task_of_word task.Check = refl
-task_of_word t = refl
+  -- and meets no fault
+  five_walk_fault : walk_fault shape [] (walk_from nothing_held) (words task banks debts) ≡ []
+  unfolding clap_on_literals command
+  five_walk_fault =
+      plain_walk_fault shape nothing_held idle 1 task
+      (banks_word ∷ banks ∷ debts_word ∷ debts ∷ []) is_task refl
+      ∙ plain_walk_fault shape (before_banks task).held (before_banks task).waiting
+      (before_banks task).position banks (debts_word ∷ debts ∷ []) is_banks refl
+      ∙ plain_walk_fault shape (before_debts task banks).held (before_debts task banks).waiting
+      (before_debts task banks).position debts [] is_debts refl
 
--- and is no option
-may_name : (t : Task) → may_name_a_file (word_of t) ≡ true
-may_name task.Check = refl
-may_name t = refl
+  -- so the command finds none in them
+  five_fault : fault_of command (words task banks debts) ≡ []
+  unfolding clap_on_literals command
+  five_fault = ap₂ fault_after five_walk_fault five_walked
 
--- what is left of the tests where the other options are not there
-fit : (t : Task) (banks debts : Text) → may_name_a_file banks ≡ true → may_name_a_file debts ≡ true
-    → (if may_name_a_file banks && (may_name_a_file debts && true)
-    then Some (on_both_files t banks debts) else None)
-    ≡ Some (on_both_files t banks debts)
-fit t banks debts b d =
-    ap₂ (λ x y. if x && (y && true) then Some (on_both_files t banks debts) else None) b d
+  -- and finds just these rows
+  five_matches : matches_of command (words task banks debts) ≡ five_rows task banks debts
+  unfolding clap_on_literals command
+  five_matches = ap (λ w. finished rules w.held) five_walked
+
+-- the word of a task names it, and is no option
+word_names : (t : Task) → (task_named (word_of t) ≡ Some t) × (may_name_a_file (word_of t) ≡ true)
+word_names task.Check = (refl, refl)
+word_names t = (refl, refl)
 
 -- both files are enough for a task that needs no more
 enough : (t : Task) (banks debts : Text) → needs_files_alone t ≡ true
@@ -143,7 +118,8 @@ enough task.Rescue banks debts alone b d = absurd (cc)
 enough task.Costs banks debts alone b d = absurd (cc)
 enough task.Outcomes banks debts alone b d = absurd (cc)
 enough task.CostBounds banks debts alone b d = absurd (cc)
-enough t banks debts alone b d = fit t banks debts b d
+enough t banks debts alone b d =
+    ap₂ (λ x y. if x && (y && true) then Some (on_both_files t banks debts) else None) b d
 
 -- the word of the task, and both files by their options, are the job of the task on these files
 pub five_words : (t : Task) (banks debts : Text) → needs_files_alone t ≡ true
@@ -151,11 +127,12 @@ pub five_words : (t : Task) (banks debts : Text) → needs_files_alone t ≡ tru
     → job_of (words (word_of t) banks debts) ≡ Some (on_both_files t banks debts)
 unfolding clap_on_literals command job_of
 five_words t banks debts alone b d =
-    let is_task = named_is_plain (word_of t) (may_name t) in
+    let named = word_names t in
+    let is_task = named_is_plain (word_of t) named.1 in
     let is_banks = named_is_plain banks b in
     let is_debts = named_is_plain debts d in
     ap₂ (λ faults rows. if length faults == 0 then job_in rows else None)
     (five_fault (word_of t) banks debts is_task is_banks is_debts)
     (five_matches (word_of t) banks debts is_task is_banks is_debts)
-    ∙ ap (option_and_then (job_for (five_rows (word_of t) banks debts))) (task_of_word t)
+    ∙ ap (option_and_then (job_for (five_rows (word_of t) banks debts))) named.0
     ∙ enough t banks debts alone b d

@@ -1,17 +1,15 @@
 -- What the command makes of a word that is no option.
-use Rattle.std.proofs.Common.{◌≡◌, ◌==◌, ◌∙◌, ◌∷◌, List, None, [], arith, ap, ap₂, false, refl}
+use Rattle.std.proofs.Common.{◌≡◌, ◌==◌, ◌∷◌, List, None, [], arith, ap, ap₂, false, refl}
 use Rattle.std.proofs.Common.{true, ℕ}
-use Rattle.std.specs.Prelude.{if◌then◌else◌}
-use Rattle.std.specs.Option.{option_map_or}
 use Rattle.std.specs.Str.{bytes_eq}
 use Rattle.clap.specs.Lexer.{long_of, short_of}
-use Rattle.clap.specs.Faults.{bundle_fault, flag_word_fault, other_fault, step_fault, walk_fault}
+use Rattle.clap.specs.Faults.{step_fault, walk_fault}
 use Rattle.clap.specs.Faults.{word_fault}
 use Rattle.clap.specs.Kinds.{or_else}
 use Rattle.clap.specs.Simple.{Shape}
-use Rattle.clap.specs.Walk.{Held, Rule, Text, Waiting, Walk, after_step, long_or_other}
-use Rattle.clap.specs.Walk.{plain_word, short_or_plain, subcommand_met, subcommand_or_other}
-use Rattle.clap.specs.Walk.{trailing, walked, word_met}
+use Rattle.clap.specs.Walk.{Held, Rule, Text, Waiting, Walk, after_step}
+use Rattle.clap.specs.Walk.{plain_word, subcommand_met}
+use Rattle.clap.specs.Walk.{walked, word_met}
 use Rattle.clear_words.specs.Options.{may_name_a_file}
 
 -- the word is neither two dashes nor an option
@@ -36,26 +34,13 @@ plain_met : (rules : List Rule) (waiting : Waiting) (position : ℕ) (word : Tex
     → IsPlainWord word → subcommand_met [] waiting word ≡ None
     → word_met rules [] false waiting position word h ≡ plain_word rules waiting word h
 plain_met rules waiting position word h plain none =
-    ap (λ name. subcommand_or_other rules name waiting position word h) none
-    ∙ ap
-    (λ b. if b then (h, trailing position) else long_or_other rules waiting word (long_of word) h)
-    plain.dashes
-    ∙ ap (λ long. long_or_other rules waiting word long h) plain.long
-    ∙ ap (λ short. short_or_plain rules waiting word short h) plain.short
+    rw (none, plain.dashes, plain.long, plain.short) refl
 
 -- and has no fault as an option
 plain_fault : (s : Shape) (waiting : Waiting) (word : Text) (h : Held)
     → IsPlainWord word → subcommand_met [] waiting word ≡ None
     → word_fault s [] false waiting word h ≡ []
-plain_fault s waiting word h plain none =
-    ap (λ name. other_fault s name word h) none
-    ∙ ap
-    (λ b. if b then [] else flag_word_fault s.rules s.args_override_self (long_of word) word h)
-    plain.dashes
-    ∙ ap (λ long. flag_word_fault s.rules s.args_override_self long word h) plain.long
-    ∙ ap
-    (λ short. option_map_or (λ flags. bundle_fault s.rules s.args_override_self flags h) short [])
-    plain.short
+plain_fault s waiting word h plain none = rw (none, plain.dashes, plain.long, plain.short) refl
 
 -- the walk takes the word as a value
 pub plain_walked : (rules : List Rule) (h : Held) (waiting : Waiting) (position : ℕ) (word : Text)
@@ -86,15 +71,9 @@ plain_walk_fault s h waiting position word rest plain none = ap₂ or_else
     (ap (λ after. walk_fault s [] after rest)
     (plain_walked s.rules h waiting position word plain none))
 
--- a word that begins with another byte than a dash is no option
-not_dash : (x : ℕ) (xs : List ℕ) → (x == 45) ≡ false → IsPlainWord (x ∷ xs)
-not_dash x xs not_45 = record {
-  dashes = rw not_45 refl;
-  long = rw not_45 refl;
-  short = rw not_45 refl;
-}
-
 -- a word that may name a file is no option
 pub named_is_plain : (word : Text) → may_name_a_file word ≡ true → IsPlainWord word
 named_is_plain [] may = absurd (cc)
-named_is_plain (x ∷ xs) may = not_dash x xs (grind arith)
+named_is_plain (x ∷ xs) may =
+    let not_45 : (x == 45) ≡ false = grind arith in
+    record { dashes = rw not_45 refl; long = rw not_45 refl; short = rw not_45 refl }

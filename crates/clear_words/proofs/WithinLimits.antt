@@ -1,7 +1,8 @@
 -- The numbers of a job are within their limits.
-use Rattle.std.proofs.Common.{◌≡◌, ◌≤◌, ◌<◌, ◌&&◌, Bool, List, None, Option, Some, arith}
-use Rattle.std.proofs.Common.{false, get_or, length, min, refl, subst, true, ℕ}
+use Rattle.std.proofs.Common.{◌≡◌, ◌≤◌, ◌&&◌, Bool, List, None, Option, Some, arith}
+use Rattle.std.proofs.Common.{false, min, refl, subst, true, ℕ}
 use Rattle.std.proofs.lemmas.Bool.{leb-true}
+use Rattle.std.proofs.lemmas.Option.{cond_some, option_and_then_some}
 use Rattle.std.proofs.lemmas.List.Elements.{All-get_or}
 use Rattle.std.proofs.lemmas.List.Sums.{AllPass-from_list_all}
 use Rattle.std.specs.List.{list_all}
@@ -67,20 +68,14 @@ required : (least most a b : ℕ) (value : Option Text)
 required least most a b None well = absurd (cc)
 required least most a b (Some text) well = there (number_of (Number least most) text) a b well
 
--- each of the options is as the task wants it, where all are
-each_is_well : (rows : List Row) (t : Task) (i : ℕ) → i < length all_options
-    → list_all (is_well (uses_of t) rows) all_options ≡ true
-    → is_well (uses_of t) rows (get_or all_options i option.Banks) ≡ true
-each_is_well rows t i l all =
-    All-get_or (λ o. is_well (uses_of t) rows o ≡ true) all_options i option.Banks l
-    (AllPass-from_list_all (is_well (uses_of t) rows) all_options all)
-
 -- the size of a network that is to be generated has to be there
 size_is_there : (rows : List Row) (t : Task) → t ≡ task.Gen
     → list_all (is_well (uses_of t) rows) all_options ≡ true → 1 ≤ (job_on rows t).size
 size_is_there rows task.Gen is all =
     let size = value_of rows option.Size in
-    let same = required 1 1000 0 1 size (each_is_well rows task.Gen 9 (omega arith) all) in
+    let well = All-get_or (λ o. is_well (uses_of task.Gen) rows o ≡ true) all_options 9 option.Banks (omega arith)
+    (AllPass-from_list_all (is_well (uses_of task.Gen) rows) all_options all) in
+    let same = required 1 1000 0 1 size well in
     omega (arith, same, number_within 1 1000 1 size (omega arith))
 size_is_there rows _ is all = absurd (cc)
 
@@ -98,27 +93,13 @@ job_on_is_job rows t all = record {
   most_keep = (number_within 0 1000 0 (value_of rows option.Keep) (omega arith)).1;
 }
 
--- by the test of the options
-from_options : (rows : List Row) (t : Task) (all : Bool) (job : Job)
-    → list_all (is_well (uses_of t) rows) all_options ≡ all
-    → (if all then Some (job_on rows t) else None) ≡ Some job → IsJob job
-from_options rows t false job is asks = absurd (cc)
-from_options rows t true job is asks =
-    let same : job_on rows t ≡ job = cc in
-    subst IsJob same (job_on_is_job rows t is)
-
--- by the task that is found
-from_task : (rows : List Row) (t : Option Task) (job : Job)
-    → option_and_then (job_for rows) t ≡ Some job → IsJob job
-from_task rows None job asks = absurd (cc)
-from_task rows (Some t) job asks =
-    from_options rows t (list_all (is_well (uses_of t) rows) all_options) job refl asks
-
--- by whether the command takes the words
+-- by whether the command takes the words, the task that is found and the test of the options
 from_command : (rows : List Row) (taken : Bool) (job : Job)
     → (if taken then job_in rows else None) ≡ Some job → IsJob job
 from_command rows false job asks = absurd (cc)
-from_command rows true job asks = from_task rows (task_in rows) job asks
+from_command rows true job asks = option_and_then_some (job_for rows) (task_in rows) job asks (λ t found asked.
+    let both = cond_some (list_all (is_well (uses_of t) rows) all_options) (job_on rows t) job asked in
+    subst IsJob both.1 (job_on_is_job rows t both.0))
 
 -- the job that words ask for
 pub asked_is_job : (words : List Text) (job : Job) → job_of words ≡ Some job → IsJob job

@@ -3,7 +3,7 @@ use Rattle.std.proofs.Common.{◌≡◌, ℕ, zero, suc, ◌+◌, ◌<◌, ◌�
 use Rattle.std.specs.Option.{option_map_or}
 use Rattle.std.specs.Result.{OnOk, is_err}
 use Rattle.std.specs.Str.{bytes_eq}
-use Rattle.std.proofs.lemmas.List.{take_more, take_all, length-take-le, map-append}
+use Rattle.std.proofs.lemmas.List.{take_more, take_all, length-take-le, map_push}
 use Rattle.std.proofs.lemmas.List.Sums.{sum_by_more_le}
 use Rattle.std.proofs.lemmas.Option.{slice_get_within, get_or_from_slice_get}
 use Rattle.indexmap.specs.IndexSet.{insert_key}
@@ -36,8 +36,14 @@ take_next : {X : Type 0} (xs : List X) (n : ℕ) (x : X) → slice_get xs n ≡ 
 take_next xs n x at =
     take_more xs n x (slice_get_within xs n x at) ∙ ap (λ y. take n xs ++ y ∷ []) (get_or_from_slice_get xs n x x at)
 
-name_at : {o p : Option Bank} → o ≡ p → option_map_or (λ b. b.name) o [] ≡ option_map_or (λ b. b.name) p []
-name_at e = ap (λ o. option_map_or (λ b. b.name) o []) e
+-- the name of a bank is none of those before it
+next_name_is_new : (net : Net) → HaveOwnNames net → (n : ℕ) (b : Bank)
+    → slice_get net.banks n ≡ Some b → IsNewName (first_banks net n) b.name
+next_name_is_new net own n b at j m =
+    let l = slice_get_within net.banks n b at in
+    let len : length (take n net.banks) ≡ n = length-take-le n net.banks (omega arith) in
+    rw (slice_get-take net.banks n j (omega arith) (omega arith))
+    (rw at at (own n j l (omega arith)))
 
 module _ (net : Net) (network : IsNetwork net) where
   pub next_bank_is_new : (n : ℕ) (b : Bank) → slice_get net.banks n ≡ Some b → IsNewBank (first_banks net n) b
@@ -45,37 +51,21 @@ module _ (net : Net) (network : IsNetwork net) where
       let l = slice_get_within net.banks n b at in
       let len : length (take n net.banks) ≡ n = length-take-le n net.banks (omega arith) in
       let old = network.each_bank n l in
-      let named = old.named in
-      let cash = old.cash_in_limit in
-      let outside = old.outside_in_limit in
-      let only = old.only_of_its_name in
-      record {
-        banks_in_limit = omega (arith, network.banks_in_limit);
-        named = rw at at named;
-        cash_in_limit = rw at at cash;
-        outside_in_limit = rw at at outside;
-        only_of_its_name = λ j m e. only j (omega arith)
-            (name_at (sym (slice_get-take net.banks n j (omega arith) (omega arith))) ∙ e ∙ name_at (sym at));
-      }
+      search (
+        arith,
+        at,
+        next_name_is_new net (λ i j m. (network.each_bank i m).only_of_its_name j)
+            n b at,
+      )
 
   pub next_debt_is_new : (n : ℕ) (d : Debt) → slice_get net.debts n ≡ Some d → IsNewDebt (first_debts net n) d
   next_debt_is_new n d at =
       let l = slice_get_within net.debts n d at in
       let len : length (take n net.debts) ≡ n = length-take-le n net.debts (omega arith) in
       let old = network.each_debt n l in
-      let sums = sum_by_more_le (λ (d : Debt). d.claim) net.debts n d l in
-      let here : get_or net.debts n d ≡ d = get_or_from_slice_get net.debts n d d at in
-      record {
-        debts_in_limit = omega (arith, network.debts_in_limit);
-        owed_in_limit = omega (arith, network.owed_in_limit, ap (λ d. d.claim) here);
-        debtor_known = rw at at old.debtor_known;
-        creditor_known = rw at at old.creditor_known;
-        between_two_banks = rw at at old.between_two_banks;
-        class_at_least_1 = rw at at old.class_at_least_1;
-        class_in_limit = rw at at old.class_in_limit;
-        claim_in_limit = rw at at old.claim_in_limit;
-        only_of_its_kind = λ y m. rw (slice_get-take net.debts n y (omega arith) (omega arith)) (rw at at old.only_of_its_kind y (omega arith));
-      }
+      let sums = rw (get_or_from_slice_get net.debts n d d at) at (sum_by_more_le
+      (λ (d : Debt). d.claim) net.debts n d l) in
+      search (arith, at, slice_get-take net.debts n, old.only_of_its_kind)
 
 pub bank_copied : (net : Net) (n : ℕ) (b : Bank) → slice_get net.banks n ≡ Some b → with_bank (first_banks net n) b ≡ first_banks net (n + 1)
 bank_copied net n b at = rw (take_next net.banks n b at)
@@ -86,20 +76,10 @@ debt_copied net n d at = rw (take_next net.debts n d at)
 pub debts_copied : (net : Net) (n : ℕ) → length net.debts ≤ n → first_debts net n ≡ net
 debts_copied net n l = rw (take_all n net.debts l)
 
--- the name of a bank is none of those before it
-pub next_name_is_new : (net : Net) → HaveOwnNames net → (n : ℕ) (b : Bank) → slice_get net.banks n ≡ Some b → IsNewName (first_banks net n) b.name
-next_name_is_new net own n b at j m e =
-    let l = slice_get_within net.banks n b at in
-    let len : length (take n net.banks) ≡ n = length-take-le n net.banks (omega arith) in
-    own n j l (omega arith) (name_at (sym (slice_get-take net.banks n j (omega arith) (omega arith))) ∙ e ∙ name_at (sym at))
-
 -- the index of the first n names, with the next one
 pub names_indexed : (net : Net) → HaveOwnNames net → (ks : List (Vec ℕ Global)) (v : Vec ℕ Global) (n : ℕ) (b : Bank) → slice_get net.banks n ≡ Some b → v.items ≡ b.name
     → map (λ k. k.items) ks ≡ map (λ b. b.name) (first_banks net n).banks
     → map (λ k. k.items) (insert_key (λ x y. bytes_eq x.items y.items) ks v) ≡ map (λ b. b.name) (first_banks net (n + 1)).banks
 names_indexed net own ks v n b at named so_far =
-    let new : IsNewName (first_banks net n) v.items = rw named (next_name_is_new net own n b at) in
-    names_grow (first_banks net n) ks v so_far new
-    ∙ ap (λ ns. ns ++ v.items ∷ []) so_far
-    ∙ ap (λ m. map (λ b. b.name) (take n net.banks) ++ m ∷ []) named
-    ∙ sym (ap (map (λ b. b.name)) (take_next net.banks n b at) ∙ map-append (λ b. b.name) (take n net.banks) (b ∷ []))
+    rw (take_next net.banks n b at, map_push (λ b. b.name) (take n net.banks) b, ← named, ← so_far)
+    (names_grow (first_banks net n) ks v so_far (rw named (next_name_is_new net own n b at)))

@@ -3,7 +3,7 @@ use Rattle.std.proofs.Common.{◌≡◌, ◌≢◌, ℕ, ◌+◌, ◌-◌, ◌<�
 use Rattle.std.specs.List.{remove}
 use Rattle.std.specs.Option.{option_map}
 use Rattle.std.proofs.lemmas.Bool.Decides.{nat_tests}
-use Rattle.std.proofs.lemmas.Bool.{cases_Bool, cases_eq, cases_lt, true≢false}
+use Rattle.std.proofs.lemmas.Bool.{false_from_ne_true, cases_lt, cases_order, true≢false}
 use Rattle.std.proofs.lemmas.List.{get_or_past}
 use Rattle.std.proofs.lemmas.List.Edits.{get_or-remove_below, get_or-remove_above, length-remove}
 use Rattle.clr_net.specs.declared.rule.RuleKind.{RuleKind}
@@ -36,27 +36,22 @@ module _ (rule : RuleKind) (f : ℕ → ℕ) (claims awards part_claims part_awa
 
   part_best : (r : Option ℕ) → IsNextSoFar rule part_claims part_awards (length part_claims) r
       → IsNextSoFar rule claims awards (length claims) (option_map f r)
-  part_best None none = λ k l. ⊎_elim
-      (λ (u : is_unmet claims awards k ≡ true). let j = part.no_other k l u in absurd (true≢false (sym j.2 ∙ none j.0 j.1)))
-      (λ (m : is_unmet claims awards k ≡ false). m)
-      (cases_Bool (is_unmet claims awards k))
+  part_best None none =
+      λ k l. false_from_ne_true _ (λ u. let j = part.no_other k l u in true≢false
+      (sym j.2 ∙ none j.0 j.1))
   part_best (Some b) best = record {
     in_range = part.in_range b best.in_range;
     counts_itself = same_unmet b best.counts_itself;
-    none_before = λ k l u. let j = part.no_other k l u in subst (λ k. precedes rule claims awards k (f b) ≡ false) j.3
-        (same_precedes j.0 b j.2 best.counts_itself ∙ best.none_before j.0 j.1 j.2);
-    before_earlier = λ k l u.
-        let j = part.no_other k (omega (arith, part.in_range b best.in_range)) u in
-        subst (λ k. precedes rule claims awards (f b) k ≡ true) j.3
-        (same_precedes b j.0 best.counts_itself j.2 ∙ best.before_earlier j.0 (earlier j.0 k j.1 j.3 l) j.2);
+    none_before = λ k l u. let j = part.no_other k l u in
+        rw (← j.3) (same_precedes j.0 b j.2 best.counts_itself ∙ best.none_before j.0 j.1 j.2);
+    before_earlier =
+        λ k l u. let j = part.no_other k (omega (arith, part.in_range b best.in_range)) u in
+        rw (← j.3) (same_precedes b j.0 best.counts_itself j.2
+        ∙ best.before_earlier j.0 (earlier j.0 k j.1 j.3 l) j.2);
   }
     where
       earlier : (j k : ℕ) → j < length part_claims → f j ≡ k → k < f b → j < b
-      earlier j k l e m = ⊎_elim
-          (λ (h : j < b). h)
-          (λ (h : b ≤ j). ⊎_elim (λ (s : b ≡ j). absurd (omega (arith, ap f s)))
-          (λ (ne : b ≡ j → ⊥). absurd (omega (arith, part.in_order b j (omega arith) l))) (cases_eq b j))
-          (cases_lt j b)
+      earlier j k l e m = grind (arith, part.in_order b j, cases_order j b, ap f)
 
   -- the next place of the whole lists is the one that the next place of the part stands for
   pub next_of_part : next_of rule claims awards ≡ option_map f (next_of rule part_claims part_awards)
@@ -64,10 +59,7 @@ module _ (rule : RuleKind) (f : ℕ → ℕ) (claims awards part_claims part_awa
       (part_best (next_of rule part_claims part_awards) (next_of_best rule part_claims part_awards))
 
 pub unmet_in_range : (claims awards : List ℕ) (j : ℕ) → is_unmet claims awards j ≡ true → j < length claims
-unmet_in_range claims awards j u = ⊎_elim
-    (λ (l : j < length claims). l)
-    (λ (g : length claims ≤ j). absurd (omega (arith, get_or_past claims j 0 g, ltb-true (get_or awards j 0) (get_or claims j 0) u)))
-    (cases_lt j (length claims))
+unmet_in_range claims awards j u = grind (arith, get_or_past claims j 0, cases_lt j (length claims))
 
 -- a place that is met may be removed
 pub next_of-remove : (rule : RuleKind) (claims awards : List ℕ) (i : ℕ) → i < length claims → length awards ≡ length claims
@@ -76,19 +68,20 @@ pub next_of-remove : (rule : RuleKind) (claims awards : List ℕ) (i : ℕ) → 
 next_of-remove rule claims awards i l e m = next_of_part rule (place_without i) claims awards (remove claims i) (remove awards i) part
   where
     at_removed : (xs : List ℕ) (j : ℕ) → length xs ≡ length claims → get_or xs (place_without i j) 0 ≡ get_or (remove xs i) j 0
-    at_removed xs j s = ⊎_elim
-        (λ (h : j < i). ap (λ b. get_or xs (cond b j (j + 1)) 0) (lt-ltb j i h) ∙ sym (get_or-remove_below xs i 0 j h (omega arith)))
-        (λ (h : i ≤ j). ap (λ b. get_or xs (cond b j (j + 1)) 0) (le-ltb j i h) ∙ sym (get_or-remove_above xs i 0 j h (omega arith)))
-        (cases_lt j i)
-
-    met : is_unmet claims awards i ≡ false
-    met = le-ltb (get_or awards i 0) (get_or claims i 0) m
+    at_removed xs j s =
+        grind (
+          arith,
+          nat_tests,
+          get_or-remove_below xs i 0,
+          get_or-remove_above xs i 0,
+          cases_lt j
+              i,
+        )
 
     same_place : (k : ℕ) → k ≢ i → (j : ℕ) × (place_without i j ≡ k)
-    same_place k ne = ⊎_elim
-        (λ (h : k < i). (k, ap (λ b. cond b k (k + 1)) (lt-ltb k i h)))
-        (λ (h : i ≤ k). (k - 1, ap (λ b. cond b (k - 1) (k - 1 + 1)) (le-ltb (k - 1) i (omega arith)) ∙ omega arith))
-        (cases_lt k i)
+    same_place k ne =
+        ⊎_elim (λ (h : k < i). (k, grind (arith, nat_tests)))
+        (λ (h : i ≤ k). (k - 1, grind (arith, nat_tests))) (cases_lt k i)
 
     part : IsPartOf (place_without i) claims awards (remove claims i) (remove awards i)
     part = record {
@@ -97,7 +90,9 @@ next_of-remove rule claims awards i l e m = next_of_part rule (place_without i) 
       same_claim = λ j u. at_removed claims j refl;
       same_award = λ j u. at_removed awards j e;
       no_other = λ k h u.
-          let j = same_place k (λ s. true≢false (sym u ∙ ap (is_unmet claims awards) s ∙ met)) in
+          let j = same_place k (λ s. true≢false
+          (sym u ∙ ap (is_unmet claims awards) s
+          ∙ le-ltb (get_or awards i 0) (get_or claims i 0) m)) in
           let c = at_removed claims j.0 refl in
           let a = at_removed awards j.0 e in
           let unmet : is_unmet (remove claims i) (remove awards i) j.0 ≡ true = rw (← c, ← a, j.1) u in

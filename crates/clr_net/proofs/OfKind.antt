@@ -1,15 +1,16 @@
 -- Whether there is a debt of a debtor, a creditor and a class: the debtor's row tells, and so does the creditor's column.
-use Rattle.std.proofs.Common.{◌≡◌, ℕ, suc, ◌+◌, ◌<◌, ◌≤◌, ◌==◌, ◌&&◌, ◌||◌, Bool, true, false, List, [], ◌∷◌, All, length, get_or, take, slice_get, Option, Some, None, refl, sym, ap, ap₂, ◌∙◌, subst, ⊎_elim, true≢false, eq-eqb, arith, add-zero}
+use Rattle.std.proofs.Common.{◌≡◌, ℕ, suc, ◌+◌, ◌<◌, ◌==◌, ◌&&◌, ◌||◌, Bool, true, false, List, [], ◌∷◌, All, length, get_or, take, slice_get, Option, Some, None, refl, sym, ap, ap₂, ◌∙◌, subst, true≢false, eq-eqb, arith, add-zero}
 use Rattle.std.specs.Bool.{OnFalse}
 use Rattle.std.specs.List.{list_any, range_with_len}
 use Rattle.std.specs.Option.{option_map_or}
-use Rattle.std.proofs.lemmas.Bool.{and_parts}
+use Rattle.std.proofs.lemmas.Bool.{and_from, and_parts}
 use Rattle.std.proofs.lemmas.List.{get_or-map, length-map}
 use Rattle.std.proofs.lemmas.List.Folds.{list_any_at, list_any_more}
 use Rattle.std.proofs.lemmas.Map.Views.{any-filter_same}
-use Rattle.std.proofs.lemmas.Option.{slice_get_cases}
+use Rattle.std.proofs.lemmas.Option.{slice_get-get_or}
 use Rattle.clr_net.specs.declared.debt.Debt.{Debt}
 use Rattle.clr_net.specs.declared.debt.DebtId.{DebtId}
+use Rattle.clr_net.specs.Samples.{classed}
 use Rattle.clr_net.specs.Limits.{IsNewKind, IsOfKind}
 use Rattle.clr_net.specs.Net.{Net, numbers, row, column, debtor_of, creditor_of, debt_numbers, is_debt_of, is_of_kind}
 
@@ -32,8 +33,8 @@ number_at ids xs k d e l =
 pub number_below : (ids : List DebtId) (n k : ℕ) (d : DebtId) → All (λ x. x < n) (numbers ids) → k < length ids
     → (get_or ids k d).0 < n
 number_below ids n k d all l =
-    let here = number_at ids (numbers ids) k d refl l in
-    subst (λ x. x < n) (sym here.1) (all k 0 here.0)
+    rw (get_or-map (λ id. id.0) ids k d 0 l) at (all k 0
+    (omega (arith, length-map ids (λ id. id.0))))
 
 module _ (net : Net) (debtor creditor class : ℕ) where
   -- the numbers of all debts tell
@@ -42,39 +43,25 @@ module _ (net : Net) (debtor creditor class : ℕ) where
   any_of_all = any_from (is_of_kind net debtor creditor class) (is_debt_of debtor creditor class) net.debts 0
       (λ k. let e : 0 + k ≡ k = omega arith in ap (is_of_kind net debtor creditor class) e)
 
-  -- such a debt is owed by the debtor, and to the creditor
-  banks_of : (o : Option Debt) → option_map_or (is_debt_of debtor creditor class) o false ≡ true
-      → ((option_map_or (λ d. d.debtor.0) o 0 == debtor) ≡ true) × ((option_map_or (λ d. d.creditor.0) o 0 == creditor) ≡ true)
-  banks_of None e = absurd (true≢false (sym e))
-  banks_of (Some d) e =
-      let tests = and_parts ((d.debtor.0 == debtor) && (d.creditor.0 == creditor)) (d.class == class) e in
-      and_parts (d.debtor.0 == debtor) (d.creditor.0 == creditor) tests.0
-
   -- the debtor's row tells
   pub row_tells : list_any (is_of_kind net debtor creditor class) (row net debtor)
       ≡ list_any (is_debt_of debtor creditor class) net.debts
   row_tells = any-filter_same (is_of_kind net debtor creditor class) (λ x. debtor_of net x == debtor) true
-      (λ x e. (banks_of (slice_get net.debts x) e).0) (debt_numbers net) ∙ any_of_all
+      (λ x e. grind arith) (debt_numbers net) ∙ any_of_all
 
   -- the creditor's column tells
   pub column_tells : list_any (is_of_kind net debtor creditor class) (column net creditor)
       ≡ list_any (is_debt_of debtor creditor class) net.debts
   column_tells = any-filter_same (is_of_kind net debtor creditor class) (λ x. creditor_of net x == creditor) true
-      (λ x e. (banks_of (slice_get net.debts x) e).1) (debt_numbers net) ∙ any_of_all
+      (λ x e. grind arith) (debt_numbers net) ∙ any_of_all
 
   -- a debt of this kind passes the test
   passes : (y : ℕ) → y < length net.debts → IsOfKind net y debtor creditor class
       → list_any (is_debt_of debtor creditor class) net.debts ≡ true
-  passes y l kind = ⊎_elim
-      (λ (s : (d : Debt) × (y < length net.debts) × (slice_get net.debts y ≡ Some d) × (get_or net.debts y d ≡ d)).
-      let d = s.0 in
-      let debtor_is : d.debtor.0 ≡ debtor = sym (ap (λ o. option_map_or (λ d. d.debtor.0) o 0) s.2) ∙ kind.0 in
-      let creditor_is : d.creditor.0 ≡ creditor = sym (ap (λ o. option_map_or (λ d. d.creditor.0) o 0) s.2) ∙ kind.1 in
-      let class_is : d.class ≡ class = sym (ap (λ o. option_map_or (λ d. d.class) o 0) s.2) ∙ kind.2 in
-      list_any_at (is_debt_of debtor creditor class) net.debts y d l
-      (rw (s.3, debtor_is, creditor_is, class_is, eq-eqb debtor debtor refl, eq-eqb creditor creditor refl, eq-eqb class class refl) refl))
-      (λ (past : (length net.debts ≤ y) × (slice_get net.debts y ≡ None)). absurd (omega (arith, past.0)))
-      (slice_get_cases net.debts y).1
+  passes y l kind =
+      let k = rw (slice_get-get_or net.debts y (classed 0 0 0 0) l) at kind in
+      list_any_at (is_debt_of debtor creditor class) net.debts y (classed 0 0 0 0) l
+      (and_from _ _ (and_from _ _ (eq-eqb _ _ k.0) (eq-eqb _ _ k.1)) (eq-eqb _ _ k.2))
 
   -- where no debt passes the test, none is of this kind
   pub new_kind : (found : Bool) → found ≡ list_any (is_debt_of debtor creditor class) net.debts
@@ -86,10 +73,7 @@ module _ (net : Net) (debtor creditor class : ℕ) where
   pub test_at : (ids : List DebtId) (k : ℕ) (i : DebtId) (d : Debt) (b : Bool) → k < length ids
       → slice_get net.debts (get_or ids k i).0 ≡ Some d → b ≡ is_debt_of debtor creditor class d
       → is_of_kind net debtor creditor class (get_or (numbers ids) k 0) ≡ b
-  test_at ids k i d b l at e =
-      ap (λ x. option_map_or (is_debt_of debtor creditor class) (slice_get net.debts x) false)
-      (sym (number_at ids (numbers ids) k i refl l).1)
-      ∙ ap (λ o. option_map_or (is_debt_of debtor creditor class) o false) at ∙ sym e
+  test_at ids k i d b l at e = rw (get_or-map (λ id. id.0) ids k i 0 l, at) (sym e)
 
   -- one more that does not pass
   pub none_yet : (ids : List DebtId) (k : ℕ) → k < length ids
@@ -97,5 +81,9 @@ module _ (net : Net) (debtor creditor class : ℕ) where
       → list_any (is_of_kind net debtor creditor class) (take k (numbers ids)) ≡ false
       → list_any (is_of_kind net debtor creditor class) (take (k + 1) (numbers ids)) ≡ false
   none_yet ids k l e before =
-      list_any_more (is_of_kind net debtor creditor class) (numbers ids) k 0 (omega (arith, length-map ids (λ id. id.0)))
-      ∙ ap₂ (λ b c. b || c) before e
+      rw (
+        list_any_more (is_of_kind net debtor creditor class) (numbers ids) k 0
+            (omega (arith, length-map ids (λ id. id.0))),
+        before,
+        e,
+      ) refl

@@ -1,52 +1,39 @@
--- The numbers of a range that pass a test, as the range grows by one number.
-use Rattle.std.proofs.Common.{◌≡◌, ℕ, zero, suc, ◌+◌, ◌<◌, Bool, true, false, cond, List, [], ◌∷◌, ◌++◌, map, filter, refl, sym, ap, ◌∙◌, arith, add-zero}
+-- The numbers that pass a test, of a list and of a range, as the range grows by one number.
+use Rattle.std.proofs.Common.{◌≡◌, ℕ, suc, ◌+◌, ◌<◌, Bool, cond, List, [], ◌∷◌, ◌++◌, All, map, filter, refl, sym, ap, ◌∙◌, arith, add-one}
 use Rattle.std.specs.List.{range_with_len}
+use Rattle.std.proofs.lemmas.List.{map-id}
+use Rattle.std.proofs.lemmas.List.Elements.{filter-append}
+use Rattle.std.proofs.lemmas.List.FromFn.{length-range_with_len, get_or-range_with_len, map-range_with_len_more}
 
--- no number of the range passes
-pub filter_range_none : (p : ℕ → Bool) (a n : ℕ) → ((m : ℕ) → m < n → p (a + m) ≡ false) → filter p (range_with_len a n) ≡ []
-filter_range_none p a zero none = refl
-filter_range_none p a (suc n) none =
-    rw (ap p (sym (add-zero a)) ∙ none 0 (omega arith))
-    (filter_range_none p (a + 1) n (λ m l. let same : a + 1 + m ≡ a + suc m = omega arith in ap p same ∙ none (suc m) (omega arith)))
+-- a range that is one number longer
+pub range_push : (a n x : ℕ) → a + n ≡ x → range_with_len a (n + 1) ≡ range_with_len a n ++ x ∷ []
+range_push a n x e = simp map-id at (map-range_with_len_more (λ x. x) a n x e)
 
--- a fact at each number of a range holds at each number of the range after its first
-after_first : {X : Type 0} (f g : ℕ → X) (a n : ℕ) → ((m : ℕ) → m < suc n → f (a + m) ≡ g (a + m))
-    → (m : ℕ) → m < n → f (a + 1 + m) ≡ g (a + 1 + m)
-after_first f g a n same m l =
-    let e : a + 1 + m ≡ a + suc m = omega arith in
-    ap f e ∙ same (suc m) (omega arith) ∙ sym (ap g e)
+-- what holds of each number from a on holds of each of a range
+pub range_each : (P : ℕ → Type 0) (a n : ℕ) → ((m : ℕ) → m < n → P (a + m))
+    → All P (range_with_len a n)
+range_each P a n each k d l =
+    let within : k < n = omega (arith, length-range_with_len a n) in
+    rw (get_or-range_with_len a n k d within) (each k within)
 
-at_first : {X : Type 0} (f g : ℕ → X) (a n : ℕ) → ((m : ℕ) → m < suc n → f (a + m) ≡ g (a + m)) → f a ≡ g a
-at_first f g a n same = ap f (sym (add-zero a)) ∙ same 0 (omega arith) ∙ ap g (add-zero a)
+-- two tests that agree on a list
+pub filter_on : (p q : ℕ → Bool) (xs : List ℕ) → All (λ x. q x ≡ p x) xs → filter q xs ≡ filter p xs
+filter_on p q [] same = refl
+filter_on p q (x ∷ xs) same =
+    rw (same 0 x (omega arith), filter_on p q xs (λ k d l. same (suc k) d (omega arith))) refl
 
-module _ (p q : ℕ → Bool) where
-  front : (a n : ℕ) (b : Bool) (last : List ℕ) → p a ≡ b → q a ≡ p a
-      → filter q (range_with_len (a + 1) (suc n)) ≡ filter p (range_with_len (a + 1) n) ++ last
-      → filter q (range_with_len a (suc (suc n))) ≡ filter p (range_with_len a (suc n)) ++ last
-  front a n true last h both rest = rw (both ∙ h, h) (ap (λ xs. a ∷ xs) rest)
-  front a n false last h both rest = rw (both ∙ h, h) rest
+-- two functions that agree on a list
+pub map_on : (f g : ℕ → ℕ) (xs : List ℕ) → All (λ x. f x ≡ g x) xs → map f xs ≡ map g xs
+map_on f g [] same = refl
+map_on f g (x ∷ xs) same =
+    rw (same 0 x (omega arith), map_on f g xs (λ k d l. same (suc k) d (omega arith))) refl
 
-  -- one number more, which passes by q; of those before it, the same pass by p and by q
-  pub filter_range_more : (a n : ℕ) → ((m : ℕ) → m < n → q (a + m) ≡ p (a + m))
-      → filter q (range_with_len a (suc n)) ≡ filter p (range_with_len a n) ++ cond (q (a + n)) ((a + n) ∷ []) []
-  filter_range_more a zero same = let e : a ≡ a + 0 = omega arith in ap (λ x. cond (q x) (x ∷ []) []) e
-  filter_range_more a (suc n) same =
-      let last : a + 1 + n ≡ a + suc n = omega arith in
-      front a n (p a) (cond (q (a + suc n)) ((a + suc n) ∷ []) []) refl (at_first q p a n same)
-      (filter_range_more (a + 1) n (after_first q p a n same)
-      ∙ ap (λ x. filter p (range_with_len (a + 1) n) ++ cond (q x) (x ∷ []) []) last)
-
-module _ (p : ℕ → Bool) (f g : ℕ → ℕ) where
-  front_mapped : (a n : ℕ) (b : Bool) → p a ≡ b → f a ≡ g a
-      → map f (filter p (range_with_len (a + 1) n)) ≡ map g (filter p (range_with_len (a + 1) n))
-      → map f (filter p (range_with_len a (suc n))) ≡ map g (filter p (range_with_len a (suc n)))
-  front_mapped a n true h here rest =
-      rw h (ap (λ y. y ∷ map f (filter p (range_with_len (a + 1) n))) here ∙ ap (λ ys. g a ∷ ys) rest)
-  front_mapped a n false h here rest = rw h rest
-
-  -- what two functions that agree on the range give of those that pass
-  pub map_filter_range : (a n : ℕ) → ((m : ℕ) → m < n → f (a + m) ≡ g (a + m))
-      → map f (filter p (range_with_len a n)) ≡ map g (filter p (range_with_len a n))
-  map_filter_range a zero same = refl
-  map_filter_range a (suc n) same =
-      front_mapped a n (p a) refl (at_first f g a n same) (map_filter_range (a + 1) n (after_first f g a n same))
+-- one number more, which passes by q; of those before it, the same pass by p and by q
+pub filter_range_more : (p q : ℕ → Bool) (a n : ℕ) → ((m : ℕ) → m < n → q (a + m) ≡ p (a + m))
+    → filter q (range_with_len a (suc n))
+    ≡ filter p (range_with_len a n) ++ cond (q (a + n)) ((a + n) ∷ []) []
+filter_range_more p q a n same = ap (λ k. filter q (range_with_len a k)) (sym (add-one n)) ∙ rw (
+  range_push a n (a + n) refl,
+  filter-append q (range_with_len a n) ((a + n) ∷ []),
+  filter_on p q (range_with_len a n) (range_each (λ x. q x ≡ p x) a n same),
+) refl

@@ -9,7 +9,7 @@ use Rattle.clr_net.specs.Division.{AreClasses, class_claims, next_of, share, sha
 use Rattle.clr_net.specs.declared.rule.RuleKind.{RuleKind}
 use Rattle.clr_net.proofs.Lists.{same_from_sum, zeros_at}
 use Rattle.clr_net.proofs.Award.{kind_is_unit_choice}
-use Rattle.clr_net.proofs.Classes.{length-class_claims, class_claims_le, class_claims_other, length-place_sums, get_or-place_sums, sum-place_sums, class_total, class_total_all}
+use Rattle.clr_net.proofs.Classes.{length-class_claims, class_claims_le, class_claims_other, length-place_sums, get_or-place_sums, sum-place_sums, class_total, class_total_first, class_total_none, class_total_all}
 use Rattle.rule_unit.specs.Awards.{IsAtMost, IsWithin}
 use Rattle.rule_unit.specs.Choice.{IsUnitChoice}
 use Rattle.rule_unit.specs.Units.{award}
@@ -24,11 +24,7 @@ pub record IsShare (claims classes : List ℕ) (c : ℕ) (shares : List ℕ) : T
 module _ (choice : List ℕ → List ℕ → Option ℕ) (lawful : IsUnitChoice choice) (claims classes : List ℕ) where
   pub share_by_from_is : (c n e : ℕ) → IsShare claims classes c (share_by_from choice claims classes c n e)
   unfolding share_by_from
-  share_by_from_is c zero e = record {
-    as_many = length-replicate (length claims) 0;
-    within = λ k. omega (arith, zeros_at (length claims) k);
-    earlier = λ k l. zeros_at (length claims) k;
-  }
+  share_by_from_is c zero e = search (arith, length-replicate, zeros_at)
   share_by_from_is c (suc n) e =
       let mine = class_claims c claims classes in
       let given = min (sum mine) e in
@@ -39,12 +35,15 @@ module _ (choice : List ℕ → List ℕ → Option ℕ) (lawful : IsUnitChoice 
       let at = λ (k : ℕ). get_or-place_sums here rest k (w.as_many ∙ length-class_claims c claims classes ∙ sym r.as_many) in
       record {
         as_many = length-place_sums here rest ∙ w.as_many ∙ length-class_claims c claims classes;
-        within = λ k. ⊎_elim
-            (λ (s : get_or classes k 0 ≡ c).
-            omega (arith, at k, r.earlier k (omega arith), w.within k, class_claims_le c claims classes k))
-            (λ (ne : get_or classes k 0 ≡ c → ⊥).
-            omega (arith, at k, w.within k, class_claims_other c claims classes k ne, r.within k))
-            (cases_eq (get_or classes k 0) c);
+        within = λ k. grind (
+          arith,
+          at k,
+          r.earlier k,
+          r.within k,
+          w.within k,
+          class_claims_le c claims classes k,
+          class_claims_other c claims classes k,
+        );
         earlier = λ k l. omega
             (arith, at k, r.earlier k (omega arith), w.within k, class_claims_other c claims classes k (omega arith));
       }
@@ -60,8 +59,9 @@ module _ (choice : List ℕ → List ℕ → Option ℕ) (lawful : IsUnitChoice 
       ∙ sym (share_by_from_is (c + 1) n e).as_many
 
   sum_share_by_from : (c n e : ℕ) → sum (share_by_from choice claims classes c n e) ≡ min e (class_total claims classes c n)
-  unfolding share_by_from class_total
-  sum_share_by_from c zero e = omega (arith, sum_by-replicate (λ n. n) (length claims) 0)
+  unfolding share_by_from
+  sum_share_by_from c zero e =
+      omega (arith, sum_by-replicate (λ n. n) (length claims) 0, class_total_none claims classes c)
   sum_share_by_from c (suc n) e =
       let mine = class_claims c claims classes in
       let given = min (sum mine) e in
@@ -71,6 +71,7 @@ module _ (choice : List ℕ → List ℕ → Option ℕ) (lawful : IsUnitChoice 
             (lengths_agree c n given (e - given)),
         sum_award choice lawful mine given,
         sum_share_by_from (c + 1) n (e - given),
+        class_total_first claims classes c n,
       )
 
   -- all is given out, up to all that is claimed

@@ -1,8 +1,8 @@
 -- Taking a walk back debt by debt, while the debts of a cycle are lowered.
-use Rattle.std.proofs.Common.{◌≡◌, ◌≢◌, ℕ, zero, suc, ◌+◌, ◌-◌, ◌<◌, ◌≤◌, List, [], ◌∷◌, ◌++◌, length, length-set, get_or, set, map, take, slice_get, Some, sum, sum_by, refl, sym, ap, ◌∙◌, subst, ⊎_elim, arith}
+use Rattle.std.proofs.Common.{◌≡◌, ◌≢◌, ℕ, zero, suc, ◌+◌, ◌-◌, ◌<◌, ◌≤◌, List, [], ◌∷◌, ◌++◌, length, length-set, get_or, set, take, slice_get, Some, sum, sum_by, refl, sym, ap, ◌∙◌, subst, ⊎_elim, arith}
 use Rattle.std.proofs.Math.ListN.{get_or-append}
 use Rattle.std.proofs.lemmas.Bool.{cases_lt}
-use Rattle.std.proofs.lemmas.List.{get_or_push, get_or-set_same, get_or-set_other, length_push, length-map, length-take, map-append, take_more, take_all}
+use Rattle.std.proofs.lemmas.List.{get_or_push, get_or-set_same, get_or-set_other, length_push, length-map, length-take, map_more, take_all}
 use Rattle.std.proofs.lemmas.List.Sums.{sum_by-set}
 use Rattle.clr_net.specs.Amounts.{IsAtMost}
 use Rattle.clr_net.specs.Limits.{IsNetwork}
@@ -16,8 +16,8 @@ use Rattle.compress.proofs.Cycles.{cycle_keeps}
 use Rattle.compress.specs.declared.mark.Mark.{Mark}
 use Rattle.compress.specs.declared.mark.Mark.TheVariants.{New, Walked, Done}
 use Rattle.compress.specs.Walk.{mark_of, stops, end_of, steps_left, IsWalk, AreDone, IsKept}
-use Rattle.compress.proofs.Walks.{stop_before, stop_last, stop_after, walk_back, walked_not_done}
-use Rattle.compress.proofs.Dones.{done_marked, done_lowered}
+use Rattle.compress.proofs.Walks.{closing_apart, last_apart, stop_before, stop_last, walk_back, walked_not_done}
+use Rattle.compress.proofs.Dones.{done_marked, done_lowered, marks_stay}
 
 -- one debt more, at the end
 lowered_push : (C : List ℕ) (m : ℕ) (xs : List ℕ) (y : ℕ)
@@ -58,32 +58,6 @@ lowered_le C m (x ∷ xs) = λ k.
     one (c ∷ C) zero (suc k) = omega arith
     one (c ∷ C) (suc x) zero = omega arith
     one (c ∷ C) (suc x) (suc k) = one C x k
-
--- the last debt of a walk stands in no earlier place
-pub last_apart : {net : Net} {c s : ℕ} {C : List ℕ} {marks : List Mark} (W : List ℕ) (x k : ℕ)
-    → IsWalk net c s C (W ++ x ∷ []) marks → k < length W
-    → get_or W k 0 ≢ x
-last_apart {net = net} {s = s} {marks = marks} W x k w l e =
-    let last : get_or (stops net s (W ++ x ∷ [])) (length W + 1) 0
-    ≡ debtor_of net x = stop_last net s W x (length W + 1) refl in
-    let here : get_or (stops net s (W ++ x ∷ [])) (k + 1) 0 ≡ debtor_of net x =
-    stop_before net s W x (k + 1) (omega arith) ∙ stop_after net s W k l ∙ ap (debtor_of net) e in
-    let both : Walked (k + 1) ≡ Walked (length W + 1) =
-    sym (w.marked (k + 1) (omega (arith, length_push W x))) ∙ ap (mark_of marks) (here ∙ sym last)
-    ∙ w.marked (length W + 1) (omega (arith, length_push W x)) in
-    let same : k + 1 ≡ length W + 1 = cc in
-    omega (arith, same)
-
--- and a debt to the end of a walk stands in none
-pub closing_apart : {net : Net} {c s : ℕ} {C W : List ℕ} {marks : List Mark} (x k : ℕ)
-    → IsWalk net c s C W marks → k < length W
-    → creditor_of net x ≡ end_of net s W → get_or W k 0 ≢ x
-closing_apart {net = net} {W = W} {marks = marks} x k w l link e =
-    let both : Walked k ≡ Walked (length W) =
-    sym (w.marked k (omega arith)) ∙ ap (mark_of marks) (sym (w.links k l)
-    ∙ ap (creditor_of net) e ∙ link) ∙ w.marked (length W) (omega arith) in
-    let same : k ≡ length W = cc in
-    omega (arith, same)
 
 -- a walk along debts whose claims stay is one as others change
 walk_stays : {net : Net} {c s : ℕ} {C W : List ℕ} {marks : List Mark} (D : List ℕ) → IsWalk net c s C W marks
@@ -238,9 +212,8 @@ cancelling_goes_on net c s place m C before D W marks y network l bl old in_walk
         ap steps_left was,
       );
       banks = omega (arith, old.banks, length-set {A = Mark});
-      stays = λ j e. get_or-set_other marks (debtor_of net y) j New Done
-          (λ f. walked_not_done (length W + 1) (sym was ∙ ap (mark_of marks) (sym f)
-          ∙ old.stays j e)) ∙ old.stays j e;
+      stays = λ j e. marks_stay marks (debtor_of net y) New (λ f. walked_not_done (length W + 1) (sym was ∙ f))
+          j (old.stays j e);
       done = λ R d. done_marked (debtor_of net y) New
           (done_lowered (set D y (get_or D y 0 - m)) y (old.done R d) same
           (omega (arith, get_or-set_same D y (get_or D y 0 - m) 0 r))
@@ -273,12 +246,8 @@ pub split_last : (ids before : List DebtId) (n : ℕ) (d : DebtId) → before �
     → n ≡ length ids → 0 < n → d ≡ get_or ids (n - 1) d
     → numbers ids ≡ numbers before ++ d.0 ∷ []
 split_last ids before n d e l pos at =
-    let more : n - 1 + 1 ≡ length ids = omega arith in
-    ap (map (λ id. id.0)) (sym (take_all (length ids) ids (omega arith))
-    ∙ ap (λ k. take k ids) (sym more) ∙ take_more ids (n - 1) d (omega arith))
-    ∙ ap (λ (xs : List DebtId). map (λ id. id.0) (xs ++ get_or ids (n - 1) d ∷ [])) (sym e)
-    ∙ map-append (λ (id : DebtId). id.0) before (get_or ids (n - 1) d ∷ [])
-    ∙ ap (λ (id : DebtId). numbers before ++ id.0 ∷ []) (sym at)
+    rw (e, at, ← map_more (λ (id : DebtId). id.0) ids (n - 1) d (omega arith))
+    (ap numbers (sym (take_all (n - 1 + 1) ids (omega arith))))
 
 pub debtor_read : (net : Net) (x : ℕ) (d : Debt) → slice_get net.debts x ≡ Some d
     → debtor_of net x ≡ d.debtor.0

@@ -4,8 +4,10 @@ use Rattle.std.proofs.lemmas.Bool.{cases_eq}
 use Rattle.std.proofs.lemmas.List.{get_or-set_same, get_or-set_other}
 use Rattle.clr_net.specs.Net.{Net, debtor_of, column}
 use Rattle.compress.specs.declared.mark.Mark.{Mark}
-use Rattle.compress.specs.Walk.{IsPassed, ArePassed, IsKept, IsReady}
-use Rattle.compress.proofs.Searching.{ready_from_column}
+use Rattle.compress.specs.Walk.{IsPassed, ArePassed, IsKept, IsReady, mark_of}
+use Rattle.compress.specs.Compression.{IsLive}
+use Rattle.compress.specs.declared.mark.Mark.TheVariants.{Done}
+use Rattle.compress.proofs.Cycles.{in_column}
 
 -- claims only fall and what is done stays done, so what is passed stays passed
 pub passed_kept : {net : Net} {c : ℕ} {C D : List ℕ} {before after : List Mark} (K : List ℕ)
@@ -32,5 +34,7 @@ passed_moved net c b C marks K v l passed more j k m = ⊎_elim
 pub ready_when_passed : (net : Net) (c b : ℕ) (C : List ℕ) (marks : List Mark) (n : ℕ)
     → length (column net b) ≤ n → ((k : ℕ) → k < n → IsPassed net c C marks b k)
     → IsReady net c b C marks
-ready_when_passed net c b C marks n end passed =
-    ready_from_column net c b C marks (λ k l. passed k (omega (arith, l)))
+ready_when_passed net c b C marks n end passed x live owed =
+    let place = rw owed at (in_column net x live.debt) in
+    subst (λ y. IsLive net C c y → mark_of marks (debtor_of net y) ≡ Done) place.2
+    (passed place.0 (omega (arith, place.1, end))) live

@@ -170,35 +170,22 @@ turns class from to c d b i j (x ∷ xs) same leads = omega (
   turns class from to c d b (to x) j xs (λ k l. same (suc k) (omega arith)) leads.1,
 )
 
--- so round a cycle of one class each bank is left as often as it is come to
-pub round_trip : (class from to : ℕ → ℕ) (c d b i : ℕ) (xs : List ℕ)
-    → ((k : ℕ) → k < length xs → class (get_or xs k 0) ≡ d) → Leads from to i xs i
-    → count_by (λ x. (class x == c) && (from x == b)) xs
-    ≡ count_by (λ x. (class x == c) && (to x == b)) xs
-round_trip class from to c d b i xs same leads = omega
-    (arith, turns class from to c d b i i xs same leads)
-
--- and lowering the debts of a cycle by the same keeps every balance
-kept_by_counts : (net : Net) (C : List ℕ) (m c b : ℕ) (xs : List ℕ) → length C ≡ length net.debts
-    → CanLower C m xs
-    → count_by (λ x. (class_of net x == c) && (debtor_of net x == b)) xs
-    ≡ count_by (λ x. (class_of net x == c) && (creditor_of net x == b)) xs
-    → IsBalanceKept net C c b → IsBalanceKept net (lowered C m xs) c b
-kept_by_counts net C m c b xs l can same kept = omega (
-  arith,
-  kept,
-  sum_lowered (λ x. (class_of net x == c) && (debtor_of net x == b))
-      (length net.debts) m C xs l can,
-  sum_lowered (λ x. (class_of net x == c) && (creditor_of net x == b))
-      (length net.debts) m C xs l can,
-  ap (λ (n : ℕ). m * n) same,
-)
-
+-- so round a cycle of one class each bank is left as often as it is come to, and lowering its debts
+-- by the same keeps every balance
 pub cycle_keeps : (net : Net) (C : List ℕ) (m c d b i : ℕ) (xs : List ℕ)
     → length C ≡ length net.debts → CanLower C m xs
     → ((k : ℕ) → k < length xs → class_of net (get_or xs k 0) ≡ d)
     → Leads (debtor_of net) (creditor_of net) i xs i
     → IsBalanceKept net C c b → IsBalanceKept net (lowered C m xs) c b
 cycle_keeps net C m c d b i xs l can same leads kept =
-    kept_by_counts net C m c b xs l can (round_trip (class_of net) (debtor_of net)
-    (creditor_of net) c d b i xs same leads) kept
+    let owes = λ (x : ℕ). (class_of net x == c) && (debtor_of net x == b) in
+    let due = λ (x : ℕ). (class_of net x == c) && (creditor_of net x == b) in
+    let round : count_by owes xs ≡ count_by due xs =
+    omega (arith, turns (class_of net) (debtor_of net) (creditor_of net) c d b i i xs same leads) in
+    omega (
+      arith,
+      kept,
+      sum_lowered owes (length net.debts) m C xs l can,
+      sum_lowered due (length net.debts) m C xs l can,
+      ap (λ (n : ℕ). m * n) round,
+    )

@@ -81,12 +81,18 @@ undone_one New ne = refl
 undone_one (Walked p) ne = refl
 undone_one Done ne = absurd (ne refl)
 
+-- banks that are done stay so as another gets a mark
+pub marks_stay : (marks : List Mark) (b : ℕ) (v : Mark) → mark_of marks b ≢ Done → (j : ℕ)
+    → mark_of marks j ≡ Done → mark_of (set marks b v) j ≡ Done
+marks_stay marks b v was j e = get_or-set_other marks b j v Done
+    (λ s. was (ap (mark_of marks) (sym s) ∙ e)) ∙ e
+
 -- a bank that is not done gets another mark, and is not done
 pub done_marked : {net : Net} {c : ℕ} {C R : List ℕ} {marks : List Mark} (b : ℕ) (v : Mark)
     → AreDone net c C R marks → b < length marks
     → mark_of marks b ≢ Done → v ≢ Done → AreDone net c C R (set marks b v)
 done_marked {net = net} {marks = marks} b v d l was will = record {
-  debtors = λ x live e. kept (debtor_of net x) (d.debtors x live (before (creditor_of net x) e));
+  debtors = λ x live e. marks_stay marks b v was (debtor_of net x) (d.debtors x live (before (creditor_of net x) e));
   ranks = λ j m e. d.ranks j m (before j e);
   low = λ j. omega (
     arith,
@@ -103,9 +109,6 @@ done_marked {net = net} {marks = marks} b v d l was will = record {
         ∙ ap (mark_of (set marks b v)) (sym s) ∙ e)))
         (λ (ne : j ≢ b). sym (get_or-set_other marks b j v Done ne) ∙ e)
         (cases_eq j b)
-
-    kept : (j : ℕ) → mark_of marks j ≡ Done → mark_of (set marks b v) j ≡ Done
-    kept j e = get_or-set_other marks b j v Done (λ s. was (ap (mark_of marks) (sym s) ∙ e)) ∙ e
 
 -- a claim on a debt to a bank that is not done falls
 pub done_lowered : {net : Net} {c : ℕ} {C R : List ℕ} {marks : List Mark} (D : List ℕ) (x : ℕ)
@@ -141,9 +144,9 @@ pub done_more : {net : Net} {c : ℕ} {C R : List ℕ} {marks : List Mark} (b v 
     → v ≡ rank_above net C (λ j. get_or R j 0) c b → AreDone net c C (set R b v) (set marks b Done)
 done_more {net = net} {c = c} {C = C} {R = R} {marks = marks} b v d l r was ready e = record {
   debtors = λ x live f. ⊎_elim
-      (λ (s : creditor_of net x ≡ b). kept (debtor_of net x) (ready x live s))
+      (λ (s : creditor_of net x ≡ b). marks_stay marks b Done was (debtor_of net x) (ready x live s))
       (λ (ne : creditor_of net x ≢ b).
-      kept (debtor_of net x) (d.debtors x live
+      marks_stay marks b Done was (debtor_of net x) (d.debtors x live
       (sym (get_or-set_other marks b (creditor_of net x) Done Done ne) ∙ f)))
       (cases_eq (creditor_of net x) b);
   ranks = λ j m f. ⊎_elim
@@ -171,9 +174,6 @@ done_more {net = net} {c = c} {C = C} {R = R} {marks = marks} b v d l r was read
       (cases_eq j b);
 }
   where
-    kept : (j : ℕ) → mark_of marks j ≡ Done → mark_of (set marks b Done) j ≡ Done
-    kept j f = get_or-set_other marks b j Done Done (λ s. was (ap (mark_of marks) (sym s) ∙ f)) ∙ f
-
     fewer : sum_by undone (set marks b Done) + 1 ≡ sum_by undone marks
     fewer = omega (arith, sum_by-set undone marks b Done Done l, undone_one (mark_of marks b) was)
 

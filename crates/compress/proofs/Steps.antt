@@ -1,19 +1,16 @@
 -- The two other steps: a walk goes on to a new bank, or its last bank is done.
-use Rattle.std.proofs.Common.{◌≡◌, ◌≢◌, ℕ, ◌+◌, ◌<◌, ◌≤◌, List, [], ◌∷◌, ◌++◌, length, length-set, get_or, set, true, Option, Some, None, refl, sym, ap, ◌∙◌, subst, ⊎_elim, arith}
+use Rattle.std.proofs.Common.{◌≡◌, ◌≢◌, ℕ, ◌<◌, ◌≤◌, List, [], ◌∷◌, ◌++◌, length, length-set, get_or, set, true, Option, Some, None, refl, sym, ap, ◌∙◌, subst, ⊎_elim, arith}
 use Rattle.std.proofs.lemmas.Bool.{cases_lt}
-use Rattle.std.proofs.lemmas.List.{get_or_past, get_or-set_same, get_or-set_other, length_push, map-append}
+use Rattle.std.proofs.lemmas.List.{get_or_past, get_or-set_same, length_push, map-append}
 use Rattle.std.specs.Option.{is_some, option_to_list}
 use Rattle.clr_net.specs.declared.debt.DebtId.{DebtId}
 use Rattle.clr_net.specs.Net.{Net, numbers, debtor_of}
 use Rattle.compress.specs.Compression.{rank_above}
 use Rattle.compress.specs.declared.mark.Mark.{Mark}
-use Rattle.compress.specs.declared.mark.Mark.TheVariants.{New, Walked, Done}
-use Rattle.compress.specs.Walk.{mark_of, end_of, HasNoWalk, IsWalk, AreDone, IsKept, IsReady, LeadsOn}
-use Rattle.compress.proofs.Walks.{stop_last, walk_grows, walk_back, walk_ends, walked_not_done}
-use Rattle.compress.proofs.Dones.{done_marked, done_more}
-
-pub new_not_done : New ≡ Done → ⊥
-new_not_done e = absurd (cc)
+use Rattle.compress.specs.declared.mark.Mark.TheVariants.{Done}
+use Rattle.compress.specs.Walk.{mark_of, end_of, HasNoWalk, IsWalk, AreDone, IsKept, IsReady}
+use Rattle.compress.proofs.Walks.{stop_last, walk_back, walk_ends, walked_not_done}
+use Rattle.compress.proofs.Dones.{done_more, marks_stay}
 
 pub not_done_in_range : (marks : List Mark) (b : ℕ) → mark_of marks b ≢ Done → b < length marks
 not_done_in_range marks b ne = ⊎_elim (λ (l : b < length marks). l)
@@ -45,43 +42,16 @@ kept_both a b = record {
   stays = λ i e. b.stays i (a.stays i e);
 }
 
-marks_stay : (marks : List Mark) (b : ℕ) (v : Mark) → mark_of marks b ≢ Done → (j : ℕ)
-    → mark_of marks j ≡ Done → mark_of (set marks b v) j ≡ Done
-marks_stay marks b v was j e = get_or-set_other marks b j v Done
-    (λ s. was (ap (mark_of marks) (sym s) ∙ e)) ∙ e
-
 -- a bank that was not done is
 pub kept_done : (net : Net) (c : ℕ) (C : List ℕ) (marks : List Mark) (b : ℕ) (v : Mark)
     → mark_of marks b ≢ Done → IsKept net c C C marks (set marks b v)
 kept_done net c C marks b v was = kept_marks net c C marks (set marks b v) (length-set marks b v)
     (marks_stay marks b v was)
 
-module _ (net : Net) (c s : ℕ) (C W : List ℕ) (marks : List Mark) (x : ℕ)
-    (w : IsWalk net c s C W marks)
-    (on : LeadsOn net c (end_of net s W) C marks x)
-    (new : mark_of marks (debtor_of net x) ≡ New) where
-  grown_in_range : debtor_of net x < length marks
-  grown_in_range = not_done_in_range marks (debtor_of net x) on.unfinished
-
-  pub grown_walk : IsWalk net c s C (W ++ x ∷ [])
-      (set marks (debtor_of net x) (Walked (length W + 1)))
-  grown_walk = walk_grows net c s C W marks x w on.live on.owed grown_in_range new
-
-  pub grown_kept : IsKept net c C C marks (set marks (debtor_of net x) (Walked (length W + 1)))
-  grown_kept = kept_done net c C marks (debtor_of net x) (Walked (length W + 1)) on.unfinished
-
-  pub grown_done : (R : List ℕ) → AreDone net c C R marks
-      → AreDone net c C R (set marks (debtor_of net x) (Walked (length W + 1)))
-  grown_done R d = done_marked (debtor_of net x) (Walked (length W + 1)) d grown_in_range on.unfinished
-      (walked_not_done (length W + 1))
-
 module _ (net : Net) (c s : ℕ) (C W : List ℕ) (marks : List Mark)
     (w : IsWalk net c s C W marks) where
-  end_walked : mark_of marks (end_of net s W) ≡ Walked (length W)
-  end_walked = w.marked (length W) (omega arith)
-
   pub end_not_done : mark_of marks (end_of net s W) ≢ Done
-  end_not_done e = walked_not_done (length W) (sym end_walked ∙ e)
+  end_not_done e = walked_not_done (length W) (sym (w.marked (length W) (omega arith)) ∙ e)
 
   pub end_in_range : end_of net s W < length marks
   end_in_range = not_done_in_range marks (end_of net s W) end_not_done

@@ -14,7 +14,7 @@ use Rattle.compress.specs.Walk.{mark_of, end_of, AreDone, ArePassed, IsWalk, IsK
 use Rattle.compress.proofs.Walks.{walk_begins, walked_not_done}
 use Rattle.compress.proofs.Dones.{done_marked}
 use Rattle.compress.proofs.Cursors.{passed_kept}
-use Rattle.compress.proofs.Steps.{new_not_done, kept_done, retired_done, retired_kept}
+use Rattle.compress.proofs.Steps.{kept_done, retired_done, retired_kept}
 
 -- a mark, as it is read
 pub read_mark : (marks : List Mark) (b : ℕ) (m : Mark) → b < length marks → m ≡ get_or marks b m
@@ -27,7 +27,7 @@ read_mark (x ∷ marks) (suc b) m l e = read_mark marks b m (omega arith) e
 pub begun_kept : (net : Net) (c : ℕ) (C : List ℕ) (marks : List Mark) (s : ℕ)
     → mark_of marks s ≡ New → IsKept net c C C marks (set marks s (Walked 0))
 begun_kept net c C marks s new =
-    kept_done net c C marks s (Walked 0) (λ e. new_not_done (sym new ∙ e))
+    kept_done net c C marks s (Walked 0) (λ e. absurd (cc))
 
 -- a walk begins there
 pub begun : {net : Net} {c : ℕ} {C : List ℕ} {w : Walk} (start : BankId) → IsAtRest net c C w
@@ -45,7 +45,7 @@ begun {net = net} {c = c} {C = C} {w = w} start rest known new =
           (walk_begins net c start.0 C marks known rest.no_walk);
       told = record {
         done = done_marked start.0 (Walked 0) rest.told.done known
-            (λ e. new_not_done (sym new ∙ e)) (walked_not_done 0);
+            (λ e. absurd (cc)) (walked_not_done 0);
         passed = passed_kept w.cursors.items (begun_kept net c C marks start.0 new) rest.told.passed;
         sizes = record {
           marks = omega (arith, length-set {A = Mark}, sizes.marks);

@@ -45,6 +45,29 @@ new_not_walked k e = absurd (cc)
 pub walked_not_done : (k : ℕ) → Walked k ≢ Done
 walked_not_done k e = absurd (cc)
 
+-- no bank stands twice on a walk
+pub stop_once : {net : Net} {c s : ℕ} {C W : List ℕ} {marks : List Mark} (j k : ℕ) → IsWalk net c s C W marks
+    → j < length W + 1 → k < length W + 1 → get_or (stops net s W) j 0 ≡ get_or (stops net s W) k 0 → j ≡ k
+stop_once {marks = marks} j k w l m same =
+    same_place j k (sym (w.marked j l) ∙ ap (mark_of marks) same ∙ w.marked k m)
+
+-- the last debt of a walk stands in no earlier place
+pub last_apart : {net : Net} {c s : ℕ} {C : List ℕ} {marks : List Mark} (W : List ℕ) (x k : ℕ)
+    → IsWalk net c s C (W ++ x ∷ []) marks → k < length W → get_or W k 0 ≢ x
+last_apart {net = net} {s = s} W x k w l e =
+    let same = stop_once (k + 1) (length W + 1) w (omega (arith, length_push W x)) (omega (arith, length_push W x))
+    (stop_before net s W x (k + 1) (omega arith) ∙ stop_after net s W k l ∙ ap (debtor_of net) e
+    ∙ sym (stop_last net s W x (length W + 1) refl)) in
+    omega arith
+
+-- and a debt to the end of a walk stands in none
+pub closing_apart : {net : Net} {c s : ℕ} {C W : List ℕ} {marks : List Mark} (x k : ℕ)
+    → IsWalk net c s C W marks → k < length W → creditor_of net x ≡ end_of net s W → get_or W k 0 ≢ x
+closing_apart {net = net} {W = W} x k w l link e =
+    let same = stop_once k (length W) w (omega arith) (omega arith)
+    (sym (w.links k l) ∙ ap (creditor_of net) e ∙ link) in
+    omega arith
+
 -- a walk begins at a bank
 pub walk_begins : (net : Net) (c s : ℕ) (C : List ℕ) (marks : List Mark) → s < length marks
     → HasNoWalk marks
@@ -63,11 +86,10 @@ walk_begins net c s C marks l none = record {
 }
   where
     at : (k : ℕ) → k ≡ 0 → mark_of (set marks s (Walked 0)) (get_or (stops net s []) k 0) ≡ Walked k
-    at k e = subst (λ k. mark_of (set marks s (Walked 0)) (get_or (stops net s []) k 0)
-        ≡ Walked k) (sym e) (get_or-set_same marks s (Walked 0) Done l)
+    at k e = rw e (get_or-set_same marks s (Walked 0) Done l)
 
     begins : (b p : ℕ) → p ≡ 0 → b ≡ s → (p < 0 + 1) × (get_or (stops net s []) p 0 ≡ b)
-    begins b p e same = (omega arith, ap (λ p. get_or (stops net s []) p 0) e ∙ sym same)
+    begins b p e same = (omega arith, rw e (sym same))
 
 -- a walk grows by a debt above 0 to its end, owed by a bank that is new
 pub walk_grows : (net : Net) (c s : ℕ) (C W : List ℕ) (marks : List Mark) (x : ℕ)
@@ -140,9 +162,7 @@ walk_back {net = net} {c = c} {s = s} {C = C} {marks = marks} D W x v w same l f
         claim = omega (
           arith,
           old.claim,
-          same y (λ e. other (k + 1) (omega arith)
-              (stop_before net s W x (k + 1) (omega arith) ∙ stop_after net s W k m
-              ∙ ap (debtor_of net) e)),
+          same y (last_apart W x k w m),
         );
       };
   links = λ k m.
@@ -171,12 +191,9 @@ walk_back {net = net} {c = c} {s = s} {C = C} {marks = marks} D W x v w same l f
     -- no stop before the last is the last debt's debtor
     other : (k : ℕ) → k < length W + 1 → get_or (stops net s (W ++ x ∷ [])) k 0 ≢ debtor_of net x
     other k m e =
-        let last : get_or (stops net s (W ++ x ∷ [])) (length W + 1) 0
-        ≡ debtor_of net x = stop_last net s W x (length W + 1) refl in
-        let both : Walked k ≡ Walked (length W + 1) =
-        sym (w.marked k (omega (arith, length_push W x))) ∙ ap (mark_of marks) (e ∙ sym last)
-        ∙ w.marked (length W + 1) (omega (arith, length_push W x)) in
-        absurd (omega (arith, same_place k (length W + 1) both))
+        let both = stop_once k (length W + 1) w (omega (arith, length_push W x)) (omega (arith, length_push W x))
+        (e ∙ sym (stop_last net s W x (length W + 1) refl)) in
+        omega arith
 
 -- a walk that has come back to its start ends there
 pub walk_ends : (net : Net) (c s : ℕ) (C : List ℕ) (marks : List Mark) (v : Mark)

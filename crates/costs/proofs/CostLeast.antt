@@ -4,13 +4,9 @@ use Rattle.std.proofs.Common.{◌≡◌, ℕ, ◌≤◌, List, ap, subst, arith}
 use Rattle.clr_net.specs.Amounts.{IsAtMost}
 use Rattle.clr_net.specs.Net.{Net}
 use Rattle.clear_core.specs.Clearing.{least_by, pay, rounds, least}
-use Rattle.clear_core.proofs.Least.{least_by_is, least_by_mono, least_by_only}
+use Rattle.clear_core.proofs.Least.{least_by_mono, least_by_only}
 use Rattle.costs.specs.Costs.{cost_spend, IsCostLeast, cost_least}
 use Rattle.costs.proofs.CostPay.{cost_spend_mono, cost_spend_never_falls, cost_spend_all}
-
--- the rounds from nothing paid end at the least payments that clear with costs
-pub cost_least_is : (net : Net) (k : ℕ) → k ≤ 1000 → IsCostLeast net k (cost_least net k)
-cost_least_is net k l = least_by_is net (cost_spend net k) (cost_spend_never_falls net k l)
 
 -- there is one least
 pub cost_least_only : (net : Net) (k : ℕ) (P : List ℕ) → k ≤ 1000 → IsCostLeast net k P

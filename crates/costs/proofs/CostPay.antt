@@ -35,9 +35,3 @@ cost_spend_all net = λ at i r. ap (λ e. e - outside_of net i) (kept_all net i 
 
 pub cost_pay_all : (net : Net) (P : List ℕ) → cost_pay net 1000 P ≡ pay net P
 cost_pay_all net P = ap (λ f. pay_by net f P) (cost_spend_all net) ∙ pay_by_spend net P
-
--- the payments on the debts of a row, in its order, are the bank's division
-pub cost_pay_row : (net : Net) (k : ℕ) (P : List ℕ) (i : ℕ)
-    → map (λ x. get_or (cost_pay net k P) x 0) (row net i)
-    ≡ division_of net i (cost_spend net k i (receipts net P i))
-cost_pay_row net k = pay_by_row net (cost_spend net k)

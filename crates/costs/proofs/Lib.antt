@@ -3,4 +3,3 @@ pub mod CostPay
 pub mod CostLeast
 pub mod CostGreatest
 pub mod PayingOut
-pub mod OneStanding

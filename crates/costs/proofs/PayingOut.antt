@@ -1,6 +1,6 @@
 -- Under payments that clear with costs, a bank pays out what it can of what it keeps, and no unit
 -- is made.
-use Rattle.std.proofs.Common.{◌≡◌, ℕ, ◌+◌, ◌<◌, ◌≤◌, min, List, length, get_or, sum, sum_by, sym, ap, ◌∙◌, subst, ⊎_elim, arith}
+use Rattle.std.proofs.Common.{◌≡◌, ℕ, ◌+◌, ◌<◌, ◌≤◌, min, List, length, get_or, sum, sum_by, refl, sym, ap, ◌∙◌, subst, ⊎_elim, arith}
 use Rattle.std.proofs.lemmas.Bool.{cases_lt}
 use Rattle.std.proofs.lemmas.List.Sums.{sum-map}
 use Rattle.clr_net.specs.Limits.{IsNetwork}
@@ -12,11 +12,12 @@ use Rattle.clear_core.specs.Clearing.{receipts, estate}
 use Rattle.clear_core.proofs.Pay.{pay_by_within}
 use Rattle.clear_core.proofs.Rows.{claim_in_limit}
 use Rattle.cascade.specs.Standings.{due, owed_by, paid_by}
+use Rattle.cascade.proofs.MoreCash.{pays_by}
 use Rattle.cascade.proofs.PayingOut.{all_kept}
 use Rattle.costs.specs.Costs.{cost_spend, cost_pay, CostClears}
 use Rattle.costs.specs.CostStandings.{lost_by, cost_outside_paid, cost_equity, PaysFromKept, CostAddsUp}
 use Rattle.costs.proofs.Keeping.{kept_le}
-use Rattle.costs.proofs.CostPay.{length-cost_pay, cost_pay_row}
+use Rattle.costs.proofs.CostPay.{length-cost_pay}
 
 -- payments that clear have a place for each debt
 pub cost_clearing_over : (net : Net) (k : ℕ) (P : List ℕ) → CostClears net k P
@@ -26,12 +27,9 @@ cost_clearing_over net k P c = sym (ap length c) ∙ length-cost_pay net k P
 -- and are within the limit of one claim
 pub cost_clearing_in_limit : (net : Net) (k : ℕ) (P : List ℕ) → IsNetwork net
     → CostClears net k P → AreInLimit P
-cost_clearing_in_limit net k P network c x = omega (
-  arith,
-  ap (λ (R : List ℕ). get_or R x 0) c,
-  pay_by_within net (cost_spend net k) P x,
-  claim_in_limit net x network,
-)
+cost_clearing_in_limit net k P network c x =
+    let within = pay_by_within net (cost_spend net k) P x in
+    omega (arith, ap (λ (R : List ℕ). get_or R x 0) c, claim_in_limit net x network)
 
 module _ (net : Net) (k : ℕ) (P : List ℕ) (network : IsNetwork net) (figure : k ≤ 1000)
     (clears : CostClears net k P) where
@@ -39,30 +37,20 @@ module _ (net : Net) (k : ℕ) (P : List ℕ) (network : IsNetwork net) (figure 
   pub cost_paid_is : (i : ℕ)
       → paid_by net P i ≡ min (cost_spend net k i (receipts net P i)) (owed_by net i)
   cost_paid_is i =
-      let units = cost_spend net k i (receipts net P i) in
-      let pays = λ (x : ℕ). get_or (cost_pay net k P) x 0 in
-      let all : sum_by pays (row net i) ≡ min units (owed_by net i) =
-      sym (sum-map pays (row net i))
-      ∙ ap sum (cost_pay_row net k P i)
-      ∙ sum_share (rule_of net i) (claims_of net i) (classes_of net i) units
-      (length-claims_of net i ∙ sym (length-classes_of net i)) (classes_of_are net i network) in
-      subst (λ Q. sum_by (λ x. get_or Q x 0) (row net i) ≡ min units (owed_by net i)) clears all
+      ap (λ Q. paid_by net Q i) (sym clears)
+      ∙ pays_by net network net.banks (cost_spend net k) P i
 
   -- outside first, then on its debts, and no more than it keeps
   pub cost_pays_out : (i : ℕ) → PaysFromKept net k P i
   cost_pays_out i = record {
     debts = omega (arith, cost_paid_is i);
     within = omega (arith, cost_paid_is i);
-    equity = ⊎_elim
-        (λ (l : estate net P i < due net i). λ p.
-        absurd (omega (arith, cost_paid_is i, kept_le net k i (estate net P i) figure)))
-        (λ (g : due net i ≤ estate net P i). λ p. g)
-        (cases_lt (estate net P i) (due net i));
+    equity = λ p. omega (arith, cost_paid_is i, kept_le net k i (estate net P i) figure);
   }
 
   -- and no unit is made
   pub cost_adds_up : CostAddsUp net k P
   cost_adds_up =
-      all_kept net P
-      (λ i. cost_equity net k P i + cost_outside_paid net k P i + lost_by net k P i) network
+      all_kept net network net.banks P
+      (λ i. cost_equity net k P i + cost_outside_paid net k P i + lost_by net k P i) refl
       (λ i. omega (arith, cost_paid_is i, kept_le net k i (estate net P i) figure))

@@ -15,30 +15,15 @@ use Rattle.cascade.specs.Ruin.{hit, kept_less}
 use Rattle.cascade.specs.Standings.{bank_numbers, is_sound, standing, standings}
 use Rattle.cascade.proofs.CashAt.{length-with_cash}
 use Rattle.cascade.proofs.Ruin.{costs_its_cash}
+use Rattle.cascade.proofs.Stands.{stands_there}
 use Rattle.impact.specs.declared.hurt.Hurt.{Hurt}
 use Rattle.impact.specs.Impact.{falls_with, hurt_by, hurt_to, is_hurt}
 
--- of a bank i of those that stand so under some payments
-module _ (net : Net) (P : List ℕ) (i : ℕ) (all : List Standing) (are : all ≡ standings net P)
-    (bank : i < length net.banks) where
-  -- it has its place
-  pub has_place : i < length all
-  has_place = omega (
-    arith,
-    ap length are,
-    length-map-range_with_len (standing net P) 0 (length net.banks),
-  )
-
-  -- there it stands so
-  pub stands : (d : Standing) → get_or all i d ≡ standing net P i
-  stands d =
-      ap (λ (all : List Standing). get_or all i d) are
-      ∙ get_or-map-range_with_len (standing net P) 0 (length net.banks) i i d bank (omega arith)
-
-  -- and what it keeps is within its estate
-  pub kept_within : (d : Standing) → (get_or all i d).equity + (get_or all i d).outside_paid
-      ≤ (get_or all i d).estate
-  kept_within d = rw (stands d) (omega arith)
+-- of a bank of those that stand so under some payments, what it keeps is within its estate
+pub kept_within : (net : Net) (P : List ℕ) (all : List Standing) → all ≡ standings net P
+    → (i : ℕ) (d : Standing) → i < length net.banks
+    → (get_or all i d).equity + (get_or all i d).outside_paid ≤ (get_or all i d).estate
+kept_within net P all are i d bank = rw (stands_there net P all are i d bank) (omega arith)
 
 -- the network is as large after a ruin
 pub bank_after : (net : Net) (j i : ℕ) → i < length net.banks → i < length (hit net j).banks
@@ -50,11 +35,12 @@ module _ (net : Net) (j i : ℕ) (before after : List Standing)
     (is : after ≡ standings (hit net j) (least (hit net j))) (bank : i < length net.banks) where
   -- it stood so before
   stood : (d : Standing) → get_or before i d ≡ standing net (least net) i
-  stood = stands net (least net) i before was bank
+  stood d = stands_there net (least net) before was i d bank
 
   -- and so after
   stood_after : (d : Standing) → get_or after i d ≡ standing (hit net j) (least (hit net j)) i
-  stood_after = stands (hit net j) (least (hit net j)) i after is (bank_after net j i bank)
+  stood_after d =
+      stands_there (hit net j) (least (hit net j)) after is i d (bank_after net j i bank)
 
   -- what it keeps less by the two
   pub keeps_less : (d e : Standing) (a b : ℕ)
@@ -71,14 +57,10 @@ module _ (net : Net) (j i : ℕ) (before after : List Standing)
       → a ≡ (get_or before i d).equity + (get_or before i d).outside_paid
       → b ≡ (get_or after i e).equity + (get_or after i e).outside_paid
       → b ≤ a
-  no_more network l d e a b first second = omega (
-    arith,
-    first,
-    second,
-    ap (λ (s : Standing). s.equity + s.outside_paid) (stood d),
-    ap (λ (s : Standing). s.equity + s.outside_paid) (stood_after e),
-    (costs_its_cash net j network l).nobody_gains.keeps i,
-  )
+  no_more network l d e a b first second =
+      let before = ap (λ (s : Standing). s.equity + s.outside_paid) (stood d) in
+      let later = ap (λ (s : Standing). s.equity + s.outside_paid) (stood_after e) in
+      omega (arith, (costs_its_cash net j network l).nobody_gains.keeps i)
 
   -- so the two tell what the ruin does to it
   pub told : (d e : Standing) (lost : ℕ) (fell : Bool) → lost ≡ kept_less net j i
@@ -123,14 +105,8 @@ pub fallen_more : (net : Net) (j n count one : ℕ) (b : Bool)
     ≡ count_by (falls_with net j) (filter (λ i. not (i == j)) (range_with_len 0 (n + 1))))
     × (one ≤ 1)
 fallen_more net j n count one b so_far e is = (
-  omega (
-    arith,
-    so_far,
-    e,
-    (as_number b).0,
-    ap {B = ℕ} (λ b. cond b 1 0) is,
-    count_more (falls_with net j) (λ i. not (i == j)) n,
-  ),
+  (let more = count_more (falls_with net j) (λ i. not (i == j)) n in
+      omega (arith, (as_number b).0, ap {B = ℕ} (λ b. cond b 1 0) is)),
   omega (arith, e, (as_number b).1),
 )
 

@@ -8,40 +8,16 @@ use Rattle.clr_net.specs.Limits.{IsNetwork}
 use Rattle.clr_net.specs.Net.{Net, cash_of}
 use Rattle.cascade.specs.Ruin.{kept_less}
 use Rattle.cascade.proofs.Ruin.{costs_its_cash}
-use Rattle.cascade.proofs.Sums.{sum_by_same, one_term}
+use Rattle.cascade.proofs.Sums.{one_term, with_first}
 use Rattle.impact.specs.Impact.{lost_by_others}
 
 -- a sum over those that pass is one over all, in which the others count nothing
 sum_filtered : (p : ℕ → Bool) (f : ℕ → ℕ) (xs : List ℕ)
     → sum_by f (filter p xs) ≡ sum_by (λ i. cond (p i) (f i) 0) xs
 sum_filtered p f [] = refl
-sum_filtered p f (x ∷ xs) = omega (
-  arith,
-  sum_by-cons (λ i. cond (p i) (f i) 0) x xs,
-  with_first (p x),
-  sum_filtered p f xs,
-)
-  where
-    with_first : (b : Bool)
-        → sum_by f (cond b (x ∷ filter p xs) (filter p xs)) ≡ cond b (f x) 0 + sum_by f (filter p xs)
-    with_first true = sum_by-cons f x (filter p xs)
-    with_first false = omega arith
-
--- a term counts for its own number alone
-own_term : (f : ℕ → ℕ) (j i : ℕ) → cond (i == j) (f i) 0 ≡ cond (j == i) (f j) 0
-own_term f j i = ⊎_elim
-    (λ (e : i ≡ j). omega (
-      arith,
-      ap (λ b. cond b (f i) 0) (eq-eqb i j e),
-      ap (λ b. cond b (f j) 0) (eq-eqb j i (sym e)),
-      ap f e,
-    ))
-    (λ (ne : i ≡ j → ⊥). omega (
-      arith,
-      ap (λ b. cond b (f i) 0) (ne_eqb i j ne),
-      ap (λ b. cond b (f j) 0) (ne_eqb j i (λ e. ne (sym e))),
-    ))
-    (cases_eq i j)
+sum_filtered p f (x ∷ xs) =
+    let first = sum_by-cons (λ i. cond (p i) (f i) 0) x xs in
+    omega (arith, with_first (p x) f x (filter p xs), sum_filtered p f xs)
 
 -- so the term of a number and those of all others are all terms
 own_and_others : (f : ℕ → ℕ) (j n : ℕ) → j < n
@@ -49,19 +25,13 @@ own_and_others : (f : ℕ → ℕ) (j n : ℕ) → j < n
     ≡ sum_by f (range_with_len 0 n)
 own_and_others f j n l =
     let all = range_with_len 0 n in
-    omega (
-      arith,
-      sum_by-filter_both (λ i. i == j) (λ i. not (i == j)) (λ i. refl) f all,
-      sum_filtered (λ i. i == j) f all,
-      sum_by_same (λ i. cond (i == j) (f i) 0) (λ i. cond (j == i) (f j) 0) all (own_term f j),
-      one_term 0 n j (f j) (omega arith) (omega arith),
-    )
+    let both = sum_by-filter_both (λ i. i == j) (λ i. not (i == j)) (λ i. refl) f all in
+    let own = one_term (λ i. i == j) f 0 n j (eq-eqb j j refl) (λ i. ne_eqb i j) (omega arith) (omega arith) in
+    omega (arith, sum_filtered (λ i. i == j) f all)
 
 -- what the ruined bank keeps less, and what all others do, is the cash that was lost
 pub own_and_others_are_cash : (net : Net) (j : ℕ) → IsNetwork net → j < length net.banks
     → kept_less net j j + lost_by_others net j ≡ cash_of net j
-own_and_others_are_cash net j network l = omega (
-  arith,
-  own_and_others (kept_less net j) j (length net.banks) l,
-  (costs_its_cash net j network l).all,
-)
+own_and_others_are_cash net j network l =
+    let all = own_and_others (kept_less net j) j (length net.banks) l in
+    omega (arith, (costs_its_cash net j network l).all)

@@ -1,14 +1,14 @@
 -- What is printed of one bank and of one debt is read back as that bank and that debt.
-use Rattle.std.proofs.Common.{◌≡◌, ◌<◌, ◌≤◌, ◌+◌, ◌*◌, ℕ, true, false, List, [], ◌∷◌, ◌++◌, length, map, Some, Ok, refl, sym, ap, ◌∙◌, arith, sum_by}
+use Rattle.std.proofs.Common.{◌≡◌, ◌≤◌, ◌+◌, ◌*◌, ℕ, false, List, [], ◌∷◌, ◌++◌, length, map, Some, Ok, refl, sym, ap, ◌∙◌, arith, sum_by}
 use Rattle.std.specs.Prelude.{codes}
-use Rattle.std.specs.List.{AllByRecursion, flat_map, list_any}
+use Rattle.std.specs.List.{AllByRecursion, flat_map}
 use Rattle.std.specs.Fmt.{decimal}
 use Rattle.std.proofs.lemmas.Bool.{lt-ltb, le-leb, ne_eqb}
 use Rattle.std.proofs.lemmas.List.{length-append}
 use Rattle.std.proofs.lemmas.List.Concat.{flat_map-cons}
 use Rattle.std.proofs.lemmas.Fmt.{length-decimal-le}
-use Rattle.clr_net.specs.Name.{is_name}
-use Rattle.clr_net.specs.Net.{Net, name_of, has_name}
+use Rattle.clr_net.specs.Net.{Net, name_of}
+use Rattle.clr_net.specs.Limits.{IsNewBank, IsNewDebt}
 use Rattle.clr_net.specs.declared.TheConstants.{MAX_BANKS, MAX_CASH, MAX_OUTSIDE, MAX_DEBTS, MAX_CLAIM, MAX_OWED}
 use Rattle.clr_net.specs.declared.bank.Bank.{Bank}
 use Rattle.clr_net.specs.declared.debt.Debt.{Debt}
@@ -16,7 +16,6 @@ use Rattle.clr_net.specs.declared.rule.RuleKind.{RuleKind}
 use Rattle.clr_net.specs.declared.rule.RuleKind.TheVariants as kind
 use Rattle.csv.specs.Reading.{strip_bom}
 use Rattle.net_check.specs.Field.{trimmed_start, trimmed_field, rule_in}
-use Rattle.net_check.specs.Record.{bank_in}
 use Rattle.clr_net.specs.Lines.{line}
 use Rattle.net_csv.specs.Printing.{rule_word, bank_fields, debt_fields}
 use Rattle.net_csv.specs.declared.layout.Version.{Version}
@@ -24,7 +23,7 @@ use Rattle.net_csv.specs.declared.layout.Version.TheVariants as version
 use Rattle.net_csv.specs.Reading.{Fields, trimmed_fields, is_blank, records_of, bank_in_row, debt_in_row}
 use Rattle.net_csv.proofs.PlainFields.{IsPlain, IsKeptField, kept_word, kept_name, kept_decimal, name_has_byte, name_is_short, number_in-decimal, class_back}
 use Rattle.net_csv.proofs.PrintedRecords.{IsRow, read_printed}
-use Rattle.net_csv.proofs.BackFacts.{IsBackBank, IsBackDebt, IsBackName}
+use Rattle.net_csv.proofs.BackFacts.{with_debts, no_name, no_kind, IsBackName}
 
 -- the word of a rule is kept, short, and read back as the rule
 record IsRuleWord (r : RuleKind) : Type 0 where
@@ -35,11 +34,7 @@ record IsRuleWord (r : RuleKind) : Type 0 where
 is_rule_word : (r : RuleKind) → IsRuleWord r
 unfolding trimmed_start
 is_rule_word kind.Order = record { kept = kept_word (codes "order") refl refl; short = omega arith; back = refl }
-is_rule_word kind.Equal = record { kept = kept_word (codes "equal") refl refl; short = omega arith; back = refl }
-is_rule_word kind.Losses = record { kept = kept_word (codes "losses") refl refl; short = omega arith; back = refl }
-is_rule_word kind.Jefferson = record { kept = kept_word (codes "jefferson") refl refl; short = omega arith; back = refl }
-is_rule_word kind.Webster = record { kept = kept_word (codes "webster") refl refl; short = omega arith; back = refl }
-is_rule_word kind.Adams = record { kept = kept_word (codes "adams") refl refl; short = omega arith; back = refl }
+is_rule_word r = record { kept = kept_word _ refl refl; short = omega arith; back = refl }
 
 -- a record that a file keeps, and whose line is short
 pub record IsKeptRow (fields : Fields) : Type 0 where
@@ -94,68 +89,52 @@ kept_short (fields ∷ rest) all =
     rw (flat_map-cons line fields rest) (omega arith)
 
 -- the record of a bank, in each version
-pub bank_row : (v : Version) (done : List Bank) (b : Bank) → IsBackBank done b → IsKeptRow (bank_fields v b)
-bank_row version.One done b back =
-    let limit = back.cash in
-    let name = name_is_short b.name back.named in
+pub bank_row : (v : Version) (net : Net) (b : Bank) → IsNewBank net b → trimmed_field b.name ≡ b.name → IsKeptRow (bank_fields v b)
+bank_row version.One net b new kept =
+    let name = name_is_short b.name new.named in
     let cash = length-decimal-le 20 b.cash (omega arith) (omega arith) (omega arith) in
     let word = (is_rule_word b.rule).short in
     kept_row b.name (decimal b.cash) (rule_word b.rule ∷ [])
-    (kept_name b.name back.named back.kept, (kept_decimal b.cash (omega arith), ((is_rule_word b.rule).kept, tt)))
-    (rw (name_has_byte b.name back.named) refl) (simp length-append (omega arith))
-bank_row version.Two done b back =
-    let limit = back.cash in
-    let limit_too = back.outside in
-    let name = name_is_short b.name back.named in
+    (kept_name b.name new.named kept, (kept_decimal b.cash (omega arith), ((is_rule_word b.rule).kept, tt)))
+    (rw (name_has_byte b.name new.named) refl) (simp length-append (omega arith))
+bank_row version.Two net b new kept =
+    let name = name_is_short b.name new.named in
     let cash = length-decimal-le 20 b.cash (omega arith) (omega arith) (omega arith) in
     let word = (is_rule_word b.rule).short in
     let outside = length-decimal-le 20 b.outside (omega arith) (omega arith) (omega arith) in
     kept_row b.name (decimal b.cash) (rule_word b.rule ∷ decimal b.outside ∷ [])
-    (kept_name b.name back.named back.kept, (kept_decimal b.cash (omega arith), ((is_rule_word b.rule).kept, (kept_decimal b.outside (omega arith), tt))))
-    (rw (name_has_byte b.name back.named) refl) (simp length-append (omega arith))
+    (kept_name b.name new.named kept, (kept_decimal b.cash (omega arith), ((is_rule_word b.rule).kept, (kept_decimal b.outside (omega arith), tt))))
+    (rw (name_has_byte b.name new.named) refl) (simp length-append (omega arith))
 
 -- a version says all of a bank
 abbrev pub SaysAll : Version → Bank → Type 0
 SaysAll version.One b = b.outside ≡ 0
 SaysAll version.Two b = Unit {0}
 
--- a bank whose rule stands there as a word
-bank_of_word_back : (done : List Bank) (row : ℕ) (name : List ℕ) (cash : ℕ) (word : List ℕ) (rule : RuleKind) → length done < MAX_BANKS
-    → is_name name ≡ true → list_any (has_name name) done ≡ false → cash ≤ MAX_CASH → rule_in word ≡ Some rule
-    → bank_in_row version.One (record { banks = done; debts = [] }) (row, name ∷ decimal cash ∷ word ∷ [])
-    ≡ Ok (record { name = name; cash = cash; rule = rule; outside = 0 })
-bank_of_word_back done row name cash word rule room named new limit is_rule =
-    rw (lt-ltb (length done) MAX_BANKS room, named, new, number_in-decimal cash (omega arith), le-leb cash MAX_CASH limit, is_rule) refl
+pub bank_read_back : (v : Version) (net : Net) (row : ℕ) (b : Bank) → IsNewBank net b → SaysAll v b
+    → bank_in_row v net (row, bank_fields v b) ≡ Ok b
+bank_read_back version.One net row b new none = rw (
+  lt-ltb (length net.banks) MAX_BANKS new.banks_in_limit,
+  new.named,
+  no_name net b.name new.only_of_its_name,
+  number_in-decimal b.cash (omega arith),
+  le-leb b.cash MAX_CASH new.cash_in_limit,
+  (is_rule_word b.rule).back,
+) (ap (λ (n : ℕ). Ok (record b { outside = n })) (sym none))
+bank_read_back version.Two net row b new all = rw (
+  lt-ltb (length net.banks) MAX_BANKS new.banks_in_limit,
+  new.named,
+  no_name net b.name new.only_of_its_name,
+  number_in-decimal b.cash (omega arith),
+  le-leb b.cash MAX_CASH new.cash_in_limit,
+  (is_rule_word b.rule).back,
+  number_in-decimal b.outside (omega arith),
+  le-leb b.outside MAX_OUTSIDE new.outside_in_limit,
+) refl
 
-bank_of_words_back : (done : List Bank) (row : ℕ) (name : List ℕ) (cash : ℕ) (word : List ℕ) (rule : RuleKind) (outside : ℕ) → length done < MAX_BANKS
-    → is_name name ≡ true → list_any (has_name name) done ≡ false → cash ≤ MAX_CASH → rule_in word ≡ Some rule → outside ≤ MAX_OUTSIDE
-    → bank_in_row version.Two (record { banks = done; debts = [] }) (row, name ∷ decimal cash ∷ word ∷ decimal outside ∷ [])
-    ≡ Ok (record { name = name; cash = cash; rule = rule; outside = outside })
-bank_of_words_back done row name cash word rule outside room named new limit is_rule limit_too =
-    rw (
-      lt-ltb (length done) MAX_BANKS room,
-      named,
-      new,
-      number_in-decimal cash (omega arith),
-      le-leb cash MAX_CASH limit,
-      is_rule,
-      number_in-decimal outside (omega arith),
-      le-leb outside MAX_OUTSIDE limit_too,
-    ) refl
-
-pub bank_read_back : (v : Version) (done : List Bank) (row : ℕ) (b : Bank) → IsBackBank done b → SaysAll v b
-    → bank_in_row v (record { banks = done; debts = [] }) (row, bank_fields v b) ≡ Ok b
-bank_read_back version.One done row b back none =
-    bank_of_word_back done row b.name b.cash (rule_word b.rule) b.rule back.room back.named back.new back.cash (is_rule_word b.rule).back
-    ∙ ap (λ (n : ℕ). Ok (record { name = b.name; cash = b.cash; rule = b.rule; outside = n })) (sym none)
-bank_read_back version.Two done row b back all =
-    bank_of_words_back done row b.name b.cash (rule_word b.rule) b.rule b.outside back.room back.named back.new back.cash (is_rule_word b.rule).back back.outside
-
-pub debt_row : (net : Net) (done : List Debt) (d : Debt) → IsBackDebt net done d → IsBackName net d.debtor.0 → IsBackName net d.creditor.0
-    → IsKeptRow (debt_fields net d)
-debt_row net done d back debtor creditor =
-    let limit = back.claim in
-    let class = back.class_in_limit in
+pub debt_row : (net : Net) (done : List Debt) (d : Debt) → IsNewDebt (with_debts net done) d
+    → IsBackName net d.debtor.0 → IsBackName net d.creditor.0 → IsKeptRow (debt_fields net d)
+debt_row net done d new debtor creditor =
     let name = name_is_short (name_of net d.debtor.0) debtor.named in
     let name_too = name_is_short (name_of net d.creditor.0) creditor.named in
     let class_short = length-decimal-le 1 d.class (omega arith) (omega arith) (omega arith) in
@@ -166,21 +145,19 @@ debt_row net done d back debtor creditor =
     )
     (rw (name_has_byte (name_of net d.debtor.0) debtor.named) refl) (simp length-append (omega arith))
 
-bank_named_back : (net : Net) (done : List Debt) (i : ℕ) → IsBackName net i → bank_in (record { banks = net.banks; debts = done }) (name_of net i) ≡ Ok i
-bank_named_back net done i name = rw (name.named, name.place) refl
-
-pub debt_read_back : (net : Net) (done : List Debt) (row : ℕ) (d : Debt) → IsBackDebt net done d → IsBackName net d.debtor.0 → IsBackName net d.creditor.0
-    → debt_in_row (record { banks = net.banks; debts = done }) (row, debt_fields net d) ≡ Ok d
-debt_read_back net done row d back debtor creditor =
-    let limit = back.claim in
-    rw (
-      lt-ltb (length done) MAX_DEBTS back.room,
-      bank_named_back net done d.debtor.0 debtor,
-      bank_named_back net done d.creditor.0 creditor,
-      ne_eqb d.debtor.0 d.creditor.0 back.two,
-      class_back d.class back.class_at_least_1 back.class_in_limit,
-      number_in-decimal d.claim (omega arith),
-      le-leb d.claim MAX_CLAIM back.claim,
-      back.new,
-      le-leb (sum_by (λ d. d.claim) done + d.claim) MAX_OWED back.total,
-    ) refl
+pub debt_read_back : (net : Net) (done : List Debt) (row : ℕ) (d : Debt) → IsNewDebt (with_debts net done) d
+    → IsBackName net d.debtor.0 → IsBackName net d.creditor.0
+    → debt_in_row (with_debts net done) (row, debt_fields net d) ≡ Ok d
+debt_read_back net done row d new debtor creditor = rw (
+  lt-ltb (length done) MAX_DEBTS new.debts_in_limit,
+  debtor.named,
+  debtor.place,
+  creditor.named,
+  creditor.place,
+  ne_eqb d.debtor.0 d.creditor.0 new.between_two_banks,
+  class_back d.class new.class_at_least_1 new.class_in_limit,
+  number_in-decimal d.claim (omega arith),
+  le-leb d.claim MAX_CLAIM new.claim_in_limit,
+  no_kind (with_debts net done) d.debtor.0 d.creditor.0 d.class new.only_of_its_kind,
+  le-leb (sum_by (λ d. d.claim) done + d.claim) MAX_OWED new.owed_in_limit,
+) refl

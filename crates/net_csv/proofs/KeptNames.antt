@@ -16,25 +16,18 @@ use Rattle.net_csv.specs.declared.layout.Layout.TheVariants as layout
 use Rattle.net_csv.proofs.Networks.{bank_in_row-ok, network_of-keeps}
 
 -- the name of a bank that a record gives is the record's first field
-new_bank-name : (net : Net) (name cash rule : List ℕ) (outside : Option (List ℕ)) (b : Bank)
-    → trimmed_field name ≡ name → new_bank net name cash rule outside ≡ Ok b → trimmed_field b.name ≡ b.name
-new_bank-name net name cash rule outside b kept h = rw (new_bank-given net name cash rule outside b h).name_is kept
-
 bank_from-name : (net : Net) (fields : Fields) (b : Bank) → trimmed_fields fields ≡ fields → bank_from net fields ≡ Ok b
     → trimmed_field b.name ≡ b.name
-bank_from-name net [] b kept h = cc
-bank_from-name net (name ∷ []) b kept h = cc
-bank_from-name net (name ∷ cash ∷ []) b kept h = cc
-bank_from-name net (name ∷ cash ∷ rule ∷ []) b kept h = new_bank-name net name cash rule None b (cc) h
-bank_from-name net (name ∷ cash ∷ rule ∷ outside ∷ []) b kept h = new_bank-name net name cash rule (Some outside) b (cc) h
-bank_from-name net (name ∷ cash ∷ rule ∷ outside ∷ more ∷ fields) b kept h = cc
+bank_from-name net (name ∷ cash ∷ rule ∷ []) b kept h = rw (new_bank-given net name cash rule None b h).name_is (cc)
+bank_from-name net (name ∷ cash ∷ rule ∷ outside ∷ []) b kept h =
+    rw (new_bank-given net name cash rule (Some outside) b h).name_is (cc)
+bank_from-name net fields b kept h = cc
 
 KeepsNames-with_bank : (net : Net) (b : Bank) → KeepsNames net → trimmed_field b.name ≡ b.name → KeepsNames (with_bank net b)
 KeepsNames-with_bank net b keeps kept i l =
     let longer = length_push net.banks b in
-    ⊎_elim (λ (e : i ≡ length net.banks). rw (e, slice_get_push_at net.banks b) kept)
-    (λ (other : i ≡ length net.banks → ⊥). let below : i < length net.banks = omega arith in rw (slice_get_push_before net.banks b i below) (keeps i below))
-    (cases_eq i (length net.banks))
+    let at = slice_get_push_at net.banks b in
+    grind (arith, slice_get_push_before net.banks b i, keeps i, cases_eq i (length net.banks))
 
 -- a row adds no other name
 row_keeps_names : (l : Layout) (net : Net) (r : ℕ × Fields) (next : Net) → trimmed_fields r.1 ≡ r.1 → KeepsNames net

@@ -25,18 +25,14 @@ use Rattle.net_csv.proofs.Trimmed.{AreTrimmed, file_rows}
 pub bank_in_row-ok : (v : Version) (net : Net) (r : ℕ × Fields) (b : Bank) → bank_in_row v net r ≡ Ok b
     → (length net.banks < MAX_BANKS) × (bank_from net r.1 ≡ Ok b)
 bank_in_row-ok v net r b h =
-    let after_room = fault_unless (length r.1 == length (banks_header v)) fault.Fields (bank_from net r.1) in
-    let step = fault_unless (nat_lt (length net.banks) MAX_BANKS) fault.TooMany after_room in
-    let room = fault_unless-ok (nat_lt (length net.banks) MAX_BANKS) fault.TooMany after_room b (in_row-ok file.Banks r.0 step b h) in
-    let fields = fault_unless-ok (length r.1 == length (banks_header v)) fault.Fields (bank_from net r.1) b room.1 in
-    (ltb-true (length net.banks) MAX_BANKS room.0, fields.1)
+    let room = fault_unless-ok _ _ _ b (in_row-ok file.Banks r.0 _ b h) in
+    (ltb-true (length net.banks) MAX_BANKS room.0, (fault_unless-ok _ _ _ b room.1).1)
 
 -- and a debt
 debt_in_row-ok : (net : Net) (r : ℕ × Fields) (d : Debt) → debt_in_row net r ≡ Ok d
     → (length net.debts < MAX_DEBTS) × (debt_from net r.1 ≡ Ok d)
 debt_in_row-ok net r d h =
-    let step = fault_unless (nat_lt (length net.debts) MAX_DEBTS) fault.TooMany (debt_from net r.1) in
-    let room = fault_unless-ok (nat_lt (length net.debts) MAX_DEBTS) fault.TooMany (debt_from net r.1) d (in_row-ok file.Debts r.0 step d h) in
+    let room = fault_unless-ok _ _ _ d (in_row-ok file.Debts r.0 _ d h) in
     (ltb-true (length net.debts) MAX_DEBTS room.0, room.1)
 
 -- what each row of a file keeps, all of them keep
@@ -67,10 +63,8 @@ pub record AreRead (banks debts : List ℕ) (net : Net) : Type 0 where
 
 pub are_read : (banks debts : List ℕ) (net : Net) → network_of banks debts ≡ Ok net → AreRead banks debts net
 are_read banks debts net h =
-    let both = and_then (with_banks_of banks empty_net) (with_debts_of debts) in
-    let after = fault_unless (is_within_limit file.Debts debts) (fault_at file.Debts 0 fault.FileSize) both in
-    let first = fault_unless-ok (is_within_limit file.Banks banks) (fault_at file.Banks 0 fault.FileSize) after net h in
-    let second = fault_unless-ok (is_within_limit file.Debts debts) (fault_at file.Debts 0 fault.FileSize) both net first.1 in
+    let first = fault_unless-ok _ _ _ net h in
+    let second = fault_unless-ok _ _ _ net first.1 in
     let read = and_then-ok (with_banks_of banks empty_net) (with_debts_of debts) net second.1 in
     record {
       some = read.0;

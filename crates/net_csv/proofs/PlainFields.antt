@@ -1,5 +1,5 @@
 -- Fields that a file keeps as they are: without quotes, and with no space or tab at their ends.
-use Rattle.std.proofs.Common.{◌≡◌, ◌≢◌, ◌∙◌, ◌<◌, ◌≤◌, ◌+◌, ◌-◌, ◌*◌, ◌/◌, ◌%◌, ◌^◌, ◌==◌, ◌&&◌, ℕ, Bool, true, false, cond, not, nat_le, List, [], ◌∷◌, ◌++◌, length, reverse, Some, refl, sym, ap, arith}
+use Rattle.std.proofs.Common.{◌≡◌, ◌≢◌, ◌∙◌, ◌<◌, ◌≤◌, ◌+◌, ◌-◌, ◌*◌, ◌/◌, ◌%◌, ◌^◌, ◌==◌, ◌&&◌, ℕ, Bool, true, false, cond, not, nat_le, List, [], ◌∷◌, ◌++◌, length, get_or, reverse, Some, refl, sym, ap, arith}
 use Rattle.std.specs.List.{list_all, list_any}
 use Rattle.std.specs.Char.{is_ascii_digit}
 use Rattle.std.specs.Fmt.{decimal}
@@ -7,7 +7,8 @@ use Rattle.std.specs.Str.{is_utf8, chars}
 use Rattle.std.proofs.lemmas.Bool.{and_parts, ne_eqb, le-leb, leb-true, not-true}
 use Rattle.std.proofs.lemmas.Fmt.{decimal_by_steps_wide, decimal_digit, length-decimal-le_wide}
 use Rattle.std.proofs.lemmas.List.{length-append}
-use Rattle.std.proofs.lemmas.List.Folds.{list_all-append, list_any-append}
+use Rattle.std.proofs.lemmas.List.Folds.{list_all-append, list_any-append, list_any_none}
+use Rattle.std.proofs.lemmas.List.Sums.{AllPass-from_list_all}
 use Rattle.std.proofs.lemmas.Str.{IsUtf8-from_is_utf8, chars-encodes}
 use lib.Dec.{ltb}
 use lib.Utf8.{encode, encodes, next}
@@ -18,12 +19,8 @@ use Rattle.net_check.specs.Field.{is_space_or_tab, trimmed_start, trimmed_field,
 use Rattle.net_check.specs.declared.TheConstants.{MAX_DIGITS}
 use Rattle.net_check.proofs.Fields.{trimmed_start-stops, trimmed_end-stops}
 
--- a byte that calls for no quotes
-plain_byte : (b : ℕ) → b ≢ 44 → b ≢ 34 → b ≢ 13 → b ≢ 10 → needs_byte default_writer b ≡ false
-plain_byte b comma quote return feed = rw (ne_eqb b 44 comma, ne_eqb b 34 quote, ne_eqb b 13 return, ne_eqb b 10 feed) refl
-
 high_byte : (b : ℕ) → 128 ≤ b → needs_byte default_writer b ≡ false
-high_byte b high = plain_byte b (λ e. omega arith) (λ e. omega arith) (λ e. omega arith) (λ e. omega arith)
+high_byte b high = grind arith
 
 -- a field with no byte that calls for quotes
 pub record IsPlain (field : List ℕ) : Type 0 where
@@ -32,25 +29,7 @@ pub record IsPlain (field : List ℕ) : Type 0 where
 -- a character that may stand in a name
 plain_char : (c : ℕ) → may_stand_in_name c ≡ true → list_any (needs_byte default_writer) (encode c) ≡ false
 unfolding encode
-plain_char c may = by (ltb c 128) (ltb c 2048) (ltb c 65536) refl
-  where
-    low : needs_byte default_writer c ≡ false
-    low =
-        let quote = and_parts (not (is_control c) && not (c == 44)) (not (c == 34)) may in
-        let comma = and_parts (not (is_control c)) (not (c == 44)) quote.0 in
-        let control = not-true (is_control c) comma.0 in
-        plain_byte c (λ e. absurd (cc (rw e at comma.1))) (λ e. absurd (cc (rw e at quote.1)))
-        (λ e. absurd (cc (rw e at control))) (λ e. absurd (cc (rw e at control)))
-
-    by : (a b d : Bool) → ltb c 128 ≡ a
-        → list_any (needs_byte default_writer)
-        (cond a (c ∷ []) (cond b ((192 + c / 64) ∷ next c ∷ []) (cond d ((224 + c / 4096) ∷ next (c / 64) ∷ next c ∷ [])
-        ((240 + c / 262144) ∷ next (c / 4096) ∷ next (c / 64) ∷ next c ∷ [])))) ≡ false
-    by true b d e = rw low refl
-    by false true d e = rw (high_byte (192 + c / 64) (omega arith), high_byte (next c) (omega arith)) refl
-    by false false true e = rw (high_byte (224 + c / 4096) (omega arith), high_byte (next (c / 64)) (omega arith), high_byte (next c) (omega arith)) refl
-    by false false false e =
-        rw (high_byte (240 + c / 262144) (omega arith), high_byte (next (c / 4096)) (omega arith), high_byte (next (c / 64)) (omega arith), high_byte (next c) (omega arith)) refl
+plain_char c may = grind (arith, high_byte)
 
 plain_chars : (cs : List ℕ) → list_all may_stand_in_name cs ≡ true → list_any (needs_byte default_writer) (encodes cs) ≡ false
 plain_chars [] h = refl
@@ -61,37 +40,28 @@ plain_chars (c ∷ cs) h =
 -- a name calls for no quotes
 plain_name : (name : List ℕ) → is_name name ≡ true → IsPlain name
 plain_name name h =
-    let characters = and_parts (nat_le 1 (length name) && nat_le (length name) MAX_NAME_BYTES && is_utf8 name) (list_all may_stand_in_name (chars name)) h in
-    let text = and_parts (nat_le 1 (length name) && nat_le (length name) MAX_NAME_BYTES) (is_utf8 name) characters.0 in
-    let utf8 = IsUtf8-from_is_utf8 name text.1 in
+    let text : is_utf8 name ≡ true = grind arith in
+    let characters : list_all may_stand_in_name (chars name) ≡ true = grind arith in
+    let utf8 = IsUtf8-from_is_utf8 name text in
     let spelt : chars name ≡ utf8.0 = ap chars (sym utf8.1.1) ∙ chars-encodes utf8.0 utf8.1.0 in
-    record { unquoted = rw utf8.1.1 at (plain_chars utf8.0 (rw spelt at characters.1)) }
+    record { unquoted = rw utf8.1.1 at (plain_chars utf8.0 (rw spelt at characters)) }
 
 -- a name has a byte
 pub name_has_byte : (name : List ℕ) → is_name name ≡ true → (length name == 0) ≡ false
-name_has_byte [] h = absurd (cc h)
-name_has_byte (b ∷ rest) h = ne_eqb (length (b ∷ rest)) 0 (λ e. omega arith)
+name_has_byte name h = grind arith
 
 -- and no more than a name may have
 pub name_is_short : (name : List ℕ) → is_name name ≡ true → length name ≤ MAX_NAME_BYTES
-name_is_short name h =
-    let characters = and_parts (nat_le 1 (length name) && nat_le (length name) MAX_NAME_BYTES && is_utf8 name) (list_all may_stand_in_name (chars name)) h in
-    let text = and_parts (nat_le 1 (length name) && nat_le (length name) MAX_NAME_BYTES) (is_utf8 name) characters.0 in
-    leb-true (length name) MAX_NAME_BYTES (and_parts (nat_le 1 (length name)) (nat_le (length name) MAX_NAME_BYTES) text.0).1
+name_is_short name h = grind arith
 
 -- digits call for no quotes
 plain_digit : (b : ℕ) → is_ascii_digit b ≡ true → (needs_byte default_writer b ≡ false) × (is_space_or_tab b ≡ false)
-plain_digit b h = (
-  plain_byte b (λ e. absurd (cc (rw e at h))) (λ e. absurd (cc (rw e at h))) (λ e. absurd (cc (rw e at h))) (λ e. absurd (cc (rw e at h))),
-  rw (ne_eqb b 32 (λ e. absurd (cc (rw e at h))), ne_eqb b 9 (λ e. absurd (cc (rw e at h)))) refl,
-)
+plain_digit b h = (grind arith, grind arith)
 
 plain_digits : (ds : List ℕ) → list_all is_ascii_digit ds ≡ true → IsPlain ds
-plain_digits [] h = record { unquoted = refl }
-plain_digits (b ∷ rest) h =
-    let parts = and_parts (is_ascii_digit b) (list_all is_ascii_digit rest) h in
-    let more = plain_digits rest parts.1 in
-    record { unquoted = rw ((plain_digit b parts.0).0, more.unquoted) refl }
+plain_digits ds h = record {
+  unquoted = list_any_none (needs_byte default_writer) ds (λ k d l. (plain_digit (get_or ds k d) (AllPass-from_list_all is_ascii_digit ds h k d l)).0);
+}
 
 -- the last of some elements that pass
 last_of : (p : ℕ → Bool) (x : ℕ) (xs : List ℕ) → list_all p (x ∷ xs) ≡ true
@@ -123,7 +93,7 @@ abbrev Spells : ℕ → List ℕ → Type 0
 Spells n ds = (list_all is_ascii_digit ds ≡ true) × (number_after 0 ds ≡ n)
 
 digit : (n : ℕ) → n < 10 → is_ascii_digit (48 + n) ≡ true
-digit n small = rw (le-leb 48 (48 + n) (omega arith), le-leb (48 + n) 57 (omega arith)) refl
+digit n small = grind arith
 
 decimal_spells : (n : ℕ) → n < 10 ^ MAX_DIGITS → Spells n (decimal n)
 unfolding number_after

@@ -1,6 +1,7 @@
 -- A printed file, read record by record.
 use Rattle.std.proofs.Common.{◌≡◌, ◌∙◌, ◌||◌, ℕ, Bool, true, false, List, [], ◌∷◌, ◌++◌, map, Some, refl, sym, ap}
 use Rattle.std.specs.List.{AllByRecursion, flat_map, join_with_byte, list_any}
+use Rattle.std.proofs.lemmas.Bool.{or_parts}
 use Rattle.std.proofs.lemmas.List.{append-nil}
 use Rattle.std.proofs.lemmas.List.Concat.{flat_map-cons}
 use Rattle.csv.specs.Machine.{next_record}
@@ -29,12 +30,9 @@ pub record IsRow (fields : Fields) : Type 0 where
 -- words that call for no quotes, by a test
 plain_words : (words : Fields) → list_any (list_any (needs_byte default_writer)) words ≡ false → ArePlain words
 plain_words [] h = tt
-plain_words (x ∷ rest) h = by (list_any (needs_byte default_writer) x) refl h (plain_words rest)
-  where
-    by : (b : Bool) → list_any (needs_byte default_writer) x ≡ b → (b || list_any (list_any (needs_byte default_writer)) rest) ≡ false
-        → (list_any (list_any (needs_byte default_writer)) rest ≡ false → ArePlain rest) → IsPlain x × ArePlain rest
-    by true e g more = absurd (cc)
-    by false e g more = (record { unquoted = e }, more g)
+plain_words (x ∷ rest) h =
+    let parts = or_parts (list_any (needs_byte default_writer) x) (list_any (list_any (needs_byte default_writer)) rest) h in
+    (record { unquoted = parts.0 }, plain_words rest parts.1)
 
 pub word_row : (first second : List ℕ) (others : Fields) → list_any (list_any (needs_byte default_writer)) (first ∷ second ∷ others) ≡ false
     → IsRow (first ∷ second ∷ others)

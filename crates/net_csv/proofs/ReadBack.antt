@@ -4,6 +4,8 @@ use Rattle.std.specs.Prelude.{codes}
 use Rattle.std.specs.List.{flat_map, list_all}
 use Rattle.std.proofs.lemmas.Bool.{eqb-true, and_parts}
 use Rattle.std.proofs.lemmas.List.{append-nil, length-append, length-map}
+use Rattle.std.proofs.lemmas.Option.{slice_get_within, get_or_from_slice_get}
+use Rattle.std.proofs.lemmas.List.Sums.{AllPass-from_list_all}
 use Rattle.csv.specs.Reading.{strip_bom}
 use Rattle.clr_net.specs.Lines.{line}
 use Rattle.clr_net.specs.Net.{Net, empty_net, with_bank, with_debt}
@@ -12,10 +14,12 @@ use Rattle.clr_net.specs.declared.bank.Bank.{Bank}
 use Rattle.clr_net.specs.declared.debt.Debt.{Debt}
 use Rattle.net_check.specs.Checks.{and_then}
 use Rattle.net_check.specs.Field.{trimmed_start}
+use Rattle.net_check.specs.Words.{file_limit}
 use Rattle.net_check.specs.declared.fault.Fault.{Fault}
+use Rattle.net_check.specs.declared.fault.FileKind.TheVariants as file
 use Rattle.net_check.proofs.Passed.{and_then-ok}
-use Rattle.net_csv.specs.Printing.{bank_fields, debt_fields, bank_line, debt_line, banks_text_in, banks_text_2, banks_text, debts_text, version_for, KeepsNames}
-use Rattle.net_csv.specs.Reading.{Fields, trimmed_fields, rows_from, records_of, banks_header, debts_header, header, file_of, version_of, with_row, bank_in_row, debt_in_row, read_rows, below_header, with_file, with_banks_of, with_debts_of, network_of}
+use Rattle.net_csv.specs.Printing.{bank_fields, debt_fields, banks_text_in, banks_text_2, banks_text, debts_text, version_for, KeepsNames}
+use Rattle.net_csv.specs.Reading.{Fields, trimmed_fields, rows_from, records_of, banks_header, header, file_of, version_of, with_row, bank_in_row, debt_in_row, read_rows, below_header, with_file, with_debts_of, network_of}
 use Rattle.net_csv.specs.declared.layout.Layout.{Layout}
 use Rattle.net_csv.specs.declared.layout.Layout.TheVariants as layout
 use Rattle.net_csv.specs.declared.layout.Version.{Version}
@@ -24,8 +28,33 @@ use Rattle.net_csv.proofs.Networks.{are_read, with_file-keeps, network_of_ok, ne
 use Rattle.net_csv.proofs.KeptNames.{network_of_names}
 use Rattle.net_csv.proofs.Rows.{one_row, rows-pass, rows-end, file-below}
 use Rattle.net_csv.proofs.PrintedRecords.{IsRow, word_row, lines-map}
-use Rattle.net_csv.proofs.BackFacts.{IsBackDebt, IsBackName, bank_back, debt_back, name_back}
+use Rattle.net_csv.proofs.BackFacts.{with_banks, with_debts, at_end, bank_back, debt_back, name_back}
 use Rattle.net_csv.proofs.BackRows.{IsKeptRow, AreKeptRows, records_printed, kept_short, SaysAll, bank_row, debt_row, bank_read_back, debt_read_back}
+
+-- the headers
+header_row : (l : Layout) → IsRow (header l)
+header_row (layout.Banks version.One) = word_row (codes "name") (codes "cash") (codes "rule" ∷ []) refl
+header_row (layout.Banks version.Two) = word_row (codes "name") (codes "cash") (codes "rule" ∷ codes "outside" ∷ []) refl
+header_row layout.Debts = word_row (codes "debtor") (codes "creditor") (codes "class" ∷ codes "claim" ∷ []) refl
+
+header_back : (l : Layout) (below : List Fields) → below_header (file_of l) (header l) (trimmed_fields (header l) ∷ below) ≡ Ok below
+unfolding trimmed_start
+header_back (layout.Banks version.One) below = refl
+header_back l below = refl
+
+version_back : (v : Version) (below : List Fields) → version_of (trimmed_fields (banks_header v) ∷ below) ≡ v
+unfolding trimmed_start
+version_back version.One below = refl
+version_back version.Two below = refl
+
+unmarked : (l : Layout) (text : List ℕ) → strip_bom (line (header l) ++ text) ≡ line (header l) ++ text
+unfolding strip_bom
+unmarked (layout.Banks version.One) text = refl
+unmarked l text = refl
+
+short_header : (l : Layout) → length (line (header l)) ≤ 40
+short_header (layout.Banks version.One) = omega arith
+short_header l = omega arith
 
 -- things that a file has line by line, each of which is read back beside those before it
 record IsPrinted (X : Type 0) (l : Layout) (fields_of : X → Fields) (so_far : List X → Net) (all : List X) : Type 0 where
@@ -37,22 +66,20 @@ record IsPrinted (X : Type 0) (l : Layout) (fields_of : X → Fields) (so_far : 
 abbrev file_text : {X : Type 0} → Layout → (X → Fields) → List X → List ℕ
 file_text l fields_of all = line (header l) ++ flat_map (λ x. line (fields_of x)) all
 
--- an element more before the rest
-moved : {X : Type 0} (all done rest : List X) (x : X) → all ≡ done ++ x ∷ rest → all ≡ (done ++ x ∷ []) ++ rest
-moved all done rest x e = e ∙ sym (append_assoc done (x ∷ []) rest)
-
 -- what holds of every file
-module _ (X : Type 0) (l : Layout) (fields_of : X → Fields) (so_far : List X → Net) (all : List X)
+module _ {X : Type 0} {l : Layout} {fields_of : X → Fields} {so_far : List X → Net} {all : List X}
     (printed : IsPrinted X l fields_of so_far all) where
   -- a file keeps the records
   all_kept : (rest done : List X) → all ≡ done ++ rest → AreKeptRows (map fields_of rest)
   all_kept [] done e = tt
-  all_kept (x ∷ rest) done e = (printed.kept done rest x e, all_kept rest (done ++ x ∷ []) (moved all done rest x e))
+  all_kept (x ∷ rest) done e = (printed.kept done rest x e, all_kept rest (done ++ x ∷ []) (e ∙ sym (append_assoc done (x ∷ []) rest)))
 
-  -- the lines are short
-  short_lines : length (flat_map (λ x. line (fields_of x)) all) ≤ 151 * length all
-  short_lines = omega (
+  -- it is short
+  short : length (file_text l fields_of all) ≤ 40 + 151 * length all
+  short = omega (
     arith,
+    short_header l,
+    length-append (line (header l)) (flat_map (λ x. line (fields_of x)) all),
     ap length (lines-map fields_of (λ x. line (fields_of x)) (λ x. refl) all),
     kept_short (map fields_of all) (all_kept all [] refl),
     length-map all fields_of,
@@ -65,145 +92,80 @@ module _ (X : Type 0) (l : Layout) (fields_of : X → Fields) (so_far : List X �
   rows_back (x ∷ rest) done row e =
       rows-pass l (so_far done) (so_far (done ++ x ∷ [])) row (fields_of x) (map fields_of rest)
       (one_row l (so_far done) row (fields_of x) (printed.kept done rest x e).full ∙ printed.read done rest x row e)
-      ∙ rows_back rest (done ++ x ∷ []) (row + 1) (moved all done rest x e)
+      ∙ rows_back rest (done ++ x ∷ []) (row + 1) (e ∙ sym (append_assoc done (x ∷ []) rest))
       ∙ ap (λ xs. Ok (so_far xs)) (append_assoc done (x ∷ []) rest)
 
--- the headers
-header_row : (l : Layout) → IsRow (header l)
-header_row (layout.Banks version.One) = word_row (codes "name") (codes "cash") (codes "rule" ∷ []) refl
-header_row (layout.Banks version.Two) = word_row (codes "name") (codes "cash") (codes "rule" ∷ codes "outside" ∷ []) refl
-header_row layout.Debts = word_row (codes "debtor") (codes "creditor") (codes "class" ∷ codes "claim" ∷ []) refl
+  -- a printed file is read as what it was printed of
+  records_back : records_of (file_text l fields_of all) ≡ trimmed_fields (header l) ∷ map fields_of all
+  records_back =
+      ap (λ t. records_of (line (header l) ++ t)) (lines-map fields_of (λ x. line (fields_of x)) (λ x. refl) all)
+      ∙ records_printed (header l) (map fields_of all) (header_row l) (all_kept all [] refl) (unmarked l (flat_map line (map fields_of all)))
 
-header_back : (l : Layout) (below : List Fields) → below_header (file_of l) (header l) (trimmed_fields (header l) ∷ below) ≡ Ok below
-unfolding trimmed_start
-header_back (layout.Banks version.One) below = refl
-header_back (layout.Banks version.Two) below = refl
-header_back layout.Debts below = refl
-
-version_back : (v : Version) (below : List Fields) → version_of (trimmed_fields (banks_header v) ∷ below) ≡ v
-unfolding trimmed_start
-version_back version.One below = refl
-version_back version.Two below = refl
-
-unmarked : (l : Layout) (text : List ℕ) → strip_bom (line (header l) ++ text) ≡ line (header l) ++ text
-unfolding strip_bom
-unmarked (layout.Banks version.One) text = refl
-unmarked (layout.Banks version.Two) text = refl
-unmarked layout.Debts text = refl
-
-short_header : (l : Layout) → length (line (header l)) ≤ 40
-short_header (layout.Banks version.One) = omega arith
-short_header (layout.Banks version.Two) = omega arith
-short_header layout.Debts = omega arith
-
--- a printed file is read as what it was printed of
-records_back : (X : Type 0) (l : Layout) (fields_of : X → Fields) (so_far : List X → Net) (all : List X) → IsPrinted X l fields_of so_far all
-    → records_of (file_text l fields_of all) ≡ trimmed_fields (header l) ∷ map fields_of all
-records_back X l fields_of so_far all printed =
-    let rows = map fields_of all in
-    ap (λ t. records_of (line (header l) ++ t)) (lines-map fields_of (λ x. line (fields_of x)) (λ x. refl) all)
-    ∙ records_printed (header l) rows (header_row l) (all_kept X l fields_of so_far all printed all [] refl)
-    (unmarked l (flat_map line rows))
-
-file_back : (X : Type 0) (l : Layout) (fields_of : X → Fields) (so_far : List X → Net) (all : List X) → IsPrinted X l fields_of so_far all
-    → with_file l (file_text l fields_of all) (so_far []) ≡ Ok (so_far all)
-file_back X l fields_of so_far all printed =
-    file-below l (file_text l fields_of all) (so_far []) (trimmed_fields (header l) ∷ map fields_of all) (map fields_of all)
-    (sym (records_back X l fields_of so_far all printed)) (header_back l (map fields_of all))
-    ∙ rows_back X l fields_of so_far all printed all [] 1 refl
-
--- the banks of a network without its debts
-abbrev with_banks : List Bank → Net
-with_banks banks = record { banks = banks; debts = [] }
-
--- the first debts of a network, with all its banks
-abbrev with_debts : Net → List Debt → Net
-with_debts net debts = record { banks = net.banks; debts = debts }
+  file_back : with_file l (file_text l fields_of all) (so_far []) ≡ Ok (so_far all)
+  file_back =
+      file-below l (file_text l fields_of all) (so_far []) (trimmed_fields (header l) ∷ map fields_of all) (map fields_of all)
+      (sym records_back) (header_back l (map fields_of all))
+      ∙ rows_back all [] 1 refl
 
 -- a version says all of the banks of a network
 abbrev SaysBanks : Version → Net → Type 0
 SaysBanks v net = (done rest : List Bank) (b : Bank) → net.banks ≡ done ++ b ∷ rest → SaysAll v b
 
--- the banks of a network are read back
-banks_printed : (v : Version) (net : Net) → IsNetwork net → KeepsNames net → SaysBanks v net
-    → IsPrinted Bank (layout.Banks v) (bank_fields v) with_banks net.banks
-banks_printed v net network names says = record {
-  kept = λ done rest b e. bank_row v done b (bank_back net network names done rest b e);
-  read = λ done rest b row e.
-      ap (λ (r : Result Bank Fault). and_then r (λ b. Ok (with_bank (with_banks done) b)))
-      (bank_read_back v done row b (bank_back net network names done rest b e) (says done rest b e));
-}
+module _ (net : Net) (network : IsNetwork net) (names : KeepsNames net) where
+  -- the banks of a network are read back
+  banks_printed : (v : Version) → SaysBanks v net → IsPrinted Bank (layout.Banks v) (bank_fields v) with_banks net.banks
+  banks_printed v says = record {
+    kept = λ done rest b e.
+        let at = at_end net.banks done rest b e in
+        bank_row v (with_banks done) b (bank_back net network done rest b e)
+        (rw at at (names (length done) (slice_get_within net.banks (length done) b at)));
+    read = λ done rest b row e. ap (λ (r : Result Bank Fault). and_then r (λ b. Ok (with_bank (with_banks done) b)))
+        (bank_read_back v (with_banks done) row b (bank_back net network done rest b e) (says done rest b e));
+  }
 
--- and its debts
-debts_printed : (net : Net) → IsNetwork net → KeepsNames net
-    → IsPrinted Debt layout.Debts (debt_fields net) (with_debts net) net.debts
-debts_printed net network names = record {
-  kept = λ done rest d e.
-      let back = debt_back net network done rest d e in debt_row net done d back (debtor back) (creditor back);
-  read = λ done rest d row e.
-      let back = debt_back net network done rest d e in
-      ap (λ (r : Result Debt Fault). and_then r (λ d. Ok (with_debt (with_debts net done) d)))
-      (debt_read_back net done row d back (debtor back) (creditor back));
-}
-  where
-    debtor : {done : List Debt} {d : Debt} → IsBackDebt net done d → IsBackName net d.debtor.0
-    debtor {d = d} back = name_back net network names d.debtor.0 back.debtor
+  -- and its debts
+  debts_printed : IsPrinted Debt layout.Debts (debt_fields net) (with_debts net) net.debts
+  debts_printed = record {
+    kept = λ done rest d e.
+        let new = debt_back net network done rest d e in
+        debt_row net done d new (name_back net network names d.debtor.0 new.debtor_known) (name_back net network names d.creditor.0 new.creditor_known);
+    read = λ done rest d row e.
+        let new = debt_back net network done rest d e in
+        ap (λ (r : Result Debt Fault). and_then r (λ d. Ok (with_debt (with_debts net done) d))) (debt_read_back net done row d new
+        (name_back net network names d.debtor.0 new.debtor_known) (name_back net network names d.creditor.0 new.creditor_known));
+  }
 
-    creditor : {done : List Debt} {d : Debt} → IsBackDebt net done d → IsBackName net d.creditor.0
-    creditor {d = d} back = name_back net network names d.creditor.0 back.creditor
-
--- the printed banks file gives the banks
-banks_back : (v : Version) (net : Net) → IsNetwork net → KeepsNames net → SaysBanks v net
-    → with_banks_of (banks_text_in v net) empty_net ≡ Ok (with_banks net.banks)
-banks_back v net network names says =
-    let printed = banks_printed v net network names says in
-    let text = banks_text_in v net in
-    let version : version_of (records_of text) ≡ v =
-    ap version_of (records_back Bank (layout.Banks v) (bank_fields v) with_banks net.banks printed)
-    ∙ version_back v (map (bank_fields v) net.banks) in
-    ap (λ w. with_file (layout.Banks w) text empty_net) version ∙ file_back Bank (layout.Banks v) (bank_fields v) with_banks net.banks printed
-
-banks_short : (v : Version) (net : Net) → IsNetwork net → KeepsNames net → SaysBanks v net → length (banks_text_in v net) ≤ 8388608
-banks_short v net network names says =
-    let lines = short_lines Bank (layout.Banks v) (bank_fields v) with_banks net.banks (banks_printed v net network names says) in
-    let first = short_header (layout.Banks v) in
-    let few = network.banks_in_limit in
-    let both = length-append (line (banks_header v)) (flat_map (bank_line v) net.banks) in
-    omega arith
-
-debts_short : (net : Net) → IsNetwork net → KeepsNames net → length (debts_text net) ≤ 8388608
-debts_short net network names =
-    let lines = short_lines Debt layout.Debts (debt_fields net) (with_debts net) net.debts
-    (debts_printed net network names) in
-    let first = short_header layout.Debts in
-    let few = network.debts_in_limit in
-    let both = length-append (line debts_header) (flat_map (debt_line net) net.debts) in
-    omega arith
+  -- with the banks that a printed file gives, a file of debts that is read with them is read as before
+  banks_back : (v : Version) (debts : List ℕ) → SaysBanks v net → length debts ≤ file_limit file.Debts
+      → with_debts_of debts (with_banks net.banks) ≡ Ok net → network_of (banks_text_in v net) debts ≡ Ok net
+  banks_back v debts says small read =
+      let printed = banks_printed v says in
+      let text = banks_text_in v net in
+      let version : version_of (records_of text) ≡ v = ap version_of (records_back printed) ∙ version_back v (map (bank_fields v) net.banks) in
+      network_of_read text debts net (record {
+        some = with_banks net.banks;
+        small = omega (arith, short printed, network.banks_in_limit);
+        small_too = small;
+        read = rw version (file_back printed);
+        read_too = read;
+      })
 
 -- the version of a printed banks file says all of the banks
-each_passes : {X : Type 0} (p : X → Bool) (done rest : List X) (x : X) → list_all p (done ++ x ∷ rest) ≡ true → p x ≡ true
-each_passes p [] rest x h = (and_parts (p x) (list_all p rest) h).0
-each_passes p (y ∷ done) rest x h = each_passes p done rest x (and_parts (p y) (list_all p (done ++ x ∷ rest)) h).1
-
 version_says : (net : Net) → SaysBanks (version_for net) net
 version_says net done rest b e = by (list_all (λ b. b.outside == 0) net.banks) refl
   where
     by : (t : Bool) → list_all (λ b. b.outside == 0) net.banks ≡ t → SaysAll (if t then version.One else version.Two) b
-    by true h = eqb-true b.outside 0 (each_passes (λ b. b.outside == 0) done rest b (ap (list_all (λ b. b.outside == 0)) (sym e) ∙ h))
+    by true h = eqb-true b.outside 0 (rw (get_or_from_slice_get net.banks (length done) b b (at_end net.banks done rest b e))
+        at (AllPass-from_list_all (λ b. b.outside == 0) net.banks h (length done) b
+        (slice_get_within net.banks (length done) b (at_end net.banks done rest b e))))
     by false h = tt
 
 -- what is printed of a network is read back as the same network
 pub printed_is_read_back : (net : Net) → IsNetwork net → KeepsNames net → network_of (banks_text net) (debts_text net) ≡ Ok net
 printed_is_read_back net network names =
-    let says = version_says net in
-    network_of_read (banks_text net) (debts_text net) net (record {
-      some = with_banks net.banks;
-      small = banks_short (version_for net) net network names says;
-      small_too = debts_short net network names;
-      read = banks_back (version_for net) net network names says;
-      read_too =
-          file_back Debt layout.Debts (debt_fields net) (with_debts net) net.debts (debts_printed net network names);
-    })
+    let printed = debts_printed net network names in
+    banks_back net network names (version_for net) (debts_text net) (version_says net)
+    (omega (arith, short printed, network.debts_in_limit)) (file_back printed)
 
 -- rows of banks add no debt, and rows of debts no bank
 no_debt_added : (v : Version) (net : Net) (r : ℕ × Fields) (next : Net) → trimmed_fields r.1 ≡ r.1 → net.debts ≡ []
@@ -232,10 +194,4 @@ converted_is_read_back banks debts net h =
     let same_banks = with_file-keeps (λ n. n.banks ≡ r.some.banks) layout.Debts (no_bank_added r.some.banks) debts r.some net refl r.read_too in
     let some : r.some ≡ with_banks net.banks =
     ap (λ ds. record { banks = r.some.banks; debts = ds }) no_debts ∙ ap with_banks (sym same_banks) in
-    network_of_read (banks_text_2 net) debts net (record {
-      some = with_banks net.banks;
-      small = banks_short version.Two net network names (λ done rest b e. tt);
-      small_too = r.small_too;
-      read = banks_back version.Two net network names (λ done rest b e. tt);
-      read_too = ap (with_debts_of debts) (sym some) ∙ r.read_too;
-    })
+    banks_back net network names version.Two debts (λ done rest b e. tt) r.small_too (ap (with_debts_of debts) (sym some) ∙ r.read_too)

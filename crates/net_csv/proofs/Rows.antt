@@ -12,6 +12,7 @@ use Rattle.net_check.specs.Record.{fault_at}
 use Rattle.net_check.specs.declared.fault.FaultKind.TheVariants as fault
 use Rattle.net_check.specs.declared.fault.Fault.{Fault}
 use Rattle.net_check.specs.declared.fault.FileKind.{FileKind}
+use Rattle.net_check.proofs.Passed.{fault_unless-ok}
 use Rattle.net_csv.specs.declared.layout.Layout.{Layout}
 use Rattle.net_csv.specs.Reading.{Fields, trimmed_fields, is_blank, rows_from, records_of, below_header, header, file_of, rows_in_file, with_row, read_rows, with_file}
 
@@ -45,17 +46,12 @@ none_added l net row fields blank = rw blank refl
 pub one_row : (l : Layout) (net : Net) (row : ℕ) (fields : Fields) → is_blank fields ≡ false
     → read_rows l net (rows_from row (fields ∷ [])) ≡ with_row l net (row, fields)
 unfolding read_rows
-one_row l net row fields full = rw full (by (with_row l net (row, fields)))
-  where
-    by : (r : Result Net Fault) → and_then r (λ (n : Net). Ok n) ≡ r
-    by (Ok n) = refl
-    by (Err f) = refl
+one_row l net row fields full = rw full (grind arith)
 
 -- a row has the fault of what it gives
 pub fault_of_row : {A B E : Type 0} (r : Result A E) (f : A → B) (e : E)
     → (and_then r (λ a. Ok (f a)) ≡ Err e) ↔ (r ≡ Err e)
-fault_of_row (Ok a) f e = (λ h. cc, λ h. cc)
-fault_of_row (Err d) f e = (λ h. cc, λ h. cc)
+fault_of_row r f e = grind arith
 
 -- what the first record says, and then the others
 rows-next : (l : Layout) (net : Net) (row : ℕ) (fields : Fields) (rest : List Fields)
@@ -68,15 +64,11 @@ rows-next l net row fields rest =
 pub rows-pass : (l : Layout) (net next : Net) (row : ℕ) (fields : Fields) (rest : List Fields)
     → read_rows l net (rows_from row (fields ∷ [])) ≡ Ok next
     → read_rows l net (rows_from row (fields ∷ rest)) ≡ read_rows l next (rows_from (row + 1) rest)
-rows-pass l net next row fields rest e =
-    rows-next l net row fields rest
-    ∙ ap (λ (r : Result Net Fault). and_then r (λ n. read_rows l n (rows_from (row + 1) rest))) e
+rows-pass l net next row fields rest e = rw (rows-next l net row fields rest, e) refl
 
 pub rows-stop : (l : Layout) (net : Net) (row : ℕ) (fields : Fields) (rest : List Fields) (f : Fault)
     → read_rows l net (rows_from row (fields ∷ [])) ≡ Err f → read_rows l net (rows_from row (fields ∷ rest)) ≡ Err f
-rows-stop l net row fields rest f e =
-    rows-next l net row fields rest
-    ∙ ap (λ (r : Result Net Fault). and_then r (λ n. read_rows l n (rows_from (row + 1) rest))) e
+rows-stop l net row fields rest f e = rw (rows-next l net row fields rest, e) refl
 
 -- no record is left
 pub rows-end : (l : Layout) (net : Net) (row : ℕ) → read_rows l net (rows_from row []) ≡ Ok net
@@ -84,25 +76,18 @@ unfolding read_rows
 rows-end l net row = refl
 
 -- the header of a file, and then its rows
-rows_in_file-ok : (kind : FileKind) (words : Fields) (bytes : List ℕ) (left below : List Fields) → left ≡ records_of bytes
-    → below_header kind words left ≡ Ok below → rows_in_file kind words bytes ≡ Ok (rows_from 1 below)
-rows_in_file-ok kind words bytes left below all e = rw (← all, e) refl
-
 pub file-below : (l : Layout) (bytes : List ℕ) (net : Net) (left below : List Fields) → left ≡ records_of bytes
     → below_header (file_of l) (header l) left ≡ Ok below → with_file l bytes net ≡ read_rows l net (rows_from 1 below)
-file-below l bytes net left below all e =
-    ap (λ (rows : Result (List (ℕ × Fields)) Fault). and_then rows (λ rows. read_rows l net rows))
-    (rows_in_file-ok (file_of l) (header l) bytes left below all e)
+file-below l bytes net left below all e = rw (← all, e) refl
 
 -- the records below the header are fewer than all records
 below_header-fewer : (kind : FileKind) (header : Fields) (left below : List Fields) → below_header kind header left ≡ Ok below
     → length left ≡ suc (length below)
 below_header-fewer kind header [] below e = absurd (cc e)
-below_header-fewer kind header (fields ∷ rest) below e = by (are_words header fields) e
-  where
-    by : (t : Bool) → fault_unless t (fault_at kind 0 fault.Header) (Ok rest) ≡ Ok below → length (fields ∷ rest) ≡ suc (length below)
-    by true h = let same : rest ≡ below = cc in rw same refl
-    by false h = absurd (cc h)
+below_header-fewer kind header (fields ∷ rest) below e =
+    let passed = fault_unless-ok (are_words header fields) (fault_at kind 0 fault.Header) (Ok rest) below e in
+    let same : rest ≡ below = cc in
+    ap (λ t. suc (length t)) same
 
 -- and no more than the file has bytes
 pub few_below : (kind : FileKind) (words : Fields) (bytes : List ℕ) (left below : List Fields)

@@ -45,9 +45,8 @@ all_in_turn s fields e first =
 pub pairs-pointwise : {A B C D : Type 0} (E : A → C → Bool) (f : B → C) (g : D → A) (words : List D) (fields : List B) → length fields ≡ length words
     → list_all (λ p. E (g p.1) (f p.0)) (zip fields words) ≡ pointwise E (map g words) (map f fields)
 pairs-pointwise E f g [] [] e = refl
-pairs-pointwise E f g [] (y ∷ ys) e = absurd (omega (arith, e))
-pairs-pointwise E f g (x ∷ xs) [] e = absurd (omega (arith, e))
 pairs-pointwise E f g (x ∷ xs) (y ∷ ys) e = ap (λ (b : Bool). E (g x) (f y) && b) (pairs-pointwise E f g xs ys (omega (arith, e)))
+pairs-pointwise E f g xs ys e = absurd (omega (arith, e))
 
 -- a record has these fields from a place on
 abbrev pub HasFields : List (List ℕ) → ℕ → List (List ℕ) → Type 0
@@ -63,10 +62,9 @@ has_rest x fields (w ∷ ws) k h = (h.0, has_rest x fields ws (suc k) h.1)
 pub fields_are : (fields ws : List (List ℕ)) → length fields ≡ length ws → HasFields fields 0 ws → fields ≡ ws
 unfolding field_at
 fields_are [] [] e h = refl
-fields_are [] (w ∷ ws) e h = absurd (omega (arith, e))
-fields_are (x ∷ fields) [] e h = absurd (omega (arith, e))
 fields_are (x ∷ fields) (w ∷ ws) e h =
     let rest : fields ≡ ws = fields_are fields ws (omega (arith, e)) (has_rest x fields ws 0 h.1) in cc h.0
+fields_are fields ws e h = absurd (omega (arith, e))
 
 -- a field at a place below the number of fields is there
 pub field_is_there : (fields : List (List ℕ)) (i : ℕ) (o : Option (Bor (List ℕ))) → i < length fields → option_map (λ s. s.now) o ≡ field_at fields i → IsSome o

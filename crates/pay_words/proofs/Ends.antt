@@ -1,11 +1,12 @@
 -- What the words and the raises are when a board is closed by a master that holds all banks.
+use Rattle.pay_words.proofs.Standing.{stands}
 use Rattle.std.proofs.Common.{◌≡◌, ℕ, ◌+◌, ◌<◌, ◌≤◌, All, List, ◌++◌, length, get_or, sum, Bool, true, refl, sym, ap, ◌∙◌, subst, arith, ⊎_elim}
 use Rattle.std.specs.Prelude.{slice_index}
 use Rattle.std.proofs.lemmas.List.{append-nil, ext_get_or}
 use Rattle.atomic_table.specs.Table.{Final, Seen}
 use Rattle.clr_net.specs.Amounts.{IsAtMost}
 use Rattle.clr_net.specs.Net.{Net, debtor_of, debt_numbers}
-use Rattle.clear_core.specs.Clearing.{least, pay}
+use Rattle.clear_core.specs.Clearing.{least}
 use Rattle.clear_core.specs.History.{IsHistory, ordered, replayed}
 use Rattle.clear_core.proofs.Ordered.{ordered_again, ordered_stands, ordered_is_traced}
 use Rattle.clear_core.specs.declared.event.Raise.{Raise}
@@ -26,8 +27,8 @@ use Rattle.pay_words.proofs.Pasts.{covered}
 use Rattle.pay_words.proofs.Orders.{same_of, all_ordered}
 use Rattle.pay_words.proofs.Histories.{lawful_agree, history_of, replayed_is}
 use Rattle.pay_words.proofs.Views.{rule, not_both, its_raises}
-use Rattle.pay_words.proofs.Bells.{sum_least, sum_alone}
-use Rattle.std.proofs.lemmas.Bool.{cond-true, false_from_ne_true, cond_both, cases_lt}
+use Rattle.pay_words.proofs.Bells.{live_of, sum_least, sum_alone}
+use Rattle.std.proofs.lemmas.Bool.{false_from_ne_true, cond_both, cases_lt}
 use Rattle.std.proofs.Common.{◌≢◌}
 use mathlib.Core.List.{map-map}
 
@@ -78,13 +79,13 @@ made_none d k roll count id j v u f chief all apart fits = cond_both u.live (len
     (λ on.
     let g = fits on in
     let only = its_raises d k roll count j u g (false_from_ne_true u.shown.master (λ e. apart ((g.leads e).0 ∙ sym (f.leads chief).0))) in
-    ⊎_elim
-    (λ (some : 0 < length u.shown.raises).
-    let r : Raise = a_raise 0 0 0 in
-    let o = only 0 r some in
-    absurd (not_both d k roll count id j u v (debtor_of d.net (get_or u.shown.raises 0 r).debt.0) apart f (all _ o.0) g o.1))
-    (λ (none : length u.shown.raises ≤ 0). omega arith)
-    (cases_lt 0 (length u.shown.raises)))
+    grind (
+      arith,
+      λ (some : 0 < length u.shown.raises).
+          let r = get_or u.shown.raises 0 (a_raise 0 0 0) in
+          let o = only 0 (a_raise 0 0 0) some in
+          not_both d k roll count id j u v (debtor_of d.net r.debt.0) apart f (all _ o.0) g o.1,
+    ))
     (λ _. refl)
 
 -- what the last state says, of the words
@@ -116,8 +117,7 @@ closes d id v ws xs on chief all final =
     (λ x lt. f.pays x lt (mine x lt) ∙ ap ending (sym (same x lt)))) in
     record {
       size = ap length (sym final.2) ∙ h.size;
-      payments = λ x lt. ap (λ (l : List ℕ). payment_of (slice_index l (x + 1))) (sym final.2) ∙ ap payment_of (h.stands x lt)
-          ∙ read_back (ending (k.trace x)) (omega (arith, value_fits net k.trace h.lawful x lt h.network)) ∙ sym (f.pays x lt (mine x lt));
+      payments = λ x lt. ap (λ (l : List ℕ). payment_of (slice_index l (x + 1))) (sym final.2) ∙ stands d s.words s.views h x lt ∙ sym (f.pays x lt (mine x lt));
       ends = subst (Ends net d.past v.shown) (sym shown) (record {
         payments_are = sym shown;
         below_least = values_below net raises known lawful;
@@ -130,7 +130,7 @@ closes d id v ws xs on chief all final =
             let r = h.rung in
             let taken = sum_least taken_of s.views id v final.1.1 in
             let made = sum_alone made_of s.views id v final.1.1 (λ j u ne e. made_none d k (slice_index s.words 0) (length s.views) id j v u f chief mine ne (λ o. h.fits j u e o)) in
-            omega (arith, r.few, taken, made, cond-true v.live v.shown.taken 0 on, cond-true v.live (length v.shown.raises) 0 on);
+            omega (arith, r.few, taken, made, live_of v on);
         after_past = f.late;
       });
     }

@@ -1,4 +1,7 @@
 -- Raises that are lawful by debt are a history, and a replay leaves what each debt ended with.
+use Rattle.std.proofs.lemmas.Bool.{cond_both}
+use Rattle.std.proofs.lemmas.Bool.Decides.{nat_tests}
+use Rattle.std.proofs.lemmas.Grind.{get_or-set_at}
 use Rattle.std.proofs.Common.{◌≡◌, ◌≢◌, ℕ, suc, ◌<◌, ◌==◌, List, [], ◌∷◌, length, set, map, slice_get, Some, Bool, true, false, inl, inr, refl, sym, ap, ◌∙◌, subst, arith, length-set, get_or-set_same, get_or-set_other, All, get_or, ◌≤◌, ⊎_elim}
 use Rattle.std.specs.Prelude.{slice_index, cond, sum}
 use Rattle.std.proofs.lemmas.Bool.{eq-eqb, ne_eqb, cases_Bool, cases_order}
@@ -42,10 +45,7 @@ lawful_agree net t u h same = record {
     all = ap sum (tabled_agree 0 (length net.debts) (λ y. (ending (u y)).value) (λ y. (ending (t y)).value) (λ y l. ap (λ (rs : List Raise). (ending rs).value) (same y l)))
 
 rise_tail : (x : ℕ) (a : Raise) (rs : List Raise) → Rise (raises_of x (a ∷ rs)) → Rise (raises_of x rs)
-rise_tail x a rs h = ⊎_elim
-    (λ (e : (a.debt.0 == x) ≡ true). let all : Rise (a ∷ raises_of x rs) = rw e at h in rise_rest a (raises_of x rs) all)
-    (λ (e : (a.debt.0 == x) ≡ false). rw e at h)
-    (cases_Bool (a.debt.0 == x))
+rise_tail x a rs = cond_both (a.debt.0 == x) (a ∷ raises_of x rs) (raises_of x rs) (λ l. Rise l → Rise (raises_of x rs)) (λ _. rise_rest a (raises_of x rs)) (λ _ h. h)
 
 -- raises that rise by debt differ
 differ : (rs : List Raise) → ((x : ℕ) → Rise (raises_of x rs)) → AllPairs Differ rs
@@ -67,13 +67,7 @@ differ (c ∷ rs) rise = AllPairs-cons Differ c rs
 rise_pair : (rs : List Raise) → Rise rs → (a b : Raise) → Contains rs a → Contains rs b → a.stamp < b.stamp → a.to < b.to
 rise_pair rs h a b p q lt =
     let there : get_or rs q.0 a ≡ b = get_or_default rs q.0 a b q.1 ∙ q.2 in
-    ⊎_elim
-    (λ (e : p.0 ≡ q.0). absurd (omega (arith, lt, ap (λ (r : Raise). r.stamp) (sym p.2 ∙ ap (λ (k : ℕ). get_or rs k a) e ∙ there))))
-    (⊎_elim
-    (λ (l : p.0 < q.0). omega (arith, (h p.0 q.0 a l q.1).1, ap (λ (r : Raise). r.to) p.2, ap (λ (r : Raise). r.to) there))
-    (λ (l : q.0 < p.0). absurd (omega
-    (arith, lt, (h q.0 p.0 a l p.1).0, ap (λ (r : Raise). r.stamp) p.2, ap (λ (r : Raise). r.stamp) there))))
-    (cases_order p.0 q.0)
+    grind (arith, there, p.2, p.1, q.1, h p.0 q.0 a, h q.0 p.0 a)
 
 -- raises that are lawful by debt are a history
 module _ (net : Net) (rs : List Raise) (h : AreLawfulTraces net (λ x. raises_of x rs)) (known : All (λ r. r.debt.0 < length net.debts) rs)
@@ -117,15 +111,8 @@ length-replayed P (r ∷ rs) = length-replayed (set P r.debt.0 r.to) rs ∙ leng
 replayed_at : (P : List ℕ) (rs : List Raise) (x stamp : ℕ) → x < length P → slice_index (replayed_from P rs) x ≡ (ending_from (record { value = slice_index P x; stamp = stamp }) (raises_of x rs)).value
 unfolding replayed_from
 replayed_at P [] x stamp lt = refl
-replayed_at P (r ∷ rs) x stamp lt = dite (ℕ_discrete x r.debt.0)
-    (λ e. replayed_at (set P r.debt.0 r.to) rs x r.stamp (omega (arith, lt, length-set P r.debt.0 r.to))
-    ∙ ap (λ (n : ℕ). (ending_from (record { value = n; stamp = r.stamp }) (raises_of x rs)).value)
-    (ap (slice_index (set P r.debt.0 r.to)) e ∙ get_or-set_same P r.debt.0 r.to 0 (omega (arith, lt, e)))
-    ∙ sym (ap (λ (t : Bool). (ending_from (record { value = slice_index P x; stamp = stamp }) (cond t (r ∷ raises_of x rs) (raises_of x rs))).value) (eq-eqb r.debt.0 x (sym e))))
-    (λ ne. let ne' : r.debt.0 ≢ x = λ e. ne (sym e) in
-    replayed_at (set P r.debt.0 r.to) rs x stamp (omega (arith, lt, length-set P r.debt.0 r.to))
-    ∙ ap (λ (n : ℕ). (ending_from (record { value = n; stamp = stamp }) (raises_of x rs)).value) (get_or-set_other P r.debt.0 x r.to 0 ne)
-    ∙ sym (ap (λ (t : Bool). (ending_from (record { value = slice_index P x; stamp = stamp }) (cond t (r ∷ raises_of x rs) (raises_of x rs))).value) (ne_eqb r.debt.0 x ne')))
+replayed_at P (r ∷ rs) x stamp lt =
+    grind (arith, nat_tests, get_or-set_at, get_or-set_other {A = ℕ}, length-set {A = ℕ}, replayed_at (set P r.debt.0 r.to) rs x r.stamp, replayed_at (set P r.debt.0 r.to) rs x stamp)
 
 pub replayed_is : (net : Net) (rs : List Raise) → replayed net rs ≡ map (λ p. p.value) (start_of net rs)
 replayed_is net rs =

@@ -1,4 +1,5 @@
 -- One more raise keeps the raises lawful, and no payment word overflows.
+use Rattle.std.proofs.Common.{le_refl}
 use Rattle.std.proofs.Common.{◌≡◌, ◌≢◌, ℕ, ◌+◌, ◌<◌, ◌≤◌, List, length, sum, refl, sym, ap, ◌∙◌, le_trans, le_of_eq, arith, All, get_or, ◌++◌, ◌∷◌, []}
 use Rattle.std.specs.Prelude.{slice_index}
 use Rattle.std.proofs.lemmas.List.{get_or_past}
@@ -33,10 +34,7 @@ module _ (net : Net) (t : Traces) (h : AreLawfulTraces net t) where
   paid_in_at x lt = tabled_at (length net.debts) (λ y. (ending (t y)).value) x 0 lt
 
   pub paid_in_below : IsAtMost (paid_in net t) (least net)
-  paid_in_below x = dite (dec_lt x (length net.debts))
-      (λ lt. omega (arith, paid_in_at x lt, h.most x lt))
-      (λ ge. let far : length (paid_in net t) ≤ x = omega (arith, length-tabled (length net.debts) (λ y. (ending (t y)).value)) in
-      omega (arith, get_or_past (paid_in net t) x 0 far))
+  paid_in_below x = grind (arith, paid_in_at x, h.most x, get_or_past (paid_in net t) x 0, length-tabled (length net.debts) (λ y. (ending (t y)).value))
 
   pub total_le : total net t ≤ units_owed net
   total_le = omega (arith, sum-le (paid_in net t) (least net) paid_in_below, sum-least_le net)
@@ -57,9 +55,8 @@ module _ (net : Net) (t : Traces) (h : AreLawfulTraces net t) where
 
     module _ (up : (ending (t x)).value < r.to) where
       pub ending_rises : (y : ℕ) → (ending (t y)).value ≤ (ending (more y)).value
-      ending_rises y = dite (ℕ_discrete y x)
-          (λ e. omega (arith, up, ap (λ (q : Payment). q.value) (ending_here y e), ap (λ (z : ℕ). (ending (t z)).value) e))
-          (λ ne. le_of_eq (sym (ap (λ (q : Payment). q.value) (ending_else y ne))))
+      ending_rises = changed_each (λ y rs. (ending (t y)).value ≤ (ending rs).value) x (t x ++ r ∷ []) t
+          (omega (arith, up, ap (λ (q : Payment). q.value) (ending_push unpaid (t x) r))) (λ y _. le_refl _)
 
       pub total_rises : total net t < total net more
       total_rises = sum_less (paid_in net t) (paid_in net more) x (omega (arith, length-tabled (length net.debts) (λ y. (ending (t y)).value)))
@@ -85,12 +82,10 @@ module _ (net : Net) (t : Traces) (h : AreLawfulTraces net t) where
             (λ _. All-push (λ s. s.to ≤ part net x (paid_to net more s.stamp x)) (t x) r (still x lt)
             (le_trans within (within_more r.stamp x)))
             (λ y _. still y);
-        most = λ y l. dite (ℕ_discrete y x)
-            (λ e. omega (arith, below, ap (λ (q : Payment). q.value) (ending_here y e), ap (slice_index (least net)) e))
-            (λ ne. omega (arith, h.most y l, ap (λ (q : Payment). q.value) (ending_else y ne)));
-        low = λ y l. dite (ℕ_discrete y x)
-            (λ e. omega (arith, low, total_rises, ap (λ (q : Payment). q.stamp) (ending_here y e)))
-            (λ ne. omega (arith, h.low y l, total_rises, ap (λ (q : Payment). q.stamp) (ending_else y ne)));
+        most = changed_each (λ y rs. y < length net.debts → (ending rs).value ≤ slice_index (least net) y) x (t x ++ r ∷ []) t
+            (λ _. omega (arith, below, ap (λ (q : Payment). q.value) (ending_push unpaid (t x) r))) (λ y _. h.most y);
+        low = changed_each (λ y rs. y < length net.debts → (ending rs).stamp ≤ total net more) x (t x ++ r ∷ []) t
+            (λ _. omega (arith, low, total_rises, ap (λ (q : Payment). q.stamp) (ending_push unpaid (t x) r))) (λ y _ l. omega (arith, h.low y l, total_rises));
       }
         where
           still : (y : ℕ) → y < length net.debts → All (λ s. s.to ≤ part net y (paid_to net more s.stamp y)) (t y)

@@ -1,7 +1,7 @@
 -- Marks of banks, and lists of which one part is chosen from another.
 use Rattle.std.proofs.Common.{◌≡◌, ℕ, ◌<◌, ◌≤◌, List, length, get_or, sum_by, Bool, true, false, true≢false, sym, ◌∙◌, subst, ⊎_elim, arith}
-use Rattle.std.specs.Prelude.{slice_index, if◌then◌else◌, ◌&&◌, not, slice_index_or}
-use Rattle.std.proofs.lemmas.Bool.{cases_Bool, cond-true, cond-false, and_from, and_parts, not-true, not_from_false}
+use Rattle.std.specs.Prelude.{slice_index, if◌then◌else◌, ◌&&◌, ◌||◌, not, slice_index_or}
+use Rattle.std.proofs.lemmas.Bool.{cond_both, cond-true, cond-false, and_from, and_parts, or_cases, not-true, not_from_false}
 use Rattle.std.proofs.lemmas.List.{get_or_past}
 use Rattle.clr_net.proofs.Lists.{sums_agree}
 use mathlib.Core.Logic.{dite}
@@ -14,18 +14,20 @@ use Rattle.pay_words.proofs.Tables.{tabled_at, length-tabled}
 
 module _ (n : ℕ) (f : ℕ → Bool) (b : ℕ) where
   pub marked_if : is_marked (tabled n f) b ≡ true → (b < n) × (f b ≡ true)
-  marked_if e = dite (dec_lt b n)
-      (λ l. (l, sym (tabled_at n f b false l) ∙ e))
-      (λ ge. let far : length (tabled n f) ≤ b = omega (arith, length-tabled n f) in absurd (true≢false (sym e ∙ get_or_past (tabled n f) b false far)))
+  marked_if e = grind (arith, tabled_at n f b false, get_or_past (tabled n f) b false, length-tabled n f, e)
 
   pub marked : b < n → f b ≡ true → is_marked (tabled n f) b ≡ true
   marked l e = tabled_at n f b false l ∙ e
 
 pub both_marked : (s t : Bool) → (s && not t) ≡ true → (s ≡ true) × (t ≡ false)
-both_marked s t e = let both = and_parts s (not t) e in (both.0, not-true t both.1)
+both_marked s t e = grind (arith, e)
 
 pub marked_without : (s t : Bool) → s ≡ true → t ≡ false → (s && not t) ≡ true
-marked_without s t e f = and_from s (not t) e (not_from_false t f)
+marked_without s t e f = grind (arith, e, f)
+
+-- a bank of either list that is not the second's is the first's
+pub either_marked : (n : ℕ) (xs ys : List Bool) (b : ℕ) → is_marked (tabled n (λ c. is_marked xs c || is_marked ys c)) b ≡ true → is_marked ys b ≡ false → is_marked xs b ≡ true
+either_marked n xs ys b e out = grind (arith, (marked_if n (λ c. is_marked xs c || is_marked ys c) b e).1, out)
 
 module _ {A : Type 0} (none : A) (n : ℕ) (p : ℕ → Bool) (xs ys : List A) where
   abbrev pick : ℕ → A
@@ -40,24 +42,13 @@ module _ {A : Type 0} (none : A) (n : ℕ) (p : ℕ → Bool) (xs ys : List A) w
   pub chosen_first : (x : ℕ) → x < n → p x ≡ false → get_or (chosen none n p xs ys) x none ≡ get_or xs x none
   chosen_first x lt e = tabled_at n pick x none lt ∙ cond-false (p x) (get_or ys x none) (get_or xs x none) e
 
-  pub length-chosen : length (chosen none n p xs ys) ≡ n
-  length-chosen = length-tabled n pick
-
   -- a fact of each place of both lists is one of each place of the choice
   pub chosen_each : (F : ℕ → A → Type 0) → ((x : ℕ) → x < n → p x ≡ false → F x (get_or xs x none)) → ((x : ℕ) → x < n → p x ≡ true → F x (get_or ys x none))
       → (x : ℕ) → x < n → F x (get_or (chosen none n p xs ys) x none)
-  chosen_each F f g x lt = ⊎_elim
-      (λ (e : p x ≡ true). subst (F x) (sym (chosen_second x lt e)) (g x lt e))
-      (λ (e : p x ≡ false). subst (F x) (sym (chosen_first x lt e)) (f x lt e))
-      (cases_Bool (p x))
-
-  pub chosen_past : (x : ℕ) → n ≤ x → get_or (chosen none n p xs ys) x none ≡ none
-  chosen_past x ge = get_or_past (chosen none n p xs ys) x none (omega (arith, length-chosen))
+  chosen_each F f g x lt = rw (chosen_at x lt) (cond_both (p x) (get_or ys x none) (get_or xs x none) (F x) (g x lt) (f x lt))
 
 pub chosen_most : (n : ℕ) (p : ℕ → Bool) (xs ys : List ℕ) (Q : ℕ → ℕ) → ((x : ℕ) → get_or xs x 0 ≤ Q x) → ((x : ℕ) → get_or ys x 0 ≤ Q x) → (x : ℕ) → get_or (chosen 0 n p xs ys) x 0 ≤ Q x
-chosen_most n p xs ys Q f g x = dite (dec_lt x n)
-    (λ lt. chosen_each 0 n p xs ys (λ y m. m ≤ Q y) (λ y _ _. f y) (λ y _ _. g y) x lt)
-    (λ ge. omega (arith, chosen_past 0 n p xs ys x (omega arith)))
+chosen_most n p xs ys Q f g x = grind (arith, chosen_at 0 n p xs ys x, f x, g x, get_or_past (chosen 0 n p xs ys) x 0, length-tabled n (pick 0 n p xs ys))
 
 -- receipts are those of two lists that agree at each debt that is owed to the bank
 pub receipts_agree : (net : Net) (P Q : List ℕ) (b : ℕ) → ((x : ℕ) → x < length net.debts → creditor_of net x ≡ b → slice_index P x ≡ slice_index Q x) → receipts net P b ≡ receipts net Q b

@@ -1,4 +1,5 @@
 -- A past that belongs to a network makes a lawful history, and the first state of a board.
+use Rattle.pay_words.specs.Traces.{paid_in}
 use Rattle.std.proofs.Common.{◌≡◌, ◌≢◌, ◌⊎◌, ℕ, suc, ◌<◌, ◌≤◌, ◌==◌, max, List, [], ◌∷◌, length, map, set, get_or, sum, true, false, refl, sym, ap, ◌∙◌, subst, ⊎_elim, All, arith, le_trans, le_of_eq, zero-le, length-set, get_or-set_same, get_or-set_other}
 use Rattle.std.specs.Prelude.{slice_index, ◌&&◌, nat_lt}
 use Rattle.std.proofs.lemmas.Bool.{eqb-true, eqb-false, cases_Bool, cond_both}
@@ -20,7 +21,7 @@ use Rattle.pay_words.specs.Words.{unpaid}
 use Rattle.pay_words.specs.Belongs.{Belongs}
 use Rattle.pay_words.specs.Ends.{HaveLowStamps, values}
 use Rattle.pay_words.proofs.Tables.{tabled_at, length-tabled}
-use Rattle.pay_words.proofs.Traces.{left_by, in_raises_of, ending_cases, under_ending}
+use Rattle.pay_words.proofs.Traces.{left_by, in_raises_of, ending_each, under_ending}
 use Rattle.std.specs.List.{Contains, AllPairs}
 use Rattle.std.proofs.lemmas.List.Kept.{AllPairs-cons}
 use Rattle.std.proofs.lemmas.List.Elements.{All-cons, All-tail, All-contains, All-filter}
@@ -55,8 +56,7 @@ stands_rise net stamp P (a ∷ rs) size h known differ x =
     let first : All (λ s. (a.stamp < s.stamp) × (a.to < s.to)) (raises_of x rs) = λ k d lt.
     let s = get_or (raises_of x rs) k d in
     let o = in_raises_of x rs k d lt in
-    let apart : a.stamp ≢ s.stamp = ⊎_elim (λ (ne : a.stamp ≢ s.stamp). ne)
-    (λ (ne : a.debt ≢ s.debt). absurd (ne (λ i. record { 0 = (is ∙ sym o.1) i })))
+    let apart : a.stamp ≢ s.stamp = ⊎_elim (λ ne. ne) (λ ne. absurd (ne (λ i. record { 0 = (is ∙ sym o.1) i })))
     (All-contains (Differ a) rs s (λ m e l. differ 0 (suc m) e (omega arith) (omega (arith, l))) o.0) in
     (omega (arith, (later.1 k d lt).0, apart), omega (arith, (later.1 k d lt).1, here)) in
     rw e (
@@ -104,15 +104,18 @@ module _ (net : Net) (start : List Payment) (past : List Raise) (h : Belongs net
   pub start_over : length start ≡ length net.debts
   start_over = ap length h.start_is ∙ length-tabled (length net.debts) (λ y. last_payment y past)
 
+  -- and one number of each
+  pub at_first : (f : Payment → ℕ) (x : ℕ) → x < length net.debts → slice_index (map f start) x ≡ f (ending (traces x))
+  at_first f x lt = get_or-map f start x unpaid 0 (omega (arith, lt, start_over)) ∙ ap f (start_at x lt)
+
+  pub over_first : (f : Payment → ℕ) → length (map f start) ≡ length net.debts
+  over_first f = length-map start f ∙ start_over
+
   past_most : (x : ℕ) → x < length net.debts → (ending (traces x)).value ≤ slice_index (least net) x
-  past_most x lt = ⊎_elim
-      (λ (e : ending (traces x) ≡ unpaid). omega (arith, ap (λ (p : Payment). p.value) e))
-      (λ (t : (r : Raise) × Contains (traces x) r × (ending (traces x) ≡ left_by r)).
-      let o = All-contains (λ r. Contains past r × (r.debt.0 ≡ x)) (traces x) t.0 (in_raises_of x past) t.1 in
-      let below = All-contains (λ r. r.to ≤ slice_index (least net) r.debt.0) past t.0
-      (λ k d l. traced_le_least net past h.traced k _ (slice_get-get_or past k d l)) o.0 in
-      omega (arith, ap (λ (q : Payment). q.value) t.2, below, ap (slice_index (least net)) o.1))
-      (ending_cases unpaid (traces x))
+  past_most x lt = ending_each (λ p. p.value ≤ slice_index (least net) x) unpaid (traces x) zero-le (λ k d l.
+      let o = in_raises_of x past k d l in
+      let below = All-contains (λ r. r.to ≤ slice_index (least net) r.debt.0) past _ (λ k d l. traced_le_least net past h.traced k _ (slice_get-get_or past k d l)) o.0 in
+      omega (arith, below, ap (slice_index (least net)) o.1))
 
   past_within : (x : ℕ) → x < length net.debts → All (λ r. r.to ≤ part net x (paid_to net traces r.stamp x)) (traces x)
   past_within x lt k d l =
@@ -124,15 +127,14 @@ module _ (net : Net) (start : List Payment) (past : List Raise) (h : Belongs net
       let here = ap (slice_index (pay net (paid_before net r.stamp past))) o.1 in
       omega (arith, most, here, pay_at net (paid_before net r.stamp past) x lt, less)
 
-  -- the sum of the opening values
-  start_total : sum (map (λ p. p.value) start) ≡ total net traces
-  start_total = ap (λ (ps : List Payment). sum (map (λ p. p.value) ps)) h.start_is
-      ∙ ap sum (map-map (λ (p : Payment). p.value) (λ (y : ℕ). last_payment y past) (debt_numbers net))
+  -- the opening values are what the raises have paid
+  pub values_paid : map (λ p. p.value) start ≡ paid_in net traces
+  values_paid = ap (map (λ p. p.value)) h.start_is ∙ map-map (λ (p : Payment). p.value) (λ (y : ℕ). last_payment y past) (debt_numbers net)
 
   pub start_low : (x : ℕ) → x < length net.debts → (ending (traces x)).stamp ≤ total net traces
   start_low x lt =
       let low = h.stamps_low x unpaid (omega (arith, lt, start_over)) in
-      omega (arith, low, start_total, ap (λ (p : Payment). p.stamp) (start_at x lt))
+      omega (arith, low, ap sum values_paid, ap (λ (p : Payment). p.stamp) (start_at x lt))
 
   pub past_lawful : AreLawfulTraces net traces
   past_lawful = record {
@@ -146,15 +148,9 @@ module _ (net : Net) (start : List Payment) (past : List Raise) (h : Belongs net
   -- what stands at first is within what each bank has
   pub start_within : (x : ℕ) → x < length net.debts → (sights : List ℕ) → ((y : ℕ) → y < length net.debts → slice_index sights y ≡ (ending (traces y)).value) → length sights ≡ length net.debts
       → (ending (traces x)).value ≤ part net x (receipts net sights (debtor_of net x))
-  start_within x lt sights at size = ⊎_elim
-      (λ (e : ending (traces x) ≡ unpaid). let v = ap (λ (p : Payment). p.value) e in subst (λ (n : ℕ). n ≤ part net x (receipts net sights (debtor_of net x))) (sym v) zero-le)
-      (λ (t : (r : Raise) × Contains (traces x) r × (ending (traces x) ≡ left_by r)).
-      let v = ap (λ (q : Payment). q.value) t.2 in
-      le_trans (le_of_eq v)
-      (le_trans (All-contains (λ r. r.to ≤ part net x (paid_to net traces r.stamp x)) (traces x) t.0 (past_within x lt) t.1)
-      (part_mono net x _ _ (sum_by-le-sum_by (λ y. raised_before t.0.stamp (traces y) y) (slice_index sights)
-      (column net (debtor_of net x)) (below t.0.stamp)))))
-      (ending_cases unpaid (traces x))
+  start_within x lt sights at size = ending_each (λ p. p.value ≤ part net x (receipts net sights (debtor_of net x))) unpaid (traces x) zero-le (λ k d l.
+      le_trans (past_within x lt k d l)
+      (part_mono net x _ _ (sum_by-le-sum_by (λ y. raised_before (get_or (traces x) k d).stamp (traces y) y) (slice_index sights) (column net (debtor_of net x)) (below _))))
     where
       none_past : (y : ℕ) → length net.debts ≤ y → (stamp : ℕ) → raised_before stamp (traces y) y ≤ 0
       none_past y ge stamp = before_most stamp y 0 (traces y) (λ k d l.
@@ -170,28 +166,8 @@ module _ (net : Net) (start : List Payment) (past : List Raise) (h : Belongs net
   -- the values are at most what all banks would pay from them
   pub covered : IsAtMost (values start) (pay net (values start))
   covered x = dite (dec_lt x (length net.debts))
-      (λ lt. le_trans (le_of_eq (value_at x lt)) (le_trans (start_within x lt (values start) value_at size) (le_of_eq (sym (pay_at net (values start) x lt)))))
-      (λ ge. le_trans (le_of_eq (get_or_past (values start) x 0 (omega (arith, size)))) zero-le)
-    where
-      size : length (values start) ≡ length net.debts
-      size = length-map start (λ p. p.value) ∙ start_over
-
-      value_at : (y : ℕ) → y < length net.debts → slice_index (values start) y ≡ (ending (traces y)).value
-      value_at y lt = get_or-map (λ (p : Payment). p.value) start y unpaid 0 (omega (arith, lt, start_over)) ∙ ap (λ (p : Payment). p.value) (start_at y lt)
-
--- nothing is paid on a board without a past
-pub belongs_at_first : (net : Net) (start : List Payment) → start ≡ start_of net [] → Belongs net start []
-unfolding StandsFrom
-belongs_at_first net start e = record {
-  in_order = refl;
-  stands = tt;
-  traced = record { differ = λ i j a b lt f g. absurd (cc); within = λ i r f. absurd (cc) };
-  start_is = e;
-  stamps_low = λ k p lt.
-      let l : k < length net.debts = omega (arith, lt, ap length e, length-tabled (length net.debts) (λ x. last_payment x [])) in
-      let at : get_or start k p ≡ unpaid = ap (λ (ps : List Payment). get_or ps k p) e ∙ tabled_at (length net.debts) (λ x. last_payment x []) k p l in
-      omega (arith, ap (λ (q : Payment). q.stamp) at);
-}
+      (λ lt. omega (arith, at_first (λ p. p.value) x lt, start_within x lt (values start) (at_first (λ p. p.value)) (over_first (λ p. p.value)), pay_at net (values start) x lt))
+      (λ ge. omega (arith, get_or_past (values start) x 0 (omega (arith, over_first (λ p. p.value)))))
 
 -- a lawful journal in order, with no stamp above the sum of the values, is a past
 pub belongs_of : (net : Net) (rs : List Raise) → Stands net rs → IsTraced net rs → ordered rs ≡ rs → HaveLowStamps rs (start_of net rs) → Belongs net (start_of net rs) rs
@@ -204,10 +180,12 @@ belongs_of net rs stands traced order low = record {
       let l : k < length net.debts = omega (arith, lt, length-tabled (length net.debts) (λ x. last_payment x rs)) in
       let at : get_or (start_of net rs) k d ≡ last_payment k rs = tabled_at (length net.debts) (λ x. last_payment x rs) k d l in
       let most : ℕ = sum (values (start_of net rs)) in
-      le_trans (le_of_eq (ap (λ (p : Payment). p.stamp) at)) (⊎_elim
-      (λ (e : ending (raises_of k rs) ≡ unpaid). le_trans (le_of_eq (ap (λ (p : Payment). p.stamp) e)) zero-le)
-      (λ (t : (r : Raise) × Contains (raises_of k rs) r × (ending (raises_of k rs) ≡ left_by r)).
-      le_trans (le_of_eq (ap (λ (p : Payment). p.stamp) t.2))
-      (All-contains (λ r. r.stamp ≤ most) (raises_of k rs) t.0 (All-filter (λ r. r.debt.0 == k) (λ r. r.stamp ≤ most) rs low) t.1))
-      (ending_cases unpaid (raises_of k rs)));
+      le_trans (le_of_eq (ap (λ (p : Payment). p.stamp) at)) (ending_each (λ p. p.stamp ≤ most) unpaid (raises_of k rs) zero-le
+      (All-filter (λ r. r.debt.0 == k) (λ r. r.stamp ≤ most) rs low));
 }
+
+-- nothing is paid on a board without a past
+pub belongs_at_first : (net : Net) (start : List Payment) → start ≡ start_of net [] → Belongs net start []
+unfolding StandsFrom
+belongs_at_first net start e =
+    rw e (belongs_of net [] tt (record { differ = λ i j a b lt f g. absurd (cc); within = λ i r f. absurd (cc) }) refl (λ k d lt. absurd (omega (arith, lt))))

@@ -23,7 +23,7 @@ module _ (d : Deed) (words : List ℕ) (views : List View) (h : MeetsRule d word
   trace = h.ledger.trace
 
   -- the word of a debt holds what the debt's last raise left
-  stands : (x : ℕ) → x < length d.net.debts → payment_of (slice_index words (x + 1)) ≡ ending (trace x)
+  pub stands : (x : ℕ) → x < length d.net.debts → payment_of (slice_index words (x + 1)) ≡ ending (trace x)
   stands x lt = ap payment_of (h.stands x lt)
       ∙ read_back (ending (trace x)) (omega (arith, value_fits d.net trace h.lawful x lt h.network))
 

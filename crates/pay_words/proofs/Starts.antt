@@ -1,4 +1,5 @@
 -- What raises leave on each debt, raise by raise, and what a seat shows of it.
+use Rattle.std.proofs.lemmas.Grind.{get_or-set_at}
 use Rattle.std.proofs.Common.{◌≡◌, ◌≢◌, ℕ, ◌<◌, List, [], ◌∷◌, ◌++◌, length, map, replicate, set, refl, sym, ap, ◌∙◌, subst, arith, length-set, get_or-set_same, get_or-set_other}
 use Rattle.std.specs.Prelude.{slice_index}
 use Rattle.std.proofs.lemmas.List.{ext_get_or, get_or-replicate, length-replicate}
@@ -34,10 +35,7 @@ start_more net rs r = ext_get_or unpaid (start_of net (rs ++ r ∷ [])) (set (st
     (start_over net (rs ++ r ∷ []) ∙ sym (length-set (start_of net rs) r.debt.0 (left_by r) ∙ start_over net rs))
     (λ x lt.
     let l : x < length net.debts = omega (arith, lt, start_over net (rs ++ r ∷ [])) in
-    start_at net (rs ++ r ∷ []) x l ∙ dite (ℕ_discrete x r.debt.0)
-    (λ e. ap ending (raises_of-push x rs r (sym e)) ∙ ending_push unpaid (raises_of x rs) r
-    ∙ sym (ap (λ (y : ℕ). Rattle.std.proofs.Common.get_or (set (start_of net rs) r.debt.0 (left_by r)) y unpaid) e ∙ get_or-set_same (start_of net rs) r.debt.0 (left_by r) unpaid (omega (arith, l, e, start_over net rs))))
-    (λ ne. ap ending (raises_of-push_else x rs r (λ e. ne (sym e))) ∙ sym (get_or-set_other (start_of net rs) r.debt.0 x (left_by r) unpaid ne ∙ start_at net rs x l)))
+    grind (arith, get_or-set_at, get_or-set_other {A = Payment}, start_at net (rs ++ r ∷ []) x l, start_at net rs x l, start_over net rs, raises_of-push x rs r, raises_of-push_else x rs r, ending_push unpaid (raises_of x rs) r))
 
 -- the values of the payments that a seat shows are what it shows as paid
 pub values_shown : (s : Shown) → length s.paid ≡ length s.net.debts → values (payments_of s) ≡ s.paid

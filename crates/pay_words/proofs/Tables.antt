@@ -1,4 +1,5 @@
 -- Lists over banks and debts: one that a function gives, and one of whose places changes.
+use Rattle.std.proofs.lemmas.Bool.{cond_both, eqb-true, eqb-false}
 use Rattle.std.proofs.Common.{◌≡◌, ℕ, ◌+◌, ◌<◌, ◌≤◌, List, length, set, get_or, sum, sym, ◌∙◌, subst, le_refl, arith, get_or-set_same, get_or-set_other, ◌≢◌, ap, refl, ◌==◌, eq-eqb}
 use Rattle.std.specs.Prelude.{slice_index, if◌then◌else◌}
 use Rattle.std.proofs.lemmas.List.{ext_get_or, set_past, get_or_past}
@@ -22,9 +23,7 @@ tabled_agree d n f g h = ext_get_or d (tabled n f) (tabled n g) (length-tabled n
 
 -- a table of numbers that are nowhere greater
 pub tabled_most : (n : ℕ) (f g : ℕ → ℕ) → ((x : ℕ) → x < n → f x ≤ g x) → IsAtMost (tabled n f) (tabled n g)
-tabled_most n f g h x = dite (dec_lt x n)
-    (λ lt. omega (arith, tabled_at n f x 0 lt, tabled_at n g x 0 lt, h x lt))
-    (λ ge. let far : length (tabled n f) ≤ x = omega (arith, length-tabled n f) in omega (arith, get_or_past (tabled n f) x 0 far))
+tabled_most n f g h x = grind (arith, tabled_at n f x 0, tabled_at n g x 0, h x, get_or_past (tabled n f) x 0, length-tabled n f)
 
 -- what holds of what is new in a place of a list, and of each other, holds of each
 pub set_each : {A : Type 0} (F : ℕ → A → Type 0) (xs : List A) (x : ℕ) (a d : A) → x < length xs → F x a
@@ -32,6 +31,12 @@ pub set_each : {A : Type 0} (F : ℕ → A → Type 0) (xs : List A) (x : ℕ) (
 set_each F xs x a d lt here other y = dite (ℕ_discrete y x)
     (λ e. subst (λ z. F z (get_or (set xs x a) z d)) (sym e) (subst (F x) (sym (get_or-set_same xs x a d lt)) here))
     (λ ne. subst (F y) (sym (get_or-set_other xs x y a d ne)) (other y ne))
+
+-- the same of two lists that change in one place
+pub set_both : (F : ℕ → ℕ → ℕ → Type 0) (xs ys : List ℕ) (x a b : ℕ) → x < length xs → x < length ys → F x a b → ((y : ℕ) → y ≢ x → F y (get_or xs y 0) (get_or ys y 0))
+    → (y : ℕ) → F y (get_or (set xs x a) y 0) (get_or (set ys x b) y 0)
+set_both F xs ys x a b l m here other = set_each (λ y c. F y c (get_or (set ys x b) y 0)) xs x a 0 l (rw (get_or-set_same ys x b 0 m) here)
+    (λ y ne. rw (get_or-set_other ys x y b 0 ne) (other y ne))
 
 -- the same of numbers, also where the list is too short
 pub after_set : (F : ℕ → ℕ → Type 0) (P : List ℕ) (x n : ℕ) → F x n → ((y : ℕ) → F y (get_or P y 0))
@@ -53,16 +58,7 @@ changed_else x a f y ne = cond-false (y == x) a (f y) (ne_eqb y x ne)
 -- what holds of the new value, and of each other, holds of each
 pub changed_each : {A : Type 0} (F : ℕ → A → Type 0) (x : ℕ) (a : A) (f : ℕ → A) → F x a → ((y : ℕ) → y ≢ x → F y (f y))
     → (y : ℕ) → F y (changed x a f y)
-changed_each F x a f here other y = dite (ℕ_discrete y x)
-    (λ e. subst (λ z. F z (changed x a f z)) (sym e) (subst (F x) (sym (changed_here x a f x refl)) here))
-    (λ ne. subst (F y) (sym (changed_else x a f y ne)) (other y ne))
-
--- a list and a function that are changed at one number agree where they agreed before
-pub both_changed : {A : Type 0} (xs : List A) (d : A) (f : ℕ → A) (x : ℕ) (a : A) (y : ℕ) → x < length xs
-    → (y ≢ x → get_or xs y d ≡ f y) → get_or (set xs x a) y d ≡ changed x a f y
-both_changed xs d f x a y lt other = dite (ℕ_discrete y x)
-    (λ e. ap (λ z. get_or (set xs x a) z d) e ∙ get_or-set_same xs x a d lt ∙ sym (changed_here x a f y e))
-    (λ ne. get_or-set_other xs x y a d ne ∙ other ne ∙ sym (changed_else x a f y ne))
+changed_each F x a f here other y = cond_both (y == x) a (f y) (F y) (λ e. rw (eqb-true y x e) here) (λ e. other y (eqb-false y x e))
 
 pub set_above : (P : List ℕ) (x n : ℕ) → slice_index P x ≤ n → IsAtMost P (set P x n)
 set_above P x n h = after_set (λ y m. slice_index P y ≤ m) P x n h (λ y. le_refl _)

@@ -1,4 +1,6 @@
 -- The raises of one debt, in order.
+use Rattle.std.proofs.lemmas.Bool.Decides.{nat_tests}
+use Rattle.std.proofs.lemmas.Grind.{common_steps}
 use Rattle.std.proofs.Common.{◌≡◌, ◌≢◌, ◌⊎◌, ℕ, ◌<◌, ◌≤◌, List, [], ◌∷◌, ◌++◌, Bool, true, true≢false, inl, inr, ⊎_elim, refl, sym, ap, ◌∙◌, le_refl, zero-le, arith, All, suc, zero, get_or, length}
 use Rattle.std.specs.Prelude.{◌==◌, ◌&&◌, ◌/◌, ◌%◌, nat_lt, filter, cond, not}
 use Rattle.std.proofs.lemmas.Bool.{eqb-true, eq-eqb, ne_eqb, lt-ltb, not-true, cond-true, and_from}
@@ -70,21 +72,13 @@ under_own_ending rs k d lt h =
     (All-contains (λ s. (s.stamp ≤ (ending own).stamp) × (s.to ≤ (ending own).value)) own _ (under_ending unpaid own h)
     (among_raises_of rs k d lt)).0
 
--- the last payment is the first one, or that of a raise
-pub ending_cases : (p : Payment) (rs : List Raise) → (ending_from p rs ≡ p) ⊎ ((r : Raise) × Contains rs r × (ending_from p rs ≡ left_by r))
-ending_cases p [] = inl refl
-ending_cases p (a ∷ rs) = ⊎_elim
-    (λ (e : ending_from (left_by a) rs ≡ left_by a). inr (a, (0, omega arith, refl), e))
-    (λ (t : (r : Raise) × Contains rs r × (ending_from (left_by a) rs ≡ left_by r)). inr
-    (t.0, (suc t.1.0, omega (arith, t.1.1), t.1.2), t.2))
-    (ending_cases (left_by a) rs)
+-- what holds of the first payment and of what each raise leaves holds of the last
+pub ending_each : (P : Payment → Type 0) (p : Payment) (rs : List Raise) → P p → All (λ r. P (left_by r)) rs → P (ending_from p rs)
+ending_each P p [] here each = here
+ending_each P p (r ∷ rs) here each = ending_each P (left_by r) rs (each 0 r (omega arith)) (All-tail (λ s. P (left_by s)) r rs each)
 
 pub ending_stood : (rs : List Raise) → Stood rs (ending rs).value (ending rs).stamp
-ending_stood rs = ⊎_elim
-    (λ (e : ending rs ≡ unpaid). inl (ap (λ (q : Payment). q.value) e, ap (λ (q : Payment). q.stamp) e))
-    (λ (t : (r : Raise) × Contains rs r × (ending rs ≡ left_by r)). inr
-    (t.0, t.1, ap (λ (q : Payment). q.value) t.2, ap (λ (q : Payment). q.stamp) t.2))
-    (ending_cases unpaid rs)
+ending_stood rs = ending_each (λ p. Stood rs p.value p.stamp) unpaid rs (inl (refl, refl)) (λ k d l. inr (get_or rs k d, All-contains_itself rs k d l, refl, refl))
 
 pub stood_more : (rs : List Raise) (s : Raise) (v m : ℕ) → Stood rs v m → Stood (rs ++ s ∷ []) v m
 stood_more rs s v m (inl e) = inl e
@@ -98,10 +92,8 @@ stood_under rs h v m (inr t) = omega (arith, t.2, (under_ending unpaid rs h t.1.
 -- a raise of smaller stamp is counted
 pub before_has : (stamp x : ℕ) (rs : List Raise) → All (λ r. r.stamp < stamp → r.debt.0 ≡ x → r.to ≤ raised_before stamp rs x) rs
 before_has stamp x [] k d lt early is = absurd (omega (arith, lt))
-before_has stamp x (a ∷ rs) zero d lt early is =
-    let both = and_from (nat_lt a.stamp stamp) (a.debt.0 == x) (lt-ltb a.stamp stamp early) (eq-eqb a.debt.0 x is) in
-    omega (arith, cond-true (nat_lt a.stamp stamp && (a.debt.0 == x)) a.to 0 both)
-before_has stamp x (a ∷ rs) (suc k) d lt early is = let rest = before_has stamp x rs k d (omega (arith, lt)) early is in omega arith
+before_has stamp x (a ∷ rs) zero d lt early is = grind (arith, nat_tests)
+before_has stamp x (a ∷ rs) (suc k) d lt early is = grind (arith, before_has stamp x rs k d)
 
 pub before_more : (stamp x : ℕ) (rs : List Raise) (r : Raise) → raised_before stamp rs x ≤ raised_before stamp (rs ++ r ∷ []) x
 before_more stamp x [] r = zero-le
@@ -120,17 +112,14 @@ pub raises_of-append : (x : ℕ) (xs ys : List Raise) → raises_of x (xs ++ ys)
 raises_of-append x xs ys = filter-append (λ (s : Raise). s.debt.0 == x) xs ys
 
 pub raises_of-push : (x : ℕ) (rs : List Raise) (r : Raise) → r.debt.0 ≡ x → raises_of x (rs ++ r ∷ []) ≡ raises_of x rs ++ r ∷ []
-raises_of-push x rs r e = raises_of-append x rs (r ∷ []) ∙ ap (λ (t : Bool). raises_of x rs ++ cond t (r ∷ []) []) (eq-eqb r.debt.0 x e)
+raises_of-push x rs r e = grind (arith, common_steps)
 
 pub raises_of-push_else : (x : ℕ) (rs : List Raise) (r : Raise) → r.debt.0 ≢ x → raises_of x (rs ++ r ∷ []) ≡ raises_of x rs
-raises_of-push_else x rs r ne =
-    raises_of-append x rs (r ∷ []) ∙ ap (λ (t : Bool). raises_of x rs ++ cond t (r ∷ []) []) (ne_eqb r.debt.0 x ne) ∙ append-nil (raises_of x rs)
+raises_of-push_else x rs r ne = grind (arith, common_steps)
 
 pub raises_of-none : (x : ℕ) (rs : List Raise) → All (λ r. r.debt.0 ≢ x) rs → raises_of x rs ≡ []
 raises_of-none x [] h = refl
-raises_of-none x (r ∷ rs) h =
-    ap (λ (t : Bool). cond t (r ∷ raises_of x rs) (raises_of x rs)) (ne_eqb r.debt.0 x (h 0 r (omega arith)))
-    ∙ raises_of-none x rs (All-tail (λ s. s.debt.0 ≢ x) r rs h)
+raises_of-none x (r ∷ rs) h = grind (arith, nat_tests, h 0 r, raises_of-none x rs (All-tail (λ s. s.debt.0 ≢ x) r rs h))
 
 -- one debt's raises are one more
 abbrev pub pushed : Traces → ℕ → Raise → Traces

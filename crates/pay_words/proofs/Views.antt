@@ -1,4 +1,8 @@
 -- The list of all views when one of them changes.
+use Rattle.atomic_table.specs.Table.{Me, Allows, keeps}
+use Rattle.clear_core.specs.declared.event.Raise.{Raise}
+use Rattle.clr_net.specs.Net.{Net}
+use Rattle.std.proofs.Common.{get_or, ◌++◌}
 use Rattle.std.proofs.Common.{◌≡◌, ◌≢◌, ℕ, zero, suc, ◌+◌, ◌<◌, Bool, List, [], ◌∷◌, length, set, true, sym, ap, ◌∙◌, subst, ⊎_elim, arith, length-set, All, false}
 use Rattle.std.specs.Prelude.{slice_index}
 use mathlib.Core.Option.{some, some-ne-none, some-injective}
@@ -18,60 +22,80 @@ use Rattle.clr_net.specs.Net.{debtor_of}
 abbrev pub rule : Deed → State (Unit {0}) View → Type 0
 rule d s = MeetsRule d s.words s.views
 
-pub within_length : {A : Type 0} (l : List A) (i : ℕ) (a : A) → get_elem? l i ≡ some a → i < length l
-within_length [] i a e = absurd (some-ne-none a (sym e))
-within_length (x ∷ xs) zero a e = omega arith
-within_length (x ∷ xs) (suc i) a e = let h = within_length xs i a e in omega arith
+-- what stands in a place of a list
+pub got : {A : Type 0} (l : List A) (i : ℕ) (a d : A) → get_elem? l i ≡ some a → (i < length l) × (get_or l i d ≡ a)
+got [] i a d e = absurd (some-ne-none a (sym e))
+got (x ∷ xs) zero a d e = (omega arith, some-injective x a e)
+got (x ∷ xs) (suc i) a d e = let h = got xs i a d e in (omega (arith, h.0), h.1)
 
 -- a seat that sits somewhere sits there still, if the view that changes keeps what is asked
 pub sits_set : (views : List View) (id : ℕ) (v w : View) (j : ℕ) (P : View → Type 0) → get_elem? views id ≡ some v → w.live ≡ v.live → (P v → P w)
     → Sits views j P → Sits (set views id w) j P
 sits_set views id v w j P at on keep t = dite (ℕ_discrete j id)
-    (λ e. let same : t.0 ≡ v = some-injective t.0 v (sym t.1 ∙ ap (get_elem? views) e ∙ at) in (
-      w,
-      subst (λ (i : ℕ). get_elem? (set views id w) i ≡ some w) (sym e) (set_here views id w (within_length views id v at)),
-      on ∙ ap (λ (u : View). u.live) (sym same) ∙ t.2,
-      keep (subst P same t.3),
-    ))
+    (λ e.
+    let same : t.0 ≡ v = some-injective t.0 v (sym t.1 ∙ ap (get_elem? views) e ∙ at) in
+    (w, rw e (set_here views id w (got views id v v at).0), on ∙ ap (λ (u : View). u.live) (sym same) ∙ t.2, keep (rw same at t.3)))
     (λ ne. (t.0, set_else views id j w ne ∙ t.1, t.2, t.3))
 
-module _ (d : Deed) (k : Ledger) (roll : ℕ) where
-  -- the others suit, and the new view does, so all do
-  pub fits_set : (count : ℕ) (views : List View) (id : ℕ) (w : View) → ((j : ℕ) (u : View) → j ≢ id → get_elem? views j ≡ some u → u.live ≡ true → Suits d k roll count j u)
-      → (w.live ≡ true → Suits d k roll count id w)
-      → (j : ℕ) (u : View) → get_elem? (set views id w) j ≡ some u → u.live ≡ true → Suits d k roll count j u
-  fits_set count views id w others mine j u e on =
-      ⊎_elim
-      (λ (t : (j ≡ id) × (w ≡ u)). subst (λ (y : ℕ × View). Suits d k roll count y.0 y.1) (λ i. (sym t.0 i, t.1 i)) (mine (ap (λ (y : View). y.live) t.1 ∙ on)))
-      (λ (t : (j ≢ id) × (get_elem? views j ≡ some u)). others j u t.0 t.1 on)
-      (at_set views id j w u e)
+-- what holds of each other live seat, and of the new view, holds of all
+pub each_set : (P : ℕ → View → Type 0) (views : List View) (id : ℕ) (w : View) → ((j : ℕ) (u : View) → j ≢ id → get_elem? views j ≡ some u → u.live ≡ true → P j u)
+    → (w.live ≡ true → P id w) → (j : ℕ) (u : View) → get_elem? (set views id w) j ≡ some u → u.live ≡ true → P j u
+each_set P views id w others mine j u e on = ⊎_elim
+    (λ (t : (j ≡ id) × (w ≡ u)). subst (λ (y : ℕ × View). P y.0 y.1) (λ i. (sym t.0 i, t.1 i)) (mine (ap (λ (y : View). y.live) t.1 ∙ on)))
+    (λ (t : (j ≢ id) × (get_elem? views j ≡ some u)). others j u t.0 t.1 on)
+    (at_set views id j w u e)
 
-  -- the same, where the number of seats is that of the new list
-  pub fits_again : (words : List ℕ) (views : List View) (id : ℕ) (w : View) → slice_index words 0 ≡ roll
-      → ((j : ℕ) (u : View) → j ≢ id → get_elem? views j ≡ some u → u.live ≡ true → Suits d k roll (length views) j u)
-      → (w.live ≡ true → Suits d k roll (length views) id w)
-      → (j : ℕ) (u : View) → get_elem? (set views id w) j ≡ some u → u.live ≡ true → Suits d k (slice_index words 0) (length (set views id w)) j u
-  fits_again words views id w same others mine =
-      subst (λ (y : ℕ × ℕ). (j : ℕ) (u : View) → get_elem? (set views id w) j ≡ some u → u.live ≡ true → Suits d k y.0 y.1 j u)
-      (λ i. (sym same i, sym (length-set views id w) i)) (fits_set (length views) views id w others mine)
+-- what holds of each live seat, and of one more, holds of all
+pub each_longer : (P : ℕ → View → Type 0) (l : List View) (w : View) → ((j : ℕ) (u : View) → get_elem? l j ≡ some u → u.live ≡ true → P j u) → P (length l) w
+    → (j : ℕ) (u : View) → get_elem? (l ++ w ∷ []) j ≡ some u → u.live ≡ true → P j u
+each_longer P [] w h here zero u e on = subst (P 0) (some-injective w u e) here
+each_longer P [] w h here (suc j) u e on = absurd (some-ne-none u (sym e))
+each_longer P (x ∷ xs) w h here zero u e on = h 0 u e on
+each_longer P (x ∷ xs) w h here (suc j) u e on = each_longer (λ i. P (suc i)) xs w (λ i. h (suc i)) here j u e on
+
+-- a deed for the network that a seat shows
+abbrev pub its : List Raise → View → Deed
+its past v = record { net = v.shown.net; past = past }
+
+-- what holds over that network holds over that of its board
+pub at_its : (P : Deed → Type 0) (d : Deed) (v : View) → v.shown.net ≡ d.net → P (its d.past v) → P d
+at_its P d v e = subst (λ (n : Net). P (record { net = n; past = d.past })) e
+
+-- the rule is kept from some words and views to others
+abbrev pub Keeps : List ℕ → List ℕ → List View → List View → Deed → Type 0
+Keeps words now views after d = MeetsRule d words views → MeetsRule d now after
+
+-- a step that takes no slot is allowed where it keeps the rule
+pub allowed : (d : Deed) (slots id : ℕ) (me : Me (Unit {0}) View) (i : ℕ) (f : ℕ → ℕ) (then : ℕ → Me (Unit {0}) View → Type 0) (w : ℕ → View) → me.0.shown.net ≡ d.net
+    → ((s : State (Unit {0}) View) (h : MeetsRule (its d.past me.0) s.words s.views) → get_elem? s.views id ≡ some me.0
+    → MeetsRule (its d.past me.0) (set s.words i (f (slice_index s.words i))) (set s.views id (w (slice_index s.words i))) × then (slice_index s.words i) (w (slice_index s.words i), me.1))
+    → Allows (rule d) slots id me i f then
+allowed d slots id me i f then w e step s h sized at small =
+    let n = slice_index s.words i in
+    let within : MeetsRule (its d.past me.0) s.words s.views = subst (λ (n : Net). MeetsRule (record { net = n; past = d.past }) s.words s.views) (sym e) h in
+    let after = step s within at in
+    (w n, keeps, tt, at_its (λ d. MeetsRule d (set s.words i (f n)) (set s.views id (w n))) d me.0 e after.0, after.1)
 
 -- a step of the seat `id`, which holds the banks that it held, keeps the rule where words, raises,
 -- seats and bells go together again
-pub kept_again : (d : Deed) (words now : List ℕ) (views : List View) (id : ℕ) (v w : View) (t : Traces) (h : MeetsRule d words views)
-    → get_elem? views id ≡ some v → w.live ≡ v.live → w.shown.banks ≡ v.shown.banks → w.shown.master ≡ v.shown.master → length now ≡ length words
+pub kept_again : (d : Deed) (words now : List ℕ) (views : List View) (id roll : ℕ) (v w : View) (t : Traces) (h : MeetsRule d words views)
+    → get_elem? views id ≡ some v → v.live ≡ true → w.live ≡ v.live → w.shown.banks ≡ v.shown.banks → w.shown.master ≡ v.shown.master → length now ≡ length words → slice_index now 0 ≡ roll
     → ((x : ℕ) → x < length d.net.debts → slice_index now (x + 1) ≡ word_of (ending (t x))) → AreLawfulTraces d.net t
-    → ((j : ℕ) (u : View) → get_elem? (set views id w) j ≡ some u → u.live ≡ true → Suits d (record h.ledger { trace = t }) (slice_index now 0) (length (set views id w)) j u)
+    → ((j : ℕ) (u : View) → j ≢ id → get_elem? views j ≡ some u → u.live ≡ true → Suits d h.ledger (slice_index words 0) (length views) j u
+    → Suits d (record h.ledger { trace = t }) roll (length views) j u)
+    → (Suits d h.ledger (slice_index words 0) (length views) id v → Suits d (record h.ledger { trace = t }) roll (length views) id w)
     → IsRung d t now (set views id w) → MeetsRule d now (set views id w)
-kept_again d words now views id v w t h at on banks chief long stands lawful fits rung = record {
+kept_again d words now views id roll v w t h at on live banks chief long first stands lawful others mine rung = record {
   ledger = record h.ledger { trace = t };
   network = h.network;
   size = long ∙ h.size;
   stands = stands;
   lawful = lawful;
   known = h.known;
-  held = λ b l. sits_set views id v w (h.ledger.owner b) (λ u. holds u.shown b ≡ true) at on (λ e. ap (λ (bs : List Bool). is_marked bs b) banks ∙ e) (h.held b l);
-  led = sits_set views id v w h.ledger.chief (λ u. u.shown.master ≡ true) at on (λ e. chief ∙ e) h.led;
-  fits = fits;
+  held = λ b l. sits_set views id v w (h.ledger.owner b) (λ u. holds u.shown b ≡ true) at live (λ e. ap (λ (bs : List Bool). is_marked bs b) banks ∙ e) (h.held b l);
+  led = sits_set views id v w h.ledger.chief (λ u. u.shown.master ≡ true) at live (λ e. chief ∙ e) h.led;
+  fits = rw (first, length-set views id w) (each_set (Suits d (record h.ledger { trace = t }) roll (length views)) views id w
+      (λ j u ne e o. others j u ne e o (h.fits j u e o)) (λ _. mine (h.fits id v at on)));
   rung = rung;
 }
 

@@ -19,7 +19,7 @@ turn_at (r ∷ q ∷ rs) h zero d l = h.0
 turn_at (r ∷ q ∷ rs) h (suc k) d l = turn_at (q ∷ rs) h.1 k d (omega arith)
 
 next_at : (rs : List Raise) → InTurn rs → (k : ℕ) (d : Raise) → k + 1 < length rs → may_precede (get_or rs k d) (get_or rs (k + 1) d) ≡ true
-next_at rs h k d l = subst (λ n. may_precede (get_or rs k d) (get_or rs n d) ≡ true) (sym (add-one k)) (turn_at rs h k d (omega arith))
+next_at rs h k d l = rw add-one (turn_at rs h k d (omega arith))
 
 -- raises in turn up to a place, and from a place on
 turn_front : (xs ys : List Raise) → InTurn (xs ++ ys) → InTurn xs
@@ -94,11 +94,6 @@ pub record AreParted (whole olds news kept left merged : List Raise) : Type 0 wh
   turn : InTurn olds → InTurn news → InTurn (kept ++ merged) × InTurn (left ++ merged)
 
 module _ {whole olds news : List Raise} where
-  parted_same : (ks ns ms : List Raise) {kept left merged : List Raise} → AreParted whole olds news kept left merged → kept ≡ ks → left ≡ ns → merged ≡ ms
-      → AreParted whole olds news ks ns ms
-  parted_same ks ns ms {kept} {left} {merged} h e f g =
-      subst (λ xs. AreParted whole olds news ks ns xs) g (subst (λ xs. AreParted whole olds news ks xs merged) f (subst (λ xs. AreParted whole olds news xs left merged) e h))
-
   -- the last old raise goes before what is merged, where the last new one may precede it
   part_old : (ks ns ms : List Raise) (x y : Raise) → may_precede y x ≡ true → AreParted whole olds news (ks ++ x ∷ []) (ns ++ y ∷ []) ms
       → AreParted whole olds news ks (ns ++ y ∷ []) (x ∷ ms)
@@ -106,22 +101,25 @@ module _ {whole olds news : List Raise} where
       let left = ns ++ y ∷ [] in
       record {
         moved = IsPermutation-trans whole ((ks ++ x ∷ []) ++ (left ++ ms)) (ks ++ (left ++ x ∷ ms)) h.moved
-            (subst (λ xs. IsPermutation xs (ks ++ (left ++ x ∷ ms))) (sym (append_assoc ks (x ∷ []) (left ++ ms)))
+            (rw (append_assoc ks (x ∷ []) (left ++ ms))
             (IsPermutation-append_right ks (x ∷ (left ++ ms)) (left ++ x ∷ ms) (IsPermutation-sym (left ++ x ∷ ms) (x ∷ (left ++ ms)) (IsPermutation-middle left x ms))));
         turn = λ o n.
             let t = h.turn o n in
-            let first : InTurn (ks ++ x ∷ ms) = subst InTurn (append_assoc ks (x ∷ []) ms) t.0 in
-            (first, subst InTurn (sym (append_assoc ns (y ∷ []) (x ∷ ms))) (turn_joined ns y x ms (turn_front left ms t.1) e (turn_back ks (x ∷ ms) first)));
+            let first : InTurn (ks ++ x ∷ ms) = rw (append_assoc ks (x ∷ []) ms) at t.0 in (
+              first,
+              rw (append_assoc ns (y ∷ []) (x ∷ ms))
+                  (turn_joined ns y x ms (turn_front left ms t.1) e (turn_back ks (x ∷ ms) first)),
+            );
       }
 
   -- the last new raise goes there, where no old one stays, or the last of them may precede it
   part_new : (ks ns ms : List Raise) (y : Raise) → (InTurn ks → InTurn (y ∷ ms) → InTurn (ks ++ y ∷ ms)) → AreParted whole olds news ks (ns ++ y ∷ []) ms
       → AreParted whole olds news ks ns (y ∷ ms)
   part_new ks ns ms y joins h = record {
-    moved = subst (λ xs. IsPermutation whole (ks ++ xs)) (append_assoc ns (y ∷ []) ms) h.moved;
+    moved = rw (append_assoc ns (y ∷ []) ms) at h.moved;
     turn = λ o n.
         let t = h.turn o n in
-        let second : InTurn (ns ++ y ∷ ms) = subst InTurn (append_assoc ns (y ∷ []) ms) t.1 in
+        let second : InTurn (ns ++ y ∷ ms) = rw (append_assoc ns (y ∷ []) ms) at t.1 in
         (joins (turn_front ks ms t.0) (turn_back ns (y ∷ ms) second), second);
   }
 
@@ -143,9 +141,7 @@ pub placed_first : (all : List Raise) (kept : ℕ) (y : Raise) → kept ≤ 0 �
 placed_first all kept y none k e = absurd (omega arith)
 
 pub placed_after : (all : List Raise) (kept : ℕ) (y : Raise) → may_precede (get_or all (kept - 1) no_raise) y ≡ true → IsPlaced all kept y
-placed_after all kept y h k e =
-    let same : kept - 1 ≡ k = omega arith in
-    subst (λ n. may_precede (get_or all n no_raise) y ≡ true) same h
+placed_after all kept y h k e = let same : kept - 1 ≡ k = omega arith in rw same at h
 
 -- what a look at two raises says
 pub stands_before : (x y : Raise) (b : Bool) → b ≡ not (may_precede x y) → b ≡ false → may_precede x y ≡ true
@@ -160,9 +156,7 @@ placed_joins all ms zero y l p h g = g
 placed_joins all ms (suc k) y l p h g =
     let x = get_or all k no_raise in
     let is : take (suc k) all ≡ take k all ++ x ∷ [] = ap (λ n. take n all) (sym (add-one k)) ∙ take_more all k no_raise (omega arith) in
-    let front : InTurn (take k all ++ x ∷ []) = subst InTurn is h in
-    subst InTurn (sym (ap (λ xs. xs ++ y ∷ ms) is ∙ append_assoc (take k all) (x ∷ []) (y ∷ ms)))
-    (turn_joined (take k all) x y ms front (p k (omega arith)) g)
+    rw (is, append_assoc (take k all) (x ∷ []) (y ∷ ms)) (turn_joined (take k all) x y ms (rw is at h) (p k (omega arith)) g)
 
 -- where merging begins
 pub merging_first : (all rs : List Raise) → drop (length all - length rs) all ≡ rs → IsMerging all all rs (length all - length rs) (length rs)
@@ -170,16 +164,14 @@ merging_first all rs e =
     let kept = length all - length rs in
     let count : length all - kept ≡ length rs = omega (arith, ap length e, length-drop kept all) in
     let end : drop (kept + length rs) all ≡ [] = drop_all (kept + length rs) all (omega (arith, count)) in
-    let news : take (length rs) rs ≡ rs = take_all (length rs) rs (omega arith) in
     record {
       many = omega (arith, count);
       few = omega arith;
-      parted = parted_same {whole = all} {olds = take kept all} {news = rs} (take kept all) (take (length rs) rs) (drop (kept + length rs) all)
-          (record {
-            moved = subst (IsPermutation all) (sym (ap (λ xs. take kept all ++ xs) (append-nil rs ∙ sym e) ∙ take-append-drop kept all)) (IsPermutation-refl all);
-            turn = λ o n. (subst InTurn (sym (append-nil (take kept all))) o, subst InTurn (sym (append-nil rs)) n);
-          })
-          refl (sym news) (sym end);
+      parted = rw (take_all (length rs) rs (omega arith), end) (record {
+        moved = subst (IsPermutation all) (sym (ap (λ xs. take kept all ++ xs) (append-nil rs ∙ sym e)
+            ∙ take-append-drop kept all)) (IsPermutation-refl all);
+        turn = λ o n. (rw (append-nil (take kept all)) o, rw (append-nil rs) n);
+      });
     }
 
 -- an old raise moves up, and a new one is put in
@@ -188,50 +180,42 @@ pub merging_old : (first all rs : List Raise) (kept left k m j : ℕ) → IsMerg
 merging_old first all rs kept left k m j h e f g t =
     let x = get_or all k no_raise in
     let y = get_or rs m no_raise in
-    let many = h.many in
-    let few = h.few in
+    let last : take (m + 1) rs ≡ take m rs ++ y ∷ [] = take_more rs m no_raise (omega (arith, h.few)) in
+    let first_old : take (k + 1) all ≡ take k all ++ x ∷ [] = take_more all k no_raise (omega (arith, h.many)) in
     let ends : kept + left ≡ j + 1 = omega arith in
-    let last : take left rs ≡ take m rs ++ y ∷ [] = ap (λ n. take n rs) f ∙ take_more rs m no_raise (omega arith) in
+    let parted : AreParted first (take (length first - length rs) first) rs (take k all ++ x ∷ [])
+    (take m rs ++ y ∷ []) (drop (j + 1) all) = rw (ends, e, f, last, first_old) at h.parted in
     record {
-      many = omega (arith, length-set all j x);
-      few = few;
-      parted = parted_same (take k (set all j x)) (take left rs) (drop (k + left) (set all j x))
-          (part_old (take k all) (take m rs) (drop (j + 1) all) x y t
-          (parted_same (take k all ++ x ∷ []) (take m rs ++ y ∷ []) (drop (j + 1) all) h.parted
-          (ap (λ n. take n all) e ∙ take_more all k no_raise (omega arith)) last (ap (λ n. drop n all) ends)))
-          (sym (take-set-le k all j x (omega arith))) (sym last)
-          (sym (drop-set all j x (omega arith)) ∙ ap (λ n. drop n (set all j x)) g);
+      many = omega (arith, h.many, length-set all j x);
+      few = h.few;
+      parted = rw (take-set-le k all j x (omega arith), ← g, f, last, drop-set all j x (omega (arith, h.many)))
+          (part_old (take k all) (take m rs) (drop (j + 1) all) x y t parted);
     }
 
 pub merging_new : (first all rs : List Raise) (kept left m j : ℕ) → IsMerging first all rs kept left → left ≡ m + 1 → j ≡ kept + m
     → IsPlaced all kept (get_or rs m no_raise) → IsMerging first (set all j (get_or rs m no_raise)) rs kept m
 merging_new first all rs kept left m j h f g p =
     let y = get_or rs m no_raise in
-    let many = h.many in
-    let few = h.few in
     let ends : kept + left ≡ j + 1 = omega arith in
+    let parted : AreParted first (take (length first - length rs) first) rs (take kept all) (take m rs ++ y ∷ []) (drop (j + 1) all) =
+    rw (ends, f, take_more rs m no_raise (omega (arith, h.few))) at h.parted in
     record {
-      many = omega (arith, length-set all j y);
-      few = omega arith;
-      parted = parted_same (take kept (set all j y)) (take m rs) (drop (kept + m) (set all j y))
-          (part_new (take kept all) (take m rs) (drop (j + 1) all) y (placed_joins all (drop (j + 1) all) kept y (omega arith) p)
-          (parted_same (take kept all) (take m rs ++ y ∷ []) (drop (j + 1) all) h.parted
-          refl (ap (λ n. take n rs) f ∙ take_more rs m no_raise (omega arith)) (ap (λ n. drop n all) ends)))
-          (sym (take-set-le kept all j y (omega arith))) refl
-          (sym (drop-set all j y (omega arith)) ∙ ap (λ n. drop n (set all j y)) g);
+      many = omega (arith, h.many, length-set all j y);
+      few = omega (arith, h.few);
+      parted = rw (take-set-le kept all j y (omega arith), ← g, drop-set all j y (omega (arith, h.many)))
+          (part_new (take kept all) (take m rs) (drop (j + 1) all) y
+          (placed_joins all (drop (j + 1) all) kept y (omega (arith, h.many)) p) parted);
     }
 
 -- where no new raise is left
 pub merging_last : (first all rs : List Raise) (kept left : ℕ) → IsMerging first all rs kept left → left ≡ 0
     → IsPermutation first all × (AreInOrder (take (length first - length rs) first) → AreInOrder rs → AreInOrder all)
 merging_last first all rs kept left h e =
-    let olds = take (length first - length rs) first in
     let ends : kept + left ≡ kept = omega arith in
-    let none : take left rs ≡ [] = ap (λ n. take n rs) e in
-    let parted : AreParted first olds rs (take kept all) [] (drop kept all) = parted_same (take kept all) [] (drop kept all) h.parted refl none (ap (λ n. drop n all) ends) in
-    let whole : take kept all ++ drop kept all ≡ all = take-append-drop kept all in (
-      subst (IsPermutation first) whole parted.moved,
-      λ o n. turn_in_order all (subst InTurn whole (parted.turn (in_order_turn olds o) (in_order_turn rs n)).0),
+    let parted : AreParted first (take (length first - length rs) first) rs (take kept all) [] (drop kept all) =
+    rw (ends, e) at h.parted in (
+      rw take-append-drop at parted.moved,
+      λ o n. turn_in_order all (rw take-append-drop at (parted.turn (in_order_turn _ o) (in_order_turn rs n)).0),
     )
 
 -- new raises that may all stand after the old ones are merged where they are
@@ -243,11 +227,9 @@ placed_whole all rs kept c e p o n =
     (turn_in_order (take kept all ++ rs) (by rs refl p (in_order_turn (take kept all) o) (in_order_turn rs n)))
   where
     by : (xs : List Raise) → rs ≡ xs → (length xs ≡ 0) ⊎ IsPlaced all kept (get_or xs 0 no_raise) → InTurn (take kept all) → InTurn xs → InTurn (take kept all ++ xs)
-    by [] f q h g = subst InTurn (sym (append-nil (take kept all))) h
-    by (y ∷ ys) f q h g = ⊎_elim
-        (λ (z : suc (length ys) ≡ 0). absurd (omega arith))
-        (λ (q : IsPlaced all kept y). placed_joins all ys kept y (omega arith) q h g)
-        q
+    by [] f q h g = rw (append-nil (take kept all)) h
+    by (y ∷ ys) f q h g = ⊎_elim (λ (z : suc (length ys) ≡ 0). absurd (omega arith))
+        (λ (q : IsPlaced all kept y). placed_joins all ys kept y (omega arith) q h g) q
 
 -- raises that were looked at in pairs: each before a place may precede the next
 abbrev pub AreInTurnTo : List Raise → ℕ → Type 0
@@ -256,5 +238,4 @@ AreInTurnTo rs n = (k : ℕ) → k + 1 < n → may_precede (get_or rs k no_raise
 -- all pairs were looked at
 pub in_turn_whole : (rs : List Raise) (n : ℕ) → length rs ≤ n → AreInTurnTo rs n → AreInOrder rs
 in_turn_whole rs n all h = sym (only_order rs rs (IsPermutation-refl rs) (λ k d l.
-    subst (λ x. may_precede x (get_or rs (k + 1) d) ≡ true) (get_or_default rs k no_raise d (omega arith))
-    (subst (λ x. may_precede (get_or rs k no_raise) x ≡ true) (get_or_default rs (k + 1) no_raise d (omega arith)) (h k (omega arith)))))
+    rw (← (get_or_default rs k no_raise d (omega arith)), ← (get_or_default rs (k + 1) no_raise d (omega arith))) (h k (omega arith))))

@@ -1,4 +1,5 @@
 -- The debt of a debtor, a creditor and a class, by its number.
+use Rattle.std.proofs.lemmas.Bool.Decides.{nat_tests}
 use Rattle.std.proofs.Common.{◌≡◌, ℕ, ◌<◌, ◌==◌, ◌&&◌, true, List, length, get_or, slice_get, Some, None, refl, sym, ap, ◌∙◌, arith, eq-eqb}
 use Rattle.std.specs.Prelude.{position, Option, IfNone, IfSome, false}
 use Rattle.std.specs.List.{list_any}
@@ -13,34 +14,22 @@ use Rattle.clr_net.specs.declared.debt.DebtId.{DebtId}
 use Rattle.clr_net.proofs.OfKind.{new_kind}
 
 -- a debt of a kind passes the test of the kind, and back
-kind-passes : (a b c : ℕ) (d : Debt) → d.debtor.0 ≡ a → d.creditor.0 ≡ b → d.class ≡ c → is_debt_of a b c d ≡ true
-kind-passes a b c d e f g =
-    and_from ((d.debtor.0 == a) && (d.creditor.0 == b)) (d.class == c)
-    (and_from (d.debtor.0 == a) (d.creditor.0 == b) (eq-eqb d.debtor.0 a e) (eq-eqb d.creditor.0 b f)) (eq-eqb d.class c g)
+kind-passes : (net : Net) (a b c k : ℕ) (d : Debt) → slice_get net.debts k ≡ Some d → IsOfKind net k a b c → is_debt_of a b c d ≡ true
+kind-passes net a b c k d at kind = grind (arith, nat_tests, at, kind)
 
--- the test of a kind tells what the debt is of
 pub passes-kind : (net : Net) (a b c k : ℕ) (d : Debt) → slice_get net.debts k ≡ Some d → is_debt_of a b c d ≡ true → IsOfKind net k a b c
-passes-kind net a b c k d at h =
-    let both = and_parts ((d.debtor.0 == a) && (d.creditor.0 == b)) (d.class == c) h in
-    let two = and_parts (d.debtor.0 == a) (d.creditor.0 == b) both.0 in (
-      ap (λ o. option_map_or (λ d. d.debtor.0) o 0) at ∙ eqb-true d.debtor.0 a two.0,
-      ap (λ o. option_map_or (λ d. d.creditor.0) o 0) at ∙ eqb-true d.creditor.0 b two.1,
-      ap (λ o. option_map_or (λ d. d.class) o 0) at ∙ eqb-true d.class c both.1,
-    )
+passes-kind net a b c k d at h = grind (arith, nat_tests, at, h)
 
 -- in a network the debt of a kind is the first of its kind
 pub kind_found : (net : Net) (a b c x : ℕ) (d : Debt) → IsNetwork net → x < length net.debts → slice_get net.debts x ≡ Some d → IsOfKind net x a b c
     → position (is_debt_of a b c) net.debts ≡ Some x
 kind_found net a b c x d network below at kind =
     let p = is_debt_of a b c in
-    let debtor : d.debtor.0 ≡ a = sym (ap (λ o. option_map_or (λ d. d.debtor.0) o 0) at) ∙ kind.0 in
-    let creditor : d.creditor.0 ≡ b = sym (ap (λ o. option_map_or (λ d. d.creditor.0) o 0) at) ∙ kind.1 in
-    let class : d.class ≡ c = sym (ap (λ o. option_map_or (λ d. d.class) o 0) at) ∙ kind.2 in
     let first = position_or_len_is p net.debts x d (omega arith)
     (λ k l. false_from_ne_true (p (get_or net.debts k d)) (λ h.
     let other = passes-kind net a b c k (get_or net.debts k d) (slice_get-get_or net.debts k d (omega arith)) h in
     (network.each_debt x below).only_of_its_kind k l (other.0 ∙ sym kind.0, other.1 ∙ sym kind.1, other.2 ∙ sym kind.2)))
-    (λ l. rw (get_or_from_slice_get net.debts x d d at) (kind-passes a b c d debtor creditor class)) in
+    (λ l. rw (get_or_from_slice_get net.debts x d d at) (kind-passes net a b c x d at kind)) in
     rw (first, lt-ltb x (length net.debts) below) refl
 
 -- and where no debt is of the kind, none is found

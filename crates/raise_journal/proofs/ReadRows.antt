@@ -1,4 +1,7 @@
 -- A journal file read row by row.
+use Rattle.std.proofs.Common.{⊎_elim}
+use Rattle.std.proofs.lemmas.Bool.{cases_Bool}
+use Rattle.std.proofs.lemmas.Bool.Decides.{nat_tests}
 use Rattle.std.proofs.Common.{◌≡◌, ◌∙◌, ℕ, suc, ◌+◌, ◌≤◌, ◌==◌, ◌&&◌, nat_lt, not, Bool, true, false, cond, length, List, [], ◌∷◌, ◌++◌, Result, Ok, Err, refl, ap, arith, ne_eqb}
 use Rattle.std.specs.Prelude.{codes}
 use Rattle.std.specs.List.{list_all}
@@ -22,38 +25,25 @@ use Rattle.raise_journal.specs.ReadJournal.{raise_from, raise_in_row, is_closing
 
 -- a record that closes a journal is not blank
 closing-full : (fields : Fields) → is_closing fields ≡ true → is_blank fields ≡ false
-closing-full [] e = cc
-closing-full (word ∷ []) e = cc
 closing-full (word ∷ number ∷ []) e =
     let both = and_parts (bytes_eq word (codes "rounds")) (is_some (number_in number)) e in
     let same : word ≡ codes "rounds" = (bytes_eq-Decides word (codes "rounds")).0 both.0 in
     rw same refl
-closing-full (word ∷ number ∷ more ∷ rest) e = cc
+closing-full _ e = cc
 
 -- and it has no raise
 closing-none : (net : Net) (fields : Fields) → is_closing fields ≡ true → raise_from net fields ≡ Err fault.Fields
-closing-none net [] e = cc
-closing-none net (word ∷ []) e = cc
 closing-none net (word ∷ number ∷ []) e = refl
-closing-none net (word ∷ number ∷ more ∷ rest) e = cc
+closing-none net _ e = cc
 
 closing-fault : (net : Net) (raises row : ℕ) (fields : Fields) → is_closing fields ≡ true
     → raise_in_row net raises (row, fields) ≡ Err (closed_early_at raises row)
-closing-fault net raises row fields e = rw (closing-none net fields e) (by (nat_lt raises MAX_RAISES))
-  where
-    by : (b : Bool) → in_row {A = Raise} file.Journal row (fault_unless b fault.TooMany (Err fault.Fields)) ≡ Err (fault_at file.Journal row (cond b fault.Fields fault.TooMany))
-    by true = refl
-    by false = refl
+closing-fault net raises row fields e = grind (arith, closing-none net fields e)
 
 -- no row is left exactly where each record is blank
 none_left : (row : ℕ) (rest : List Fields) → (length (rows_from row rest) == 0) ≡ list_all is_blank rest
 none_left row [] = refl
-none_left row (fields ∷ rest) = by (is_blank fields) (none_left (row + 1) rest)
-  where
-    by : (b : Bool) → (length (rows_from (row + 1) rest) == 0) ≡ list_all is_blank rest
-        → (length (cond (not b) ((row, fields) ∷ rows_from (row + 1) rest) (rows_from (row + 1) rest)) == 0) ≡ (b && list_all is_blank rest)
-    by true e = e
-    by false e = ne_eqb (suc (length (rows_from (row + 1) rest))) 0 (λ h. omega arith)
+none_left row (fields ∷ rest) = grind (arith, nat_tests, none_left (row + 1) rest)
 
 -- the raise of one record, and then those of the others
 raise-then : (r : Result Raise Fault) (f : Raise → Result (List Raise) Fault) (g : List Raise → Result (List Raise) Fault) (h : Raise → List Raise)
@@ -61,32 +51,16 @@ raise-then : (r : Result Raise Fault) (f : Raise → Result (List Raise) Fault) 
 raise-then (Ok x) f g h e = e x
 raise-then (Err k) f g h e = refl
 
-pub raises-next : (net : Net) (done : List Raise) (row : ℕ) (fields : Fields) (rest : List Fields) → is_closing fields ≡ false
-    → read_raises net done (rows_from row (fields ∷ rest))
-    ≡ and_then (added net done row fields) (λ next. read_raises net next (rows_from (row + 1) rest))
+pub raises-next : (net : Net) (done : List Raise) (row : ℕ) (fields : Fields) (rest : List Fields) (next : Result (List Raise) Fault) → is_closing fields ≡ false
+    → added net done row fields ≡ next → read_raises net done (rows_from row (fields ∷ rest)) ≡ and_then next
+    (λ n. read_raises net n (rows_from (row + 1) rest))
 unfolding read_raises
-raises-next net done row fields rest kept = by (is_blank fields)
-  where
-    by : (b : Bool) → read_raises net done (cond (not b) ((row, fields) ∷ rows_from (row + 1) rest) (rows_from (row + 1) rest))
-        ≡ and_then (cond b (Ok done) (and_then (raise_in_row net (length done) (row, fields)) (λ x. Ok (done ++ x ∷ []))))
-        (λ next. read_raises net next (rows_from (row + 1) rest))
-    by true = refl
-    by false = rw kept (raise-then (raise_in_row net (length done) (row, fields)) (λ x. read_raises net (done ++ x ∷ []) (rows_from (row + 1) rest))
-        (λ next. read_raises net next (rows_from (row + 1) rest)) (λ x. done ++ x ∷ []) (λ x. refl))
-
-pub raises-pass : (net : Net) (done next : List Raise) (row : ℕ) (fields : Fields) (rest : List Fields) → is_closing fields ≡ false
-    → added net done row fields ≡ Ok next
-    → read_raises net done (rows_from row (fields ∷ rest)) ≡ read_raises net next (rows_from (row + 1) rest)
-raises-pass net done next row fields rest kept e =
-    raises-next net done row fields rest kept
-    ∙ ap (λ (r : Result (List Raise) Fault). and_then r (λ n. read_raises net n (rows_from (row + 1) rest))) e
-
-pub raises-stop : (net : Net) (done : List Raise) (row : ℕ) (fields : Fields) (rest : List Fields) (f : Fault) → is_closing fields ≡ false
-    → added net done row fields ≡ Err f
-    → read_raises net done (rows_from row (fields ∷ rest)) ≡ Err f
-raises-stop net done row fields rest f kept e =
-    raises-next net done row fields rest kept
-    ∙ ap (λ (r : Result (List Raise) Fault). and_then r (λ n. read_raises net n (rows_from (row + 1) rest))) e
+raises-next net done row fields rest next kept e = rw (← e) (⊎_elim
+    (λ (blank : is_blank fields ≡ true). rw blank)
+    (λ (full : is_blank fields ≡ false). rw (full, kept) (raise-then (raise_in_row net (length done) (row, fields))
+    (λ x. read_raises net (done ++ x ∷ []) (rows_from (row + 1) rest))
+    (λ n. read_raises net n (rows_from (row + 1) rest)) (λ x. done ++ x ∷ []) (λ x. refl)))
+    (cases_Bool (is_blank fields)))
 
 -- the closing record, last or not
 pub raises-closed : (net : Net) (done : List Raise) (row : ℕ) (fields : Fields) (rest : List Fields) → is_closing fields ≡ true

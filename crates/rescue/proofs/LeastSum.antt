@@ -2,6 +2,7 @@
 use Rattle.std.proofs.Common.{◌≡◌, ℕ, ◌+◌, ◌-◌, ◌<◌, ◌≤◌, Option, Some, None, cond, find, min, List, length, sym, ap, ◌∙◌, subst, ⊎_elim, arith, ne_eqb}
 use Rattle.std.specs.List.{range_with_len}
 use Rattle.std.specs.Option.{option_map_or}
+use Rattle.std.proofs.lemmas.Bool.Decides.{nat_tests}
 use Rattle.std.proofs.lemmas.Bool.{cases_lt, true≢false}
 use Rattle.clr_net.specs.Amounts.{IsAtMost}
 use Rattle.clr_net.specs.Limits.{IsNetwork}
@@ -11,6 +12,7 @@ use Rattle.clear_core.specs.Clearing.{receipts, estate, spend, pay, least}
 use Rattle.clear_core.proofs.Least.{least_clears}
 use Rattle.clear_core.proofs.Richer.{least_le_richer}
 use Rattle.cascade.specs.Standings.{due, is_sound, paid_by, owed_by}
+use Rattle.cascade.proofs.Limits.{clearing_over}
 use Rattle.cascade.proofs.Healths.{sound_enough, enough_sound, sound_told}
 use Rattle.rescue.specs.Rescue.{added, health_with, is_saved_by, Saves, IsRescue, lacks, rescue, short_of}
 use Rattle.cascade.proofs.CashAt.{cash_at, outside_stays}
@@ -21,17 +23,19 @@ use Rattle.rescue.proofs.MoreCash.{cash_added, more_by_more, richer_by_more}
 abbrev estate_with : Net → ℕ → ℕ → ℕ
 estate_with net i a = estate (added net i a) (least (added net i a)) i
 
+-- payments on all debts, from which rounds rise to the least that clear
+abbrev pub GoOn : Net → List ℕ → Type 0
+GoOn net P = (length P ≡ length net.debts) × IsAtMost P (pay net P) × IsAtMost P (least net)
+
 -- the least payments with a smaller sum are on the way to those with a greater one
-pub goes_on : (net : Net) (i a b : ℕ) → a ≤ b
-    → IsAtMost (least (added net i a)) (pay (added net i b) (least (added net i a)))
-    × IsAtMost (least (added net i a)) (least (added net i b))
+pub goes_on : (net : Net) (i a b : ℕ) → a ≤ b → GoOn (added net i b) (least (added net i a))
 goes_on net i a b l =
     let richer = richer_by_more net i a b l in
     let less = added net i a in
-    let more = added net i b in
     let P = least less in (
-      subst (λ (Q : List ℕ). IsAtMost Q (pay more P)) (least_clears less) (richer.pays P),
-      least_le_richer less more richer,
+      clearing_over less P (least_clears less),
+      subst (λ (Q : List ℕ). IsAtMost Q (pay (added net i b) P)) (least_clears less) (richer.pays P),
+      least_le_richer less (added net i b) richer,
     )
 
 module _ (net : Net) (i : ℕ) (network : IsNetwork net) where
@@ -43,11 +47,9 @@ module _ (net : Net) (i : ℕ) (network : IsNetwork net) where
 
   -- a sum saves the bank exactly where it then has all that it owes
   pub saves_enough : (a : ℕ) → Saves net i a → due net i ≤ estate_with net i a
-  saves_enough a s = omega (
-    arith,
-    sound_enough (added net i a) (least (added net i a)) i (pays_with a) s,
-    outside_stays net i (cash_of net i + a) i,
-  )
+  saves_enough a s =
+      let enough = sound_enough (added net i a) (least (added net i a)) i (pays_with a) s in
+      omega (arith, outside_stays net i (cash_of net i + a) i)
 
   -- and the other way
   pub enough_saves : (a : ℕ) → due net i ≤ estate_with net i a → Saves net i a
@@ -91,17 +93,8 @@ module _ (net : Net) (i : ℕ) (network : IsNetwork net) where
 
   -- with one unit less than the least sum something is lacking
   pub short_above : (a : ℕ) → IsRescue net i a → 0 < a → 0 < short_of net i a
-  short_above a r p = ⊎_elim
-      (λ (l : 0 < lacks net i (a - 1)).
-      omega (arith, l, ap (λ b. cond b 0 (lacks net i (a - 1))) (ne_eqb a 0 (λ e. omega arith))))
-      (λ (g : lacks net i (a - 1) ≤ 0).
-      absurd (r.least (a - 1) (omega arith) (enough_saves (a - 1) (omega arith))))
-      (cases_lt 0 (lacks net i (a - 1)))
+  short_above a r p = grind (arith, nat_tests, r.least (a - 1), enough_saves (a - 1))
 
 -- there is one least sum
 pub rescue_only : (net : Net) (i a b : ℕ) → IsRescue net i a → IsRescue net i b → a ≡ b
-rescue_only net i a b r s = ⊎_elim
-    (λ (l : a < b). absurd (s.least a l r.saves))
-    (λ (g : b ≤ a).
-    ⊎_elim (λ (l : b < a). absurd (r.least b l s.saves)) (λ (h : a ≤ b). omega arith) (cases_lt b a))
-    (cases_lt a b)
+rescue_only net i a b r s = grind (arith, r.saves, s.saves, r.least b, s.least a)

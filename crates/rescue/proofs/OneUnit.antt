@@ -7,7 +7,7 @@ use Rattle.std.proofs.lemmas.List.Sums.{sum-map}
 use Rattle.clr_net.specs.declared.bank.Bank.{Bank}
 use Rattle.clr_net.specs.Limits.{IsNetwork}
 use Rattle.clr_net.specs.Net.{Net, cash_of, debt_numbers}
-use Rattle.clr_net.proofs.Lists.{same_from_sum}
+use Rattle.clr_net.proofs.Lists.{same_from_sum, sum_rises}
 use Rattle.clear_core.specs.Clearing.{receipts, estate, spend, pay, least, Clears}
 use Rattle.clear_core.proofs.Least.{least_clears, clears_only_at_least}
 use Rattle.clear_core.proofs.Pay.{length-pay}
@@ -16,19 +16,13 @@ use Rattle.cascade.proofs.CashAt.{cash_at, cash_stays, outside_stays, length-wit
 use Rattle.cascade.proofs.Healths.{sound_enough, enough_sound}
 use Rattle.cascade.proofs.Limits.{clearing_over}
 use Rattle.cascade.proofs.MoreCash.{pays_at_once, pays_where_clearing, all_kept_is}
-use Rattle.cascade.proofs.PayingOut.{all_paid, paid_is}
+use Rattle.cascade.proofs.PayingOut.{all_paid, paid_is, sum_by_numbers}
 use Rattle.cascade.proofs.Sums.{sum_by_same}
 use Rattle.rescue.specs.OneUnit.{all_kept, PassesNothingOn, CountsOnce}
 use Rattle.rescue.specs.Rescue.{added}
 use Rattle.rescue.proofs.MoreCash.{cash_added}
-use Rattle.rescue.proofs.Searching.{GoOn, least_goes_on}
-
--- payments on all debts, summed by the numbers of the debts
-sum_by_numbers : (net : Net) (Q : List ℕ) → length Q ≡ length net.debts
-    → sum Q ≡ sum_by (λ x. get_or Q x 0) (debt_numbers net)
-sum_by_numbers net Q l =
-    ap sum (fill_by_all (λ x. get_or Q x 0) Q (length net.debts) 0 l (λ x m. refl))
-    ∙ sum-map (λ x. get_or Q x 0) (debt_numbers net)
+use Rattle.rescue.proofs.LeastSum.{GoOn}
+use Rattle.rescue.proofs.Searching.{least_goes_on}
 
 module _ (net : Net) (i : ℕ) (network : IsNetwork net) (bank : i < length net.banks) where
   -- the network with the unit, its banks, and the least payments before
@@ -49,13 +43,10 @@ module _ (net : Net) (i : ℕ) (network : IsNetwork net) (bank : i < length net.
   kept_more : all_kept more ≡ all_kept net + 1
   kept_more =
       let as_many = length-with_cash net i (cash_of net i + 1) in
-      omega (
-        arith,
-        ap (λ n. sum_by (kept more (least more)) (range_with_len 0 n)) as_many,
-        all_kept_is net network banks (least more) (least_clears more) as_many,
-        all_kept_is net network net.banks P (least_clears net) refl,
-        all_cash_changes net i (cash_of net i + 1) bank,
-      )
+      let numbers = ap (λ n. sum_by (kept more (least more)) (range_with_len 0 n)) as_many in
+      let after = all_kept_is net network banks (least more) (least_clears more) as_many in
+      let before = all_kept_is net network net.banks P (least_clears net) refl in
+      omega (arith, all_cash_changes net i (cash_of net i + 1) bank)
 
   -- what the bank pays before
   pays : (j : ℕ) → paid_by net P j ≡ min (spend net j (receipts net P j)) (owed_by net j)
@@ -66,13 +57,10 @@ module _ (net : Net) (i : ℕ) (network : IsNetwork net) (bank : i < length net.
   passes_nothing same =
       let clears : Clears more P = subst (Clears more) same (least_clears more) in
       ⊎_elim
-      (λ (l : estate net P i < due net i). inr (omega (
-        arith,
-        pays i,
-        pays_where_clearing net network banks P clears i,
-        cash_added net i 1 bank,
-        outside_stays net i (cash_of net i + 1) i,
-      )))
+      (λ (l : estate net P i < due net i). inr (
+      let after = pays_where_clearing net network banks P clears i in
+      let outside = outside_stays net i (cash_of net i + 1) i in
+      omega (arith, pays i, cash_added net i 1 bank)))
       (λ (g : due net i ≤ estate net P i). inl (enough_sound net P i (pays i) g))
       (cases_lt (estate net P i) (due net i))
 
@@ -90,30 +78,21 @@ module _ (net : Net) (i : ℕ) (network : IsNetwork net) (bank : i < length net.
 
   -- and no other bank would
   others_pay_no_more : (j : ℕ) → (j ≡ i → ⊥) → paid_by net (pay more P) j ≡ paid_by net P j
-  others_pay_no_more j ne = omega (
-    arith,
-    pays j,
-    pays_at_once net network banks P j,
-    cash_stays net i (cash_of net i + 1) j ne,
-    outside_stays net i (cash_of net i + 1) j,
-  )
+  others_pay_no_more j ne =
+      let cash = cash_stays net i (cash_of net i + 1) j ne in
+      let outside = outside_stays net i (cash_of net i + 1) j in
+      omega (arith, pays j, pays_at_once net network banks P j)
 
   -- so all payments together would be the same
   sum_stays : PassesNothingOn net i → sum (pay more P) ≡ sum P
   sum_stays h =
       let numbers = bank_numbers net in
-      let each : (j : ℕ) → paid_by net (pay more P) j ≡ paid_by net P j = λ j. ⊎_elim
-      (λ (e : j ≡ i). rw e (pays_no_more h))
-      (others_pay_no_more j)
-      (cases_eq j i) in
-      omega (
-        arith,
-        sum_by_numbers net (pay more P) (length-pay more P),
-        sum_by_numbers net P goes_on.0,
-        all_paid net (pay more P) network,
-        all_paid net P network,
-        sum_by_same (paid_by net (pay more P)) (paid_by net P) numbers each,
-      )
+      let each : (j : ℕ) → paid_by net (pay more P) j ≡ paid_by net P j =
+      λ j. grind (arith, pays_no_more h, others_pay_no_more j) in
+      let after = sum_by_numbers net (pay more P) (length-pay more P) in
+      let before = sum_by_numbers net P goes_on.0 in
+      let same = sum_by_same (paid_by net (pay more P)) (paid_by net P) numbers each in
+      omega (arith, all_paid net (pay more P) network, all_paid net P network)
 
   -- and none changes
   payments_stay : PassesNothingOn net i → least more ≡ P
@@ -124,12 +103,9 @@ module _ (net : Net) (i : ℕ) (network : IsNetwork net) (bank : i < length net.
 
   -- where it passes the unit on, they rise
   payments_rise : ¬ (PassesNothingOn net i) → sum P + 1 ≤ sum (least more)
-  payments_rise h = ⊎_elim
-      (λ (l : sum P < sum (least more)). omega arith)
-      (λ (g : sum (least more) ≤ sum P).
+  payments_rise h =
       let as_many = goes_on.0 ∙ sym (clearing_over more (least more) (least_clears more)) in
-      absurd (h (passes_nothing (sym (same_from_sum P (least more) as_many goes_on.2 g)))))
-      (cases_lt (sum P) (sum (least more)))
+      omega (arith, sum_rises P (least more) as_many goes_on.2 (λ e. h (passes_nothing (sym e))))
 
   -- so the unit counts once
   pub counts_once : CountsOnce net i

@@ -4,8 +4,8 @@ use Rattle.std.specs.List.{range_with_len}
 use Rattle.std.proofs.Math.Path.{ap₂}
 use Rattle.std.proofs.lemmas.List.{map-id}
 use Rattle.std.proofs.lemmas.List.{map-append}
-use Rattle.std.proofs.lemmas.List.FromFn.{filter_of_map_range_with_len_more, get_or-map-range_with_len, length-map-range_with_len}
-use Rattle.std.proofs.lemmas.List.Sums.{sum_by-cons}
+use Rattle.std.proofs.lemmas.List.Folds.{fold-map}
+use Rattle.std.proofs.lemmas.List.FromFn.{filter_of_map_range_with_len_more}
 use Rattle.clr_net.specs.declared.debt.BankId.{BankId}
 use Rattle.clr_net.specs.Limits.{IsNetwork}
 use Rattle.clr_net.specs.Net.{Net, cash_of}
@@ -15,6 +15,7 @@ use Rattle.cascade.specs.declared.standing.Standing.{Standing}
 use Rattle.cascade.specs.Standings.{bank_numbers, is_sound, standing, standings}
 use Rattle.cascade.proofs.CashAt.{length-with_cash}
 use Rattle.cascade.proofs.MoreCash.{nobody_loses_by_cash}
+use Rattle.cascade.proofs.Stands.{as_many_stand, stands_there}
 use Rattle.cascade.specs.MoreCash.{HasMoreCash}
 use Rattle.rescue.specs.Rescue.{added, rescue}
 use Rattle.rescue.specs.Saved.{is_saved_with, left_in_default, rescued}
@@ -31,30 +32,6 @@ added_hurts_nobody net i a network =
 pub as_many_rescued : (net : Net) (i : ℕ) → length (rescued net i).banks ≡ length net.banks
 as_many_rescued net i = length-with_cash net i (cash_of net i + rescue net i)
 
--- those that pass, counted before or after a change of each
-count_mapped : {X Y : Type 0} (p : Y → Bool) (f : X → Y) (xs : List X)
-    → count_by p (map f xs) ≡ count_by (λ x. p (f x)) xs
-count_mapped p f [] = refl
-count_mapped p f (x ∷ xs) = omega (
-  arith,
-  sum_by-cons (λ y. cond (p y) 1 0) (f x) (map f xs),
-  sum_by-cons (λ x. cond (p (f x)) 1 0) x xs,
-  count_mapped p f xs,
-)
-
--- of banks that stand so under some payments
-module _ (net : Net) (P : List ℕ) (all : List Standing) (are : all ≡ standings net P) where
-  -- there are as many as banks
-  pub as_many_stand : length all ≡ length net.banks
-  as_many_stand = ap length are ∙ length-map-range_with_len (standing net P) 0 (length net.banks)
-
-  -- each stands in its place
-  pub stands_there : (k : ℕ) (d : Standing) → k < length net.banks
-      → get_or all k d ≡ standing net P k
-  stands_there k d bank =
-      ap (λ (ss : List Standing). get_or ss k d) are
-      ∙ get_or-map-range_with_len (standing net P) 0 (length net.banks) k k d bank (omega arith)
-
 -- of banks that stand so once the bank i is saved
 module _ (net : Net) (i : ℕ) (after : List Standing)
     (is : after ≡ standings (rescued net i) (least (rescued net i))) where
@@ -68,7 +45,8 @@ module _ (net : Net) (i : ℕ) (after : List Standing)
   counted_after =
       let more = rescued net i in
       ap (count_by (λ (s : Standing). not (is_sound s.health))) is
-      ∙ count_mapped (λ (s : Standing). not (is_sound s.health)) (standing more (least more)) (bank_numbers more)
+      ∙ fold-map (λ a (s : Standing). a + cond (not (is_sound s.health)) 1 0) (standing more (least more)) 0
+      (bank_numbers more)
       ∙ ap (λ n. count_by (λ k. not (is_sound_at_least more k)) (range_with_len 0 n))
       (as_many_rescued net i)
 

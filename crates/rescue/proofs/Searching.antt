@@ -1,24 +1,17 @@
 -- How far the search for a sum has come, and what each step adds.
 use Rattle.std.proofs.Common.{◌≡◌, ℕ, ◌+◌, ◌-◌, ◌<◌, ◌≤◌, List, length, slice_get, Some, cond, sym, ap, ◌∙◌, subst, ne_eqb, arith}
 use Rattle.std.specs.Option.{option_map_or}
-use Rattle.clr_net.specs.Amounts.{IsAtMost}
 use Rattle.clr_net.specs.declared.TheConstants.{MAX_CASH, MAX_OWED, MAX_OUTSIDE}
 use Rattle.clr_net.specs.declared.bank.Bank.{Bank}
 use Rattle.clr_net.specs.Limits.{IsNetwork}
 use Rattle.clr_net.specs.Net.{Net, cash_of, with_cash}
 use Rattle.clr_net.proofs.RowsAndColumns.{sum-claims_of_le}
-use Rattle.clear_core.specs.Clearing.{estate, pay, least}
-use Rattle.clear_core.proofs.Least.{least_clears}
+use Rattle.clear_core.specs.Clearing.{estate, least}
 use Rattle.cascade.specs.Standings.{due}
-use Rattle.cascade.proofs.Limits.{clearing_over}
 use Rattle.rescue.specs.Rescue.{DifferInCash, added, lacks, Saves, IsRescue, rescue, short_of}
-use Rattle.cascade.proofs.CashAt.{later_cash_counts, length-with_cash, outside_stays}
+use Rattle.cascade.proofs.CashAt.{cash_read, later_cash_counts, length-with_cash, outside_stays}
 use Rattle.rescue.proofs.MoreCash.{added_nothing}
-use Rattle.rescue.proofs.LeastSum.{saves_enough, enough_saves, less_fails, all_due_saves, goes_on, rescue_is, rescue_only, short_above}
-
--- payments on all debts, from which rounds rise to the least that clear
-abbrev pub GoOn : Net → List ℕ → Type 0
-GoOn net P = (length P ≡ length net.debts) × IsAtMost P (pay net P) × IsAtMost P (least net)
+use Rattle.rescue.proofs.LeastSum.{GoOn, saves_enough, enough_saves, less_fails, all_due_saves, goes_on, rescue_is, rescue_only, short_above}
 
 -- of the sums below `low` none saves the bank, and `high` does. What is known are the least
 -- payments with one unit less than `low`, and what the bank lacks then
@@ -33,12 +26,9 @@ pub record IsSearched (net : Net) (i low high : ℕ) (known : List ℕ) (short :
 module _ (net : Net) (i : ℕ) where
   -- what a bank owes is within the limits together
   pub due_le : IsNetwork net → i < length net.banks → due net i ≤ MAX_OWED + MAX_OUTSIDE
-  due_le network l = omega (
-    arith,
-    sum-claims_of_le net i,
-    network.owed_in_limit,
-    (network.each_bank i l).outside_in_limit,
-  )
+  due_le network l =
+      let bank = network.each_bank i l in
+      omega (arith, sum-claims_of_le net i, network.owed_in_limit, bank.outside_in_limit)
 
   -- no sum up to what is missing takes a bank over the limit on cash
   pub fits : (a : ℕ) → IsNetwork net → i < length net.banks → a ≤ due net i - cash_of net i
@@ -56,26 +46,17 @@ module _ (net : Net) (i : ℕ) where
   -- and still differs in it once it is changed
   pub still_differ : (more after : Net) (c : ℕ) → DifferInCash net more i
       → after ≡ with_cash more i c → DifferInCash net after i
-  still_differ more after c differ e d =
-      ap (λ (n : Net). with_cash n i d) e ∙ later_cash_counts more i c d ∙ differ d
+  still_differ more after c differ e d = rw e (later_cash_counts more i c d ∙ differ d)
 
   -- what is lacking is told by the network with the sum
   pub lacks_told : (more : Net) (a : ℕ) (paid : List ℕ) → more ≡ added net i a → paid ≡ least more
       → due more i - estate more paid i ≡ lacks net i a
-  lacks_told more a paid e p =
-      ap (λ (P : List ℕ). due more i - estate more P i) p
-      ∙ ap (λ (n : Net). due n i - estate n (least n) i) e
-      ∙ omega (arith, outside_stays net i (cash_of net i + a) i)
+  lacks_told more a paid e p = rw (p, e) (omega (arith, outside_stays net i (cash_of net i + a) i))
 
   -- the least payments with a smaller sum go on with a greater one
   pub known_goes_on : (more : Net) (a b : ℕ) (known : List ℕ) → known ≡ least (added net i a)
       → more ≡ added net i b → a ≤ b → GoOn more known
-  known_goes_on more a b known e m l =
-      let on = goes_on net i a b l in
-      let less = added net i a in
-      subst (λ n. GoOn n known) (sym m)
-      (subst (GoOn (added net i b)) (sym e)
-      (clearing_over less (least less) (least_clears less), on.0, on.1))
+  known_goes_on more a b known e m l = rw (e, m) (goes_on net i a b l)
 
   -- and so do those without any
   pub least_goes_on : (more : Net) (b : ℕ) (known : List ℕ) → known ≡ least net
@@ -86,28 +67,24 @@ module _ (net : Net) (i : ℕ) where
 -- of the bank b, which is the bank i
 module _ (net : Net) (i : ℕ) (network : IsNetwork net) (b : Bank)
     (at : slice_get net.banks i ≡ Some b) (bank : i < length net.banks) where
-  -- its cash is the bank's
-  cash_is : cash_of net i ≡ b.cash
-  cash_is = ap (λ o. option_map_or (λ (b : Bank). b.cash) o 0) at
-
   -- its cash and a sum together are within the limit
   pub sum_fits : (a : ℕ) → a ≤ due net i - cash_of net i → b.cash + a ≤ MAX_CASH
-  sum_fits a g = omega (arith, fits net i a network bank g, cash_is)
+  sum_fits a g = omega (arith, fits net i a network bank g, cash_read net i b at)
 
   -- given them, a network that differs in its cash is the one with the sum
   pub set_to_sum : (more after : Net) (a : ℕ) → DifferInCash net more i
       → after ≡ with_cash more i (b.cash + a) → after ≡ added net i a
   set_to_sum more after a differ e =
-      let cash : b.cash + a ≡ cash_of net i + a = omega (arith, cash_is) in
+      let cash : b.cash + a ≡ cash_of net i + a = omega (arith, cash_read net i b at) in
       e ∙ differ (b.cash + a) ∙ ap (with_cash net i) cash
 
   -- the search begins between nothing and what the bank owes above its cash
   pub search_begins : (high : ℕ) (known : List ℕ) → high ≡ due net i - b.cash → known ≡ least net
       → IsSearched net i 0 high known 0
   search_begins high known h e = record {
-    within = omega (arith, cash_is);
+    within = omega (arith, cash_read net i b at);
     order = omega arith;
-    saves = all_due_saves net i network bank high (omega (arith, cash_is));
+    saves = all_due_saves net i network bank high (omega (arith, cash_read net i b at));
     fails = λ b l. absurd (omega arith);
     known_is = e ∙ ap least (sym (added_nothing net i));
     short_is = λ j. 0;

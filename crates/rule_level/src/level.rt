@@ -11,7 +11,7 @@ use clr_net::RuleKind;
 use rule_unit::MAX_CLAIM;
 
 // What a debt gets at a level.
-fn award_at(kind: RuleKind, level: u64, claim: u64) -> u64
+pub fn award_at(kind: RuleKind, level: u64, claim: u64) -> u64
     requires level { level ≤ MAX_LEVEL }
     requires claim { claim ≤ MAX_CLAIM }
     ensures { result ≡ at_level kind level claim }

@@ -7,9 +7,8 @@
 //! in one walk.
 //!
 //! A division goes over its row once for each class up to the one at which the estate ends, and some
-//! six times besides; and over the claims of that class, gathered next to one another, at most twice
-//! for each binary digit of a level: of the greatest claim by `Equal` and `Losses`, of [`MAX_LEVEL`]
-//! by the divisors. It takes no memory.
+//! six times besides; and over the claims of that class, gathered next to one another, some five
+//! times more, seldom twenty. It takes no memory.
 #![tactic(auto)]
 
 mod division;

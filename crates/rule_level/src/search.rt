@@ -7,7 +7,7 @@ ghost use Rattle.rule_unit.specs.declared.TheConstants.{MAX_CLAIM};
 ghost use Rattle.std.specs.Prelude.{◌≡◌, ◌≢◌, ◌+◌, ◌<◌, ◌≤◌, ℕ, All, length, slice_index, sum};
 
 use crate::MAX_LEVEL;
-use crate::level::units_at;
+use crate::level::{award_at, units_at};
 use clr_net::RuleKind;
 use rule_unit::MAX_CLAIM;
 
@@ -42,22 +42,63 @@ fn levels_around(kind: RuleKind, greatest: u64) -> (u64, u64)
     }
 }
 
-// A level between two others, as far from the first as a part is of a whole, or next to it.
-fn level_between(low: u64, high: u64, part: u64, whole: u64) -> u64
+// A level between two others, as far from the first as some units are from none, of those and others together; or next to an end.
+fn level_between(low: u64, high: u64, below: u64, above: u64) -> u64
     requires { low + 1 < high }
     ensures { (low < result) × (result < high) }
 {
-    let width = high - low;
-    let far = u128::from(width) * u128::from(part) / u128::from(whole.max(1));
-    low + far.min(u128::from(width - 1)).max(1) as u64
+    let width = u128::from(high - low);
+    let all = u128::from(below) + u128::from(above);
+    let far = width * u128::from(below) / all.max(1);
+    low + far.min(width - 1).max(1) as u64
+}
+
+// By a divisor, the level at which a claim gets one unit more than these.
+fn level_of_next(kind: RuleKind, claim: u64, units: u64) -> u64
+    requires limit { claim ≤ MAX_CLAIM }
+    requires more { units < claim }
+{
+    match kind {
+        RuleKind::Order | RuleKind::Equal | RuleKind::Losses => 0,
+        RuleKind::Jefferson => ((units + 1) * MAX_LEVEL).div_ceil(claim),
+        RuleKind::Webster => ((2 * units + 1) * MAX_LEVEL).div_ceil(2 * claim),
+        RuleKind::Adams => units * MAX_LEVEL / claim + 1,
+    }
+}
+
+// A level between two others: by a divisor one at which some claim gets a unit more, if there is one. Else the level in the middle.
+fn step_between(kind: RuleKind, claims: &[u64], low: u64, high: u64) -> u64
+    requires limit { All (λ c. c ≤ MAX_CLAIM) claims.now }
+    requires between { low + 1 < high }
+    requires top { high ≤ MAX_LEVEL }
+    ensures { (low < result) × (result < high) }
+{
+    for place in 0..claims.len() {
+        let claim = claims[place];
+        let units = award_at(kind, low, claim);
+        if units < award_at(kind, high, claim) {
+            let level = level_of_next(kind, claim, units);
+            if low < level && level < high {
+                return level;
+            }
+        }
+    }
+    low + (high - low) / 2
+}
+
+// Some units, or half of them.
+fn half_if(half: bool, units: u64) -> u64
+    ensures { result ≤ units }
+{
+    if half { units / 2 } else { units }
 }
 
 // The level at which the units for these claims end: at it the debts get no more than these, and at
 // the next no less. `total` is what they claim. Answers too what they get at it.
 //
-// Of the levels that are left, every other one that is looked at is as far from the first as the
-// units are between what is given at the first and at the last; the others halve what is left.
-// Where the debts get just these units at a level, the search ends there.
+// Of nine levels that are looked at, six are as far from the lowest that is left as the units are between what is given there and
+// at the highest, where an end that stays counts half (regula falsi by Illinois); one is where a claim gets a unit more, one is
+// just below the highest, and one halves what is left. Where the debts get just these units at a level, the search ends there.
 pub fn level_for(kind: RuleKind, claims: &[u64], total: u64, units: u64) -> (u64, u64)
     requires has_levels { kind ≢ Order }
     requires limit { All (λ c. c ≤ MAX_CLAIM) claims.now }
@@ -72,24 +113,31 @@ pub fn level_for(kind: RuleKind, claims: &[u64], total: u64, units: u64) -> (u64
     let (mut low, top) = levels_around(kind, greatest_claim(claims));
     let mut high = if units == 0 { low } else { top };
     let mut at_low = 0;
-    let mut at_high = total;
-    let mut halve = false;
+    let mut below = units;
+    let mut above = total - units;
+    let mut rose = false;
+    let mut looks: u8 = 0;
     while low + 1 < high {
-        let middle = if halve {
-            low + (high - low) / 2
-        } else {
-            level_between(low, high, units - at_low, at_high - at_low)
+        let middle = match looks % 9 {
+            6 => step_between(kind, claims, low, high),
+            7 => high - 1,
+            8 => low + (high - low) / 2,
+            _ => level_between(low, high, below, above),
         };
-        halve = !halve;
+        looks = looks.wrapping_add(1);
         let given = units_at(kind, claims, middle);
         if given <= units {
             low = middle;
             at_low = given;
+            below = units - given;
+            above = half_if(rose, above);
         }
         if units <= given {
             high = middle;
-            at_high = given;
+            below = half_if(!rose, below);
+            above = given - units;
         }
+        rose = given <= units;
     }
     (low, at_low)
 }

@@ -1,5 +1,5 @@
 -- All bells down at a master that holds all banks: the payments are the least that clear.
-use Rattle.std.proofs.Common.{◌≡◌, ◌≢◌, ℕ, ◌<◌, true, length, ap, ◌∙◌, subst, ⊎_elim, arith}
+use Rattle.std.proofs.Common.{◌≡◌, ◌≢◌, ℕ, ◌<◌, true, length, ap, ◌∙◌, arith, inl, inr}
 use Rattle.clr_net.specs.Amounts.{IsAtMost}
 use Rattle.clr_net.specs.Limits.{IsNetwork}
 use Rattle.clr_net.specs.Net.{Net, creditor_of, debtor_of}
@@ -32,13 +32,7 @@ pub all_down : (net : Net) (s : Shown) → IsNetwork net → IsIdle net s → le
     → IsAtMost s.paid (least s.net) → IsAtMost s.sights (least s.net) → AreDown s (length net.banks) → s.paid ≡ least net
 all_down net s network idle over low_paid low_seen down =
     let debts : length s.net.debts ≡ length net.debts = ap (λ (m : Net). length m.debts) idle.net_is in
-    let divides = λ (b : ℕ) (lb : b < length net.banks). ⊎_elim
-    (λ (f : is_marked s.fresh b ≡ true). let d : Divides s (desk_of net b) = absurd (down.worn b lb f) in d)
-    (λ (d : Divides s (desk_of net b)). d)
-    (idle.rest b lb) in
-    (quiet_end net s.paid s.sights (over ∙ debts) (subst (λ m. IsAtMost s.paid (least m)) idle.net_is low_paid) (subst (λ m. IsAtMost s.sights (least m)) idle.net_is low_seen)
+    let divides : (b : ℕ) → b < length net.banks → Divides s (desk_of net b) = λ b lb. elim (idle.rest b lb) [ inl f ↦ absurd (down.worn b lb f) | inr d ↦ d ] in
+    (quiet_end net s.paid s.sights (over ∙ debts) (rw (idle.net_is) at low_paid) (rw (idle.net_is) at low_seen)
     (λ x lx. part_of_desk net s x lx (divides (debtor_of net x) (network.each_debt x lx).debtor_known))
-    (λ x lx.
-    let c = creditor_of net x in
-    let here : creditor_of s.net x ≡ c = ap (λ (m : Net). creditor_of m x) idle.net_is in
-    omega (arith, down.seen c (network.each_debt x lx).creditor_known x (omega (arith, lx, debts)) here))).paid
+    (λ x lx. omega (arith, down.seen (creditor_of net x) (network.each_debt x lx).creditor_known x (rw (idle.net_is) lx) (rw (idle.net_is))))).paid

@@ -1,6 +1,7 @@
 -- A lawful journal is within the limits of a journal file.
-use Rattle.std.proofs.Common.{◌≡◌, ℕ, zero, suc, ◌+◌, ◌<◌, ◌≤◌, All, List, [], ◌∷◌, length, get_or, set, sum, ap, ◌∙◌, arith, length-set}
+use Rattle.std.proofs.Common.{◌≡◌, ℕ, suc, ◌+◌, ◌<◌, ◌≤◌, All, List, [], ◌∷◌, length, get_or, set, sum, ap, ◌∙◌, arith, length-set}
 use Rattle.std.proofs.lemmas.List.{length-replicate}
+use Rattle.std.proofs.lemmas.List.Elements.{All-cons, All-nil}
 use Rattle.std.proofs.lemmas.List.Sums.{sum_by-set}
 use Rattle.clr_net.specs.Limits.{IsNetwork}
 use Rattle.clr_net.specs.Net.{Net}
@@ -26,16 +27,12 @@ grows_from net stamp P (r ∷ rs) size known h =
     let rest = grows_from net r.stamp (set P x r.to) rs (length-set P x r.to ∙ size) (λ k d lt. known (suc k) d (omega (arith, lt))) h.2 in
     omega (arith, more, rest, h.1.0)
 
--- so a journal has no more raises than it pays units
-pub few_raises : (net : Net) (rs : List Raise) → Stands net rs → length rs ≤ sum (replayed net rs)
-few_raises net rs h = omega (arith, grows_from net 0 (zeros net) rs (length-replicate (length net.debts) 0) (stands_in_range net rs h) h)
-
 -- no raise is above its claim
 low_from : (net : Net) (stamp : ℕ) (P : List ℕ) (rs : List Raise) → IsNetwork net → StandsFrom net stamp P rs → All (λ r. r.to ≤ MAX_CLAIM) rs
 unfolding StandsFrom
-low_from net stamp P [] network h k d lt = absurd (omega (arith, lt))
-low_from net stamp P (r ∷ rs) network h zero d lt = omega (arith, h.1.1, pay_within net P r.debt.0, claim_in_limit net r.debt.0 network)
-low_from net stamp P (r ∷ rs) network h (suc k) d lt = low_from net r.stamp (set P r.debt.0 r.to) rs network h.2 k d (omega (arith, lt))
+low_from net stamp P [] network h = All-nil _
+low_from net stamp P (r ∷ rs) network h = All-cons (λ r. r.to ≤ MAX_CLAIM) r rs
+    (omega (arith, h.1.1, pay_within net P r.debt.0, claim_in_limit net r.debt.0 network)) (low_from net r.stamp (set P r.debt.0 r.to) rs network h.2)
 
 -- a journal that stands, pays the least and has low stamps is within the limits
 pub within_limits : (net : Net) (rs : List Raise) (paid : List ℕ) → IsNetwork net → Stands net rs → replayed net rs ≡ paid → paid ≡ least net
@@ -43,7 +40,7 @@ pub within_limits : (net : Net) (rs : List Raise) (paid : List ℕ) → IsNetwor
 within_limits net rs paid network stands replays least_paid stamps =
     let low : sum paid ≤ MAX_OWED = omega (arith, sum_low net paid (λ x. omega (arith, ap (λ (P : List ℕ). get_or P x 0) least_paid)), network.owed_in_limit) in
     record {
-      few = omega (arith, few_raises net rs stands, ap sum replays, low);
+      few = omega (arith, grows_from net 0 (zeros net) rs (length-replicate (length net.debts) 0) (stands_in_range net rs stands) stands, ap sum replays, low);
       debts = stands_in_range net rs stands;
       stamps = λ k d lt. omega (arith, stamps k d lt, low);
       amounts = low_from net 0 (zeros net) rs network stands;

@@ -42,8 +42,7 @@ shifts_made (o ∷ os) (w ∷ ws) l h =
     let each : sum_by (λ (k : Crew). k.visits) (w ∷ ws) ≡ 0 + w.visits + sum_by (λ (k : Crew). k.visits) ws = sum_by-append (λ (k : Crew). k.visits) (w ∷ []) ws in
     record {
       by_bells = All-push IsAllByBells rest own a.by_bells (h 0 (omega arith));
-      raises = flat_map-append (λ (x : Shift). x.new.seat.shows.raises) rest (own ∷ [])
-          ∙ ap (λ rs. rs ++ raises_in (own ∷ [])) a.raises ∙ ap (λ rs. raises_of_all ws ++ rs) (append-nil w.seat.shows.raises);
+      raises = simp (flat_map-append, a.raises, append-nil);
       visits = sum_by_push (λ (x : Shift). x.new.visits) rest own ∙ omega (arith, a.visits, each);
       as_many = omega (arith, length-append rest (own ∷ []), a.as_many);
     }
@@ -65,43 +64,34 @@ made_in_round net plan units visits s t r =
       by_visits = m.rounded.gone.by_visits;
     })
 
--- the workers of rounds one after another
-pub made_in_rounds : (net : Net) (plan : Plan) (s t : Shown) (ns : List ℕ) (rounds : AreRoundsFrom net plan s ns t)
-    → AreMadeByBells (workers_of net plan s t ns rounds) s t
-made_in_rounds net plan s t [] is = record {
-  by_bells = λ k d lt. absurd (omega (arith, lt));
-  raises = ap (λ (u : Shown). u.raises) is ∙ sym (append-nil s.raises);
-  visits = omega (arith, ap (λ (u : Shown). u.taken) is);
-}
-made_in_rounds net plan s t (n ∷ ns) (m, visits, before, r) =
-    let xs = workers_of net plan s m ns before in
-    let ys = shifts (crews plan.workers r.by_visits.table m plan.workers) r.by_visits.workers in
-    let a = made_in_rounds net plan s m ns before in
-    let b = made_in_round net plan n visits m t r.by_visits in
-    record {
-      by_bells = All-append IsAllByBells xs ys a.by_bells b.by_bells;
-      raises = r.by_visits.raises ∙ ap (λ rs. m.raises ++ rs) (sym b.raises) ∙ ap (λ rs. rs ++ raises_in ys) a.raises
-          ∙ append_assoc s.raises (raises_in xs) (raises_in ys)
-          ∙ ap (λ rs. s.raises ++ rs) (sym (flat_map-append (λ (x : Shift). x.new.seat.shows.raises) xs ys));
-      visits = omega (arith, r.visits_are, r.by_visits.visits_are, a.visits, b.visits, sum_by-append (λ (x : Shift). x.new.visits) xs ys);
-    }
-
--- they are as many as rounds times workers
-as_many_in : (net : Net) (plan : Plan) (s t : Shown) (ns : List ℕ) (rounds : AreRoundsFrom net plan s ns t)
-    → length (workers_of net plan s t ns rounds) ≡ length ns * plan.workers
-as_many_in net plan s t [] is = omega arith
-as_many_in net plan s t (n ∷ ns) (m, visits, before, r) =
+-- the workers of rounds one after another, who are as many as rounds times workers
+rounds_made : (net : Net) (plan : Plan) (s t : Shown) (ns : List ℕ) (rounds : AreRoundsFrom net plan s ns t)
+    → AreMadeByBells (workers_of net plan s t ns rounds) s t × (length (workers_of net plan s t ns rounds) ≡ length ns * plan.workers)
+rounds_made net plan s t [] is = (
+  record {
+    by_bells = λ k d lt. absurd (omega (arith, lt));
+    raises = ap (λ (u : Shown). u.raises) is ∙ sym (append-nil s.raises);
+    visits = omega (arith, ap (λ (u : Shown). u.taken) is);
+  },
+  omega arith,
+)
+rounds_made net plan s t (n ∷ ns) (m, visits, before, r) =
     let w = plan.workers in
     let xs = workers_of net plan s m ns before in
     let ys = shifts (crews w r.by_visits.table m w) r.by_visits.workers in
-    omega (
-      arith,
-      length-append xs ys,
-      as_many_in net plan s m ns before,
-      (made_in_round net plan n visits m t r.by_visits).as_many,
-      r.by_visits.rounded.as_many,
-      length-crews w r.by_visits.table m w,
+    let a = rounds_made net plan s m ns before in
+    let b = made_in_round net plan n visits m t r.by_visits in (
+      record {
+        by_bells = All-append IsAllByBells xs ys a.0.by_bells b.by_bells;
+        raises = simp (r.by_visits.raises, a.0.raises, flat_map-append, b.raises, append_assoc);
+        visits = omega (arith, r.visits_are, r.by_visits.visits_are, a.0.visits, b.visits, sum_by-append (λ (x : Shift). x.new.visits) xs ys);
+      },
+      omega (arith, length-append xs ys, a.1, b.as_many, r.by_visits.rounded.as_many, length-crews w r.by_visits.table m w),
     )
+
+pub made_in_rounds : (net : Net) (plan : Plan) (s t : Shown) (ns : List ℕ) (rounds : AreRoundsFrom net plan s ns t)
+    → AreMadeByBells (workers_of net plan s t ns rounds) s t
+made_in_rounds net plan s t ns rounds = (rounds_made net plan s t ns rounds).0
 
 -- the workers of a run
 pub journal_made : (net : Net) (past : List Raise) (plan : Plan) (settled : Settled) (run : IsSettled net past plan settled)
@@ -110,9 +100,10 @@ journal_made net past plan settled run =
     let rest = run.at_rest in
     let s = opening net (start_of net past) in
     let ns = 0 ∷ rest.rounds_are.raised in
-    let made = made_in_rounds net plan s rest.master ns rest.rounds_are.ran in
+    let both = rounds_made net plan s rest.master ns rest.rounds_are.ran in
+    let made = both.0 in
     record {
-      as_many = as_many_in net plan s rest.master ns rest.rounds_are.ran ∙ ap (λ n. n * plan.workers) (omega (arith, rest.rounds_are.as_many));
+      as_many = both.1 ∙ ap (λ n. n * plan.workers) (omega (arith, rest.rounds_are.as_many));
       by_bells = made.by_bells;
       journal_is = rest.journal_is ∙ ap (λ rs. ordered (past ++ rs)) made.raises;
       visits_are = omega (arith, made.visits, rest.visits_are);

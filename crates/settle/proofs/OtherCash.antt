@@ -16,25 +16,15 @@ use Rattle.bank_worker.specs.Rings.{creditors_of}
 use Rattle.bank_worker.proofs.Filtered.{filter_passes}
 use Rattle.settle.specs.Offices.{AreOffices, AreOfficesButCash, Serves, no_office, office_at, with_cash_of}
 
--- no bank and these debts
-abbrev among : List Debt → Net
-among debts = record { banks = []; debts = debts }
-
 -- there are as many banks where they differ in cash alone
 as_many_banks : (banks others : List Bank) → map (of_cash 0) banks ≡ map (of_cash 0) others → length banks ≡ length others
 as_many_banks banks others alike = sym (length-map banks (of_cash 0)) ∙ ap length alike ∙ length-map others (of_cash 0)
-
--- so each worker has the same banks
-same_banks_of : (net other : Net) (workers i : ℕ) → length net.banks ≡ length other.banks → banks_of_worker net workers i ≡ banks_of_worker other workers i
-same_banks_of net other workers i size = ap (λ n. filter (is_of_worker workers i) (range_with_len 0 n)) size
 
 -- each desk, once it has the cash of the network, is of the network
 desks_again : (net other : Net) (banks : List ℕ) → map (of_cash 0) net.banks ≡ map (of_cash 0) other.banks → net.debts ≡ other.debts
     → map (with_cash_in net) (map (desk_of other) banks) ≡ map (desk_of net) banks
 desks_again net other [] alike debts = refl
-desks_again net other (b ∷ banks) alike debts =
-    ap (λ d. d ∷ map (with_cash_in net) (map (desk_of other) banks)) (desk_of_other_cash other net b alike debts)
-    ∙ ap (λ ds. desk_of net b ∷ ds) (desks_again net other banks alike debts)
+desks_again net other (b ∷ banks) alike debts = rw (desk_of_other_cash other net b alike debts, desks_again net other banks alike debts)
 
 -- an office, once it has the cash of the network, serves the network
 serves_again : (net other : Net) (workers i : ℕ) (o : OfficeView) → IsNetwork net → map (of_cash 0) net.banks ≡ map (of_cash 0) other.banks
@@ -45,13 +35,11 @@ serves_again net other workers i o network alike debts serves =
     record {
       office = record {
         network = network;
-        desks = ap (map (with_cash_in net)) office.desks
-            ∙ desks_again net other (banks_of_worker other workers i) alike debts
-            ∙ ap (map (desk_of net)) (sym (same_banks_of net other workers i size));
-        creditors = office.creditors ∙ ap (λ ds. creditors_of (among ds)) (sym debts);
+        desks = rw (size, office.desks) (desks_again net other (banks_of_worker other workers i) alike debts);
+        creditors = rw debts office.creditors;
         marks = office.marks ∙ sym size;
-        room = subst (λ ds. HasRoom (among ds) o.room) (sym debts) office.room;
-        mine = subst (AreSetOut o.mine o.workers) (sym (same_banks_of net other workers i size)) office.mine;
+        room = rw debts office.room;
+        mine = rw size office.mine;
       };
       worker = serves.worker;
     }

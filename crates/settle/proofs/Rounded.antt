@@ -1,5 +1,5 @@
 -- What a round of all workers leaves, once the seats are back.
-use Rattle.std.proofs.Common.{◌≡◌, ◌≢◌, ℕ, suc, ◌+◌, ◌*◌, ◌<◌, ◌≤◌, true, true≢false, List, [], ◌∷◌, ◌++◌, length, get_or, map, sum, inr, refl, sym, ap, ◌∙◌, subst, ⊎_elim, arith, eq-eqb, eqb-true, length-append}
+use Rattle.std.proofs.Common.{◌≡◌, ◌≢◌, ℕ, suc, ◌+◌, ◌*◌, ◌<◌, ◌≤◌, true, true≢false, List, [], ◌∷◌, ◌++◌, length, get_or, map, sum, inr, refl, sym, ap, ◌∙◌, subst, arith, eq-eqb, length-append, inl}
 use Rattle.std.specs.Prelude.{◌%◌, sum_by, slice_index}
 use Rattle.std.proofs.lemmas.Bool.{cases_lt}
 use Rattle.std.proofs.lemmas.List.{get_or-map, get_or_past, length-map}
@@ -12,11 +12,9 @@ use Rattle.clr_net.proofs.Lists.{same_from_sum, sum_rises, sums_agree}
 use Rattle.bank_desk.specs.Desks.{BankView, desk_of}
 use Rattle.pay_words.specs.declared.view.Shown.{Shown}
 use Rattle.pay_words.specs.Views.{Panel, IsOver, handed, holds, is_marked, is_of_worker, tabled}
-use Rattle.bank_worker.specs.BankSets.{is_in}
-use Rattle.bank_worker.specs.Raises.{IsRaisedIn}
 use Rattle.bank_worker.specs.Views.{Crew, Divides, banks_held, desk_at, desks_held, no_desk, paid_by, paid_by_all}
 use Rattle.bank_worker.proofs.Filtered.{filter_finds, row_finds}
-use Rattle.bank_worker.proofs.Manned.{desk_is, few_desks}
+use Rattle.bank_worker.proofs.Manned.{few_desks}
 use Rattle.bank_worker.proofs.Sweeping.{divides_kept, few_in_all, paid_by_kept}
 use mathlib.Core.Logic.{dite}
 use native.Mathlib.Decide.{ℕ_discrete}
@@ -26,16 +24,16 @@ use Rattle.settle.specs.Rounds.{AreRounded, MadeRound, crew_at, no_crew, paid_by
 use Rattle.std.specs.List.{range_with_len}
 use Rattle.bank_worker.proofs.Rooms.{banks_of_seat}
 use Rattle.settle.proofs.Shares.{all_shares}
-use Rattle.settle.proofs.Handed.{IsRest, crew_there, first_rest, handed_holds, length-crews}
+use Rattle.settle.proofs.Handed.{IsRest, crew_there, first_rest, handed_holds, length-crews, handed_desk}
 
 -- of two lists, of which one gives nowhere less than the other, with a sum no greater: they give the same in each place
 agree_where_sums_do : {A : Type 0} (d : A) (f g : A → ℕ) (xs ys : List A) → length ys ≡ length xs → ((k : ℕ) → k < length xs → f (get_or xs k d) ≤ g (get_or ys k d)) → sum_by g ys ≤ sum_by f xs
     → (k : ℕ) → k < length xs → f (get_or xs k d) ≡ g (get_or ys k d)
 agree_where_sums_do d f g xs ys l below sums k lk =
-    let at_most : IsAtMost (map f xs) (map g ys) = λ j. ⊎_elim
-    (λ (lt : j < length xs). omega (arith, get_or-map f xs j d 0 lt, get_or-map g ys j d 0 (omega (arith, lt, l)), below j lt))
-    (λ (ge : length xs ≤ j). omega (arith, get_or_past (map f xs) j 0 (omega (arith, length-map xs f))))
-    (cases_lt j (length xs)) in
+    let at_most : IsAtMost (map f xs) (map g ys) = λ j. elim (cases_lt j (length xs)) [
+      | inl lt ↦ omega (arith, get_or-map f xs j d 0 lt, get_or-map g ys j d 0 (omega (arith, lt, l)), below j lt)
+      | inr ge ↦ omega (arith, get_or_past (map f xs) j 0 (omega (arith, length-map xs f)))
+    ] in
     let same = same_from_sum (map f xs) (map g ys) (length-map xs f ∙ sym l ∙ sym (length-map ys g)) at_most (omega (arith, sum-map f xs, sum-map g ys)) in
     sym (get_or-map f xs k d 0 lk) ∙ ap (λ zs. get_or zs k 0) same ∙ get_or-map g ys k d 0 (omega (arith, lk, l))
 
@@ -74,10 +72,7 @@ module _ (board : Panel) (net : Net) (s : Shown) (w sweeps n : ℕ) (news : List
         at = (m.same.table, net_of i lt ∙ here);
         worker = m.same.worker;
         not_the_master = m.same.seat.master;
-        banks =
-            m.same.seat.banks
-            ∙ ap (λ (m : Net). tabled (length m.banks) (is_of_worker w i)) (between.net_is ∙ here)
-            ∙ ap (λ k. tabled (length board.net.banks) (is_of_worker k i)) workers;
+        banks = rw (← workers, ← here, ← between.net_is) m.same.seat.banks;
         no_rings = m.rounded.gone.no_rings;
         by_bells = omega (arith, m.visits.by_bells);
         few_visits = omega (arith, m.visits.at_most, few_in_all sweeps (length (desks_held (handed w i s))) few_sweeps (omega arith));
@@ -101,65 +96,41 @@ module _ (board : Panel) (net : Net) (s : Shown) (w sweeps n : ℕ) (news : List
 
   -- where no worker's banks pay more, nothing was raised
   none_more : ((i : ℕ) → i < w → paid_by_crew (crew_of w board.table s i) ≡ paid_by_crew (crew_at news i)) → n ≡ 0
-  none_more same =
-      let olds = crews w board.table s w in
-      omega (
-        arith,
-        rounded.rose,
-        lists_equal_sums no_crew paid_by_crew olds news rounded.as_many (λ i lo.
-            let li : i < w = omega (arith, lo, length-crews w board.table s w) in
-            ap paid_by_crew (crew_there w board.table s w i li) ∙ same i li),
-      )
+  none_more same = omega (
+    arith,
+    rounded.rose,
+    lists_equal_sums no_crew paid_by_crew (crews w board.table s w) news rounded.as_many (λ i lo.
+        let li : i < w = omega (arith, lo, length-crews w board.table s w) in
+        rw (crew_there w board.table s w i li) (same i li)),
+  )
 
   -- where units were raised, some worker made a raise
   some_raise : n ≢ 0 → 1 ≤ sum_by raises_by news
-  some_raise some_units = dite (ℕ_discrete (sum_by raises_by news) 0)
-      (λ none. absurd (some_units (none_more (λ i li.
-      let m = made_round i li in
-      let zero : raises_by (crew_at news i) ≡ 0 = omega (arith, none, get_or-le-sum_by raises_by news i no_crew (omega (arith, li, as_many))) in
-      dite (ℕ_discrete m.units 0)
-      (λ u. omega (arith, m.rounded.gone.grows.rose, u))
-      (λ more. absurd (omega (arith, m.rounded.gone.grows.seat.raises.1 more, zero)))))))
-      (λ some. omega (arith, some))
+  some_raise some_units = elim (cases_lt 0 (sum_by raises_by news)) [
+    | inl some ↦ some
+    | inr none ↦ absurd (some_units (none_more (λ i li.
+        let m = made_round i li in
+        let few = get_or-le-sum_by raises_by news i no_crew (omega (arith, li, as_many)) in
+        dite (ℕ_discrete m.units 0) (λ u. omega (arith, m.rounded.gone.grows.rose, u)) (λ more. absurd (omega (arith, m.rounded.gone.grows.seat.raises.1 more, none, few))))))
+  ]
 
   -- the worker of the bank b has brought it to rest
   module _ (b : ℕ) (lb : b < length net.banks) where
     pub worker_of : b % w < w
     worker_of = omega arith
 
-    pub shown : Shown
-    shown = (crew_at news (b % w)).seat.shows
-
     holds_it : holds (crew_at news (b % w)).seat.shows b ≡ true
-    holds_it = ap (λ bs. is_marked bs b) (made_round (b % w) worker_of).same.seat.banks ∙ handed_holds net w (b % w) s b between.net_is lb ∙ eq-eqb (b % w) (b % w) refl
+    holds_it = rw ((made_round (b % w) worker_of).same.seat.banks) (handed_holds net w (b % w) s b between.net_is lb ∙ eq-eqb (b % w) (b % w) refl)
 
     place : (k : ℕ) × (k < length (crew_at news (b % w)).desks) × (desk_at (crew_at news (b % w)).desks k ≡ desk_of net b)
     place =
-        let i = b % w in
-        let h = handed w i s in
-        let lb' : b < length s.net.banks = omega (arith, lb, ap (λ (m : Net). length m.banks) between.net_is) in
-        let f = filter_finds (holds h) (length s.net.banks) b lb' (handed_holds net w i s b between.net_is lb ∙ eq-eqb i i refl) in
-        let same : (crew_at news i).desks ≡ desks_held h = (made_round i worker_of).same.desks in (
+        let h = handed w (b % w) s in
+        let f = filter_finds (holds h) (length s.net.banks) b (rw (between.net_is) lb) (handed_holds net w (b % w) s b between.net_is lb ∙ eq-eqb (b % w) (b % w) refl) in
+        let same : (crew_at news (b % w)).desks ≡ desks_held h = (made_round (b % w) worker_of).same.desks in (
           f.0,
           omega (arith, ap length same, length-map (banks_held h) (desk_of s.net), f.1),
-          ap (λ ds. desk_at ds f.0) same ∙ get_or-map (desk_of s.net) (banks_held h) f.0 0 no_desk f.1 ∙ ap (desk_of s.net) f.2 ∙ ap (λ (m : Net). desk_of m b) between.net_is,
+          rw (same, get_or-map (desk_of s.net) (banks_held h) f.0 0 no_desk f.1, f.2) (ap (λ (m : Net). desk_of m b) between.net_is),
         )
-
-    pub divides_there : Divides (crew_at news (b % w)).seat.shows (desk_of net b)
-    divides_there = subst (Divides (crew_at news (b % w)).seat.shows) place.2 ((made_round (b % w) worker_of).rounded.at_rest.divide place.0 place.1)
-
-    -- each debt to the bank is seen at no less than was paid before the round
-    pub seen_there : (x : ℕ) → x < length net.debts → creditor_of net x ≡ b → get_or s.paid x 0 ≤ get_or (crew_at news (b % w)).seat.shows.sights x 0
-    seen_there x lx owed =
-        let i = b % w in
-        let m = made_round i worker_of in
-        let seen = m.rounded.at_rest.seen place.0 place.1 x (omega (arith, lx, ap (λ (m : Net). length m.debts) (net_of i worker_of)))
-        (ap (λ (m : Net). creditor_of m x) (net_of i worker_of) ∙ owed ∙ sym (ap (λ (d : BankView). d.bank) place.2)) in
-        omega (arith, seen, ap (λ fs. get_or fs x 0) m.same.seat.floor, between.floor x lx)
-
-    pub not_fallen : (x : ℕ) → x < length net.debts → get_or s.paid x 0 ≤ get_or (crew_at news (b % w)).seat.shows.paid x 0
-    not_fallen x lx = (made_round (b % w) worker_of).rounded.gone.grows.seat.none_fell x
-        (omega (arith, lx, ap (λ (m : Net). length m.debts) between.net_is))
 
   -- once all seats are back
   module _ (m t : Shown) (over : IsOver t) (back : IsBack board.table.workers board.net m news t 0) where
@@ -185,13 +156,21 @@ module _ (board : Panel) (net : Net) (s : Shown) (w sweeps n : ℕ) (news : List
     all_divide b lb = divides_kept net (desk_of net b) (shown_by w news b) t refl
         (λ x lx e. paid_is x lx ∙ ap (λ c. get_or (shown_by w news c).paid x 0) e)
         (λ x lx e. sight_is x lx ∙ ap (λ c. get_or (shown_by w news c).sights x 0) e)
-        (divides_there b lb)
+        (rw (place b lb).2 at ((made_round (b % w) (worker_of b lb)).rounded.at_rest.divide (place b lb).0 (place b lb).1))
 
     all_seen : (x : ℕ) → x < length net.debts → get_or s.paid x 0 ≤ get_or t.sights x 0
-    all_seen x lx = omega (arith, sight_is x lx, seen_there (creditor_of net x) (creditor x lx) x lx refl)
+    all_seen x lx =
+        let b = creditor_of net x in
+        let li = worker_of b (creditor x lx) in
+        let m = made_round (b % w) li in
+        let p = place b (creditor x lx) in
+        let seen = m.rounded.at_rest.seen p.0 p.1 x (rw (net_of (b % w) li) lx) (rw (net_of (b % w) li, p.2) refl) in
+        omega (arith, sight_is x lx, seen, ap (λ fs. get_or fs x 0) m.same.seat.floor, between.floor x lx)
 
     none_fell : (x : ℕ) → x < length net.debts → get_or s.paid x 0 ≤ get_or t.paid x 0
-    none_fell x lx = omega (arith, paid_is x lx, not_fallen (debtor_of net x) (debtor x lx) x lx)
+    none_fell x lx =
+        let m = made_round (debtor_of net x % w) (worker_of (debtor_of net x) (debtor x lx)) in
+        omega (arith, paid_is x lx, m.rounded.gone.grows.seat.none_fell x (rw (between.net_is) lx))
 
     pub between_again : t.master ≡ true → IsBetween net t
     between_again master = record {
@@ -199,26 +178,17 @@ module _ (board : Panel) (net : Net) (s : Shown) (w sweeps n : ℕ) (news : List
       net_is = back'.net_is;
       master = master;
       over = over;
-      holds_all = λ b lb. back'.held b (omega (arith, lb, ap (λ (m : Net). length m.banks) back'.net_is)) (omega arith) (lw b);
+      holds_all = λ b lb. back'.held b (rw (back'.net_is) at lb) (omega arith) (lw b);
       no_rings = λ x lx.
-          let b = debtor_of net x in
-          let i = b % w in
-          let lb = debtor x lx in
-          let li = worker_of b lb in
-          let same = net_of i li in
-          back'.rings x lx (omega arith) (lw b)
-          ∙ (made_round i li).rounded.gone.no_rings x (omega (arith, lx, ap (λ (m : Net). length m.debts) same))
-          (ap (λ (m : Net). holds (crew_at news i).seat.shows (debtor_of m x)) same ∙ holds_it b lb);
+          let li = worker_of (debtor_of net x) (debtor x lx) in
+          let same = net_of (debtor_of net x % w) li in
+          back'.rings x lx (omega arith) (lw (debtor_of net x))
+          ∙ (made_round (debtor_of net x % w) li).rounded.gone.no_rings x (rw same lx) (rw same (holds_it (debtor_of net x) (debtor x lx)));
       calm = λ x lx.
-          let b = creditor_of net x in
-          let i = b % w in
-          let lb = creditor x lx in
-          let li = worker_of b lb in
-          let same = net_of i li in
-          back'.pending x lx (omega arith) (lw b)
-          ∙ (made_round i li).rounded.gone.calm b (omega (arith, lb, ap (λ (m : Net). length m.banks) same))
-          (holds_it b lb)
-          x (omega (arith, lx, ap (λ (m : Net). length m.debts) same)) (ap (λ (m : Net). creditor_of m x) same);
+          let li = worker_of (creditor_of net x) (creditor x lx) in
+          let same = net_of (creditor_of net x % w) li in
+          back'.pending x lx (omega arith) (lw (creditor_of net x))
+          ∙ (made_round (creditor_of net x % w) li).rounded.gone.calm (creditor_of net x) (rw same (creditor x lx)) (holds_it (creditor_of net x) (creditor x lx)) x (rw same lx) (rw same);
       rest = λ b lb. inr (all_divide b lb);
       floor = λ x lx. back'.floor x lx (omega arith) (lw (debtor_of net x)) ∙ sym (paid_is x lx);
     }
@@ -228,23 +198,20 @@ module _ (board : Panel) (net : Net) (s : Shown) (w sweeps n : ℕ) (news : List
     others_at_rest called again calls b lb out = record {
       divides = all_divide b lb;
       seen = λ x lt owed.
-          let lx : x < length net.debts = omega (arith, lt, ap (λ (m : Net). length m.debts) back'.net_is) in
-          let here : creditor_of net x ≡ b = ap (λ (m : Net). creditor_of m x) (sym back'.net_is) ∙ owed in
+          let lx = rw (back'.net_is) at lt in
           let i = debtor_of net x % w in
-          let li = worker_of (debtor_of net x) (debtor x lx) in
-          ⊎_elim
-          (λ (r : IsRaisedIn (crew_at news i).seat.shows.raises x).
-          absurd (true≢false (sym (calls i (omega arith) (lw (debtor_of net x)) x lx r) ∙ ap (is_in called) here ∙ out)))
-          (λ (same : get_or (crew_at news i).seat.shows.paid x 0 ≡ get_or s.paid x 0). omega (arith, again.floor x lx, paid_is x lx, same, all_seen x lx))
-          ((made_round i li).rounded.gone.grows.told x (omega (arith, lx, ap (λ (m : Net). length m.debts) between.net_is)));
+          elim ((made_round i (worker_of (debtor_of net x) (debtor x lx))).rounded.gone.grows.told x (rw (between.net_is) lx)) [
+            | inl r ↦ absurd (true≢false (sym (calls i (omega arith) (lw (debtor_of net x)) x lx r) ∙ rw (rw (back'.net_is) at owed) out))
+            | inr same ↦ omega (arith, again.floor x lx, paid_is x lx, same, all_seen x lx)
+          ];
     }
 
     -- what a worker's debts are paid more than before
     fell_nowhere : (i : ℕ) → i < w → (x : ℕ) → get_or s.paid x 0 ≤ get_or (crew_at news i).seat.shows.paid x 0
-    fell_nowhere i li x = ⊎_elim
-        (λ (lx : x < length s.net.debts). (made_round i li).rounded.gone.grows.seat.none_fell x lx)
-        (λ (ge : length s.net.debts ≤ x). omega (arith, get_or_past s.paid x 0 (omega (arith, ge, between.over.paid))))
-        (cases_lt x (length s.net.debts))
+    fell_nowhere i li x = elim (cases_lt x (length s.net.debts)) [
+      | inl lx ↦ (made_round i li).rounded.gone.grows.seat.none_fell x lx
+      | inr ge ↦ omega (arith, get_or_past s.paid x 0 (omega (arith, ge, between.over.paid)))
+    ]
 
     -- a round that raised nothing left all payments as they were
     none_rose : n ≡ 0 → (x : ℕ) → x < length net.debts → get_or t.paid x 0 ≡ get_or s.paid x 0
@@ -261,7 +228,7 @@ module _ (board : Panel) (net : Net) (s : Shown) (w sweeps n : ℕ) (news : List
         (arith, ap paid_by_crew (crew_there w board.table s w k lk'), (made_round k lk').rounded.gone.grows.rose))
         (omega (arith, rounded.rose)) i (omega (arith, li, length-crews w board.table s w)) in
         let desks = (crew_at news i).desks in
-        let all_same : paid_by_all u desks ≡ paid_by_all s desks = sym crew_same ∙ ap paid_by_crew (crew_there w board.table s w i li) ∙ ap (λ ds. paid_by_all s ds) (sym (made_round i li).same.desks) in
+        let all_same : paid_by_all u desks ≡ paid_by_all s desks = rw ((made_round i li).same.desks) (rw (crew_there w board.table s w i li, (made_round i li).same.desks) at (sym crew_same)) in
         let p = place b lb in
         let desk_same : paid_by s (desk_of net b) ≡ paid_by u (desk_of net b) =
         ap (paid_by s) (sym p.2)
@@ -279,27 +246,19 @@ module _ (board : Panel) (net : Net) (s : Shown) (w sweeps n : ℕ) (news : List
         let u = (crew_at news i).seat.shows in
         let ds = desks_held h in
         let desks_same : sum_by (paid_by s) ds ≡ sum_by (paid_by u) ds = sums_agree no_desk (paid_by s) (paid_by u) ds (λ k lk.
-        let f = desk_is h ds k refl lk in
-        let b = (desk_at ds k).bank in
-        let known : desk_at ds k ≡ desk_of net b = f.known ∙ ap (λ (m : Net). desk_of m b) between.net_is in
-        let lb : b < length net.banks = omega (arith, f.bank, ap (λ (m : Net). length m.banks) between.net_is) in
-        let mine : b % w ≡ i = eqb-true (b % w) i (sym (handed_holds net w i s b between.net_is lb) ∙ f.held) in
-        sym (paid_by_kept net (desk_at ds k) s u known (λ x lx e.
-        ap (λ j. get_or (crew_at news j).seat.shows.paid x 0) (sym mine) ∙ ap (λ c. get_or (shown_by w news c).paid x 0) (sym e) ∙ sym (paid_is x lx) ∙ same x lx))) in
+        let f = handed_desk net w i s k between lk in
+        sym (paid_by_kept net (desk_at ds k) s u f.known (λ x lx e.
+        ap (λ j. get_or (crew_at news j).seat.shows.paid x 0) (sym f.mine) ∙ ap (λ c. get_or (shown_by w news c).paid x 0) (sym e) ∙ sym (paid_is x lx) ∙ same x lx))) in
         desks_same ∙ ap (λ es. paid_by_all u es) (sym (made_round i li).same.desks))
 
     some_rose : n ≢ 0 → sum s.paid + 1 ≤ sum t.paid
     some_rose some_units =
-        let same_debts : length t.net.debts ≡ length s.net.debts = ap (λ (m : Net). length m.debts) (back'.net_is ∙ sym between.net_is) in
-        omega (
-          arith,
-          sum_rises s.paid t.paid (omega (arith, between.over.paid, over.paid, same_debts))
-              (λ x. ⊎_elim
-              (λ (lx : x < length net.debts). none_fell x lx)
-              (λ (ge : length net.debts ≤ x). omega (arith, get_or_past s.paid x 0 (omega (arith, ge, between.over.paid, ap (λ (m : Net). length m.debts) between.net_is))))
-              (cases_lt x (length net.debts)))
-              (λ e. some_units (raised_nothing (λ x lx. ap (λ P. get_or P x 0) (sym e)))),
-        )
+        let size = rw (between.net_is) at between.over.paid in
+        let low : IsAtMost s.paid t.paid = λ x. elim (cases_lt x (length net.debts)) [
+          | inl lx ↦ none_fell x lx
+          | inr ge ↦ omega (arith, get_or_past s.paid x 0 (omega (arith, ge, size)))
+        ] in
+        omega (arith, sum_rises s.paid t.paid (size ∙ sym (rw (back'.net_is) at over.paid)) low (λ e. some_units (raised_nothing (λ x lx. ap (λ P. get_or P x 0) (sym e)))))
 
     -- the round, where the master shows so many takes and the workers' raises more, and nothing above the least payments
     pub round_is : (visits : ℕ) → m ≡ without_first w w s → t.taken ≡ m.taken + visits → visits ≡ sum_by (λ (k : Crew). k.visits) news

@@ -3,7 +3,7 @@ use Rattle.std.proofs.Common.{◌≡◌, ℕ, zero, suc, ◌+◌, ◌<◌, ◌�
 use Rattle.std.specs.List.{list_all, list_any}
 use Rattle.std.specs.Map.{keys_of}
 use Rattle.std.specs.Str.{bytes_eq, is_utf8, IsUtf8}
-use Rattle.std.proofs.lemmas.Bool.{cases_Bool}
+use Rattle.std.proofs.lemmas.Bool.{false_from_ne_true}
 use Rattle.std.proofs.lemmas.Str.{IsUtf8-from_is_utf8, is_utf8-from_IsUtf8}
 use Rattle.toml.proofs.Views.{Entry, items_view-drop}
 use Rattle.toml.specs.Data.{Data, Members, no_items, item}
@@ -12,16 +12,6 @@ use Rattle.toml.specs.View.{view, items_view, members_view}
 use Rattle.toml.specs.declared.value.Value.{Value}
 use Rattle.stress.specs.Reading.{document_of}
 use Rattle.stress.specs.Shape.{has_only}
-
-module _ (m : Option Data) (r : Option (Bor Value))
-    (found : option_map (λ x. view x.now) r ≡ m) where
-  -- the value that a look-up finds
-  pub there : (x : Bor Value) → r ≡ Some x → m ≡ Some (view x.now)
-  there x is = sym found ∙ ap (option_map (λ x. view x.now)) is
-
-  -- or none
-  pub absent : r ≡ None → m ≡ None
-  absent is = sym found ∙ ap (option_map (λ x. view x.now)) is
 
 -- a table has no key but some words where each of its keys is one of them
 pub has_only-keys : (words : List (List ℕ)) (es : List Entry)
@@ -34,10 +24,8 @@ has_only-keys words (e ∷ es) =
 
 -- bytes that are no UTF-8 are no document
 pub no_document : (bytes : List ℕ) → (IsUtf8 bytes → ⊥) → document_of bytes ≡ None
-no_document bytes never = ⊎_elim
-    (λ (e : is_utf8 bytes ≡ true). absurd (never (IsUtf8-from_is_utf8 bytes e)))
-    (λ (e : is_utf8 bytes ≡ false). rw e refl)
-    (cases_Bool (is_utf8 bytes))
+no_document bytes never =
+    rw (false_from_ne_true (is_utf8 bytes) (λ e. never (IsUtf8-from_is_utf8 bytes e))) refl
 
 -- others are what toml says of their text
 pub document_is : (bytes text : List ℕ) (m : Option Members) → text ≡ bytes → IsUtf8 bytes

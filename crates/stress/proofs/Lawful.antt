@@ -49,52 +49,24 @@ up_to-some limit (pos m) n h =
     omega (arith, leb-true m limit small)
 up_to-some limit (negsuc m) n h = absurd (cc)
 
--- a loss that is read is of a bank of the network that none before it is of, and in its limit
-record IsNextLoss (net : Net) (before : List Loss) (l : Loss) : Type 0 where
-  known : l.bank.0 < length net.banks
-  new : list_any (is_of_bank l.bank.0) before ≡ false
-  in_limit : l.amount ≤ MAX_LOSS
-
--- a loss that is read is such a one
-loss_in-ok : (net : Net) (before : List Loss) (value : Data) (l : Loss)
-    → loss_in net before value ≡ Ok l → IsNextLoss net before l
-loss_in-ok net before value l h =
-    let made : ℕ → ℕ → Result Loss FaultKind = λ bank amount.
-    Ok (record { bank = record { 0 = bank }; amount = amount }) in
-    let after_bank : List ℕ × ℤ → ℕ → Result Loss FaultKind = λ p bank.
-    and_then (ok_or (up_to MAX_LOSS p.1) fault.Limit) (made bank) in
-    let after_name : List ℕ × ℤ → ℕ → Result Loss FaultKind = λ p bank.
-    fault_unless (not (list_any (is_of_bank bank) before)) fault.DoubleBank
-    (after_bank p bank) in
-    let after_shape : List ℕ × ℤ → Result Loss FaultKind = λ p.
-    and_then (ok_or (position (has_name p.0) net.banks) fault.UnknownBank) (after_name p) in
-    let (p, _, shaped) = and_then-ok (ok_or (as_loss value) fault.Shape) after_shape l h in
-    let found = position (has_name p.0) net.banks in
-    let (bank, named, rest) = and_then-ok (ok_or found fault.UnknownBank) (after_name p) l shaped in
-    let (unlisted, kept) = fault_unless-ok (not (list_any (is_of_bank bank) before))
-    fault.DoubleBank (after_bank p bank) l rest in
-    let (amount, limit, is) = and_then-ok (ok_or (up_to MAX_LOSS p.1) fault.Limit) (made bank)
-    l kept in
-    let same : (let m : Loss = record { bank = record { 0 = bank }; amount = amount } in m) ≡ l =
-    cc in
-    subst (IsNextLoss net before) {x = record { bank = record { 0 = bank }; amount = amount }} same
-    (
-    record {
-      known = (named_there net p.0 bank (ok_or-ok found fault.UnknownBank bank named)).0;
-      new = not-true (list_any (is_of_bank bank) before) unlisted;
-      in_limit = up_to-some MAX_LOSS p.1 amount
-          (ok_or-ok (up_to MAX_LOSS p.1) fault.Limit amount limit);
+-- a loss that is read is of a bank that none before it is of, so with it they are losses too
+one_loss_more : (net : Net) (before : List Loss) (value : Data) (l : Loss) → AreLosses net before
+    → loss_in net before value ≡ Ok l → AreLosses net (before ++ l ∷ [])
+one_loss_more net before value l good h =
+    let (p, _, shaped) = and_then-ok (ok_or (as_loss value) fault.Shape) _ l h in
+    let (bank, named, rest) = and_then-ok _ _ l shaped in
+    let (unlisted, kept) = fault_unless-ok _ _ _ l rest in
+    let (amount, limit, is) = and_then-ok _ _ l kept in
+    let m : Loss = record { bank = record { 0 = bank }; amount = amount } in
+    let same : m ≡ l = cc in
+    subst (λ l. AreLosses net (before ++ l ∷ [])) {x = m} same (record {
+      known = All-push (λ l. l.bank.0 < length net.banks) before m good.known
+          (named_there net p.0 bank (ok_or-ok _ _ bank named)).0;
+      different = all_pairs_push (λ l m. l.bank.0 ≢ m.bank.0) before m good.different
+          (not_listed bank before (not-true _ unlisted));
+      in_limit = All-push (λ l. l.amount ≤ MAX_LOSS) before m good.in_limit
+          (up_to-some MAX_LOSS p.1 amount (ok_or-ok _ _ amount limit));
     })
-
--- and the losses with it are losses of the network
-one_loss_more : (net : Net) (before : List Loss) (l : Loss) → AreLosses net before
-    → IsNextLoss net before l → AreLosses net (before ++ l ∷ [])
-one_loss_more net before l good next = record {
-  known = All-push (λ l. l.bank.0 < length net.banks) before l good.known next.known;
-  different = all_pairs_push (λ l m. l.bank.0 ≢ m.bank.0) before l good.different
-      (not_listed l.bank.0 before next.new);
-  in_limit = All-push (λ l. l.amount ≤ MAX_LOSS) before l good.in_limit next.in_limit;
-}
 
 -- so all losses that are read are
 losses_are : (net : Net) (values : Items) (before after : List Loss) → AreLosses net before
@@ -103,10 +75,8 @@ unfolding read_losses
 losses_are net no_items before after good h =
     let same : before ≡ after = cc in subst (AreLosses net) same good
 losses_are net (item value rest) before after good h =
-    let (l, is, more) = and_then-ok (loss_in net before value)
-    (λ l. read_losses net (before ++ l ∷ []) rest) after h in
-    losses_are net rest (before ++ l ∷ []) after
-    (one_loss_more net before l good (loss_in-ok net before value l is)) more
+    let (l, is, more) = and_then-ok (loss_in net before value) _ after h in
+    losses_are net rest (before ++ l ∷ []) after (one_loss_more net before value l good is) more
 
 -- and no loss is none
 none_are : (net : Net) → AreLosses net []
@@ -124,103 +94,51 @@ IsRead net s = IsScenarioOf net s × HasLossesInLimit s
 scenario_is : (net : Net) (value : Data) (s : Scenario) → scenario_in net value ≡ Ok s
     → IsRead net s
 scenario_is net value s h =
-    let made : Parts → ℕ → List Loss → Result Scenario FaultKind = λ p cut losses.
-    Ok (record { name = p.name; cut = cut; losses = losses }) in
-    let after_cut : Parts → ℕ → Result Scenario FaultKind = λ p cut.
-    and_then (read_losses net [] p.losses) (made p cut) in
-    let after_shape : Parts → Result Scenario FaultKind = λ p.
-    and_then (named_cut p) (after_cut p) in
-    let (p, _, shaped) = and_then-ok (ok_or (as_parts value) fault.Shape) after_shape s h in
-    let (cut, named, rest) = and_then-ok (named_cut p) (after_cut p) s shaped in
-    let (_, limit) = fault_unless-ok (is_name p.name) fault.Name
-    (ok_or (up_to MAX_CUT p.cut) fault.Limit) cut named in
-    let (losses, read, is) = and_then-ok (read_losses net [] p.losses) (made p cut) s rest in
+    let (p, _, shaped) = and_then-ok (ok_or (as_parts value) fault.Shape) _ s h in
+    let (cut, named, rest) = and_then-ok (named_cut p) _ s shaped in
+    let (_, limit) = fault_unless-ok (is_name p.name) _ (ok_or (up_to MAX_CUT p.cut) _) cut named in
+    let (losses, read, is) = and_then-ok _ _ s rest in
     let good = losses_are net p.losses [] losses (none_are net) read in
-    let same : (let x : Scenario = record { name = p.name; cut = cut; losses = losses } in x) ≡ s =
-    cc in
-    let is_of : IsScenarioOf net (record { name = p.name; cut = cut; losses = losses }) = record {
-      cut_in_limit = up_to-some MAX_CUT p.cut cut
-          (ok_or-ok (up_to MAX_CUT p.cut) fault.Limit cut limit);
-      of_known_banks = good.known;
-      of_different_banks = good.different;
-    } in
-    subst (IsRead net) {x = record { name = p.name; cut = cut; losses = losses }} same
-    (is_of, good.in_limit)
+    let x : Scenario = record { name = p.name; cut = cut; losses = losses } in
+    let same : x ≡ s = cc in
+    subst (IsRead net) {x = x} same (
+      record {
+        cut_in_limit = up_to-some MAX_CUT p.cut cut (ok_or-ok _ _ cut limit);
+        of_known_banks = good.known;
+        of_different_banks = good.different;
+      },
+      good.in_limit,
+    )
 
--- so all scenarios that are read have it
-all_are : (net : Net) (values : Items) (before after : List Scenario) → All (IsRead net) before
-    → read_all net before values ≡ Ok after → All (IsRead net) after
+-- scenarios that have it, no more than the limit
+pub record AreScenarios (net : Net) (all : List Scenario) : Type 0 where
+  pub read : All (IsRead net) all
+  pub few : length all ≤ MAX_SCENARIOS
+
+-- so all scenarios that are read are
+all_are : (net : Net) (values : Items) (before after : List Scenario) → AreScenarios net before
+    → read_all net before values ≡ Ok after → AreScenarios net after
 unfolding read_all
 all_are net no_items before after good h =
-    let same : before ≡ after = cc in subst (All (IsRead net)) same good
+    let same : before ≡ after = cc in subst (AreScenarios net) same good
 all_are net (item value rest) before after good h =
-    let row = length before + 1 in
-    let (s, is, more) = and_then-ok (next_scenario net before value)
-    (λ s. read_all net (before ++ s ∷ []) rest) after h in
-    let (_, told) = fault_unless-ok (nat_lt (length before) MAX_SCENARIOS)
-    (fault_in row fault.TooMany) (scenario_in_row net row value) s is in
-    let read = scenario_is net value s (in_row-ok file.Scenarios row (scenario_in net value) s told) in
-    all_are net rest (before ++ s ∷ []) after (All-push (IsRead net) before s good read) more
+    let (s, is, more) = and_then-ok (next_scenario net before value) _ after h in
+    let (fits, told) = fault_unless-ok (nat_lt (length before) MAX_SCENARIOS) _ (scenario_in_row net _ value) s is in
+    let read = scenario_is net value s (in_row-ok file.Scenarios (length before + 1) _ s told) in
+    let count = length-append before (s ∷ []) in
+    all_are net rest (before ++ s ∷ []) after (record {
+      read = All-push (IsRead net) before s good.read read;
+      few = omega (arith, ltb-true (length before) MAX_SCENARIOS fits);
+    }) more
 
--- those of a document too
-document_is : (net : Net) (document : Members) (all : List Scenario)
-    → scenarios_in net document ≡ Ok all → All (IsRead net) all
-document_is net document all h =
-    let read : Items → Result (List Scenario) Fault = λ values. read_all net [] values in
-    let values_in : Result Items Fault =
-    ok_or (array_or_none (get_member (codes "scenario") document)) (fault_in 0 fault.Shape) in
-    let (_, shaped) = fault_unless-ok (has_only (codes "scenario" ∷ []) document)
-    (fault_in 0 fault.Shape) (and_then values_in read) all h in
-    let (values, _, is) = and_then-ok values_in read all shaped in
-    all_are net values [] all (λ k d l. absurd (omega arith)) is
-
--- no more scenarios are read than the limit
-none_too_many : (net : Net) (values : Items) (before after : List Scenario)
-    → length before ≤ MAX_SCENARIOS → read_all net before values ≡ Ok after
-    → length after ≤ MAX_SCENARIOS
-unfolding read_all
-none_too_many net no_items before after l h =
-    let same : before ≡ after = cc in subst (λ all. length all ≤ MAX_SCENARIOS) same l
-none_too_many net (item value rest) before after l h =
-    let row = length before + 1 in
-    let (s, is, more) = and_then-ok (next_scenario net before value)
-    (λ s. read_all net (before ++ s ∷ []) rest) after h in
-    let (fits, _) = fault_unless-ok (nat_lt (length before) MAX_SCENARIOS)
-    (fault_in row fault.TooMany) (scenario_in_row net row value) s is in
-    let one_more : length (before ++ s ∷ []) ≤ MAX_SCENARIOS =
-    omega (arith, length-append before (s ∷ []), ltb-true (length before) MAX_SCENARIOS fits) in
-    none_too_many net rest (before ++ s ∷ []) after one_more more
-
--- nor from a document
-few_in_document : (net : Net) (document : Members) (all : List Scenario)
-    → scenarios_in net document ≡ Ok all → length all ≤ MAX_SCENARIOS
-few_in_document net document all h =
-    let read : Items → Result (List Scenario) Fault = λ values. read_all net [] values in
-    let values_in : Result Items Fault =
-    ok_or (array_or_none (get_member (codes "scenario") document)) (fault_in 0 fault.Shape) in
-    let (_, shaped) = fault_unless-ok (has_only (codes "scenario" ∷ []) document)
-    (fault_in 0 fault.Shape) (and_then values_in read) all h in
-    let (values, _, is) = and_then-ok values_in read all shaped in
-    none_too_many net values [] all (omega arith) is
-
-module _ (net : Net) (document : Members) where
-  -- the scenarios of a document may be given to its network
-  pub lawful : (r : Result (Vec Scenario Global) ReadNet)
-      → IfOk r (λ all. scenarios_in net document ≡ Ok all.items)
-      → IfOk r (λ all. All (IsScenarioOf net) all.items)
-  lawful (Ok all) h = λ k d l. (document_is net document all.items h k d l).0
-  lawful (Err e) h = tt
-
-  -- and have their losses within the limit
-  pub in_limit : (r : Result (Vec Scenario Global) ReadNet)
-      → IfOk r (λ all. scenarios_in net document ≡ Ok all.items)
-      → IfOk r (λ all. All HasLossesInLimit all.items)
-  in_limit (Ok all) h = λ k d l. (document_is net document all.items h k d l).1
-  in_limit (Err e) h = tt
-
-  -- and are no more than the limit
-  pub few : (r : Result (Vec Scenario Global) ReadNet)
-      → IfOk r (λ all. scenarios_in net document ≡ Ok all.items)
-      → IfOk r (λ all. length all.items ≤ MAX_SCENARIOS)
-  few (Ok all) h = few_in_document net document all.items h
-  few (Err e) h = tt
+-- those of a document too, where there is memory
+pub document_is : (net : Net) (document : Members) (r : Result (Vec Scenario Global) ReadNet)
+    → IfOk r (λ all. scenarios_in net document ≡ Ok all.items)
+    → IfOk r (λ all. AreScenarios net all.items)
+document_is net document (Err e) h = tt
+document_is net document (Ok all) h =
+    let (_, shaped) = fault_unless-ok (has_only (codes "scenario" ∷ []) document) _ _ all.items h in
+    let found = ok_or (array_or_none (get_member (codes "scenario") document)) (fault_in 0 fault.Shape) in
+    let (values, _, is) = and_then-ok found (read_all net []) all.items shaped in
+    all_are net values [] all.items
+    (record { read = λ k d l. absurd (omega arith); few = omega arith }) is

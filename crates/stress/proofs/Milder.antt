@@ -18,11 +18,7 @@ use Rattle.stress.specs.declared.TheConstants.{MAX_CUT}
 use Rattle.stress.specs.declared.scenario.Scenario.{Scenario}
 use Rattle.stress.proofs.Kept.{keeps_all_but_cash, leaves_cash}
 
--- a smaller cut leaves no less
-after_cut_falls : (c d cash : ℕ) → c ≤ d → after_cut d cash ≤ after_cut c cash
-after_cut_falls c d cash l = omega (arith, mul-le cash c cash d (omega arith) l)
-
--- so a milder shock leaves no bank less
+-- a milder shock leaves no bank less, since a smaller cut does not
 pub milder_leaves_more : (net : Net) (milder harder : Scenario) → IsMilder milder harder
     → HasMoreCash (shocked net harder) (shocked net milder)
 milder_leaves_more net milder harder h =
@@ -36,7 +32,7 @@ milder_leaves_more net milder harder h =
         arith,
         leaves_cash net harder i,
         leaves_cash net milder i,
-        after_cut_falls milder.cut harder.cut (cash_of net i) h.cut,
+        mul-le (cash_of net i) milder.cut (cash_of net i) harder.cut (omega arith) h.cut,
         h.losses i,
       );
       debts = refl;
@@ -49,14 +45,6 @@ milder_hurts_nobody net milder harder network h =
     nobody_loses net (shocked_from harder.cut harder.losses 0 net.banks)
     (shocked_from milder.cut milder.losses 0 net.banks) (milder_leaves_more net milder harder h)
     network
-
--- after a smaller cut a bank is sound too
-sound_after_less : (net : Net) (i c d : ℕ) → IsNetwork net → c ≤ d
-    → IsSoundAfter net i d → IsSoundAfter net i c
-sound_after_less net i c d network l sound =
-    let milder : IsMilder (cut_alone c) (cut_alone d) =
-    record { cut = l; losses = λ i. omega arith } in
-    (milder_hurts_nobody net (cut_alone c) (cut_alone d) network milder).sound i sound
 
 -- a cut that does not break the bank leaves it sound
 not_broken : (net : Net) (i k : ℕ) → is_broken_by net i k ≡ false → IsSoundAfter net i k
@@ -83,18 +71,7 @@ pub breaking_cut_is : (net : Net) (i : ℕ) → IsBreakingCut net i (breaking_cu
 breaking_cut_is net i = cut_found net i (find (is_broken_by net i) (range_with_len 0 (MAX_CUT + 1)))
     (found (is_broken_by net i) (MAX_CUT + 1))
 
--- there is one
-pub breaking_cut_only : (net : Net) (i c d : ℕ) → IsBreakingCut net i c → IsBreakingCut net i d
-    → c ≡ d
-breaking_cut_only net i c d r s = ⊎_elim
-    (λ (l : c < d). absurd (r.breaks (omega (arith, s.within)) (s.least c l)))
-    (λ (g : d ≤ c). ⊎_elim
-    (λ (l : d < c). absurd (s.breaks (omega (arith, r.within)) (r.least d l)))
-    (λ (h : c ≤ d). omega arith)
-    (cases_lt d c))
-    (cases_lt c d)
-
--- and the bank is sound exactly below it
+-- the bank is sound exactly below it
 pub sound_below : (net : Net) (i k : ℕ) → IsNetwork net → k ≤ MAX_CUT
     → IsSoundAfter net i k ↔ (k < breaking_cut net i)
 sound_below net i k network l =
@@ -102,8 +79,9 @@ sound_below net i k network l =
     let is = breaking_cut_is net i in (
       λ sound. ⊎_elim
           (λ (m : k < c). m)
-          (λ (g : c ≤ k).
-          absurd (is.breaks (omega arith) (sound_after_less net i c k network g sound)))
+          (λ (g : c ≤ k). absurd (is.breaks (omega arith)
+          ((milder_hurts_nobody net (cut_alone c) (cut_alone k) network
+          (record { cut = g; losses = λ i. omega arith })).sound i sound)))
           (cases_lt k c),
       is.least k,
     )

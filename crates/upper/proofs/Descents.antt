@@ -1,6 +1,6 @@
 -- What the rounds from all debts paid in full come to, and the waves with them.
-use Rattle.std.proofs.Common.{◌≡◌, ◌≢◌, ℕ, suc, ◌+◌, ◌<◌, ◌≤◌, List, length, get_or, replicate, sum, sym, ap, ◌∙◌, subst, ⊎_elim, arith}
-use Rattle.std.proofs.lemmas.Bool.{cases_lt, cases_eq}
+use Rattle.std.proofs.Common.{◌≡◌, ◌≢◌, ℕ, zero, suc, ◌+◌, ◌<◌, ◌≤◌, List, length, get_or, replicate, sum, sym, ap, ◌∙◌, subst, ⊎_elim, below_more, refl, arith}
+use Rattle.std.proofs.lemmas.Bool.{cases_eq, cases_lt}
 use Rattle.std.proofs.lemmas.List.{length-map, length-replicate}
 use Rattle.std.proofs.lemmas.List.Sums.{sum-map}
 use Rattle.std.proofs.lemmas.List.FromFn.{fill_by_all, get_or-map-range_with_len}
@@ -52,13 +52,9 @@ module _ {net : Net} {f : ℕ → ℕ → ℕ} {n : ℕ} {P : List ℕ} (d : IsD
   unfolding rounds_of
   down_in_limit network k =
       let first : n + 0 ≡ n = omega arith in
-      omega (
-        arith,
-        ap (λ (R : List ℕ). get_or R k 0) d.at,
-        (rw first at (falling_back net f d.never 0 n)) k,
-        claim_of_at net k,
-        claim_in_limit net k network,
-      )
+      let is = ap (λ (R : List ℕ). get_or R k 0) d.at in
+      let fallen = (rw first at (falling_back net f d.never 0 n)) k in
+      omega (arith, claim_of_at net k, claim_in_limit net k network)
 
   -- n rounds and one that changes something, which takes off a unit, are n + 1
   pub down_more : (Q : List ℕ) → Q ≡ pay_by net f P → P ≢ Q → IsDown net f (n + 1) Q
@@ -98,31 +94,14 @@ wave_to_more : (net : Net) (R : ℕ → List ℕ) (n i v w : ℕ) → IsWaveTo n
     → (v ≡ 0 → FallsShortIn net R i n → w ≡ n + 1) → (due net i ≤ estate net (R n) i → w ≡ v)
     → (v ≢ 0 → w ≡ v)
     → IsWaveTo net R (n + 1) i w
-wave_to_more net R n i v w old short not_short had = ⊎_elim
-    (λ (e : v ≡ 0). ⊎_elim
-    (λ (l : FallsShortIn net R i n). let at : w ≡ n + 1 = short e l in record {
-      falls = λ m f. let same : n ≡ m = omega arith in
-          subst (λ m. (m < n + 1) × FallsShortIn net R i m × HoldsBeforeIn net R i m) same
-          (omega arith, l, old.never e);
-      never = λ f. absurd (omega arith);
-    })
-    (λ (g : due net i ≤ estate net (R n) i). let at : w ≡ v = not_short g in record {
-      falls = λ m f. absurd (omega arith);
-      never = λ f m l. ⊎_elim
-          (λ (b : m < n). old.never e m b)
-          (λ (h : n ≤ m).
-          let same : n ≡ m = omega arith in
-          subst (λ m. due net i ≤ estate net (R m) i) same g)
-          (cases_lt m n);
-    })
-    (cases_lt (estate net (R n) i) (due net i)))
-    (λ (ne : v ≢ 0). let at : w ≡ v = had ne in record {
-      falls = λ m f.
-          let before = old.falls m (sym at ∙ f) in
-          (omega (arith, before.0), before.1, before.2);
-      never = λ f. absurd (ne (sym at ∙ f));
-    })
-    (cases_eq v 0)
+wave_to_more net R n i v w old short not_short had = record {
+  falls = λ m f. let before = old.falls m in (
+    grind (arith, short, not_short, had, before),
+    grind (arith, short, not_short, had, before),
+    λ k b. grind (arith, short, not_short, had, before, old.never),
+  );
+  never = λ f m l. grind (arith, old.falls, old.never, short, not_short, had);
+}
 
 -- so it is with all banks
 pub waves_more : (net : Net) (R : ℕ → List ℕ) (n : ℕ) (P before after : List ℕ) → P ≡ R n
@@ -150,11 +129,8 @@ waves_end {net = net} {f = f} {n = n} ws d c known =
         → IsWaveIn net (falling_by net f) i w
     whole i w to = record {
       falls = λ m e. ((to.falls m e).1, (to.falls m e).2);
-      never = λ e m. ⊎_elim
-          (λ (l : m < n + 1). to.never e m l)
-          (λ (g : n + 1 ≤ m). rw (down_stays d c m (omega arith), ← down_stays d c n (omega arith))
-          (to.never e n (omega arith)))
-          (cases_lt m (n + 1));
+      never = λ e m.
+          grind (arith, to.never e m, to.never e n, down_stays d c m, down_stays d c n);
     }
 
 -- what they tell
@@ -165,12 +141,3 @@ waves_tell net ws network e i l =
     (sym (ap (λ (ws : List ℕ). get_or ws i 0) e
     ∙ get_or-map-range_with_len (wave net) 0 (length net.banks) i i 0 l (omega arith)))
     (wave_is net i))
-
--- what the rounds end with is the greatest
-pub is_greatest : (net : Net) (P : List ℕ) → P ≡ greatest net → IsGreatest net P
-is_greatest net P e = subst (IsGreatest net) (sym e) (greatest_rounds net)
-
--- and equities are as under the least, whatever clears
-pub equities_are_fixed : (net : Net) → IsNetwork net → EquitiesAreFixed net
-equities_are_fixed net network Q c i l = equities_are_one net Q (least net) network c
-    (least_clears net) i l

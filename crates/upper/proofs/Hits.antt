@@ -1,6 +1,7 @@
 -- The list of the banks that were hit, kept as falls are added and wiped.
 use Rattle.std.proofs.Common.{◌≡◌, ◌≢◌, ℕ, suc, ◌<◌, ◌≤◌, true, List, [], ◌∷◌, length, get_or, replicate, sym, ap, ◌∙◌, ⊎_elim, arith, ne_eqb}
 use Rattle.std.proofs.lemmas.Bool.{cases_eq}
+use Rattle.std.proofs.lemmas.Grind.{common_steps}
 use Rattle.std.proofs.lemmas.List.{ext_get_or, length-replicate}
 use Rattle.clr_net.specs.declared.debt.BankId.{BankId}
 use Rattle.clr_net.proofs.Lists.{zeros_at}
@@ -21,21 +22,3 @@ listed_place (b ∷ banks) i e = ⊎_elim
     let rest = listed_place banks i (rw (ne_eqb b.0 i ne) at e) in
     (suc rest.0, record { within = omega (arith, rest.1.within); at = rest.1.at }))
     (cases_eq b.0 i)
-
--- once each bank of the list is wiped, and no other gained anything, nothing is left
-pub all_wiped : (start now : List ℕ) (banks : List BankId) (j : ℕ) → AreHit start banks
-    → length now ≡ length start
-    → length banks ≤ j → ((k : ℕ) → k < j → get_or now (bank_at banks k) 0 ≡ 0)
-    → ((i : ℕ) → get_or start i 0 ≡ 0 → get_or now i 0 ≡ 0)
-    → now ≡ replicate (length start) 0
-all_wiped start now banks j hit as_many g wiped others =
-    ext_get_or 0 now (replicate (length start) 0)
-    (as_many ∙ sym (length-replicate (length start) 0))
-    (λ i l. ⊎_elim
-    (λ (e : get_or start i 0 ≡ 0). others i e ∙ sym (zeros_at (length start) i))
-    (λ (ne : get_or start i 0 ≢ 0).
-    let place = listed_place banks i (hit.listed i (omega arith)) in
-    ap (λ i. get_or now i 0) (sym place.1.at)
-    ∙ wiped place.0 (omega (arith, place.1.within))
-    ∙ sym (zeros_at (length start) i))
-    (cases_eq (get_or start i 0) 0))

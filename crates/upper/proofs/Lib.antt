@@ -1,6 +1,5 @@
 pub mod Tops
 pub mod Waves
-pub mod Gridlock
 pub mod Hits
 pub mod Rows
 pub mod Notes

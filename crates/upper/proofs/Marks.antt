@@ -19,24 +19,3 @@ pub record AreMarkedAmong (net : Net) (P : List ℕ) (round : ℕ) (banks : List
   pub enough : (i : ℕ) → due net i ≤ estate net P i → get_or now i 0 ≡ get_or before i 0
   pub had : (i : ℕ) → get_or before i 0 ≢ 0 → get_or now i 0 ≡ get_or before i 0
   pub only : (i : ℕ) → get_or now i 0 ≢ get_or before i 0 → get_or now i 0 ≡ round
-
--- all that could be short were looked at
-pub marked_all : (net : Net) (last P : List ℕ) (round : ℕ) (banks : List BankId)
-    (before now : List ℕ) (j : ℕ) → AreHit last banks
-    → HaveEnough net last P before → length banks ≤ j
-    → AreMarkedAmong net P round banks before now j
-    → AreMarked net P round before now
-marked_all net last P round banks before now j hit have g marked = record {
-  as_many = marked.as_many;
-  short = λ i l none below. ⊎_elim
-      (λ (e : get_or last i 0 ≡ 0). absurd (omega (arith, have i l e none, below)))
-      (λ (ne : get_or last i 0 ≢ 0).
-      let place = listed_place banks i (hit.listed i (omega arith)) in
-      ap (λ i. get_or now i 0) (sym place.1.at)
-      ∙ marked.short place.0 (omega (arith, place.1.within))
-      (ap (λ i. get_or before i 0) place.1.at ∙ none)
-      (omega (arith, below, ap (estate net P) place.1.at, ap (due net) place.1.at)))
-      (cases_eq (get_or last i 0) 0);
-  enough = marked.enough;
-  had = marked.had;
-}

@@ -2,6 +2,7 @@
 use Rattle.std.proofs.Common.{◌≡◌, ◌≢◌, ℕ, ◌+◌, ◌-◌, ◌<◌, ◌≤◌, List, length, get_or, set, ap, ◌∙◌, ⊎_elim, arith}
 use Rattle.std.proofs.lemmas.Bool.{cases_eq, cases_lt}
 use Rattle.std.proofs.lemmas.List.{get_or-set_same, get_or-set_other, get_or_past, length-set}
+use Rattle.std.proofs.lemmas.Grind.{common_steps}
 use Rattle.std.proofs.lemmas.List.Sums.{sum_by-set}
 use Rattle.clr_net.specs.Amounts.{IsAtMost}
 use Rattle.clr_net.specs.Net.{Net, creditor_of}
@@ -25,38 +26,11 @@ pub noted_one : (net : Net) (P f g : List ℕ) (x v c : ℕ)
 noted_one net P f g x v c fell owed in_debts in_banks lower = record {
   payments = length-set P x v;
   banks = ap length fell ∙ length-set f c (get_or f c 0 + (get_or P x 0 - v));
-  kept = λ i. ⊎_elim
-      (λ (e : i ≡ c). rw e (omega (arith, here)))
-      (λ (ne : i ≢ c). omega (arith, there i ne))
-      (cases_eq i c);
-  told = λ y e. ⊎_elim
-      (λ (s : y ≡ x). rw s (omega (arith, here, get_or-set_same P x v 0 in_debts, (rw (s, owed) at e))))
-      (λ (ne : y ≢ x). get_or-set_other P x y v 0 ne)
-      (cases_eq y x);
-  units = λ i. ⊎_elim
-      (λ (e : i ≡ c). rw e (omega (arith, here, sum_by-set (λ n. n) P x v 0 in_debts)))
-      (λ (ne : i ≢ c). omega (arith, there i ne, sum_by-set (λ n. n) P x v 0 in_debts, lower))
-      (cases_eq i c);
+  kept = λ i. grind (arith, common_steps, fell);
+  told = λ y e. grind (arith, common_steps, fell, owed, e);
+  units = λ i. grind (arith, common_steps, fell, sum_by-set (λ n. n) P x v 0 in_debts);
 }
-  where
-    here : get_or g c 0 ≡ get_or f c 0 + (get_or P x 0 - v)
-    here = rw fell (get_or-set_same f c (get_or f c 0 + (get_or P x 0 - v)) 0 in_banks)
-
-    there : (i : ℕ) → i ≢ c → get_or g i 0 ≡ get_or f i 0
-    there i ne = rw fell (get_or-set_other f c i (get_or f c 0 + (get_or P x 0 - v)) 0 ne)
 
 -- and what is to come stays lower
 pub lower_set : (N P : List ℕ) (x : ℕ) → IsAtMost N P → IsAtMost N (set P x (get_or N x 0))
-lower_set N P x lower y = ⊎_elim
-    (λ (s : y ≡ x). ⊎_elim
-    (λ (l : x < length P).
-    omega (
-      arith,
-      get_or-set_same P x (get_or N x 0) 0 l,
-      ap (λ y. get_or (set P x (get_or N x 0)) y 0) s,
-      ap (λ y. get_or N y 0) s,
-    ))
-    (λ (g : length P ≤ x). omega (arith, lower y, get_or_past P y 0 (omega arith)))
-    (cases_lt x (length P)))
-    (λ (ne : y ≢ x). omega (arith, lower y, get_or-set_other P x y (get_or N x 0) 0 ne))
-    (cases_eq y x)
+lower_set N P x lower y = grind (arith, common_steps, lower y)

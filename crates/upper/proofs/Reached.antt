@@ -55,12 +55,8 @@ one_each net last i ones l = ap (λ (f : List ℕ). get_or f i 0) ones
 pub all_current : (net : Net) (s : ℕ → ℕ → ℕ) (last P Q : List ℕ) → IsNetwork net
     → last ≡ replicate (length net.banks) 1 → AreCurrent net s last P Q
 all_current net s last P Q network ones x l e =
-    absurd (omega (
-      arith,
-      one_each net last (debtor_of net x) ones
-          (network.each_debt x l).debtor_known,
-      e,
-    ))
+    let known = (network.each_debt x l).debtor_known in
+    absurd (omega (arith, one_each net last (debtor_of net x) ones known))
 
 -- nor is known to have enough
 pub all_enough : (net : Net) (last P ws : List ℕ) → last ≡ replicate (length net.banks) 1
@@ -92,13 +88,8 @@ module _ {net : Net} {s : ℕ → ℕ → ℕ} {n : ℕ} {P Q next last f g ws m
   pub reached_less : length banks ≢ 0 → sum Q < sum P
   reached_less some =
       let i = bank_at banks 0 in
-      omega (
-        arith,
-        hit.fell 0 (omega arith),
-        noted.units i,
-        ap (λ (f : List ℕ). get_or f i 0) old.spared,
-        zeros_at (length net.banks) i,
-      )
+      let none = ap (λ (f : List ℕ). get_or f i 0) old.spared in
+      omega (arith, hit.fell 0 (omega arith), noted.units i, zeros_at (length net.banks) i)
 
   -- and leads on
   pub reached_more : length banks ≢ 0 → (R zeros : List ℕ) → R ≡ Q
@@ -113,22 +104,13 @@ module _ {net : Net} {s : ℕ → ℕ → ℕ} {n : ℕ} {P Q next last f g ws m
     spared = wiped ∙ ap (λ k. replicate k 0) old.banks;
     current = λ x l e. ap (λ (R : List ℕ). get_or R x 0) paid
         ∙ sym (pay_same net s P Q f g x noted l e);
-    enough = λ i l e none. omega (
-      arith,
-      receipts_same net P Q f g i noted e,
-      has_enough i l none,
-    );
+    enough = λ i l e none.
+        omega (arith, receipts_same net P Q f g i noted e, has_enough i l none);
   }
     where
       has_enough : (i : ℕ) → i < length net.banks → get_or marked i 0 ≡ 0
           → due net i ≤ estate net P i
-      has_enough i l none = ⊎_elim
-          (λ (below : estate net P i < due net i). ⊎_elim
-          (λ (e : get_or ws i 0 ≡ 0). absurd (omega (arith, marks.short i l e below, none)))
-          (λ (ne : get_or ws i 0 ≢ 0). absurd (ne (sym (marks.had i ne) ∙ none)))
-          (cases_eq (get_or ws i 0) 0))
-          (λ (g : due net i ≤ estate net P i). g)
-          (cases_lt (estate net P i) (due net i))
+      has_enough i l none = grind (arith, marks.short i l, marks.had i)
 
   -- where no bank's fell, nothing changed, and all is known
   pub reached_ends : length banks ≡ 0
@@ -143,9 +125,4 @@ module _ {net : Net} {s : ℕ → ℕ → ℕ} {n : ℕ} {P Q next last f g ws m
       )
     where
       spared : (i : ℕ) → get_or g i 0 ≡ 0
-      spared i = ⊎_elim
-          (λ (e : get_or g i 0 ≡ 0). e)
-          (λ (ne : get_or g i 0 ≢ 0).
-          let place = listed_place banks i (hit.listed i (omega arith)) in
-          absurd (omega (arith, place.1.within, none)))
-          (cases_eq (get_or g i 0) 0)
+      spared i = grind (arith, hit.listed i, listed_place banks i)

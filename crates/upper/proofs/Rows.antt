@@ -26,9 +26,4 @@ pub all_paid_for : (net : Net) (falls : List ℕ) (banks : List BankId) (wanted 
 all_paid_for net falls banks wanted start now j hit g as_many over current paid =
     ext_get_or 0 now wanted (as_many ∙ sym over) (λ x l.
     let in_range : x < length net.debts = omega arith in
-    ⊎_elim
-    (λ (e : get_or falls (debtor_of net x) 0 ≡ 0). paid.rest x in_range (current x in_range e))
-    (λ (ne : get_or falls (debtor_of net x) 0 ≢ 0).
-    let place = listed_place banks (debtor_of net x) (hit.listed (debtor_of net x) (omega arith)) in
-    paid.done place.0 (omega (arith, place.1.within)) x in_range (sym place.1.at))
-    (cases_eq (get_or falls (debtor_of net x) 0) 0))
+    grind (arith, hit.listed (debtor_of net x), listed_place banks (debtor_of net x), paid.rest x, paid.done, current x))

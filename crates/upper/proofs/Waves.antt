@@ -1,10 +1,11 @@
 -- In which round a bank falls: in the first by its own fundamentals, and in none where it is sound
 -- at last.
-use Rattle.std.proofs.Common.{◌≡◌, ◌↔◌, ℕ, zero, suc, ◌+◌, ◌<◌, ◌≤◌, Option, Some, None, find, List, get_or, ⊎_elim, refl, subst, arith}
+use Rattle.std.proofs.Common.{◌≡◌, ◌↔◌, ℕ, zero, suc, ◌+◌, ◌-◌, ◌<◌, ◌≤◌, Option, Some, None, find, List, get_or, ⊎_elim, refl, ap, subst, arith}
 use Rattle.std.specs.Option.{option_map_or}
 use Rattle.std.specs.List.{range_with_len}
 use Rattle.std.proofs.Math.Dec.{ltb}
-use Rattle.std.proofs.lemmas.Bool.{ltb-true, ltb-false, cases_lt}
+use Rattle.std.proofs.lemmas.Bool.Decides.{nat_tests}
+use Rattle.std.proofs.lemmas.Bool.{ltb-true, ltb-false, cases_eq, cases_lt}
 use Rattle.clr_net.specs.Limits.{IsNetwork}
 use Rattle.clr_net.specs.Net.{Net, units_owed, column, claim_of}
 use Rattle.clr_net.proofs.Ranges.{Found, found}
@@ -34,40 +35,20 @@ module _ (net : Net) (R : ℕ → List ℕ) where
       → IsWaveIn net R i (option_map_or (λ n. n + 1) r 0)
   wave_found settled i None f = record {
     falls = λ n e. absurd (omega arith);
-    never = λ e n. ⊎_elim
-        (λ (l : n < units_owed net).
-        ltb-false (estate net (R n) i) (due net i) (f n (omega arith)))
-        (λ (g : units_owed net ≤ n).
-        rw (settled n g)
-        (ltb-false (estate net (R (units_owed net)) i) (due net i) (f (units_owed net) (omega arith))))
-        (cases_lt n (units_owed net));
+    never = λ e n. grind (arith, nat_tests, settled n, f n, f (units_owed net));
   }
   wave_found settled i (Some j) f = record {
-    falls = λ n e. let same : j ≡ n = omega arith in
-        subst (λ n. FallsShortIn net R i n × HoldsBeforeIn net R i n) same (
-          ltb-true (estate net (R j) i) (due net i) f.1,
-          λ m l. ltb-false (estate net (R m) i) (due net i) (f.2 m l),
-        );
+    falls = λ n e. let same : n ≡ j = omega arith in rw same (
+      ltb-true (estate net (R j) i) (due net i) f.1,
+      λ m l. ltb-false (estate net (R m) i) (due net i) (f.2 m l),
+    );
     never = λ e. absurd (omega arith);
   }
 
   -- there is only one wave
   wave_only : (i v w : ℕ) → IsWaveIn net R i v → IsWaveIn net R i w → v ≡ w
-  wave_only i zero zero a b = refl
-  wave_only i zero (suc w) a b =
-      absurd (omega (arith, (b.falls w (omega arith)).0, a.never refl w))
-  wave_only i (suc v) zero a b =
-      absurd (omega (arith, (a.falls v (omega arith)).0, b.never refl v))
-  wave_only i (suc v) (suc w) a b =
-      let here = a.falls v (omega arith) in
-      let there = b.falls w (omega arith) in
-      ⊎_elim
-      (λ (l : v < w). absurd (omega (arith, here.0, there.1 v l)))
-      (λ (g : w ≤ v). ⊎_elim
-      (λ (l : w < v). absurd (omega (arith, there.0, here.1 w l)))
-      (λ (h : v ≤ w). omega arith)
-      (cases_lt w v))
-      (cases_lt v w)
+  wave_only i v w a b =
+      grind (arith, a.falls (v - 1), b.falls (w - 1), λ (e : v ≡ 0). a.never e (w - 1), λ (e : w ≡ 0). b.never e (v - 1))
 
 module _ (net : Net) (f : ℕ → ℕ → ℕ) (never : NeverFalls f) where
   -- so `wave_in` computes it of the rounds by f
@@ -88,10 +69,6 @@ pub wave_is : (net : Net) (i : ℕ) → IsWave net i (wave net i)
 unfolding pay
 wave_is net i = wave_in_is net (spend net) (spend_mono net) i
 
-pub wave_known : (net : Net) (i w : ℕ) → IsWave net i w → w ≡ wave net i
-unfolding pay
-wave_known net i w is = wave_in_known net (spend net) (spend_mono net) i w is
-
 -- with all debts paid in full a bank has all that it is worth
 estate_of_claims : (net : Net) (i : ℕ) → estate net (all_claims net) i ≡ worth net i
 estate_of_claims net i = omega (
@@ -110,27 +87,17 @@ module _ (net : Net) (network : IsNetwork net) (i w : ℕ) (is : IsWave net i w)
             (estate_le_worth net (least net) (least_clears net) i)
             (omega (arith, top, (is.falls 0 e).0)),
         λ h. let l : worth net i < due net i = fundamental_below net (least net) i pays h in
-            by_wave w is (omega (arith, top, l)),
+            grind (arith, top, is.falls (w - 1), λ (e : w ≡ 0). is.never e 0),
       )
-    where
-      by_wave : (w : ℕ) → IsWave net i w → FallsShortIn net (falling net) i 0 → w ≡ 1
-      by_wave zero is l = absurd (omega (arith, is.never refl 0, l))
-      by_wave (suc zero) is l = refl
-      by_wave (suc (suc v)) is l =
-          absurd (omega (arith, (is.falls (suc v) (omega arith)).1 0 (omega arith), l))
 
   -- and none with less than what it has under the greatest
   wave_none : (w ≡ 0) ↔ (health_of net (greatest net) i ≡ Sound)
   wave_none =
       let pays = paid_is net (greatest net) network (greatest_clears net) i in (
         λ e. enough_sound net (greatest net) i pays (is.never e (units_owed net)),
-        λ h. by_wave w is (sound_enough net (greatest net) i pays h),
+        λ h. let enough = sound_enough net (greatest net) i pays h in
+            grind (arith, is.falls (w - 1), estate_le_falling net (w - 1) i),
       )
-    where
-      by_wave : (w : ℕ) → IsWave net i w → due net i ≤ estate net (greatest net) i → w ≡ 0
-      by_wave zero is l = refl
-      by_wave (suc v) is l =
-          absurd (omega (arith, (is.falls v (omega arith)).0, estate_le_falling net v i, l))
 
   -- so they are what is told of it
   pub wave_tells : TellsHealth net i w

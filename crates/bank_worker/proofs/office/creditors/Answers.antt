@@ -1,7 +1,6 @@
-use Rattle.std.proofs.Common.{[], ◌∷◌, ◌++◌, length, ap, ◌∙◌, arith}
-use Rattle.std.proofs.lemmas.List.FromFn.{length-map-range_with_len}
+use Rattle.std.proofs.Common.{length, ap, sym, ◌∙◌, arith}
+use Rattle.std.proofs.lemmas.List.FromFn.{length-map-range_with_len, map-range_with_len_more}
 use Rattle.clr_net.specs.Net.{creditor_of}
-use Rattle.bank_worker.proofs.Rooms.{creditors_with}
 use Rattle.bank_worker.proofs.office.creditors.Goals as goal
 
 pub push_reserved-requires : goal.push_reserved-requires
@@ -10,9 +9,7 @@ push_reserved-requires c =
 
 pub loop-number-preserved : goal.loop-number-preserved
 loop-number-preserved c = record {
-  items =
-      c.push_reserved.ensures.items
-      ∙ ap (λ cs. cs ++ c.creditor.result ∷ []) c.loop-number.invariant.items
-      ∙ creditors_with c.args.net.now c.loop-number.number c.creditor.result c.creditor.ensures;
+  items = c.push_reserved.ensures.items ∙ rw (c.loop-number.invariant.items, c.creditor.ensures)
+      (sym (map-range_with_len_more (creditor_of c.args.net.now) 0 c.loop-number.number c.loop-number.number (omega arith)));
   room = omega (arith, c.push_reserved.ensures.capacity, c.loop-number.invariant.room);
 }

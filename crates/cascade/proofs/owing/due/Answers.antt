@@ -8,11 +8,6 @@ pub overflow_add-result : goal.overflow_add-result
 overflow_add-result c =
     let net = c.args.net.now in
     let read = ap (λ o. option_map_or (λ (b : Bank). b.outside) o 0) c.bank.ensures in
-    omega (
-      arith,
-      read,
-      (c.requires.network.each_bank c.args.bank.0 c.requires.bank).outside_in_limit,
-      c.owed_by.ensures,
-      sum-claims_of_le net c.args.bank.0,
-      c.requires.network.owed_in_limit,
-    )
+    let bank = c.requires.network.each_bank c.args.bank.0 c.requires.bank in
+    let claims = sum-claims_of_le net c.args.bank.0 in
+    omega (arith, bank.outside_in_limit, c.owed_by.ensures, c.requires.network.owed_in_limit)

@@ -13,14 +13,10 @@ overflow_add-total c =
     let net = c.args.net.now in
     let ids = c.column-id-items.result.now in
     let x = (get_or ids c.loop-id.id-index (record { 0 = 0 })).0 in
-    omega (
-      arith,
-      claim_in_limit net x c.requires.network,
-      claim_read net x c.debt-total.result c.debt-total.ensures,
-      as_many_numbers ids (column net c.args.bank.0) c.column-id-items.ensures,
-      length-column_le net c.args.bank.0,
-      c.requires.network.debts_in_limit,
-    )
+    let read = claim_read net x c.debt-total.result c.debt-total.ensures in
+    let few = as_many_numbers ids (column net c.args.bank.0) c.column-id-items.ensures in
+    let column_le = length-column_le net c.args.bank.0 in
+    omega (arith, claim_in_limit net x c.requires.network, c.requires.network.debts_in_limit)
 
 pub loop-id-preserved : goal.loop-id-preserved
 loop-id-preserved c =
@@ -28,11 +24,12 @@ loop-id-preserved c =
     let ids = c.column-id-items.result.now in
     let ns = column net c.args.bank.0 in
     let k = c.loop-id.id-index in
-    let x = (get_or ids k (record { 0 = 0 })).0 in
     let at = number_at ids ns k (record { 0 = 0 }) c.column-id-items.ensures (omega arith) in
-    let more = sum_by_more (claim_of net) ns k 0 (omega (arith, as_many_numbers ids ns c.column-id-items.ensures)) in
+    let few = as_many_numbers ids ns c.column-id-items.ensures in
+    let more = sum_by_more (claim_of net) ns k 0 (omega arith) in
+    let x = (get_or ids k (record { 0 = 0 })).0 in
     let read = claim_read net x c.debt-total.result c.debt-total.ensures in
     record {
       total_is = omega (arith, more, ap (claim_of net) at, read, c.loop-id.invariant.total_is);
-      in_limit = omega (arith, claim_in_limit net x c.requires.network, read);
+      in_limit = omega (arith, claim_in_limit net x c.requires.network);
     }

@@ -1,8 +1,6 @@
-use Rattle.std.proofs.Common.{◌++◌, ◌∷◌, [], List, map, sym, ap, ◌∙◌, arith}
-use Rattle.std.specs.List.{range_with_len}
+use Rattle.std.proofs.Common.{sym, arith}
 use Rattle.std.proofs.lemmas.List.FromFn.{map-range_with_len_more}
 use Rattle.cascade.specs.Standings.{standing}
-use Rattle.cascade.specs.declared.standing.Standing.{Standing}
 use Rattle.cascade.proofs.PayingOut.{pays_out, adds_up}
 use Rattle.cascade.proofs.standings.defaults.Goals as goal
 
@@ -10,10 +8,8 @@ pub loop-number-preserved : goal.loop-number-preserved
 loop-number-preserved c =
     let n = c.loop-number.number in
     let f = standing c.args.net.now c.args.paid.now in
-    ◌∙◌ {A = List Standing} c.in_ok-push.ensures.items
-    (◌∙◌ {A = List Standing} (ap (λ (xs : List Standing). xs ++ c.standing_of.result ∷ []) c.loop-number.invariant)
-    (◌∙◌ {A = List Standing} (ap (λ (s : Standing). map f (range_with_len 0 n) ++ s ∷ []) c.standing_of.ensures)
-    (sym (map-range_with_len_more f 0 n n (omega arith)))))
+    rw (c.in_ok-push.ensures.items, c.loop-number.invariant, c.standing_of.ensures)
+    (sym (map-range_with_len_more f 0 n n (omega arith)))
 
 pub returns-clause-pays_out : goal.returns-clause-pays_out
 returns-clause-pays_out c = λ i. pays_out c.args.net.now c.args.paid.now c.banks-number-end.ensures.network c.requires i

@@ -6,22 +6,16 @@ use Rattle.cascade.proofs.standings.paid_by.Goals as goal
 
 pub bounds-paid-id : goal.bounds-paid-id
 bounds-paid-id c =
-    omega (
-      arith,
-      (debt_of_row c.args.net.now c.args.bank.0 c.row-id-items.result.now c.loop-id.id-index (record { 0 = 0 }) c.row-id-items.ensures (omega arith)).in_range,
-      c.requires.over,
-    )
+    let stands = debt_of_row c.args.net.now _ _ c.loop-id.id-index (record { 0 = 0 })
+    c.row-id-items.ensures (omega arith) in
+    omega (arith, stands.in_range, c.requires.over)
 
 pub overflow_add-total : goal.overflow_add-total
 overflow_add-total c =
     let ids = c.row-id-items.result.now in
-    omega (
-      arith,
-      c.requires.paid_in_limit (get_or ids c.loop-id.id-index (record { 0 = 0 })).0,
-      as_many_numbers ids (row c.args.net.now c.args.bank.0) c.row-id-items.ensures,
-      length-row_le c.args.net.now c.args.bank.0,
-      c.requires.network.debts_in_limit,
-    )
+    let payment = c.requires.paid_in_limit (get_or ids c.loop-id.id-index (record { 0 = 0 })).0 in
+    let few = as_many_numbers ids (row c.args.net.now c.args.bank.0) c.row-id-items.ensures in
+    omega (arith, length-row_le c.args.net.now c.args.bank.0, c.requires.network.debts_in_limit)
 
 pub loop-id-preserved : goal.loop-id-preserved
 loop-id-preserved c =

@@ -20,11 +20,5 @@ paid_by-on_debts-requires-clause-paid_in_limit c = clearing_in_limit c.args.net.
 pub overflow_sub-equity-2 : goal.overflow_sub-equity-2
 overflow_sub-equity-2 c =
     let outside = ap (λ o. option_map_or (λ (b : Bank). b.outside) o 0) c.bank-owner.ensures in
-    omega (
-      arith,
-      outside,
-      c.estate_of-estate.ensures.estate,
-      c.min-outside_paid.ensures,
-      c.paid_by-on_debts.ensures,
-      (pays_out c.args.net.now c.args.paid.now c.requires.network c.requires.clears c.args.bank.0).within,
-    )
+    let pays = pays_out c.args.net.now c.args.paid.now c.requires.network c.requires.clears in
+    omega (arith, (pays c.args.bank.0).within, c.estate_of-estate.ensures.estate, c.min-outside_paid.ensures)

@@ -1,9 +1,9 @@
-use Rattle.std.proofs.Common.{◌≡◌, ◌+◌, IfOk, length, sym, ap, ◌∙◌, subst}
-use Rattle.clear_report.specs.Breaking.{breaking_text}
+use Rattle.std.proofs.Common.{◌+◌, Ok, length, sym, ap, ◌∙◌, subst, ℕ}
 use Rattle.shares.specs.Made.{AreInOrder}
+use Rattle.stress.proofs.Descent.{told_by_all}
 use Rattle.stress.specs.declared.TheConstants.{MAX_CUT}
 use Rattle.clear_many.specs.Blocks.{IsTold}
-use Rattle.clear_many.proofs.Broken.{as_many_broken, told_by_all_cuts}
+use Rattle.clear_many.proofs.Broken.{as_many_broken}
 use Rattle.clear_many.proofs.breaking.tell_breaking.Goals as goal
 
 pub all_joined-requires-clause-in_order : goal.all_joined-requires-clause-in_order
@@ -16,5 +16,5 @@ breaking_text-requires g c =
 
 pub returns : goal.returns
 returns g c =
-    subst (λ all. IfOk c.breaking_text.result (λ text. text.items ≡ breaking_text c.args.net.now all))
-    (c.as_slice-2.ensures.value ∙ told_by_all_cuts c.args.net.now c.in_ok-all.all c.in_ok-all.ensures) c.breaking_text.ensures
+    let told = told_by_all {E = ℕ} c.args.net.now (Ok c.in_ok-all.all) c.in_ok-all.ensures in
+    rw (c.as_slice-2.ensures.value, told) at c.breaking_text.ensures

@@ -1,11 +1,8 @@
 -- The pieces of all banks are the text.
-use Rattle.std.proofs.Common.{◌≡◌, ◌-◌, ◌++◌, ℕ, List, IfOk, ap, ◌∙◌, subst, arith}
-use Rattle.std.specs.List.{flat_map}
+use Rattle.std.proofs.Common.{◌≡◌, ◌-◌, ◌∙◌, arith}
 use Rattle.clear_report.specs.Impact.{hurt_lines, hurts_header, impact_header, impact_line}
-use Rattle.clear_report.specs.Pieces.{begun}
 use Rattle.clear_report.proofs.Pieces.{stacked_is}
 use Rattle.cascade.specs.Standings.{bank_numbers}
-use Rattle.clear_many.specs.Texts.{text_of}
 use Rattle.clear_many.proofs.Tabled.{pieces_of_all}
 use Rattle.clear_many.proofs.ruins.tell_impact.Goals as goal
 
@@ -20,7 +17,5 @@ returns g c =
     let made = c.in_ok-pieces.ensures in
     let all : c.banks.result - 0 ≡ c.banks.result = omega arith in
     let are = pieces_of_all net (impact_line net) (hurt_lines net) pieces (made.as_many ∙ all ∙ c.banks.ensures.banks) made.in_order in
-    subst (λ t. IfOk c.laid_below.result (λ all. text_of all.items ≡ t))
-    (ap (λ (b : List ℕ). b ++ flat_map (λ p. p.lower.items) pieces) (c.in_ok-begun.ensures ∙ ap (begun impact_header hurts_header) c.as_slice-2.ensures.value)
-    ∙ stacked_is impact_header hurts_header (impact_line net) (hurt_lines net) (bank_numbers net) pieces are)
-    c.laid_below.ensures
+    let table = stacked_is impact_header hurts_header (impact_line net) (hurt_lines net) (bank_numbers net) pieces are in
+    rw (c.in_ok-begun.ensures, c.as_slice-2.ensures.value, table) at c.laid_below.ensures

@@ -1,12 +1,9 @@
 -- The pieces of all banks in default are the text.
-use Rattle.std.proofs.Common.{◌≡◌, ◌-◌, ◌++◌, ℕ, List, IfOk, length, ap, ◌∙◌, sym, subst, arith}
-use Rattle.std.specs.List.{flat_map}
+use Rattle.std.proofs.Common.{◌≡◌, ◌-◌, length, ap, ◌∙◌, sym, arith}
 use Rattle.std.proofs.lemmas.List.{length-map}
-use Rattle.clear_report.specs.Pieces.{begun}
 use Rattle.clear_report.specs.Savings.{saves_header, saves_lines, saving_line, savings_header}
 use Rattle.rescue.specs.Saved.{banks_in_default}
 use Rattle.clear_report.proofs.Pieces.{stacked_is}
-use Rattle.clear_many.specs.Texts.{text_of}
 use Rattle.clear_many.proofs.Tabled.{pieces_of_some}
 use Rattle.clear_many.proofs.savings.tell_rescues.Goals as goal
 
@@ -23,7 +20,5 @@ returns g c =
     let many : length pieces ≡ length banks =
     made.as_many ∙ all ∙ sym (length-map c.in_ok-banks.banks.items (λ b. b.0)) ∙ ap length c.in_ok-banks.ensures.banks in
     let are = pieces_of_some banks (saving_line net) (saves_lines net) pieces many made.in_order in
-    subst (λ t. IfOk c.laid_below.result (λ all. text_of all.items ≡ t))
-    (ap (λ (b : List ℕ). b ++ flat_map (λ p. p.lower.items) pieces) (c.in_ok-begun.ensures ∙ ap (begun savings_header saves_header) c.as_slice-5.ensures.value)
-    ∙ stacked_is savings_header saves_header (saving_line net) (saves_lines net) banks pieces are)
-    c.laid_below.ensures
+    let table = stacked_is savings_header saves_header (saving_line net) (saves_lines net) banks pieces are in
+    rw (c.in_ok-begun.ensures, c.as_slice-5.ensures.value, table) at c.laid_below.ensures

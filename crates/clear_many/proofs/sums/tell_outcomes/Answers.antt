@@ -1,9 +1,7 @@
 -- The lines of all scenarios, and how often banks fall in all, are the text.
-use Rattle.std.proofs.Common.{◌≡◌, ◌-◌, ◌++◌, IfOk, length, refl, ap, ◌∙◌, subst, arith}
-use Rattle.clear_report.specs.Outcomes.{falls_text, outcomes_header}
-use Rattle.clear_report.specs.Words.{one_above_other}
-use Rattle.clear_many.specs.Texts.{text_of}
-use Rattle.clear_many.proofs.Counting.{as_many_counted, told_in_sums}
+use Rattle.std.proofs.Common.{◌≡◌, ◌-◌, length, ap, ◌∙◌, arith}
+use Rattle.clear_many.proofs.Between.{between_all}
+use Rattle.clear_many.proofs.Counting.{as_many_counted, lines_of_all}
 use Rattle.clear_many.proofs.sums.tell_outcomes.Goals as goal
 
 pub summed_up-requires : goal.summed_up-requires
@@ -14,13 +12,8 @@ summed_up-requires g c =
 
 pub returns : goal.returns
 returns g c =
-    let net = c.args.net.now in
     let scenarios = c.args.scenarios.now in
-    let lines = c.in_ok-pieces.field-0.pieces.items in
-    let falls = c.as_slice.result.now in
     let made = c.in_ok-pieces.ensures in
     let all : length scenarios - 0 ≡ length scenarios = omega arith in
-    subst (λ t. IfOk c.summed_up.result (λ all. text_of all.items ≡ t))
-    (told_in_sums net scenarios lines falls (one_above_other (outcomes_header ++ text_of lines) (falls_text net falls)) refl
-    (made.as_many ∙ all) made.in_order (c.as_slice.ensures ∙ made.at_desk.2))
-    c.summed_up.ensures
+    let lines = lines_of_all c.args.net.now scenarios c.in_ok-pieces.field-0.pieces.items (made.as_many ∙ all) made.in_order in
+    rw (lines, c.as_slice.ensures, made.at_desk.2, between_all scenarios) at c.summed_up.ensures

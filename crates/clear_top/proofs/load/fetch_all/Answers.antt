@@ -1,8 +1,7 @@
 -- The third file is not fetched, where the two others were.
-use Rattle.std.proofs.Common.{rules, subst}
-use Rattle.clear_top.specs.Ending.{Stops, StopsFetch, shelf_call}
+use Rattle.std.proofs.Common.{refl, rules}
 use Rattle.clear_top.specs.Sources.{source_of}
-use Rattle.clear_top.proofs.Loading.{stops_at_third, third_has_files}
+use Rattle.clear_top.proofs.Loading.{files_named, stops_at, third_has_files, third_is}
 use Rattle.clear_top.proofs.load.fetch_all.Goals as goal
 
 pub fetch_both-requires : goal.fetch_both-requires
@@ -13,14 +12,18 @@ returns-in_err-third-clause-stopped g c =
     let shelf = g.F.Shelf in
     let start = c.args.files.now in
     let middle = c.fetch_both.new.files in
-    let end = c.fetch_whole.new.files in
-    let kind = c.args.kind in
-    let why = c.in_err-third.field-0.0 in
-    let stopped : StopsFetch (shelf_call (shelf.files middle) (shelf.faults middle) (shelf.faults end)) kind c.args.job.now.third why =
-    subst (λ name. StopsFetch (shelf_call (shelf.files middle) (shelf.faults middle) (shelf.faults end)) kind name why)
-    c.as_str.ensures c.in_err-third.ensures.stopped in
-    let stops : Stops (shelf_call (shelf.files start) (shelf.faults start) (shelf.faults end)) c.args.job.now why =
-    stops_at_third (shelf.files start) (shelf.files middle) (shelf.faults start) (shelf.faults middle) (shelf.faults end)
-    c.args.job.now kind c.in_ok-banks.banks.items c.in_ok-banks.debts.items why c.requires c.fetch_both.ensures.files c.in_ok-banks.ensures.both
-    c.fetch_both.ensures.faults stopped in
+    let job = c.args.job.now in
+    let has = third_has_files (source_of job.task) c.args.kind c.requires in
+    let named = files_named (source_of job.task) job has in
+    let third = third_is (source_of job.task) job c.args.kind c.requires in
+    let gives = c.in_ok-banks.ensures.both in
+    let stops = stops_at (shelf.files start) (shelf.files middle) (shelf.faults start) (shelf.faults middle)
+    (shelf.faults c.fetch_whole.new.files) job c.args.kind job.third c.in_err-third.field-0.0 has
+    c.fetch_both.ensures.files c.fetch_both.ensures.faults third.0
+    (λ told tells. third.1 told (
+      (job.banks, c.in_ok-banks.banks.items, named.0, gives.0 told tells),
+      (job.debts, c.in_ok-banks.debts.items, named.1, gives.1 told tells),
+    ))
+    (λ told f tells is. third.2 told f (rw (gives.0 told tells, gives.1 told tells, is) refl))
+    (rw c.as_str.ensures at c.in_err-third.ensures.stopped) in
     search rules

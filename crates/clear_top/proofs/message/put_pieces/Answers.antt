@@ -1,13 +1,16 @@
 -- The pieces that were written whole, and of one piece a part.
-use Rattle.std.proofs.Common.{◌∙◌, sym, arith}
-use Rattle.clear_top.proofs.Pieces.{piece_taken, piece_broken, on_ok_of, on_err_of}
+use Rattle.std.proofs.Common.{◌∙◌, inr, sym, arith}
+use Rattle.clear_top.proofs.Pieces.{piece_taken, piece_part, risen_since, on_ok_of, on_err_of}
 use Rattle.clear_top.proofs.message.put_pieces.Goals as goal
 
 pub returns-then-is_err : goal.returns-then-is_err
 returns-then-is_err g c =
     let err = sym c.is_err.ensures.value ∙ c.if-is_err.true in
-    piece_broken (λ p. p.now) c.args.pieces.now c.loop-piece.piece-index _ c.loop-piece-test.true _ _ _ _ _ _ c.loop-piece.invariant.taken
-    c.loop-piece.invariant.no_fall (on_err_of c.put_all.result err c.put_all.ensures.part) (on_err_of c.put_all.result err c.put_all.ensures.failed)
+    inr (
+      piece_part (λ p. p.now) c.args.pieces.now c.loop-piece.piece-index _ c.loop-piece-test.true _ _ _
+          c.loop-piece.invariant.taken (on_err_of c.put_all.result err c.put_all.ensures.part),
+      risen_since _ _ _ c.loop-piece.invariant.no_fall (on_err_of c.put_all.result err c.put_all.ensures.failed),
+    )
 
 pub loop-piece-preserved : goal.loop-piece-preserved
 loop-piece-preserved g c =

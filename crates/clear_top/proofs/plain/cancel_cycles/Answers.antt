@@ -1,6 +1,8 @@
-use Rattle.std.proofs.Common.{length, ◌∙◌, ap}
+use Rattle.std.proofs.Common.{None, length, ◌∙◌, ap, ap₂}
+use Rattle.std.proofs.lemmas.Result.{IfOk-weaker}
 use Rattle.clear_report.specs.Compression.{compressed_text}
-use Rattle.clear_top.proofs.Answering.{compressed}
+use Rattle.clear_top.specs.declared.status.Status.TheVariants as status
+use Rattle.clear_top.specs.Meaning.{IsCompressed, IsPlain}
 use Rattle.clear_top.proofs.plain.cancel_cycles.Goals as goal
 
 pub compress_text-requires-clause-claims : goal.compress_text-requires-clause-claims
@@ -13,10 +15,14 @@ compress_text-requires-clause-ranks c =
 
 pub returns : goal.returns
 returns c =
-    let net = c.args.net.now in
     let found = c.in_ok-claims.field-0 in
-    compressed net found.claims found.ranks found.cancelled c.in_ok-claims.ensures.compression c.plain.result c.in_ok-text.text.items
-    (c.in_ok-text.ensures
-    ∙ ap (λ C. compressed_text net C c.as_slice-2.result.now found.cancelled) c.as_slice.ensures
-    ∙ ap (λ R. compressed_text net found.claims R found.cancelled) c.as_slice-2.ensures)
-    c.plain.ensures
+    let text = c.in_ok-text.ensures
+    ∙ ap₂ (λ C R. compressed_text c.args.net.now C R found.cancelled) c.as_slice.ensures c.as_slice-2.ensures in
+    IfOk-weaker c.plain.result (IsPlain c.in_ok-text.text.items) (IsCompressed c.args.net.now)
+    (λ o plain. (
+      found.claims,
+      found.ranks,
+      found.cancelled,
+      c.in_ok-claims.ensures.compression,
+      plain ∙ ap (λ t. record { status = status.Done; sealed = None; text = t }) text,
+    )) c.plain.ensures

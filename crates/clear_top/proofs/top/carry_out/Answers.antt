@@ -3,7 +3,7 @@ use Rattle.std.proofs.Common.{◌≡◌, sym, ap, ◌∙◌, subst}
 use Rattle.clear_top.specs.Ending.{JobEnds, WritesNothing, shelf_call, sink_call}
 use Rattle.clear_top.specs.Outcome.{Outcome}
 use Rattle.clear_top.specs.declared.status.Ended.{Ended}
-use Rattle.clear_top.proofs.Writing.{ends_in_part, ends_whole, work_writes}
+use Rattle.clear_top.proofs.Writing.{ends_whole, work_writes}
 use Rattle.clear_top.proofs.top.carry_out.Goals as goal
 use Rattle.clear_top.proofs.top.carry_out.Given.{Over}
 use Rattle.clear_top.proofs.top.carry_out.Goals.{After-drop-room}
@@ -18,20 +18,15 @@ ended g c =
 pub returns-in-Ok-put-clause-ends : goal.returns-in-Ok-put-clause-ends
 returns-in-Ok-put-clause-ends g c =
     let outcome = c.in-Ok-work.outcome in
-    let shelf = shelf_call (g.F.Shelf.files c.args.files.now) (g.F.Shelf.faults c.args.files.now) (g.F.Shelf.faults c.load.new.files) in
-    let sink = sink_call (g.O.Sink.written c.args.out.now) (g.O.Sink.written c.put.new.sink) (g.O.Sink.faults c.args.out.now) (g.O.Sink.faults c.put.new.sink) in
-    subst (λ (e : Ended). JobEnds shelf sink c.args.job.now e.status e.sealed) (sym (ended g c))
-    (ends_whole shelf sink c.args.job.now c.in-Ok.input c.in-Ok.ensures.input outcome.status outcome.sealed outcome.text c.in-Ok-work.ensures
-    c.in-Ok-put.ensures.written)
+    rw (ended g c)
+    (ends_whole c.args.job.now c.in-Ok.input _ _ c.in-Ok.ensures.input outcome.status outcome.sealed outcome.text
+    c.in-Ok-work.ensures c.in-Ok-put.ensures.written)
 
 pub returns-clause-ends : goal.returns-clause-ends
 returns-clause-ends g c =
     let outcome = c.in-Ok-work.outcome in
-    let shelf = shelf_call (g.F.Shelf.files c.args.files.now) (g.F.Shelf.faults c.args.files.now) (g.F.Shelf.faults c.load.new.files) in
-    let sink = sink_call (g.O.Sink.written c.args.out.now) (g.O.Sink.written c.put.new.sink) (g.O.Sink.faults c.args.out.now) (g.O.Sink.faults c.put.new.sink) in
-    subst (λ (e : Ended). JobEnds shelf sink c.args.job.now e.status e.sealed) (sym c.end-in-Err-put.ensures)
-    (ends_in_part shelf sink c.args.job.now c.in-Ok.input c.in-Ok.ensures.input outcome.status outcome.sealed outcome.text c.in-Ok-work.ensures
-    c.in-Err-put.ensures.part)
+    rw c.end-in-Err-put.ensures
+    (outcome.status, outcome.text, (c.in-Ok.input, c.in-Ok.ensures.input, c.in-Ok-work.ensures), c.in-Err-put.ensures.part)
 
 -- what was to be written is a status of work
 pub returns-in-Ok-put-clause-untouched : goal.returns-in-Ok-put-clause-untouched

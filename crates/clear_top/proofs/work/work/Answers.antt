@@ -16,23 +16,17 @@ use Rattle.clear_top.proofs.work.work.Goals as goal
 
 -- the scenarios are of the network in the input
 pub report_scenarios-requires-clause-scenarios : goal.report_scenarios-requires-clause-scenarios
-report_scenarios-requires-clause-scenarios g c κs within =
-    subst (All (IsScenarioOf c.input-in-Stress.inside.net)) (sym c.as_slice.ensures.value)
-    (subst (IsUsable source.FilesAndScenarios) (sym c.input-in-Stress.view_is)
-    (subst (λ t. IsUsable (source_of t) c.args.input) c.in-Stress.is c.requires.usable)).0
+report_scenarios-requires-clause-scenarios g c κs within = rw c.as_slice.ensures.value
+    (rw (c.in-Stress.is, ← c.input-in-Stress.view_is) at c.requires.usable).0
 
 pub report_outcomes-requires-clause-scenarios : goal.report_outcomes-requires-clause-scenarios
-report_outcomes-requires-clause-scenarios g c κs within =
-    subst (All (IsScenarioOf c.input-in-Outcomes.inside.net)) (sym c.as_slice-in-Outcomes.ensures.value)
-    (subst (IsUsable source.FilesAndScenarios) (sym c.input-in-Outcomes.view_is)
-    (subst (λ t. IsUsable (source_of t) c.args.input) c.in-Outcomes.is c.requires.usable)).0
+report_outcomes-requires-clause-scenarios g c κs within = rw c.as_slice-in-Outcomes.ensures.value
+    (rw (c.in-Outcomes.is, ← c.input-in-Outcomes.view_is) at c.requires.usable).0
 
 -- of which there are not too many
 pub report_outcomes-requires-clause-few : goal.report_outcomes-requires-clause-few
-report_outcomes-requires-clause-few g c κs within =
-    subst (λ ss. length ss ≤ MAX_SCENARIOS) (sym c.as_slice-in-Outcomes.ensures.value)
-    (subst (IsUsable source.FilesAndScenarios) (sym c.input-in-Outcomes.view_is)
-    (subst (λ t. IsUsable (source_of t) c.args.input) c.in-Outcomes.is c.requires.usable)).1
+report_outcomes-requires-clause-few g c κs within = rw c.as_slice-in-Outcomes.ensures.value
+    (rw (c.in-Outcomes.is, ← c.input-in-Outcomes.view_is) at c.requires.usable).1
 
 -- a task that clears on one board comes to what is reported of it
 by_report : {E : Type 0} (job : Job) (on : Input) (r : Result Outcome E) (t : Task)
@@ -49,32 +43,23 @@ returns-in-Clear g c =
     (rw c.net_of.ensures at (rw c.of-clearer.ensures.plan at c.report.ensures))
 
 pub returns-in-Costs : goal.returns-in-Costs
-returns-in-Costs g c =
-    let r = c.clear_with_costs.result in
-    let job = c.args.job.now in
-    subst (λ t. IfOk r (ComesTo t job c.args.input)) (sym c.in-Costs.is)
-    (subst (λ i. IfOk r (ComesTo task.Costs job i)) c.input-in-Costs.view_is c.clear_with_costs.ensures)
+returns-in-Costs g c = rw c.in-Costs.is
+    (subst (λ i. IfOk c.clear_with_costs.result (ComesTo task.Costs c.args.job.now i))
+    c.input-in-Costs.view_is c.clear_with_costs.ensures)
 
 pub returns-in-CostBounds : goal.returns-in-CostBounds
-returns-in-CostBounds g c =
-    let r = c.bound_with_costs.result in
-    let job = c.args.job.now in
-    subst (λ t. IfOk r (ComesTo t job c.args.input)) (sym c.in-CostBounds.is)
-    (subst (λ i. IfOk r (ComesTo task.CostBounds job i)) c.input-in-CostBounds.view_is c.bound_with_costs.ensures)
+returns-in-CostBounds g c = rw c.in-CostBounds.is
+    (subst (λ i. IfOk c.bound_with_costs.result (ComesTo task.CostBounds c.args.job.now i))
+    c.input-in-CostBounds.view_is c.bound_with_costs.ensures)
 
 pub returns-in-Breaking : goal.returns-in-Breaking
-returns-in-Breaking g c =
-    let r = c.report_breaking.result in
-    let job = c.args.job.now in
-    subst (λ t. IfOk r (ComesTo t job c.args.input)) (sym c.in-Breaking.is)
-    (subst (λ i. IfOk r (ComesTo task.Breaking job i)) c.input-in-Breaking.view_is c.report_breaking.ensures)
+returns-in-Breaking g c = rw c.in-Breaking.is
+    (subst (λ i. IfOk c.report_breaking.result (ComesTo task.Breaking c.args.job.now i))
+    c.input-in-Breaking.view_is c.report_breaking.ensures)
 
 -- the scenarios are those of the input
 pub returns-in-Outcomes : goal.returns-in-Outcomes
-returns-in-Outcomes g c =
-    let r = c.report_outcomes.result in
-    let job = c.args.job.now in
-    subst (λ t. IfOk r (ComesTo t job c.args.input)) (sym c.in-Outcomes.is)
-    (subst (λ i. IfOk r (ComesTo task.Outcomes job i)) c.input-in-Outcomes.view_is
-    (subst (λ ss. IfOk r (IsPlain (outcomes_text c.input-in-Outcomes.inside.net ss))) c.as_slice-in-Outcomes.ensures.value
-    c.report_outcomes.ensures))
+returns-in-Outcomes g c = rw c.in-Outcomes.is
+    (subst (λ i. IfOk c.report_outcomes.result (ComesTo task.Outcomes c.args.job.now i)) c.input-in-Outcomes.view_is
+    (subst (λ ss. IfOk c.report_outcomes.result (IsPlain (outcomes_text c.input-in-Outcomes.inside.net ss)))
+    c.as_slice-in-Outcomes.ensures.value c.report_outcomes.ensures))

@@ -2,7 +2,7 @@ use Rattle.std.proofs.Common.{◌≡◌, ◌∙◌, ◌&&◌, Bool, ◌+◌, ap,
 use Rattle.std.proofs.Common.{length, refl, sym, true, arith}
 use Rattle.std.specs.List.{list_all}
 use Rattle.clap.specs.Words.{found_of, rows_of}
-use Rattle.clear_words.specs.Job.{is_welcome, is_well}
+use Rattle.clear_words.specs.Job.{is_well}
 use Rattle.clear_words.specs.Options.{all_options}
 use Rattle.clear_words.specs.declared.option.JobOption.TheVariants as option
 use Rattle.std.proofs.lemmas.List.{at_drop_more}

@@ -1,4 +1,4 @@
-use Rattle.std.proofs.Common.{◌≡◌, ◌∙◌, rules}
+use Rattle.std.proofs.Common.{◌∙◌, rules}
 use Rattle.clap.specs.Words.{found_of, rows_of}
 use Rattle.clear_words.specs.Job.{the_words}
 use Rattle.clear_words.proofs.Values.{job_of-refused, job_of-taken}

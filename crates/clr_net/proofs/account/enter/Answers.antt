@@ -11,11 +11,11 @@ pub returns : goal.returns
 returns c =
     let all = c.args.accounts.now.items in
     let then_all = set all c.args.debt.debtor.0 c.owe.new.self in
-    let debtor : slice_get all c.args.debt.debtor.0 ≡ Some c.index_mut.result.now =
-    slice_get_read all (length all) c.args.debt.debtor.0 c.index_mut.result.now refl (omega arith) c.index_mut.ensures.value in
-    let creditor : slice_get then_all c.args.debt.creditor.0 ≡ Some c.index_mut-2.result.now =
-    slice_get_read then_all (length then_all) c.args.debt.creditor.0 c.index_mut-2.result.now refl
-    (omega (arith, length-set all c.args.debt.debtor.0 c.owe.new.self)) c.index_mut-2.ensures.value in
-    map-set_changed shown (owed_one_more c.args.id.0 c.args.debt) then_all c.args.debt.creditor.0 c.index_mut-2.result.now c.be_owed.new.self creditor c.be_owed.ensures
+    map-set_changed shown (owed_one_more c.args.id.0 c.args.debt) then_all c.args.debt.creditor.0
+    c.index_mut-2.result.now c.be_owed.new.self
+    (omega (arith, length-set all c.args.debt.debtor.0 c.owe.new.self)) c.index_mut-2.ensures.value
+    c.be_owed.ensures
     ∙ ap (λ shows. changed_at (owed_one_more c.args.id.0 c.args.debt) shows c.args.debt.creditor.0)
-    (map-set_changed shown (owing c.args.id.0 c.args.debt) all c.args.debt.debtor.0 c.index_mut.result.now c.owe.new.self debtor c.owe.ensures)
+    (map-set_changed shown (owing c.args.id.0 c.args.debt) all c.args.debt.debtor.0
+    c.index_mut.result.now c.owe.new.self (omega arith)
+    c.index_mut.ensures.value c.owe.ensures)

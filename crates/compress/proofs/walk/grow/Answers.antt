@@ -1,13 +1,14 @@
-use Rattle.std.proofs.Common.{◌≡◌, ◌+◌, [], ◌∷◌, ◌++◌, length, length-set, set, sym, ap, ◌∙◌, subst, arith}
+use Rattle.std.proofs.Common.{◌≡◌, ◌+◌, [], ◌∷◌, ◌++◌, length, length-set, ap, ◌∙◌, arith}
 use Rattle.std.proofs.lemmas.List.{length-map, length_push, map-append}
 use Rattle.clr_net.specs.declared.debt.DebtId.{DebtId}
 use Rattle.clr_net.specs.Net.{numbers, debtor_of}
 use Rattle.compress.specs.declared.mark.Mark.{Mark}
 use Rattle.compress.specs.declared.mark.Mark.TheVariants.{Walked}
-use Rattle.compress.specs.Walk.{AreDone, ArePassed, IsWalk}
 use Rattle.compress.proofs.Cancelling.{debtor_read}
 use Rattle.compress.proofs.Cursors.{passed_kept}
-use Rattle.compress.proofs.Steps.{grown_walk, grown_done, grown_kept}
+use Rattle.compress.proofs.Dones.{done_marked}
+use Rattle.compress.proofs.Steps.{kept_done, not_done_in_range}
+use Rattle.compress.proofs.Walks.{walk_grows, walked_not_done}
 use Rattle.compress.proofs.walk.grow.Goals as goal
 
 pub returns-clause-under_way : goal.returns-clause-under_way
@@ -34,22 +35,15 @@ returns-clause-under_way c =
       length_push w.debts.items c.args.id,
       c.len.ensures,
     ) in
-    let marked : set marks (debtor_of net x) (Walked (length W + 1))
-    ≡ set marks c.debt.result.debtor.0 (Walked c.len.result) =
-    ap (λ b. set marks b (Walked (length W + 1))) (debtor_read net x c.debt.result c.debt.ensures)
-    ∙ ap (λ p. set marks c.debt.result.debtor.0 (Walked p)) place in
+    let read = debtor_read net x c.debt.result c.debt.ensures in
+    let in_range = not_done_in_range marks (debtor_of net x) on.unfinished in
     record {
-      walk = subst (λ V. IsWalk net k s C V (set marks c.debt.result.debtor.0
-          (Walked c.len.result)))
-          (sym longer)
-          (subst (IsWalk net k s C (W ++ x ∷ [])) marked
-          (grown_walk net k s C W marks x old.walk on new));
+      walk = rw (longer, ← read, ← place) (walk_grows net k s C W marks x old.walk on.live on.owed in_range new);
       told = record {
-        done = subst (AreDone net k C w.ranks.items) marked
-            (grown_done net k s C W marks x old.walk on new w.ranks.items old.told.done);
-        passed = subst (λ after. ArePassed net k C after w.cursors.items) marked
-            (passed_kept w.cursors.items (grown_kept net k s C W marks x old.walk on new)
-            old.told.passed);
+        done = rw (← read, ← place) (done_marked (debtor_of net x) (Walked (length W + 1)) old.told.done in_range
+            on.unfinished (walked_not_done (length W + 1)));
+        passed = rw (← read, ← place) (passed_kept w.cursors.items
+            (kept_done net k C marks (debtor_of net x) (Walked (length W + 1)) on.unfinished) old.told.passed);
         sizes = record {
           marks = omega (arith, length-set {A = Mark}, old.told.sizes.marks);
           cursors = old.told.sizes.cursors;

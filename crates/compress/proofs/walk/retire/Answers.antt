@@ -1,8 +1,7 @@
-use Rattle.std.proofs.Common.{◌≡◌, ◌≢◌, [], get_or, sym, ap, ◌∙◌, arith}
+use Rattle.std.proofs.Common.{◌≡◌, ◌≢◌, [], sym, ap, ◌∙◌, arith}
 use Rattle.std.specs.Vec.{vec_len}
 use Rattle.std.proofs.lemmas.Bool.{eqb-true, eqb-false}
 use Rattle.clr_net.specs.Net.{numbers}
-use Rattle.compress.specs.Compression.{rank_above}
 use Rattle.compress.proofs.Telling.{retired_told}
 use Rattle.compress.proofs.Steps.{popped, retired_ends}
 use Rattle.std.proofs.lemmas.List.{nil_from_length}
@@ -18,10 +17,8 @@ returns-then-is_empty-clause-rest c =
       no_walk = rw c.requires.end
           (retired_ends c.args.net.now c.args.class w.start.0 c.args.claims.now (numbers w.debts.items) w.marks.items
           old.walk (ap numbers none)).0;
-      told = retired_told w.debts c.args.end.0 c.rank_here.result old
-          c.requires.end c.requires.ready (c.rank_here.ensures
-          ∙ ap (λ ranks. rank_above c.args.net.now c.args.claims.now (λ j. get_or ranks j 0) c.args.class c.args.end.0)
-          c.as_slice.ensures.value);
+      told = retired_told w.debts c.args.end.0 c.rank_here.result old c.requires.end c.requires.ready
+          (rw c.as_slice.ensures.value at c.rank_here.ensures);
     }
 
 pub returns-clause-under_way : goal.returns-clause-under_way
@@ -33,7 +30,6 @@ returns-clause-under_way c =
       walk = rw c.requires.end
           (popped c.args.net.now c.args.class w.start.0 c.args.claims.now w.marks.items w.debts.items
           c.pop.new.self.items c.pop.result old.walk (c.pop.ensures.variant.1 (omega (arith, some))) c.pop.ensures.items);
-      told = retired_told c.pop.new.self c.args.end.0 c.rank_here.result old c.requires.end c.requires.ready (c.rank_here.ensures
-          ∙ ap (λ ranks. rank_above c.args.net.now c.args.claims.now (λ j. get_or ranks j 0) c.args.class c.args.end.0)
-          c.as_slice.ensures.value);
+      told = retired_told c.pop.new.self c.args.end.0 c.rank_here.result old c.requires.end c.requires.ready
+          (rw c.as_slice.ensures.value at c.rank_here.ensures);
     }

@@ -1,7 +1,8 @@
-use Rattle.std.proofs.Common.{◌≡◌, length, refl, sym, ap, ◌∙◌, subst, arith, rules}
+use Rattle.std.proofs.Common.{◌≡◌, List, length, refl, sym, ap, ap₂, ◌∙◌, subst, arith, rules}
 use Rattle.clr_net.specs.declared.debt.BankId.{BankId}
+use Rattle.clr_net.specs.declared.debt.DebtId.{DebtId}
 use Rattle.clr_net.specs.Net.{debtor_of, numbers}
-use Rattle.compress.specs.Walk.{ArePassed, IsUnderWay, LeadsOn, end_of, mark_of}
+use Rattle.compress.specs.Walk.{ArePassed, IsUnderWay, end_of, mark_of}
 use Rattle.std.specs.Vec.{with_items}
 use Rattle.compress.proofs.Cancelling.{debtor_read}
 use Rattle.compress.proofs.Opening.{new_from}
@@ -55,18 +56,9 @@ pub grow-requires : goal.grow-requires
 grow-requires c =
     let net = c.args.net.now in
     let w = c.loop-claims.walk in
-    let marks = c.as_slice-marks.ensures.value in
-    let end : c.end_of-end.result.0 ≡ end_of net w.start.0 (numbers w.debts.items) =
-    c.end_of-end.ensures
-    ∙ ap (λ ids. end_of net c.args.start.0 (numbers ids)) c.as_slice.ensures.value
-    ∙ ap (λ (b : BankId). end_of net b.0 (numbers w.debts.items))
-    (sym c.loop-claims.invariant.start) in
-    let next : LeadsOn net c.args.class (end_of net w.start.0 (numbers w.debts.items))
-    c.loop-claims.claims w.marks.items c.in-Some.id.0 =
-    subst (λ m. LeadsOn net c.args.class (end_of net w.start.0 (numbers w.debts.items))
-    c.loop-claims.claims m c.in-Some.id.0) marks
-    (subst (λ b. LeadsOn net c.args.class b c.loop-claims.claims c.as_slice-marks.result.now
-    c.in-Some.id.0) end c.in-Some.ensures.next) in
+    let end = c.end_of-end.ensures ∙ ap₂ (λ (ids : List DebtId) (b : BankId). end_of net b.0 (numbers ids))
+    c.as_slice.ensures.value (sym c.loop-claims.invariant.start) in
+    let next = rw (c.as_slice-marks.ensures.value, end) at c.in-Some.ensures.next in
     let read = debtor_read net c.in-Some.id.0 c.debt.result c.debt.ensures in
     let mark = marked (goal.at.grow-requires c).After-index in
     record {

@@ -1,7 +1,6 @@
 use Rattle.std.proofs.Common.{◌+◌, ◌≡◌, ◌<◌, length, ap, arith}
-use Rattle.std.specs.Option.{option_map_or}
 use Rattle.std.proofs.lemmas.List.Elements.{All-same}
-use Rattle.clr_net.specs.declared.bank.Bank.{Bank}
+use Rattle.cascade.proofs.CashAt.{cash_read}
 use Rattle.impact.specs.declared.hurt.Hurt.{Hurt}
 use Rattle.impact.specs.Impact.{hurt_by}
 use Rattle.impact.proofs.Hurts.{hurt_are_banks}
@@ -13,12 +12,10 @@ use Rattle.impact.proofs.compare.compared.Goals as goal
 -- what the ruined bank keeps less, and what all others do, is its cash
 cash_is : (c : After-bank) → c.hurt_of-own.result.lost
     + lost_by_others c.args.net.now c.args.ruined.0 ≡ c.bank.result.now.cash
-cash_is c = omega (
-  arith,
-  ap (λ (h : Hurt). h.lost) c.hurt_of-own.ensures,
-  ap (λ o. option_map_or (λ (b : Bank). b.cash) o 0) c.bank.ensures,
-  own_and_others_are_cash c.args.net.now c.args.ruined.0 c.banks.ensures.network c.requires.ruined,
-)
+cash_is c =
+    let own = ap (λ (h : Hurt). h.lost) c.hurt_of-own.ensures in
+    let read = cash_read c.args.net.now c.args.ruined.0 c.bank.result.now c.bank.ensures in
+    omega (arith, own_and_others_are_cash c.args.net.now _ c.banks.ensures.network c.requires.ruined)
 
 pub overflow_sub-result : goal.overflow_sub-result
 overflow_sub-result c = omega (arith, cash_is (goal.at.overflow_sub-result c).After-bank)
@@ -37,8 +34,6 @@ returns-clause-impact c =
     }
 
 pub returns-clause-cash : goal.returns-clause-cash
-returns-clause-cash c = omega (
-  arith,
-  cash_is (goal.at.returns-clause-cash c).After-bank,
-  ap (λ o. option_map_or (λ (b : Bank). b.cash) o 0) c.bank.ensures,
-)
+returns-clause-cash c =
+    let read = cash_read c.args.net.now c.args.ruined.0 c.bank.result.now c.bank.ensures in
+    omega (arith, cash_is (goal.at.returns-clause-cash c).After-bank)

@@ -1,24 +1,26 @@
+use Rattle.std.proofs.Common.{arith}
 use Rattle.cascade.specs.Ruin.{hit}
-use Rattle.impact.proofs.Hurts.{bank_after, has_place, keeps_less, kept_within, no_more, told}
+use Rattle.cascade.proofs.Stands.{as_many_stand}
+use Rattle.impact.proofs.Hurts.{bank_after, keeps_less, kept_within, no_more, told}
 use Rattle.impact.proofs.compare.hurt_of.Goals as goal
 
 pub bounds-before-place : goal.bounds-before-place
 bounds-before-place c =
-    has_place c.args.net.now _ c.args.bank.0 _ c.requires.before c.requires.bank
+    omega (arith, as_many_stand c.args.net.now _ c.args.before.now c.requires.before, c.requires.bank)
 
 pub bounds-after-place : goal.bounds-after-place
 bounds-after-place c =
-    has_place (hit c.args.net.now c.args.ruined.0) _ c.args.bank.0 _ c.requires.after
-    (bank_after c.args.net.now c.args.ruined.0 c.args.bank.0 c.requires.bank)
+    let bank = bank_after c.args.net.now c.args.ruined.0 c.args.bank.0 c.requires.bank in
+    omega (arith, as_many_stand (hit c.args.net.now c.args.ruined.0) _ c.args.after.now c.requires.after)
 
 pub kept-requires : goal.kept-requires
 kept-requires c =
-    kept_within c.args.net.now _ c.args.bank.0 _ c.requires.before c.requires.bank _
+    kept_within c.args.net.now _ _ c.requires.before c.args.bank.0 _ c.requires.bank
 
 pub kept-requires-2 : goal.kept-requires-2
 kept-requires-2 c =
-    kept_within (hit c.args.net.now c.args.ruined.0) _ c.args.bank.0 _ c.requires.after
-    (bank_after c.args.net.now c.args.ruined.0 c.args.bank.0 c.requires.bank) _
+    kept_within (hit c.args.net.now c.args.ruined.0) _ _ c.requires.after c.args.bank.0 _
+    (bank_after c.args.net.now c.args.ruined.0 c.args.bank.0 c.requires.bank)
 
 pub overflow_sub-result : goal.overflow_sub-result
 overflow_sub-result c =

@@ -1,8 +1,5 @@
-use Rattle.std.proofs.Common.{◌≡◌, length, sym, ap, ◌∙◌, arith}
-use Rattle.std.specs.Option.{option_map_or}
-use Rattle.clr_net.specs.declared.bank.Bank.{Bank}
-use Rattle.clr_net.specs.Net.{Net, with_cash}
-use Rattle.cascade.proofs.CashAt.{given_back, length-with_cash}
+use Rattle.std.proofs.Common.{◌≡◌, sym, arith}
+use Rattle.cascade.proofs.CashAt.{cash_read, given_back, length-with_cash}
 use Rattle.cascade.proofs.Ruin.{costs_its_cash}
 use Rattle.impact.proofs.ruin.impact_of.Goals as goal
 use Rattle.impact.proofs.ruin.impact_of.Goals.{After-set_cash-2}
@@ -12,21 +9,13 @@ is_given_back : (c : After-set_cash-2) → c.set_cash-2.new.self ≡ c.args.net.
 is_given_back c =
     let net = c.args.net.now in
     let i = c.args.bank.0 in
-    c.set_cash-2.ensures
-    ∙ ap (λ (n : Net). with_cash n i c.bank.result.now.cash)
-    (c.set_cash.ensures ∙ ap (λ (n : Net). with_cash n i 0) c.requires.copy)
-    ∙ given_back net i 0 c.bank.result.now.cash
-    (sym (ap (λ o. option_map_or (λ (b : Bank). b.cash) o 0) c.bank.ensures))
+    rw (c.set_cash-2.ensures, c.set_cash.ensures, c.requires.copy)
+    (given_back net i 0 _ (sym (cash_read net i c.bank.result.now c.bank.ensures)))
 
 pub set_cash-requires-2-clause-bank : goal.set_cash-requires-2-clause-bank
 set_cash-requires-2-clause-bank c =
-    let hit_copy = c.set_cash.ensures ∙ ap (λ (n : Net). with_cash n c.args.bank.0 0) c.requires.copy in
-    omega (
-      arith,
-      c.requires.bank,
-      ap (λ (n : Net). length n.banks) hit_copy,
-      length-with_cash c.args.net.now c.args.bank.0 0,
-    )
+    rw (c.set_cash.ensures, c.requires.copy)
+    (omega (arith, length-with_cash c.args.net.now c.args.bank.0 0))
 
 pub returns-in_err-after-clause-copy : goal.returns-in_err-after-clause-copy
 returns-in_err-after-clause-copy c = is_given_back (goal.at.returns-in_err-after-clause-copy c).After-set_cash-2

@@ -1,11 +1,13 @@
-use Rattle.std.proofs.Common.{◌≡◌, ◌∙◌, ◌+◌, ℕ, List, map, length, Err, sym, ap, arith, rules}
+use Rattle.net_check.specs.declared.fault.Fault.{Fault}
+use Rattle.clr_net.specs.Net.{Net}
+use Rattle.std.proofs.Common.{◌≡◌, ◌∙◌, ◌+◌, ◌<◌, ◌≤◌, ℕ, List, Result, map, length, Err, sym, ap, arith, rules}
 use Rattle.std.proofs.lemmas.Result.{err_from_is_err_and}
 use Rattle.csv.specs.Records.{fields_of}
 use Rattle.clear_core.specs.declared.event.Raise.{Raise}
 use Rattle.net_csv.specs.Left.{trimmed_left}
 use Rattle.net_csv.specs.Reading.{rows_from, trimmed_fields}
 use Rattle.raise_journal.specs.ReadJournal.{closed_early_at, read_raises}
-use Rattle.raise_journal.proofs.ReadRows.{raises-end, raises-pass, raises-stop, raises-closed, raises-closed_early}
+use Rattle.raise_journal.proofs.ReadRows.{raises-end, raises-next, raises-closed, raises-closed_early}
 use Rattle.raise_journal.proofs.reading.add_raises.Goals as goal
 
 pub rows-init : goal.rows-init
@@ -17,59 +19,53 @@ rows-init c = record {
   debts = λ k d l. absurd (omega (arith, ap (λ (rs : List Raise). length rs) c.requires.empty));
 }
 
+-- what is left, read on from here
+from_here : (net : Net) (done : List Raise) (row : ℕ) (left next : List (List (List ℕ))) (all then : Result (List Raise) Fault)
+    → all ≡ read_raises net done (rows_from row (map trimmed_fields left)) → left ≡ next
+    → read_raises net done (rows_from row (map trimmed_fields next)) ≡ then → all ≡ then
+from_here net done row left next all then same e f = same
+    ∙ ap (λ (l : List (List (List ℕ))). read_raises net done (rows_from row (map trimmed_fields l))) e ∙ f
+
 pub rows-preserved : goal.rows-preserved
 rows-preserved c =
     let said = c.in_ok-read_next.ensures in
     let next = said.next c.if-branch.true in
     let one_less = ap length next in
-    let first = trimmed_fields (fields_of c.read_next.new.fields) in
-    let rest = trimmed_left c.read_next.new.reader in
     record {
       reading = said.reading c.if-branch.true;
       few = omega arith;
-      same = c.rows.invariant.same
-          ∙ ap (λ (left : List (List (List ℕ))). read_raises c.args.net.now c.rows.journal.raises (rows_from (c.rows.row + 1) (map trimmed_fields left))) next
-          ∙ raises-pass c.args.net.now c.rows.journal.raises c.add_raise.new.journal.raises (c.rows.row + 1) first rest
-          (sym c.is_closing.ensures ∙ c.if-is_closing.false) c.in_ok-add_raise.ensures.read;
+      same = from_here _ _ _ _ _ _ _ c.rows.invariant.same next
+          (raises-next c.args.net.now c.rows.journal.raises (c.rows.row + 1)
+          (trimmed_fields (fields_of c.read_next.new.fields)) (trimmed_left c.read_next.new.reader) _
+          (sym c.is_closing.ensures ∙ c.if-is_closing.false) c.in_ok-add_raise.ensures.read);
       debts = search rules;
     }
 
 pub returns-clause-read : goal.returns-clause-read
-returns-clause-read c =
-    let none = c.in_ok-read_next.ensures.end c.if-branch.false in
-    c.rows.invariant.same
-    ∙ ap (λ (left : List (List (List ℕ))). read_raises c.args.net.now c.rows.journal.raises (rows_from (c.rows.row + 1) (map trimmed_fields left))) none
-    ∙ raises-end c.args.net.now c.rows.journal.raises (c.rows.row + 1)
+returns-clause-read c = from_here _ _ _ _ _ _ _ c.rows.invariant.same
+    (c.in_ok-read_next.ensures.end c.if-branch.false) (raises-end _ _ (c.rows.row + 1))
 
 pub returns-then-branch-2-clause-read : goal.returns-then-branch-2-clause-read
-returns-then-branch-2-clause-read c =
-    let next = c.in_ok-read_next.ensures.next c.if-branch.true in
-    let first = trimmed_fields (fields_of c.read_next.new.fields) in
-    let rest = trimmed_left c.read_next.new.reader in
-    c.rows.invariant.same
-    ∙ ap (λ (left : List (List (List ℕ))). read_raises c.args.net.now c.rows.journal.raises (rows_from (c.rows.row + 1) (map trimmed_fields left))) next
-    ∙ raises-closed c.args.net.now c.rows.journal.raises (c.rows.row + 1) first rest
-    (sym c.is_closing.ensures ∙ c.if-is_closing.true) (sym c.in_ok-is_rest_blank.ensures.blank ∙ c.if-branch-2.true)
+returns-then-branch-2-clause-read c = from_here _ _ _ _ _ _ _ c.rows.invariant.same (c.in_ok-read_next.ensures.next c.if-branch.true)
+    (raises-closed c.args.net.now c.rows.journal.raises (c.rows.row + 1)
+    (trimmed_fields (fields_of c.read_next.new.fields)) (trimmed_left c.read_next.new.reader)
+    (sym c.is_closing.ensures ∙ c.if-is_closing.true) (sym c.in_ok-is_rest_blank.ensures.blank ∙ c.if-branch-2.true))
 
 pub returns-then-is_closing-clause-refused : goal.returns-then-is_closing-clause-refused
 returns-then-is_closing-clause-refused c = λ f e.
-    let next = c.in_ok-read_next.ensures.next c.if-branch.true in
-    let first = trimmed_fields (fields_of c.read_next.new.fields) in
-    let rest = trimmed_left c.read_next.new.reader in
     let same : c.closed_early-early.result ≡ f = cc e in
-    c.rows.invariant.same
-    ∙ ap (λ (left : List (List (List ℕ))). read_raises c.args.net.now c.rows.journal.raises (rows_from (c.rows.row + 1) (map trimmed_fields left))) next
-    ∙ raises-closed_early c.args.net.now c.rows.journal.raises (c.rows.row + 1) first rest
+    from_here _ _ _ _ _ _ _ c.rows.invariant.same (c.in_ok-read_next.ensures.next c.if-branch.true)
+    (raises-closed_early c.args.net.now c.rows.journal.raises (c.rows.row + 1)
+    (trimmed_fields (fields_of c.read_next.new.fields)) (trimmed_left c.read_next.new.reader)
     (sym c.is_closing.ensures ∙ c.if-is_closing.true) (sym c.in_ok-is_rest_blank.ensures.blank ∙ c.if-branch-2.false)
-    ∙ ap Err (ap (λ (rs : List Raise). closed_early_at (length rs) (c.rows.row + 1)) (sym c.as_slice.ensures) ∙ sym c.closed_early-early.ensures ∙ same)
+    ∙ ap Err (ap (λ (rs : List Raise). closed_early_at (length rs) (c.rows.row + 1)) (sym c.as_slice.ensures)
+    ∙ sym c.closed_early-early.ensures ∙ same))
 
 pub returns-in_err-add_raise-clause-refused : goal.returns-in_err-add_raise-clause-refused
 returns-in_err-add_raise-clause-refused c = λ f e.
-    let next = c.in_ok-read_next.ensures.next c.if-branch.true in
-    let first = trimmed_fields (fields_of c.read_next.new.fields) in
-    let rest = trimmed_left c.read_next.new.reader in
     let p = err_from_is_err_and c.from_residual-in_err-add_raise.result c.from_residual-in_err-add_raise.ensures.1 in
-    c.rows.invariant.same
-    ∙ ap (λ (left : List (List (List ℕ))). read_raises c.args.net.now c.rows.journal.raises (rows_from (c.rows.row + 1) (map trimmed_fields left))) next
-    ∙ raises-stop c.args.net.now c.rows.journal.raises (c.rows.row + 1) first rest f
-    (sym c.is_closing.ensures ∙ c.if-is_closing.false) ((c.in_err-add_raise.ensures.refused f).0 (let told = p.1 in let same = p.2 in cc e))
+    from_here _ _ _ _ _ _ _ c.rows.invariant.same (c.in_ok-read_next.ensures.next c.if-branch.true)
+    (raises-next c.args.net.now c.rows.journal.raises (c.rows.row + 1)
+    (trimmed_fields (fields_of c.read_next.new.fields)) (trimmed_left c.read_next.new.reader) (Err f)
+    (sym c.is_closing.ensures ∙ c.if-is_closing.false)
+    ((c.in_err-add_raise.ensures.refused f).0 (let told = p.1 in let same = p.2 in cc e)))

@@ -4,12 +4,10 @@ use Rattle.rescue.proofs.SavedBesides.{added_hurts_nobody, as_many_after, counte
 use Rattle.rescue.proofs.saved.saving_of.Goals as goal
 
 pub in_default-requires : goal.in_default-requires
-in_default-requires c = omega (
-  arith,
-  as_many_after c.args.net.now c.args.bank.0 c.as_slice-2.result.now
-      (c.as_slice-2.ensures.value ∙ c.in_ok-after.ensures),
-  c.banks.ensures.network.banks_in_limit,
-)
+in_default-requires c =
+    let as_many = as_many_after c.args.net.now c.args.bank.0 c.as_slice-2.result.now
+    (c.as_slice-2.ensures.value ∙ c.in_ok-after.ensures) in
+    omega (arith, c.banks.ensures.network.banks_in_limit)
 
 pub returns-clause-saving : goal.returns-clause-saving
 returns-clause-saving c =

@@ -2,7 +2,7 @@ use Rattle.std.proofs.Common.{◌≡◌, ℕ, ◌+◌, ◌-◌, ◌/◌, ap, ◌
 use Rattle.clr_net.specs.Net.{with_cash}
 use Rattle.clear_core.specs.Clearing.{least}
 use Rattle.rescue.specs.Rescue.{DifferInCash, added, lacks}
-use Rattle.rescue.proofs.Searching.{GoOn, as_many_banks, sum_fits, fits, set_to_sum}
+use Rattle.rescue.proofs.Searching.{as_many_banks, sum_fits, fits, set_to_sum}
 use Rattle.rescue.proofs.Searching.{still_differ, known_goes_on, lacks_told, search_begins}
 use Rattle.rescue.proofs.Searching.{search_lower, search_higher, search_ends, found_is, short_found}
 use Rattle.rescue.proofs.search.search.Goals as goal
@@ -27,14 +27,6 @@ differs c =
     let l = c.loop-low in
     still_differ c.args.net.now c.args.bank.0 l.more c.set_cash.new.self _ l.invariant.differ
     c.set_cash.ensures
-
--- the known payments go on with it
-goes_on : (c : After-as_slice) → GoOn c.set_cash.new.self c.as_slice.result.now
-goes_on c =
-    let l = c.loop-low in
-    known_goes_on c.args.net.now c.args.bank.0 c.set_cash.new.self (l.low - 1) (middle l.low l.high)
-    c.as_slice.result.now (c.as_slice.ensures ∙ l.invariant.searched.known_is) (is_added c)
-    (omega arith)
 
 -- what the bank lacks with it
 is_lacking : (c : After-lacks-lacking) (a : ℕ) → c.set_cash.new.self ≡ added c.args.net.now c.args.bank.0 a
@@ -68,14 +60,13 @@ set_cash-requires-clause-cash c =
     sum_fits c.args.net.now c.args.bank.0 c.banks.ensures.network c.bank.result.now c.bank.ensures
     c.requires.bank (middle l.low l.high) (omega (arith, l.invariant.searched.within))
 
-pub least_from-requires-clause-over : goal.least_from-requires-clause-over
-least_from-requires-clause-over c = (goes_on c).0
-
-pub least_from-requires-clause-rises : goal.least_from-requires-clause-rises
-least_from-requires-clause-rises c = (goes_on c).1
-
-pub least_from-requires-clause-below : goal.least_from-requires-clause-below
-least_from-requires-clause-below c = (goes_on c).2
+pub least_from-requires : goal.least_from-requires
+least_from-requires c =
+    let l = c.loop-low in
+    let on = known_goes_on c.args.net.now c.args.bank.0 c.set_cash.new.self (l.low - 1)
+    (middle l.low l.high) c.as_slice.result.now (c.as_slice.ensures ∙ l.invariant.searched.known_is)
+    (is_added c) (omega arith) in
+    record { over = on.0; rises = on.1; below = on.2 }
 
 pub lacks-lacking-requires-clause-bank : goal.lacks-lacking-requires-clause-bank
 lacks-lacking-requires-clause-bank c =

@@ -21,7 +21,6 @@ loop-low-init c =
         low = omega (arith, none);
         high = omega (arith, w.if-units-eq0.true);
         part = omega arith;
-        whole = c.requires.short;
       }
       | else-units-eq0 w ↦ record {
         between = omega (arith, w.high-is, around.in_order.0);
@@ -30,7 +29,6 @@ loop-low-init c =
         low = omega (arith, none);
         high = rw w.high-is (omega (arith, c.requires.short, c.requires.claimed, met));
         part = omega arith;
-        whole = c.requires.short;
       }
     ]
 

@@ -11,7 +11,6 @@ invariant-loop-low l = record {
   low : l.at_low ≡ sum (level_awards l.kind l.low l.claims);
   high : l.units ≤ sum (level_awards l.kind l.high l.claims);
   part : l.at_low ≤ l.units;
-  whole : l.units ≤ l.at_high;
 }
 
 abbrev pub decreases-loop-low : goal.decreases-loop-low

@@ -2,7 +2,6 @@ use Rattle.std.proofs.Common.{◌≡◌, ◌≤◌, ◌++◌, All, length, sum, 
 use Rattle.clr_net.specs.Net.{Net}
 use Rattle.clear_core.specs.Clearing.{Clears, least}
 use Rattle.clear_core.specs.History.{ordered, replayed}
-use Rattle.clear_core.specs.declared.event.Raise.{Raise}
 use Rattle.clear_core.proofs.Lawful.{stands_in_range}
 use Rattle.clear_core.proofs.Least.{least_clears}
 use Rattle.clear_core.proofs.Ordered.{length-ordered, ordered_after_all}
@@ -51,15 +50,13 @@ returns g c =
     let network = c.banks.ensures.network in
     let debts : length t.net.debts ≡ length net.debts = ap (λ (m : Net). length m.debts) d.settled.idle.net_is in
     let noted : journal ≡ ordered rs = ap (λ (r : Sealed). r.journal) record_of in
-    let belongs : Belongs net into journal =
-    subst (λ js. Belongs net into js) (sym noted) (subst (λ (m : Net). Belongs m into (ordered rs)) panel.0 seal.lawful) in
+    let belongs : Belongs net into journal = rw noted (rw (panel.0) at seal.lawful) in
     let many : p.len ≡ length into = omega (arith, p.ok.0, ap length c.in_ok-payments.ensures, length-tabled (length net.debts) (λ x. last_payment x past), ap length seal.payments_are, length-payments_of t, debts) in
     let written : paid ≡ values into = c.in_ok-paid.ensures ∙ ap values (c.as_slice-2.ensures.value ∙ written_over p.len into p.items many) in
     let over : length t.paid ≡ length t.net.debts = omega (arith, ap length d.settled.paid, ap length (least_clears net), length-pay net (least net), debts) in
     let least_paid : paid ≡ least net = written ∙ ap values seal.payments_are ∙ values_shown t over ∙ d.settled.paid in
     let replays : replayed net journal ≡ paid = replayed_is net journal ∙ ap values (sym belongs.start_is) ∙ sym written in
-    let low_stamps : All (λ r. r.stamp ≤ sum paid) journal = subst (λ js. All (λ (r : Raise). r.stamp ≤ sum paid) js) (sym noted)
-    (subst (λ P. All (λ (r : Raise). r.stamp ≤ sum P) (ordered rs)) (sym written) seal.low_in_order) in
+    let low_stamps : All (λ r. r.stamp ≤ sum paid) journal = rw (noted, written) seal.low_in_order in
     let opened : c.in_ok-board.master.shows ≡ opening net (start_of net past) = c.in_ok-board.ensures.master.1 ∙ ap (opening net) (c.as_slice.ensures.value ∙ c.in_ok-payments.ensures) in
     let made : c.seal-sealed.result.made ≡ length t.raises = ap (λ (r : Sealed). r.made) record_of in
     record {

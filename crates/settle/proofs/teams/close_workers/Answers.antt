@@ -1,14 +1,9 @@
-use Rattle.std.proofs.Common.{◌≡◌, ◌+◌, ◌-◌, ◌≤◌, ◌++◌, ◌∷◌, [], drop, length, sym, ap, ◌∙◌, subst, arith, rules, sum_by}
+use Rattle.std.proofs.Common.{◌≡◌, ◌+◌, ◌-◌, ◌≤◌, ◌++◌, drop, length, sym, ap, ◌∙◌, arith, rules, sum_by}
 use Rattle.std.proofs.lemmas.List.Sums.{sum_by_push}
 use Rattle.pay_words.specs.declared.view.Shown.{Shown}
-use Rattle.pay_words.specs.Views.{OwesNoRing, rejoined}
-use Rattle.bank_worker.specs.Called.{AreCreditorsIn}
+use Rattle.pay_words.specs.Views.{rejoined}
 use Rattle.bank_worker.specs.Views.{Crew}
-use Rattle.clr_net.specs.Net.{Net}
-use Rattle.raise_journal.specs.Gathered.{HasMerged}
-use Rattle.settle.specs.Between.{IsBack, IsOfBoard, raises_of_all}
-use Rattle.settle.specs.Calls.{HaveCalledFrom}
-use Rattle.settle.specs.Offices.{AreOffices}
+use Rattle.settle.specs.Between.{raises_of_all}
 use Rattle.settle.specs.Rounds.{crew_at}
 use Rattle.settle.proofs.Calling.{called_from}
 use Rattle.settle.proofs.Offices.{held_by, office_more, seat_serves}
@@ -37,7 +32,7 @@ take_back-requires g c =
       is_the_master = inv.back.master ∙ c.requires.master.1;
       seat = (ap (λ s. s.table) seat ∙ own.at.0, ap (λ s. s.shows.net) seat ∙ own.at.1);
       not_the_master = ap (λ s. s.shows.master) seat ∙ own.not_the_master;
-      rings = subst (λ (u : Shown). OwesNoRing u) (sym (ap (λ s. s.shows) seat)) own.no_rings;
+      rings = rw seat own.no_rings;
     }
 
 pub loop-worker-preserved : goal.loop-worker-preserved
@@ -56,30 +51,25 @@ loop-worker-preserved g c =
     let seat = c.leave-seat.ensures.seat in
     let shown : c.take_back.new.master.shows ≡ rejoined m (crew_at ws n).seat.shows =
     c.take_back.ensures.rejoined ∙ ap (rejoined m) (ap (λ s. s.shows) seat ∙ ap (λ (k : Crew). k.seat.shows) h.is) in
-    let back = back_more c.args.run.now.board.now s m ws n (subst (IsOfBoard c.args.run.now.board.now n) h.is h.own) (subst (IsBack k net s ws m) h.more inv.back) (known_banks net c.requires.network) in
+    let back = back_more c.args.run.now.board.now s m ws n (rw (h.is) at h.own) (rw (h.more) at inv.back) (known_banks net c.requires.network) in
     let made : c.as_slice-raises.result.now ≡ (crew_at ws n).seat.shows.raises = c.as_slice-raises.ensures ∙ c.leave-seat.ensures.same ∙ ap (λ s. s.shows.raises) seat ∙ ap (λ (k : Crew). k.seat.shows.raises) h.is in
     record {
       table = c.take_back.ensures.table ∙ inv.table;
-      back = subst (λ (u : Shown). IsBack k net s ws u n) (sym shown) back;
+      back = rw shown back;
       left = h.left;
       offices =
           let room : n + 1 ≤ k = omega (arith, h.more, inv.left.few, c.requires.workers, c.args.workers.ok) in
+          let count : k - n ≡ k - (n + 1) + 1 = omega arith in
           let serves = seat_serves net w.seat.shows k n c.leave-seat.result.2 (sym h.own.at.1) (held_by c.args.run.now.board.now n w h.own)
           c.leave-seat.ensures.office (c.leave-seat.ensures.worker ∙ h.own.worker) in
-          let before = subst (λ m. AreOffices net k (k - m) c.loop-worker.state.offices.items) h.more inv.offices in
-          let after = office_more net k (k - (n + 1)) n c.loop-worker.state.offices.items c.leave-seat.result.2 before (omega arith) serves in
-          let count : k - (n + 1) + 1 ≡ k - n = omega arith in
-          subst (AreOffices net k (k - n)) (sym (c.in_ok-push.ensures.items ∙ ap (λ o. c.loop-worker.state.offices.items ++ o ∷ []) c.keep.ensures))
-          (subst (λ m. AreOffices net k m (c.loop-worker.state.offices.items ++ c.leave-seat.result.2 ∷ [])) count after);
+          rw (c.in_ok-push.ensures.items, c.keep.ensures, count)
+          (office_more net k (k - (n + 1)) n c.loop-worker.state.offices.items c.leave-seat.result.2 (rw (h.more) at inv.offices) (omega arith) serves);
       noted = grown_more c.args.state.now.journal.raises c.loop-worker.state.journal.raises c.add_raises.new.journal.raises s.raises m.raises c.take_back.new.master.shows.raises (crew_at ws n).seat.shows.raises
-          inv.noted
-          (subst (HasMerged c.loop-worker.state.journal.raises c.add_raises.new.journal.raises (length c.args.state.now.journal.raises)) made
-          (subst (λ k. HasMerged c.loop-worker.state.journal.raises c.add_raises.new.journal.raises k c.as_slice-raises.result.now) (ap length c.as_slice-from.ensures) c.in_ok-add_raises.ensures))
-          (ap (λ (u : Shown). u.raises) shown);
+          inv.noted (rw (made, ap length c.as_slice-from.ensures) at c.in_ok-add_raises.ensures) (ap (λ (u : Shown). u.raises) shown);
       called = called_from net c.loop-worker.state.called c.call_creditors.new.called ws n w.journal
-          (subst (λ m. HaveCalledFrom m net c.loop-worker.state.called ws) h.more inv.called) c.call_creditors.ensures.kept
+          (rw (h.more) at inv.called) c.call_creditors.ensures.kept
           (sym c.leave-seat.ensures.journal ∙ c.leave-seat.ensures.same ∙ ap (λ s. s.shows.raises) seat ∙ ap (λ (k : Crew). k.seat.shows.raises) h.is)
-          (subst (λ (m : Net). AreCreditorsIn m c.call_creditors.new.called w.journal) h.own.at.1 c.call_creditors.ensures.creditors);
+          (rw (h.own.at.1) at c.call_creditors.ensures.creditors);
       visits = omega (arith, ap (λ (u : Shown). u.taken) shown, inv.visits, c.visits-visits.ensures, h.own.by_bells, ap (λ (k : Crew). k.seat.shows.taken) h.is);
       sum = omega (arith, inv.sum, ap (λ ks. sum_by (λ (k : Crew). k.visits) ks) is, sum_by_push (λ (k : Crew). k.visits) rest w, c.visits-visits.ensures);
       made = raises_more s m c.take_back.new.master.shows ws n (length c.loop-worker.workers.items) h.more (omega (arith, h.more, inv.left.few)) inv.made shown;

@@ -1,14 +1,16 @@
-use Rattle.std.proofs.Common.{◌≡◌, ℕ, ◌+◌, ◌-◌, [], ◌∷◌, ◌++◌, sym, ap, ◌∙◌, subst, arith}
+use Rattle.std.proofs.Common.{◌≡◌, ◌+◌, ◌-◌, [], sym, ap, ◌∙◌, subst, arith, add-one}
 use Rattle.pay_words.specs.declared.view.Shown.{Shown}
-use Rattle.pay_words.specs.Views.{HoldsAllOf, OwesNoRing, Place, handed, holds, without}
-use Rattle.bank_worker.specs.Views.{Crew, desks_held}
+use Rattle.pay_words.specs.Views.{OwesNoRing, handed, holds}
+use Rattle.bank_worker.specs.Views.{desks_held}
 use Rattle.settle.specs.Between.{crew_of}
-use Rattle.settle.proofs.Handed.{first_handed, first_holds, first_more, first_rest, crews_more, handed_holds, handed_quiet}
+use Rattle.settle.proofs.Handed.{first_handed, first_holds, first_rest, handed_holds, handed_quiet}
 use Rattle.settle.specs.Offices.{AreOffices, Serves}
-use Rattle.settle.proofs.Offices.{office_taken, serves_seat, none_left}
+use Rattle.settle.proofs.Offices.{office_taken, serves_seat}
 use Rattle.settle.proofs.teams.open_workers.Goals as goal
 use Rattle.settle.proofs.teams.open_workers.Given.{Over}
 use Rattle.settle.proofs.teams.open_workers.Goals.{In-Some}
+use Rattle.std.proofs.lemmas.List.FromFn.{map-range_with_len_more}
+use Rattle.std.proofs.lemmas.List.{nil_from_length}
 
 pub hand-requires : goal.hand-requires
 hand-requires g c =
@@ -21,19 +23,14 @@ hand-requires g c =
       master = (inv.table ∙ c.requires.table, inv.net ∙ b.net_is ∙ c.args.run.now.on_board.net_is);
       is_the_master = ap (λ (u : Shown). u.master) inv.rest ∙ (first_rest w n s).master ∙ b.master;
       worker = omega (arith, c.args.run.now.on_board.workers_are);
-      banks = subst (λ (k : ℕ). HoldsAllOf k n c.loop-number.master.shows) c.args.run.now.on_board.workers_are (subst (HoldsAllOf w n) (sym inv.rest) (first_holds w n n s b.holds_all (omega arith)));
+      banks = rw (← c.args.run.now.on_board.workers_are, inv.rest) (first_holds w n n s b.holds_all (omega arith));
       seats = omega (arith, ap (λ (u : Shown). u.seats) inv.rest, (first_rest w n s).seats, c.requires.seats);
     }
 
 -- what the next worker is handed, and its office
 shown : (g : Over) (c : In-Some g) → c.in_ok-seat.seat.shows ≡ handed c.args.run.now.plan.workers c.loop-number.number c.args.master.now.shows
-shown g c =
-    let w = c.args.run.now.plan.workers in
-    let n = c.loop-number.number in
-    c.in_ok-seat.ensures.seat.1
-    ∙ ap (λ k. handed k n c.loop-number.master.shows) (sym c.args.run.now.on_board.workers_are)
-    ∙ ap (handed w n) c.loop-number.invariant.rest
-    ∙ first_handed w n n c.args.master.now.shows
+shown g c = rw (c.in_ok-seat.ensures.seat.1, ← c.args.run.now.on_board.workers_are, c.loop-number.invariant.rest)
+    (first_handed c.args.run.now.plan.workers c.loop-number.number c.loop-number.number c.args.master.now.shows)
 
 taken : (g : Over) (c : In-Some g) → AreOffices c.args.run.now.net.now c.args.run.now.plan.workers (c.args.run.now.plan.workers - (c.loop-number.number + 1)) c.pop.new.self.items
     × Serves c.args.run.now.net.now c.args.run.now.plan.workers c.loop-number.number c.in-Some.office
@@ -69,26 +66,22 @@ loop-number-preserved g c =
     let seat = c.in_ok-seat.seat in
     let table = c.args.run.now.board.now.table in
     let at = (goal.at.loop-number-preserved g c).In-Some in
-    let made : c.with.result ≡ crew_of w table s n =
-    c.with.ensures
-    ∙ ap (λ i. let k : Crew = record { seat = seat; desks = desks_held seat.shows; worker = i; visits = 0; journal = [] } in k) (taken g at).1.worker
-    ∙ ap (λ (u : Shown). let k : Crew = record { seat = record { table = seat.table; shows = u }; desks = desks_held u; worker = n; visits = 0; journal = [] } in k) (shown g at)
-    ∙ ap (λ (t : Place). let k : Crew = record { seat = record { table = t; shows = handed w n s }; desks = desks_held (handed w n s); worker = n; visits = 0; journal = [] } in k) c.in_ok-seat.ensures.seat.0 in
+    let made : c.with.result ≡ crew_of w table s n = rw (c.with.ensures) (λ i. record {
+      seat = record { table = c.in_ok-seat.ensures.seat.0 i; shows = (shown g at) i };
+      desks = desks_held ((shown g at) i);
+      worker = (taken g at).1.worker i;
+      visits = 0;
+      journal = [];
+    }) in
     record {
       table = c.hand.ensures.table ∙ inv.table;
       net = ap (λ (u : Shown). u.net) c.in_ok-seat.ensures.rest ∙ inv.net;
-      rest =
-          c.in_ok-seat.ensures.rest
-          ∙ ap (λ k. without k n c.loop-number.master.shows) (sym c.args.run.now.on_board.workers_are)
-          ∙ ap (without w n) inv.rest
-          ∙ sym (first_more w n s);
+      rest = rw (c.in_ok-seat.ensures.rest, ← c.args.run.now.on_board.workers_are, inv.rest, add-one n);
       offices = (taken g at).0;
       crew =
           c.in_ok-push.ensures.items
-          ∙ ap (λ (k : Crew). c.loop-number.crew.items ++ k ∷ []) made
-          ∙ ap (λ ks. ks ++ crew_of w table s n ∷ []) inv.crew
-          ∙ sym (crews_more w table s n);
+          ∙ rw (made, inv.crew) (sym (map-range_with_len_more (crew_of w table s) 0 n n (omega arith)));
     }
 
 pub returns-clause-offices : goal.returns-clause-offices
-returns-clause-offices g c = none_left c.args.run.now.net.now c.args.run.now.plan.workers c.loop-number.number c.loop-number.offices.items (omega arith) c.loop-number.invariant.offices
+returns-clause-offices g c = nil_from_length _ (omega (arith, c.loop-number.invariant.offices.as_many))

@@ -4,12 +4,9 @@ use Rattle.std.specs.Global.{Vec}
 use Rattle.std.specs.Vec.{with_items}
 use Rattle.bank_worker.specs.Views.{Crew}
 use Rattle.clr_net.specs.Limits.{IsNetwork}
-use Rattle.clr_net.specs.Net.{Net}
 use Rattle.pay_words.specs.declared.view.Shown.{Shown}
 use Rattle.settle.specs.Between.{HaveGrownAlike, IsBetween}
-use Rattle.settle.specs.Calls.{AllCalledOrAtRest, AreApart, HaveCalledFrom}
-use Rattle.settle.specs.Offices.{AreOffices}
-use Rattle.settle.specs.Rounds.{AreReady, AreRounded}
+use Rattle.settle.specs.Rounds.{AreRounded}
 use Rattle.settle.proofs.AllDown.{idle_between}
 use Rattle.settle.proofs.Handed.{IsRest, crews_apart, crews_called, crews_ready, first_rest, length-crews}
 use Rattle.settle.proofs.Rounded.{between_again, of_board, others_at_rest, round_is}
@@ -27,23 +24,15 @@ work_all-requires-clause-some g c κs within =
     ∙ length-crews c.args.run.now.plan.workers c.args.run.now.board.now.table c.args.master.now.shows c.args.run.now.plan.workers
 
 pub work_all-requires-clause-ready : goal.work_all-requires-clause-ready
-work_all-requires-clause-ready g c κs within =
-    let w = c.args.run.now.plan.workers in
-    let s = c.args.master.now.shows in
-    let board = c.args.run.now.board.now in
-    subst (AreReady board) (sym (c.deref_mut.ensures.value ∙ c.in_ok-workers.ensures.crews)) (crews_ready board c.args.run.now.net.now w s w c.args.run.now.on_board.net_is c.requires.ready.between)
+work_all-requires-clause-ready g c κs within = rw (c.deref_mut.ensures.value, c.in_ok-workers.ensures.crews)
+    (crews_ready c.args.run.now.board.now c.args.run.now.net.now c.args.run.now.plan.workers c.args.master.now.shows c.args.run.now.plan.workers c.args.run.now.on_board.net_is c.requires.ready.between)
 
 pub work_all-requires-clause-called : goal.work_all-requires-clause-called
-work_all-requires-clause-called g c κs within =
-    let w = c.args.run.now.plan.workers in
-    let s = c.args.master.now.shows in
-    let called = c.args.state.now.called in
-    subst (AllCalledOrAtRest called) (sym (c.deref_mut.ensures.value ∙ c.in_ok-workers.ensures.crews))
-    (crews_called c.args.run.now.net.now w c.args.run.now.board.now.table s called c.requires.ready.between c.requires.called)
+work_all-requires-clause-called g c κs within = rw (c.deref_mut.ensures.value, c.in_ok-workers.ensures.crews)
+    (crews_called c.args.run.now.net.now c.args.run.now.plan.workers c.args.run.now.board.now.table c.args.master.now.shows c.args.state.now.called c.requires.ready.between c.requires.called)
 
 pub work_all-requires-clause-apart : goal.work_all-requires-clause-apart
-work_all-requires-clause-apart g c κs within =
-    subst AreApart (sym (c.deref_mut.ensures.value ∙ c.in_ok-workers.ensures.crews))
+work_all-requires-clause-apart g c κs within = rw (c.deref_mut.ensures.value, c.in_ok-workers.ensures.crews)
     (crews_apart c.args.run.now.net.now c.args.run.now.plan.workers c.args.run.now.board.now.table c.args.master.now.shows c.requires.ready.between)
 
 pub close_workers-requires-clause-workers : goal.close_workers-requires-clause-workers
@@ -102,11 +91,9 @@ returns g c =
       ready = record {
         table_is = c.close_workers.ensures.table ∙ c.open_workers.ensures.table ∙ c.requires.ready.table_is;
         between = again;
-        offices = subst (λ k. AreOffices net k k c.close_workers.new.state.offices.items) (sym workers)
-            (subst (λ (m : Net). AreOffices m board.table.workers board.table.workers c.close_workers.new.state.offices.items) (sym here) closed.offices);
+        offices = rw (workers, here) closed.offices;
       };
-      called = others_at_rest board net s w sweeps units news here workers some few between rounded m t clock.over closed.back c.close_workers.new.state.called again
-          (subst (λ (m : Net). HaveCalledFrom 0 m c.close_workers.new.state.called news) (sym here) closed.called);
+      called = others_at_rest board net s w sweeps units news here workers some few between rounded m t clock.over closed.back c.close_workers.new.state.called again (rw here closed.called);
       round = round_is board net s w sweeps units news here workers some few between rounded m t clock.over closed.back c.in_ok-visits.visits
           c.in_ok-workers.ensures.rest closed.visits closed.sum closed.made clock.paid_below_least clock.sights_below_least;
       noted = subst (λ rs. HaveGrownAlike c.args.state.now.journal.raises c.close_workers.new.state.journal.raises rs t.raises)

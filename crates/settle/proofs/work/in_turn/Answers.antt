@@ -1,9 +1,15 @@
-use Rattle.std.proofs.Common.{get_or, arith}
-use Rattle.settle.proofs.InTurn.{few_in_turn, turn_all, turn_called, turn_more, turn_none, turn_of, turn_ready}
+use Rattle.std.proofs.Common.{get_or, arith, refl, ◌≤◌, length}
+use Rattle.settle.proofs.InTurn.{turn_more, turn_of, turn_ready}
 use Rattle.settle.proofs.work.in_turn.Goals as goal
+use Rattle.std.proofs.lemmas.List.{length-take, take_all}
 
 pub loop-worker-init : goal.loop-worker-init
-loop-worker-init g c = turn_none c.args.sweeps c.args.workers.now c.args.called.now c.requires.called
+loop-worker-init g c = record {
+  as_many = refl;
+  rounded = record { as_many = refl; each = λ i lt. absurd (omega (arith, lt)); rose = refl; few = omega arith };
+  left = λ i le. refl;
+  waiting = λ i le li. c.requires.called i li;
+}
 
 pub round_called-requires : goal.round_called-requires
 round_called-requires g c =
@@ -12,19 +18,19 @@ round_called-requires g c =
     let w = c.worker-item.result in
     let lt = c.loop-worker-test.true in
     let ready = turn_ready c.args.board.now c.args.sweeps l.units c.args.workers.now l.workers n l.called w lt c.requires.ready l.invariant in
+    let own = ready.0 in
     record {
-      seat = ready.at;
+      seat = own.at;
       sweeps = c.requires.sweeps;
-      visits = ready.visits;
-      idle = (ready.no_rings, ready.calm, ready.rest);
-      called = turn_called c.args.sweeps l.units c.args.workers.now l.workers n l.called w lt l.invariant;
+      visits = own.visits;
+      idle = (own.no_rings, own.calm, own.rest);
+      called = ready.1;
     }
 
 pub overflow_add-units : goal.overflow_add-units
-overflow_add-units g c =
-    let l = c.loop-worker in
-    let few = few_in_turn c.args.sweeps l.units c.args.workers.now l.workers l.worker-index l.called c.requires.few l.invariant in
-    record { fits = omega (arith, few, c.in-Raised.ensures.round.few) }
+overflow_add-units g c = record {
+  fits = omega (arith, c.requires.few, c.loop-worker.invariant.rounded.few, length-take c.loop-worker.worker-index c.args.workers.now, c.in-Raised.ensures.round.few);
+}
 
 pub loop-worker-preserved : goal.loop-worker-preserved
 loop-worker-preserved g c =
@@ -39,5 +45,6 @@ loop-worker-preserved g c =
 
 pub returns : goal.returns
 returns g c =
-    let l = c.loop-worker in
-    record { rounded = turn_all c.args.sweeps l.units c.args.workers.now l.workers l.worker-index l.called (omega arith) l.invariant }
+    let ws = c.args.workers.now in
+    let h = c.loop-worker.invariant in
+    record { rounded = rw (take_all c.loop-worker.worker-index ws (omega arith), take_all c.loop-worker.worker-index c.loop-worker.workers (omega (arith, h.as_many))) at h.rounded }

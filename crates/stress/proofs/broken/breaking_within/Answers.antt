@@ -1,15 +1,14 @@
-use Rattle.std.proofs.Common.{◌≡◌, ℕ, ◌+◌, ◌-◌, List, [], length, map, replicate, refl, sym, ap, ◌∙◌, subst, arith}
+use Rattle.std.proofs.Common.{◌≡◌, ℕ, ◌+◌, ◌-◌, ◌==◌, List, [], length, map, replicate, refl, sym, ap, ◌∙◌, subst, arith}
 use Rattle.std.proofs.lemmas.List.{length-replicate}
 use Rattle.cascade.specs.declared.standing.Health.TheVariants.{Sound}
 use Rattle.clr_net.specs.Net.{Net, of_cash}
 use Rattle.clear_core.specs.Buffers.{HasRoom}
-use Rattle.clear_core.specs.Clearing.{Clears}
+use Rattle.clear_core.specs.Clearing.{Clears, least}
 use Rattle.clear_core.proofs.Least.{least_clears}
 use Rattle.stress.specs.Shocks.{IsOfOtherCash}
 use Rattle.stress.specs.declared.broken.Broken.{Broken}
-use Rattle.stress.proofs.Cuts.{shock_is_of_other_cash}
-use Rattle.stress.proofs.Descent.{IsDown, as_many_known, down_so, none_tried, swept_so}
-use Rattle.stress.proofs.Kept.{length-shocked_from}
+use Rattle.stress.proofs.Descent.{IsDown, as_many_known, none_tried, one_down, swept_down}
+use Rattle.stress.proofs.Kept.{alike_after, length-shocked_from}
 use Rattle.stress.proofs.Places.{written_back}
 use Rattle.stress.proofs.broken.breaking_within.Goals as goal
 
@@ -34,20 +33,14 @@ loop-step-init c =
 
 pub least_again-requires-clause-swept : goal.least_again-requires-clause-swept
 least_again-requires-clause-swept c =
-    let net = c.args.net.now in
     let high = c.args.high in
-    let cut = high - c.loop-step.step - 1 in
-    let paid = c.loop-step.paid.items in
-    let all = c.loop-step.all.items in
-    let same : high - c.loop-step.step ≡ cut + 1 = omega arith in
-    let down = subst (λ k. IsDown net high k paid all) same c.loop-step.invariant.down in
-    swept_so net c.cut_cash.ensures.network high cut (omega arith) c.requires.high paid all down
-    c.cut_cash.new.left c.as_mut_slice-in-loop-step.result.now
-    c.as_mut_slice-in-loop-step-2.result.now c.as_slice.result.now
-    c.cut_cash.ensures.left c.as_mut_slice-in-loop-step.ensures.value c.as_slice.ensures.value
+    rw (c.cut_cash.ensures.left, c.as_mut_slice-in-loop-step.ensures.value)
+    (swept_down c.args.net.now c.cut_cash.ensures.network high (high - c.loop-step.step - 1)
+    (omega arith) c.requires.high _ _ _ (omega arith) c.loop-step.invariant.down _
     (c.as_mut_slice-in-loop-step-2.ensures.value
     ∙ written_back c.loop-step.marks.len c.mark_broken.new.marks _ (omega arith)
-    ∙ c.mark_broken.ensures)
+    ∙ c.mark_broken.ensures
+    ∙ ap (map (λ (r : Broken). r.cut == high - c.loop-step.step - 1 + 1)) c.as_slice.ensures.value))
 
 pub least_again-requires-clause-room : goal.least_again-requires-clause-room
 least_again-requires-clause-room c =
@@ -68,12 +61,9 @@ note-requires-clause-banks c =
     let net = c.args.net.now in
     let high = c.args.high in
     let cut = high - c.loop-step.step - 1 in
-    let paid = c.loop-step.paid.items in
-    let all = c.loop-step.all.items in
-    let same : high - c.loop-step.step ≡ cut + 1 = omega arith in
-    let down = subst (λ k. IsDown net high k paid all) same c.loop-step.invariant.down in
     ap length c.as_mut_slice-in-loop-step-3.ensures.value
-    ∙ as_many_known net c.cut_cash.ensures.network high cut (omega arith) c.requires.high paid all down
+    ∙ as_many_known net c.cut_cash.ensures.network high cut (omega arith) c.requires.high _ _ _
+    (omega arith) c.loop-step.invariant.down
     ∙ sym (length-shocked_from cut 0 [] net.banks)
     ∙ ap (λ (m : Net). length m.banks) (sym c.cut_cash.ensures.left)
 
@@ -82,26 +72,20 @@ loop-step-preserved c =
     let net = c.args.net.now in
     let high = c.args.high in
     let cut = high - c.loop-step.step - 1 in
-    let left = c.cut_cash.new.left in
-    let paid = c.loop-step.paid.items in
-    let all = c.loop-step.all.items in
-    let same : high - c.loop-step.step ≡ cut + 1 = omega arith in
-    let next : cut ≡ high - (c.loop-step.step + 1) = omega arith in
-    let down = subst (λ k. IsDown net high k paid all) same c.loop-step.invariant.down in
-    let now_paid = written_back c.loop-step.paid.len c.least_again.new.paid _ (omega arith) in
+    let left = c.cut_cash.ensures.left in
     let slice = c.as_slice-in-loop-step.ensures.value in
+    let was = c.as_mut_slice-in-loop-step-3.ensures.value in
+    let more = written_back c.loop-step.all.len c.note.new.all _ (omega arith) in
     record {
-      down = down_so net c.cut_cash.ensures.network high cut (omega arith) c.requires.high paid all down
-          _ left c.as_slice-in-loop-step.result.now _ c.as_mut_slice-in-loop-step-3.result.now
-          c.note.new.all _ next c.cut_cash.ensures.left
-          (slice ∙ now_paid ∙ c.least_again.ensures.payments)
-          (sym slice)
-          c.as_mut_slice-in-loop-step-3.ensures.value
-          c.note.auto.all
-          (written_back c.loop-step.all.len c.note.new.all _ (omega arith))
-          c.note.ensures;
+      down = one_down net c.cut_cash.ensures.network high cut (omega arith) c.requires.high _ _ _
+          (omega arith) c.loop-step.invariant.down _ _ _ (omega arith)
+          (written_back c.loop-step.paid.len c.least_again.new.paid _ (omega arith)
+          ∙ c.least_again.ensures.payments ∙ ap least left)
+          (ap length more ∙ c.note.auto.all ∙ ap length was)
+          (λ i none l. rw more (rw (left, slice, was) at
+          (c.note.ensures i none (omega (arith, ap length was)))));
       alike = subst (IsOfOtherCash net) (sym c.cut_cash.ensures.left)
-          (shock_is_of_other_cash cut 0 [] net.banks, refl);
+          (alike_after net cut []);
       room = λ i. omega (arith, c.loop-step.invariant.room i, c.least_again.ensures.room);
       marked = ap length (written_back c.loop-step.marks.len c.least_again.new.marks _ (omega arith))
           ∙ omega arith;

@@ -1,11 +1,12 @@
-use Rattle.std.proofs.Common.{◌==◌, cond, get_or}
+use Rattle.std.proofs.Common.{◌≡◌, ◌<◌, ◌≤◌, ℕ, ◌==◌, cond, get_or, length}
 use Rattle.stress.specs.declared.broken.Broken.{Broken}
-use Rattle.stress.proofs.Places.{AreChanged}
 use Rattle.stress.proofs.broken.joined.Given as goal
 
 abbrev pub invariant-loop-place : goal.invariant-loop-place
 invariant-loop-place l = record {
-  so_far : (none : Broken) → AreChanged
-      (λ i known. cond (known.cut == l.middle) (get_or l.upper i none) known)
-      l.fn.lower.items l.all.items l.place;
+  as_many : length l.all.items ≡ length l.fn.lower.items;
+  done : (i : ℕ) (d : Broken) → i < l.place → get_or l.all.items i d
+      ≡ cond ((get_or l.fn.lower.items i d).cut == l.middle) (get_or l.upper i d)
+      (get_or l.fn.lower.items i d);
+  rest : (i : ℕ) (d : Broken) → l.place ≤ i → get_or l.all.items i d ≡ get_or l.fn.lower.items i d;
 }

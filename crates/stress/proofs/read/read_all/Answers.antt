@@ -5,67 +5,66 @@ use Rattle.toml.specs.View.{view, items_view}
 use Rattle.stress.specs.Reading.{read_all}
 use Rattle.stress.specs.declared.TheConstants.{MAX_SCENARIOS}
 use Rattle.stress.proofs.Found.{value_first, no_more}
-use Rattle.stress.proofs.Turns.{scenarios-more, scenarios-stop, scenarios-end, too_many, next_is}
+use Rattle.stress.proofs.Turns.{scenarios-next, scenarios-end, too_many, next_is}
 use Rattle.stress.proofs.read.read_all.Goals as goal
 
 pub returns-then-len-ge-MAX_SCENARIOS-clause-refused :
     goal.returns-then-len-ge-MAX_SCENARIOS-clause-refused
 returns-then-len-ge-MAX_SCENARIOS-clause-refused c = λ f e.
     let net = c.args.net.now in
-    let values = c.args.values.now in
-    let i = c.values.value-index in
     let all = c.values.all.items in
-    let value = view c.value-item.result in
-    let first = value_first values i c.value-item.result c.values-test.true c.value-item.is in
+    let first = value_first c.args.values.now c.values.value-index c.value-item.result c.values-test.true
+    c.value-item.is in
     let same : c.fault.result ≡ f = cc e in
     let row = c.len-then-len-ge-MAX_SCENARIOS in
     let counted : row.result ≡ length all = omega (arith, row.ensures, c.values.all.ok.0) in
     let many : MAX_SCENARIOS ≤ length all =
     omega (arith, c.len.ensures, c.values.all.ok.0, c.if-len-ge-MAX_SCENARIOS.true) in
     c.values.invariant.same
-    ∙ scenarios-stop net all _ (items_view (drop (i + 1) values)) value f first
-    (too_many net all value row.result f counted many (sym same ∙ c.fault.ensures))
+    ∙ rw (
+      scenarios-next net all _ _ _ first,
+      too_many net all _ row.result f counted many (sym same ∙ c.fault.ensures),
+    )
 
 pub returns-in_err-scenario-clause-refused : goal.returns-in_err-scenario-clause-refused
 returns-in_err-scenario-clause-refused c = λ f e.
     let net = c.args.net.now in
-    let values = c.args.values.now in
-    let i = c.values.value-index in
     let all = c.values.all.items in
-    let value = view c.value-item.result in
-    let first = value_first values i c.value-item.result c.values-test.true c.value-item.is in
+    let first = value_first c.args.values.now c.values.value-index c.value-item.result c.values-test.true
+    c.value-item.is in
     let row = c.len-in-values in
     let counted : row.result ≡ length all = omega (arith, row.ensures, c.values.all.ok.0) in
     let few : length all < MAX_SCENARIOS =
     omega (arith, c.len.ensures, c.values.all.ok.0, c.if-len-ge-MAX_SCENARIOS.false) in
     let p = err_from_is_err_and c.from_residual.result c.from_residual.ensures.1 in
     c.values.invariant.same
-    ∙ scenarios-stop net all _ (items_view (drop (i + 1) values)) value f first
-    (next_is net all value row.result counted few
-    ∙ c.in_err-scenario.ensures.refused f (let told = p.1 in let same = p.2 in cc e))
+    ∙ rw (
+      scenarios-next net all _ _ _ first,
+      next_is net all _ row.result counted few,
+      c.in_err-scenario.ensures.refused f (let told = p.1 in let same = p.2 in cc e),
+    )
 
 pub values-preserved : goal.values-preserved
 values-preserved c =
     let net = c.args.net.now in
-    let values = c.args.values.now in
-    let i = c.values.value-index in
     let all = c.values.all.items in
-    let scenario = c.in_ok-scenario.scenario in
-    let value = view c.value-item.result in
-    let rest = items_view (drop (i + 1) values) in
-    let first = value_first values i c.value-item.result c.values-test.true c.value-item.is in
+    let first = value_first c.args.values.now c.values.value-index c.value-item.result c.values-test.true
+    c.value-item.is in
     let row = c.len-in-values in
     let counted : row.result ≡ length all = omega (arith, row.ensures, c.values.all.ok.0) in
     let few : length all < MAX_SCENARIOS =
     omega (arith, c.len.ensures, c.values.all.ok.0, c.if-len-ge-MAX_SCENARIOS.false) in
-    let pushed : c.push.new.self.items ≡ all ++ scenario ∷ [] =
+    let pushed : c.push.new.self.items ≡ all ++ c.in_ok-scenario.scenario ∷ [] =
     rw c.if-is_err.ensures.negation at c.push.ensures.items in
     record {
-      few = omega (arith, ap length pushed, length_push all scenario);
+      few = omega (arith, ap length pushed, length_push all c.in_ok-scenario.scenario);
       same = c.values.invariant.same
-          ∙ scenarios-more net all _ rest value scenario first
-          (next_is net all value row.result counted few ∙ c.in_ok-scenario.ensures.read)
-          ∙ ap (λ done. read_all net done rest) (sym pushed);
+          ∙ rw (
+            scenarios-next net all _ _ _ first,
+            next_is net all _ row.result counted few,
+            c.in_ok-scenario.ensures.read,
+            pushed,
+          );
     }
 
 pub returns-clause-read : goal.returns-clause-read

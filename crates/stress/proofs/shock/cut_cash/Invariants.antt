@@ -1,6 +1,10 @@
-use Rattle.std.proofs.Common.{◌≡◌}
-use Rattle.stress.proofs.Cuts.{partly_cut}
+use Rattle.std.proofs.Common.{◌≡◌, ℕ, ◌<◌}
+use Rattle.clr_net.specs.Net.{cash_of}
+use Rattle.stress.specs.Shocks.{IsOfOtherCash, after_cut}
 use Rattle.stress.proofs.shock.cut_cash.Given as goal
 
 abbrev pub invariant-loop-number : goal.invariant-loop-number
-invariant-loop-number l = record { so_far : l.left ≡ partly_cut l.cut l.number l.net l.fn.left }
+invariant-loop-number l = record {
+  alike : IsOfOtherCash l.net l.left;
+  done : (i : ℕ) → i < l.number → cash_of l.left i ≡ after_cut l.cut (cash_of l.net i);
+}

@@ -1,35 +1,14 @@
-use Rattle.std.proofs.Common.{get_or, refl, ap, ◌∙◌, arith}
-use Rattle.std.proofs.lemmas.List.{get_or_default}
+use Rattle.std.proofs.Common.{refl, arith}
 use Rattle.stress.specs.Outcomes.{added, both}
-use Rattle.stress.specs.declared.TheConstants.{MAX_SCENARIOS}
-use Rattle.stress.specs.declared.tally.Falls.{Falls}
-use Rattle.stress.proofs.Places.{added_at, all_changed, length-added, one_changed, within_at}
+use Rattle.stress.proofs.Places.{never, paired}
 use Rattle.stress.proofs.tally.add_each.Goals as goal
-
--- what stands past the ends
-abbrev never : Falls
-never = record { defaults = 0; fundamental = 0 }
 
 pub both-requires-clause-a : goal.both-requires-clause-a
 both-requires-clause-a c =
-    within_at MAX_SCENARIOS c.loop-place.place _ c.args.falls.now c.loop-place.falls never
-    c.requires.fits (c.loop-place.invariant.so_far never) (omega arith)
-
-pub loop-place-preserved : goal.loop-place-preserved
-loop-place-preserved c = record {
-  so_far = λ d.
-      let others = c.args.others.now in
-      let i = c.loop-place.place in
-      one_changed _ c.args.falls.now c.loop-place.falls _ i _ never
-      (c.loop-place.invariant.so_far d) (omega arith) refl
-      (c.both.ensures
-      ∙ ap (both (get_or c.loop-place.falls i never)) (get_or_default others i never d (omega arith)));
-}
+    let i = c.loop-place.place in
+    rw (c.loop-place.invariant.rest i never (omega arith)) (c.requires.fits i never (omega arith))
 
 pub returns : goal.returns
 returns c =
-    let all = c.args.others.now in
-    all_changed _ c.args.falls.now c.loop-place.falls (added c.args.falls.now all) c.loop-place.place never
-    (c.loop-place.invariant.so_far never) (omega arith)
-    (length-added c.args.falls.now all (omega arith))
-    (λ i l. added_at c.args.falls.now all i never l (omega arith))
+    paired both added refl (λ a b xs ys. refl) c.loop-place.falls c.args.falls.now c.args.others.now
+    (omega arith) (omega arith) (λ k d l. c.loop-place.invariant.done k d (omega arith))

@@ -1,11 +1,12 @@
-use Rattle.std.proofs.Common.{get_or}
-use Rattle.stress.specs.Outcomes.{both, tally_of_one}
+use Rattle.std.proofs.Common.{◌≡◌, ℕ, ◌<◌, ◌≤◌, get_or}
+use Rattle.cascade.specs.declared.standing.Standing.{Standing}
+use Rattle.stress.specs.Outcomes.{both, once}
 use Rattle.stress.specs.declared.tally.Falls.{Falls}
-use Rattle.stress.proofs.Places.{AreChanged}
 use Rattle.stress.proofs.tally.note_each.Given as goal
 
 abbrev pub invariant-loop-place : goal.invariant-loop-place
 invariant-loop-place l = record {
-  so_far : (never : Falls) → AreChanged
-      (λ i f. both f (get_or (tally_of_one l.standings) i never)) l.fn.falls l.falls l.place;
+  done : (i : ℕ) (d : Falls) (s : Standing) → i < l.place
+      → get_or l.falls i d ≡ both (get_or l.fn.falls i d) (once (get_or l.standings i s).health);
+  rest : (i : ℕ) (d : Falls) → l.place ≤ i → get_or l.falls i d ≡ get_or l.fn.falls i d;
 }

@@ -2,11 +2,14 @@ use Rattle.std.proofs.Common.{◌≡◌, Result, Ok, Err, OnOk, IfOk}
 use Rattle.std.proofs.lemmas.Result.{IfOk-weaker, on_ok_weaker}
 use Rattle.clr_net.specs.Limits.{IsNetwork}
 use Rattle.clr_net.specs.Net.{Net}
-use Rattle.clear_core.specs.Clearing.{pay}
+use Rattle.clear_core.specs.Clearing.{least, pay}
 use Rattle.clear_core.proofs.Pay.{spend_mono}
 use Rattle.upper.specs.Bounds.{greatest, waves, WavesTellHealth}
 use Rattle.upper.specs.declared.bounds.Upper.{Upper}
-use Rattle.upper.proofs.Descents.{is_greatest, waves_tell, equities_are_fixed}
+use Rattle.upper.proofs.Descents.{waves_tell}
+use Rattle.upper.proofs.Tops.{greatest_rounds}
+use Rattle.cascade.proofs.Equities.{equities_are_one}
+use Rattle.clear_core.proofs.Least.{least_clears}
 use Rattle.upper.proofs.descent.upper.Goals as goal
 
 pub descend_by-requires : goal.descend_by-requires
@@ -18,7 +21,7 @@ returns-clause-greatest c = c.descend_by.ensures.greatest
 
 pub returns-clause-is_greatest : goal.returns-clause-is_greatest
 returns-clause-is_greatest c =
-    IfOk-weaker c.descend_by.result _ _ (λ found. is_greatest c.args.net.now found.greatest)
+    IfOk-weaker c.descend_by.result _ _ (λ found e. rw e (greatest_rounds c.args.net.now))
     (returns-clause-greatest c)
 
 pub returns-clause-waves : goal.returns-clause-waves
@@ -38,5 +41,7 @@ returns-clause-healths c =
 
 pub returns-clause-equities : goal.returns-clause-equities
 returns-clause-equities c =
-    on_ok_weaker c.descend_by.result (equities_are_fixed c.args.net.now)
+    let net = c.args.net.now in
+    on_ok_weaker c.descend_by.result
+    (λ network Q clears. equities_are_one net Q (least net) network clears (least_clears net))
     c.descend_by.ensures.network

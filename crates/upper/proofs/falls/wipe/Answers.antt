@@ -1,9 +1,13 @@
-use Rattle.std.proofs.Common.{arith}
-use Rattle.upper.proofs.Hits.{all_wiped}
+use Rattle.std.proofs.Common.{ℕ, length, replicate, arith}
+use Rattle.std.proofs.lemmas.Grind.{common_steps}
+use Rattle.std.proofs.lemmas.List.{ext_get_or, length-replicate}
+use Rattle.clr_net.proofs.Lists.{zeros_at}
+use Rattle.upper.proofs.Hits.{listed_place}
 use Rattle.upper.proofs.falls.wipe.Goals as goal
 
 pub returns : goal.returns
 returns c =
-    all_wiped c.args.units.now c.loop-bank.units c.args.banks.now c.loop-bank.bank-index c.requires
-    (omega arith) (omega arith)
-    c.loop-bank.invariant.wiped c.loop-bank.invariant.others
+    let n = length c.args.units.now in
+    let old = c.loop-bank.invariant in
+    ext_get_or 0 c.loop-bank.units (replicate n 0) (omega (arith, length-replicate {A = ℕ} n 0)) (λ i l.
+    grind (arith, c.requires.listed i, listed_place c.args.banks.now i, old.wiped, old.others i, zeros_at n i))

@@ -1,5 +1,8 @@
-use Rattle.upper.proofs.Waves.{wave_known}
+use Rattle.clear_core.specs.Clearing.{pay, spend}
+use Rattle.clear_core.proofs.Pay.{spend_mono}
+use Rattle.upper.proofs.Waves.{wave_in_known}
 use Rattle.upper.proofs.laws.wave_is_the_only_one.Goals as goal
 
 pub returns : goal.returns
-returns c = wave_known
+unfolding pay
+returns c net = wave_in_known net (spend net) (spend_mono net)

@@ -1,10 +1,20 @@
 use Rattle.std.proofs.Common.{arith}
-use Rattle.upper.proofs.Marks.{marked_all}
+use Rattle.upper.proofs.Hits.{listed_place}
 use Rattle.upper.proofs.short.mark_short.Goals as goal
 
 pub returns : goal.returns
 returns c =
-    marked_all c.args.net.now _ c.args.paid.now c.args.round c.banks-bank-items.result.now
-    c.args.waves.now c.loop-bank.waves
-    c.loop-bank.bank-index c.banks-bank-items.ensures c.requires.enough (omega arith)
-    c.loop-bank.invariant
+    let old = c.loop-bank.invariant in
+    let hit = c.banks-bank-items.ensures in
+    record {
+      as_many = old.as_many;
+      short = λ i l none below. grind (
+        arith,
+        c.requires.enough i l,
+        hit.listed i,
+        listed_place c.banks-bank-items.result.now i,
+        old.short,
+      );
+      enough = old.enough;
+      had = old.had;
+    }

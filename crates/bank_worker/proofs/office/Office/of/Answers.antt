@@ -21,11 +21,5 @@ returns-clause-office c =
     let are : c.banks-2.result.now ≡ banks = c.banks-2.ensures ∙ ap banks_of c.in_ok-desks.ensures ∙ banks_of_desks net banks in
     let out : AreSetOut c.set_of.result c.args.workers banks = set_out net c.set_of.result c.args.workers c.args.worker c.requires.workers
     (λ b. c.set_of.ensures b ∙ ap (λ bs. is_among bs b) are) in
-    record {
-      network = search rules;
-      desks = search rules;
-      creditors = search rules;
-      marks = search rules;
-      room = search rules;
-      mine = subst (λ (t : Workspace). AreSetOut t.mine t.workers banks) (sym c.in_ok-workspace.ensures.ok) out;
-    }
+    let mine = subst (λ (t : Workspace). AreSetOut t.mine t.workers banks) (sym c.in_ok-workspace.ensures.ok) out in
+    search (rules, mine)

@@ -1,6 +1,5 @@
-use Rattle.std.proofs.Common.{◌≡◌, ◌<◌, length, get_or, sym, ap, ◌∙◌, arith}
-use Rattle.pay_words.specs.Views.{holds}
-use Rattle.bank_worker.specs.Views.{Crew, banks_of, desk_at}
+use Rattle.std.proofs.Common.{◌<◌, length, ap, ◌∙◌, arith}
+use Rattle.bank_worker.specs.Views.{banks_of}
 use Rattle.bank_worker.proofs.Manned.{bank_at, desk_is, length_banks}
 use Rattle.bank_worker.proofs.worker.Worker.bank.Goals as goal
 
@@ -13,12 +12,8 @@ returns c =
     let a = c.self.inside in
     let k = c.args.place in
     let banks = c.banks-banks.result.now in
-    let here : banks ≡ banks_of a.office.desks = c.banks-banks.ensures ∙ ap banks_of c.desks.ensures in
     let office = c.self.invariant.office in
     let l : k < length a.office.desks = omega (arith, c.requires, ap (λ w. length w.desks) c.self.view_is) in
-    let at = bank_at a.seat.shows a.office.desks banks k office.desks here l in
-    record {
-      bank = at.bank ∙ ap (λ (w : Crew). (desk_at w.desks k).bank) c.self.view_is;
-      few = omega (arith, at.bank, (desk_is a.seat.shows a.office.desks k office.desks l).bank, office.network.banks_in_limit);
-      held = sym (ap (λ (w : Crew). holds w.seat.shows (get_or banks k 0)) c.self.view_is) ∙ at.held;
-    }
+    let is = bank_at a.office.desks banks k (c.banks-banks.ensures ∙ ap banks_of c.desks.ensures) l in
+    let f = desk_is a.seat.shows a.office.desks k office.desks l in
+    rw (← c.self.view_is) (record { bank = is; few = omega (arith, is, f.bank, office.network.banks_in_limit); held = rw is f.held })

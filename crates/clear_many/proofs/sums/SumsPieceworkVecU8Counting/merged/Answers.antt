@@ -1,6 +1,9 @@
 -- Both shares are counted together.
-use Rattle.std.proofs.Common.{◌≤◌, arith}
-use Rattle.clear_many.proofs.Counting.{both_counted, counted_within}
+use Rattle.std.proofs.Common.{◌≤◌, sym, arith}
+use Rattle.stress.proofs.Outcomes.{tallies_add_up}
+use Rattle.clear_many.specs.Between.{between}
+use Rattle.clear_many.proofs.Between.{between_joined}
+use Rattle.clear_many.proofs.Counting.{counted_within}
 use Rattle.clear_many.proofs.sums.SumsPieceworkVecU8Counting.merged.Goals as goal
 
 pub add-requires-clause-fits : goal.add-requires-clause-fits
@@ -15,9 +18,10 @@ add-requires-clause-others_fit c =
 
 pub returns : goal.returns
 returns c = λ low middle high front back.
+    let scenarios = c.args.self.now.scenarios.now in
     let within : low ≤ high = omega (arith, front.0, back.0) in (
       within,
       front.1,
-      both_counted c.args.self.now.net.now c.args.self.now.scenarios.now low middle high c.args.front.tally c.args.back.tally c.add.new.self
-          front.0 back.0 front.2 back.2 c.add.ensures,
+      rw (c.add.ensures, front.2, back.2, between_joined scenarios low middle high front.0 back.0)
+          (sym (tallies_add_up c.args.self.now.net.now (between scenarios low middle) (between scenarios middle high))),
     )

@@ -1,5 +1,4 @@
-use Rattle.std.proofs.Common.{ℕ, List, [], ◌∷◌, ◌++◌, Vec, Global, length, slice_index, sym, ap, ◌∙◌, arith, append_assoc}
-use Rattle.std.proofs.lemmas.Result.{on_ok_weaker}
+use Rattle.std.proofs.Common.{ℕ, [], ◌∷◌, ◌++◌, Vec, Global, length, slice_index, sym, ap, ◌∙◌, arith, append_assoc}
 use Rattle.std.specs.Fmt.{decimal}
 use Rattle.clr_net.specs.Net.{claim_of}
 use Rattle.clear_report.specs.Text.{debt_fields, head_of}
@@ -22,12 +21,7 @@ returns c =
     let head =
     head_at (head_of net) t.heads.now (length net.debts) c.requires.over.0 x
     c.index-self-place.result c.requires.debt c.index-self-place.is in
-    on_ok_weaker c.push_number.result
-    (λ e. e
-    ∙ ap (λ (t : List ℕ). t ++ (paid ++ 10 ∷ []))
-    (c.in_ok-extend_from_slice.ensures.items
-    ∙ ap (λ (h : List ℕ). start ++ h)
-    (c.as_slice.ensures.value ∙ ap (λ (v : Vec ℕ Global). v.items) (sym c.index-self-place.is) ∙ head))
-    ∙ append_assoc start (head_of net x) (paid ++ 10 ∷ [])
-    ∙ ap (λ (t : List ℕ). start ++ t) (line_ends (debt_fields net x ++ decimal (claim_of net x) ∷ []) paid))
-    c.push_number.ensures
+    let at = c.as_slice.ensures.value ∙ ap (λ (v : Vec ℕ Global). v.items) (sym c.index-self-place.is) ∙ head in
+    let more = rw (c.in_ok-extend_from_slice.ensures.items, at) at c.push_number.ensures in
+    let told = rw (append_assoc start (head_of net x) (paid ++ 10 ∷ [])) at more in
+    rw (line_ends (debt_fields net x ++ decimal (claim_of net x) ∷ []) paid) at told

@@ -34,9 +34,6 @@ returns-in_err-put_all-clause-part g c =
 
 pub returns-clause-written : goal.returns-clause-written
 returns-clause-written g c =
-    let start = g.S.Sink.written c.args.sink.now in
-    let texts = map (λ piece. piece.items) c.as_slice-pieces.result.now in
-    c.loop-piece.invariant.taken
-    ∙ ap (λ ts. with_bytes start (concat ts)) (take_all c.loop-piece.piece-index texts
-    (omega (arith, length-map c.as_slice-pieces.result.now (λ piece. piece.items), c.loop-piece-test.false)))
-    ∙ ap (with_bytes start) (ap (λ ps. concat (map (λ piece. piece.items) ps)) c.as_slice-pieces.ensures.value ∙ c.self.view_is)
+    let pieces = c.as_slice-pieces.result.now in
+    let all = take_all c.loop-piece.piece-index pieces (omega (arith, c.loop-piece-test.false)) in
+    rw (all, c.as_slice-pieces.ensures.value, c.self.view_is) at c.loop-piece.invariant.taken

@@ -9,6 +9,6 @@ invariant-loop-piece g l =
     let sink = g.S.Sink in
     record {
       taken : TakesWhole (sink_call (sink.written l.initial.sink) (sink.written l.sink) (sink.faults l.initial.sink) (sink.faults l.sink))
-          (concat (take l.piece-index (map (λ piece. piece.items) l.pieces)));
+          (concat (map (λ piece. piece.items) (take l.piece-index l.pieces)));
       no_fall : sink.faults l.initial.sink ≤ sink.faults l.sink;
     }

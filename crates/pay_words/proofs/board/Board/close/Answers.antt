@@ -1,6 +1,6 @@
 use Rattle.std.proofs.Common.{◌≡◌, ◌+◌, ◌<◌, ◌≢◌, length, ap, sym, subst, ◌∙◌, arith, below_more, get_or-set_same, get_or-set_other}
 use Rattle.std.specs.Slots.{slots_items}
-use Rattle.pay_words.proofs.Bells.{got}
+use Rattle.pay_words.proofs.Views.{got}
 use Rattle.pay_words.specs.Ends.{Ends}
 use Rattle.pay_words.specs.Views.{Panel, Chair, HoldsAll}
 use Rattle.pay_words.specs.Words.{unpaid, payment_of}
@@ -15,7 +15,7 @@ loop-i-preserved c =
     (λ k h. let ne : k ≢ c.loop-i.i = omega (arith, h) in get_or-set_other c.loop-i.into c.loop-i.i k c.of_word.result unpaid ne ∙ c.loop-i.invariant k h)
     (get_or-set_same c.loop-i.into c.loop-i.i c.of_word.result unpaid lt
     ∙ c.of_word.ensures
-    ∙ ap payment_of (sym (got (slots_items c.close_with-closed.result.words) (c.loop-i.i + 1) c.word-word.result 0 c.word-word.ensures)))
+    ∙ ap payment_of (sym (got (slots_items c.close_with-closed.result.words) (c.loop-i.i + 1) c.word-word.result 0 c.word-word.ensures).1))
 
 pub returns : goal.returns
 returns c =

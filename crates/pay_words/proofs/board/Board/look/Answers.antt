@@ -3,16 +3,19 @@ use Rattle.clr_net.specs.Net.{creditor_of}
 use Rattle.atomic_table.specs.Table.{Me}
 use Rattle.pay_words.specs.declared.view.View.{View}
 use Rattle.pay_words.specs.Seats.{IsInMemory, purse}
-use Rattle.pay_words.specs.Views.{Panel, Chair, holds}
+use Rattle.pay_words.specs.Views.{Chair, holds}
+use Rattle.clr_net.specs.Net.{Net}
 use Rattle.pay_words.proofs.Looks.{looks}
-use Rattle.pay_words.proofs.Seats.{kept_look}
+use Rattle.pay_words.proofs.Seats.{kept_look, net_within}
 use Rattle.pay_words.proofs.board.Board.look.Goals as goal
 
 pub load-word-requires : goal.load-word-requires
 load-word-requires c =
-    let lt : c.args.debt.0 < length c.self.inside.table.shared.key.me.0.net.debts = omega (arith, c.requires.debt, ap (λ (p : Panel). length p.net.debts) c.self.view_is) in
-    let mine = subst (λ (y : Panel × Chair). holds y.1.shows (creditor_of y.0.net c.args.debt.0) ≡ true) (λ i. (sym c.self.view_is i, sym c.seat.view_is i)) c.requires.creditor in
-    (search rules, omega (arith, c.self.invariant.0.words_are, lt), looks _ _ _ _ _ c.seat.invariant.1.live lt mine)
+    let over = net_within _ _ _ _ c.seat.view_is c.self.view_is c.requires.seat.1 in
+    let may : (c.args.debt.0 < length c.args.seat.now.shows.net.debts) × (holds c.args.seat.now.shows (creditor_of c.args.seat.now.shows.net c.args.debt.0) ≡ true) =
+    rw c.requires.seat.1 (c.requires.debt, c.requires.creditor) in
+    let here = subst (λ (s : Chair). (c.args.debt.0 < length s.shows.net.debts) × (holds s.shows (creditor_of s.shows.net c.args.debt.0) ≡ true)) (sym c.seat.view_is) may in
+    (search rules, omega (arith, c.self.invariant.0.words_are, here.0, ap (λ (n : Net). length n.debts) over), looks _ _ _ _ _ over c.seat.invariant.1.live here.0 here.1)
 
 pub invariant_of-seat : goal.invariant_of-seat
 invariant_of-seat c =

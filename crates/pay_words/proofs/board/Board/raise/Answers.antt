@@ -1,44 +1,41 @@
-use Rattle.std.proofs.Common.{◌≡◌, ℕ, ◌+◌, ◌*◌, ◌%◌, ◌<◌, ◌≤◌, ◌∙◌, List, length, set, ap, refl, sym, subst, rules, arith}
+use Rattle.std.proofs.Common.{◌≡◌, ℕ, ◌+◌, ◌*◌, ◌%◌, ◌∙◌, List, length, set, ap, refl, sym, subst, rules, arith}
 use Rattle.atomic_table.specs.Table.{Me}
-use Rattle.clr_net.specs.declared.TheConstants.{MAX_CLAIM}
 use Rattle.clr_net.specs.Net.{Net}
 use Rattle.pay_words.specs.declared.view.View.{View}
 use Rattle.pay_words.specs.BoardRule.{showing}
 use Rattle.pay_words.specs.Seats.{IsInMemory, purse}
-use Rattle.pay_words.specs.Views.{Chair, IsSound, raised}
-use Rattle.pay_words.proofs.Seats.{clock_in_limit, kept_raise, may_within, net_within, own_there, payment_in_limit, raises_by}
+use Rattle.pay_words.specs.Views.{Chair, raised}
+use Rattle.pay_words.proofs.Seats.{clock_in_limit, kept_raise, may_within, net_within, own_there}
+use Rattle.pay_words.proofs.Raises.{raises}
 use Rattle.pay_words.proofs.board.Board.raise.Goals as goal
 
 pub word-requires : goal.word-requires
 word-requires c =
-    let may = may_within _ _ _ _ c.args.debt.0 c.args.to c.self.view_is c.seat.view_is (record { debt = c.requires.debt; not_the_master = c.requires.not_the_master; debtor = c.requires.debtor; more = c.requires.more; within = c.requires.within }) in
-    omega (arith, payment_in_limit _ _ _ _ c.self.invariant.0.network may.debt may.within, clock_in_limit _ _ _ _ c.seat.invariant.1)
+    let may = may_within _ _ _ c.args.debt.0 c.args.to c.seat.invariant.1.sound.network c.seat.view_is c.requires.seat.1 (record { debt = c.requires.debt; not_the_master = c.requires.not_the_master; debtor = c.requires.debtor; more = c.requires.more; within = c.requires.within }) in
+    omega (arith, may.1, clock_in_limit _ _ _ _ c.seat.invariant.1)
 
 pub store-requires : goal.store-requires
 store-requires c =
-    let may = may_within _ _ _ _ c.args.debt.0 c.args.to c.self.view_is c.seat.view_is (record { debt = c.requires.debt; not_the_master = c.requires.not_the_master; debtor = c.requires.debtor; more = c.requires.more; within = c.requires.within }) in
-    let low : c.args.to ≤ MAX_CLAIM = payment_in_limit _ _ _ _ c.self.invariant.0.network may.debt may.within in
-    (search rules, omega (arith, c.self.invariant.0.words_are, may.debt), raises_by _ _ _ _ _ _ _ (c.word.ensures ∙ ap (λ (n : ℕ). (n + 1) * 4294967296 + c.args.to) c.seat.invariant.1.clock_is) c.seat.invariant.1.live (omega (arith, low)) may)
+    let over = net_within _ _ _ _ c.seat.view_is c.self.view_is c.requires.seat.1 in
+    let may = may_within _ _ _ c.args.debt.0 c.args.to c.seat.invariant.1.sound.network c.seat.view_is c.requires.seat.1 (record { debt = c.requires.debt; not_the_master = c.requires.not_the_master; debtor = c.requires.debtor; more = c.requires.more; within = c.requires.within }) in
+    (search rules, omega (arith, c.self.invariant.0.words_are, may.0.debt, ap (λ (n : Net). length n.debts) over), raises _ _ _ _ _ _ _ over (c.word.ensures ∙ ap (λ (n : ℕ). (n + 1) * 4294967296 + c.args.to) c.seat.invariant.1.clock_is) c.seat.invariant.1.live (omega (arith, may.1)) may.0)
 
 pub set-requires-clause-debt : goal.set-requires-clause-debt
 set-requires-clause-debt c =
-    let may = may_within _ _ _ _ c.args.debt.0 c.args.to c.self.view_is c.seat.view_is (record { debt = c.requires.debt; not_the_master = c.requires.not_the_master; debtor = c.requires.debtor; more = c.requires.more; within = c.requires.within }) in
-    let over = net_within _ _ _ _ c.seat.view_is c.self.view_is c.requires.seat.1 in
-    (own_there _ _ _ _ c.seat.invariant.1 _ over c.args.debt.0 c.args.to may).0
+    let may = may_within _ _ _ c.args.debt.0 c.args.to c.seat.invariant.1.sound.network c.seat.view_is c.requires.seat.1 (record { debt = c.requires.debt; not_the_master = c.requires.not_the_master; debtor = c.requires.debtor; more = c.requires.more; within = c.requires.within }) in
+    (own_there _ _ _ _ c.seat.invariant.1 c.args.debt.0 c.args.to may.0).0
 
 pub set-requires-clause-fits : goal.set-requires-clause-fits
 set-requires-clause-fits c =
-    let may = may_within _ _ _ _ c.args.debt.0 c.args.to c.self.view_is c.seat.view_is (record { debt = c.requires.debt; not_the_master = c.requires.not_the_master; debtor = c.requires.debtor; more = c.requires.more; within = c.requires.within }) in
-    omega (arith, payment_in_limit _ _ _ _ c.self.invariant.0.network may.debt may.within)
+    let may = may_within _ _ _ c.args.debt.0 c.args.to c.seat.invariant.1.sound.network c.seat.view_is c.requires.seat.1 (record { debt = c.requires.debt; not_the_master = c.requires.not_the_master; debtor = c.requires.debtor; more = c.requires.more; within = c.requires.within }) in
+    omega (arith, may.1)
 
 pub invariant_of-seat : goal.invariant_of-seat
 invariant_of-seat c =
-    let may = may_within _ _ _ _ c.args.debt.0 c.args.to c.self.view_is c.seat.view_is (record { debt = c.requires.debt; not_the_master = c.requires.not_the_master; debtor = c.requires.debtor; more = c.requires.more; within = c.requires.within }) in
-    let low : c.args.to ≤ MAX_CLAIM = payment_in_limit _ _ _ _ c.self.invariant.0.network may.debt may.within in
+    let may = may_within _ _ _ c.args.debt.0 c.args.to c.seat.invariant.1.sound.network c.seat.view_is c.requires.seat.1 (record { debt = c.requires.debt; not_the_master = c.requires.not_the_master; debtor = c.requires.debtor; more = c.requires.more; within = c.requires.within }) in
     let told = c.store.ensures.2 c.args.debt.0 refl in
-    let value : c.word.result % 4294967296 ≡ c.args.to = omega (arith, low, c.word.ensures) in
-    let lt : c.args.debt.0 < length c.seat.inside.seat.me.0.shown.net.debts = omega (arith, c.requires.debt, ap (λ (n : Net). length n.debts) c.requires.seat.1, ap (λ (s : Chair). length s.shows.net.debts) c.seat.view_is) in
-    let kept = kept_raise _ _ _ _ c.seat.invariant.1 c.args.debt.0 c.args.to lt may.not_the_master (subst (λ (n : ℕ). IsSound (raised c.seat.inside.seat.me.0.shown c.args.debt.0 n)) value told.1) in
+    let value : c.word.result % 4294967296 ≡ c.args.to = omega (arith, may.1, c.word.ensures) in
+    let kept = kept_raise _ _ _ _ c.seat.invariant.1 c.args.debt.0 c.args.to may.0.debt may.0.not_the_master (rw value at told.1) in
     let there = subst (λ (n : ℕ). IsInMemory (showing c.seat.inside.seat.me.0 (raised c.seat.inside.seat.me.0.shown c.args.debt.0 n)) (purse (set c.seat.inside.own c.args.debt.0 c.args.to) c.seat.inside.lists.items c.seat.inside.debtors.items c.seat.inside.workers c.seat.inside.worker) (c.seat.inside.clock + 1) c.seat.inside.seats) (sym value) kept in (
       ap (λ (m : Me (Unit {0}) View). m.1) told.0 ∙ c.seat.invariant.0,
       subst (λ (y : Me (Unit {0}) View × List ℕ). IsInMemory y.0.0 (purse y.1 c.seat.inside.lists.items c.seat.inside.debtors.items c.seat.inside.workers c.seat.inside.worker) (c.seat.inside.clock + 1) c.seat.inside.seats)
@@ -47,10 +44,7 @@ invariant_of-seat c =
 
 pub returns-clause-raised : goal.returns-clause-raised
 returns-clause-raised c =
-    let may = may_within _ _ _ _ c.args.debt.0 c.args.to c.self.view_is c.seat.view_is (record { debt = c.requires.debt; not_the_master = c.requires.not_the_master; debtor = c.requires.debtor; more = c.requires.more; within = c.requires.within }) in
-    let low : c.args.to ≤ MAX_CLAIM = payment_in_limit _ _ _ _ c.self.invariant.0.network may.debt may.within in
-    let told = c.store.ensures.2 c.args.debt.0 refl in
-    let value : c.word.result % 4294967296 ≡ c.args.to = omega (arith, low, c.word.ensures) in
-    ap (λ (m : Me (Unit {0}) View). m.0.shown) told.0
-    ∙ ap (raised c.seat.inside.seat.me.0.shown c.args.debt.0) value
-    ∙ ap (λ (s : Chair). raised s.shows c.args.debt.0 c.args.to) c.seat.view_is
+    let may = may_within _ _ _ c.args.debt.0 c.args.to c.seat.invariant.1.sound.network c.seat.view_is c.requires.seat.1 (record { debt = c.requires.debt; not_the_master = c.requires.not_the_master; debtor = c.requires.debtor; more = c.requires.more; within = c.requires.within }) in
+    let value : c.word.result % 4294967296 ≡ c.args.to = omega (arith, may.1, c.word.ensures) in
+    ap (λ (m : Me (Unit {0}) View). m.0.shown) (c.store.ensures.2 c.args.debt.0 refl).0
+    ∙ ap (raised c.seat.inside.seat.me.0.shown c.args.debt.0) value ∙ ap (λ (s : Chair). raised s.shows c.args.debt.0 c.args.to) c.seat.view_is

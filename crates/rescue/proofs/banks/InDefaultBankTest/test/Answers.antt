@@ -2,7 +2,7 @@ use Rattle.std.proofs.Common.{ap, ◌∙◌, arith}
 use Rattle.cascade.specs.Standings.{is_default}
 use Rattle.cascade.specs.declared.standing.Standing.{Standing}
 use Rattle.clear_core.specs.Clearing.{least}
-use Rattle.rescue.proofs.SavedBesides.{as_many_stand, stands_there}
+use Rattle.cascade.proofs.Stands.{as_many_stand, stands_there}
 use Rattle.rescue.proofs.banks.InDefaultBankTest.test.Goals as goal
 
 pub bounds-self-bank : goal.bounds-self-bank

@@ -1,6 +1,7 @@
 use Rattle.std.proofs.Common.{not, sym, ap, ne_eqb, true, arith}
 use Rattle.clear_core.specs.Clearing.{least}
-use Rattle.rescue.proofs.SavedBesides.{as_many_after, as_many_stand, saving_told}
+use Rattle.cascade.proofs.Stands.{as_many_stand}
+use Rattle.rescue.proofs.SavedBesides.{as_many_after, saving_told}
 use Rattle.rescue.proofs.saved.SavedWithBankTest.test.Goals as goal
 
 pub bounds-self-place : goal.bounds-self-place
