@@ -1,5 +1,5 @@
 -- The banks of a worker: the number of each, divided by the number of workers, is its place.
-use Rattle.std.proofs.Common.{◌≡◌, ℕ, zero, suc, ◌+◌, ◌*◌, ◌/◌, ◌%◌, ◌<◌, ◌≤◌, ◌==◌, true, List, [], ◌∷◌, length, map, get_or, filter, inl, inr, refl, sym, ap, ◌∙◌, ⊎_elim, arith, div-add-mod', mul-le-mul_right, eqb-true, eq-eqb}
+use Rattle.std.proofs.Common.{◌≡◌, ℕ, zero, suc, ◌+◌, ◌*◌, ◌/◌, ◌%◌, ◌<◌, ◌≤◌, ◌==◌, List, [], ◌∷◌, length, map, get_or, filter, inl, inr, refl, sym, ap, ◌∙◌, ⊎_elim, arith, div-add-mod', mul-le-mul_right, eqb-true, eq-eqb}
 use Rattle.std.specs.Prelude.{All}
 use Rattle.std.specs.List.{range_with_len}
 use Rattle.std.proofs.lemmas.Bool.{cases_eq, cases_lt}
@@ -28,23 +28,14 @@ banks_of_desks net (b ∷ banks) = ap (λ bs. b ∷ bs) (banks_of_desks net bank
 abbrev of_worker : ℕ → ℕ → ℕ → List ℕ
 of_worker n w i = filter (is_of_worker w i) (range_with_len 0 n)
 
--- what a worker's number is, by its place, and that the worker's own number is a low one
-record IsOneOf (n w i k : ℕ) : Type 0 where
-  known : get_or (of_worker n w i) k 0 < n
-  split : get_or (of_worker n w i) k 0 ≡ get_or (of_worker n w i) k 0 / w * w + i
-  low : i < w
-
--- so is each that stands in a place of the list
-one_of : (n w i k : ℕ) → 1 ≤ w → k < length (of_worker n w i) → IsOneOf n w i k
+-- each that stands in a place of the list is below n, and is a multiple of w and i, which is less than w
+one_of : (n w i k : ℕ) → 1 ≤ w → k < length (of_worker n w i)
+    → (get_or (of_worker n w i) k 0 < n) × (get_or (of_worker n w i) k 0 ≡ get_or (of_worker n w i) k 0 / w * w + i) × (i < w)
 one_of n w i k some l =
     let x = get_or (of_worker n w i) k 0 in
     let f = filter_passes (is_of_worker w i) n k l in
     let e : x % w ≡ i = eqb-true (x % w) i f.1 in
-    record {
-      known = f.0;
-      split = sym (div-add-mod' x w) ∙ ap (λ r. x / w * w + r) e;
-      low = omega (arith, e, mod_below x w some);
-    }
+    (f.0, sym (div-add-mod' x w) ∙ ap (λ r. x / w * w + r) e, omega (arith, e, mod_below x w some))
 
 -- a number of the worker that is below n stands in the list
 stands : (n w i a : ℕ) → i < w → a * w + i < n → Stands (of_worker n w i) (a * w + i)
@@ -62,8 +53,8 @@ placed : (n w i k : ℕ) → 1 ≤ w → k < length (of_worker n w i) → get_or
 placed n w i zero some l =
     let xs = of_worker n w i in
     let h = one_of n w i 0 some l in
-    let s = stands n w i 0 h.low (omega (arith, h.known, h.split)) in
-    omega (arith, h.split, s.2, not_after xs 0 s.0 (filter_rises (is_of_worker w i) 0 n) (omega arith) s.1)
+    let s = stands n w i 0 h.2 (omega (arith, h.0, h.1)) in
+    omega (arith, h.1, s.2, not_after xs 0 s.0 (filter_rises (is_of_worker w i) 0 n) (omega arith) s.1)
 placed n w i (suc k) some l =
     let xs = of_worker n w i in
     let q = get_or xs (suc k) 0 / w in
@@ -71,12 +62,12 @@ placed n w i (suc k) some l =
     let rise = filter_rises (is_of_worker w i) 0 n in
     let before : get_or xs k 0 ≡ k * w + i = placed n w i k some (omega (arith, l)) in
     let after : get_or xs k 0 < get_or xs (suc k) 0 = rise k (suc k) 0 (omega arith) l in
-    let more : k < q = ⊎_elim (λ (lt : k < q). lt) (λ (le : q ≤ k). absurd (omega (arith, h.split, before, after, mul-le-mul_right w le))) (cases_lt k q) in
+    let more : k < q = ⊎_elim (λ (lt : k < q). lt) (λ (le : q ≤ k). absurd (omega (arith, h.1, before, after, mul-le-mul_right w le))) (cases_lt k q) in
     let next : suc k ≤ q = omega (arith, more) in
     let least : suc k * w ≤ q * w = mul-le-mul_right w next in
-    let s = stands n w i (suc k) h.low (omega (arith, h.known, h.split, least)) in
+    let s = stands n w i (suc k) h.2 (omega (arith, h.0, h.1, least)) in
     let later : k < s.0 = ⊎_elim (λ (lt : k < s.0). lt) (λ (le : s.0 ≤ k). absurd (omega (arith, s.2, before, not_after xs s.0 k rise le (omega (arith, l))))) (cases_lt k s.0) in
-    omega (arith, h.split, least, s.2, not_after xs (suc k) s.0 rise (omega (arith, later)) s.1)
+    omega (arith, h.1, least, s.2, not_after xs (suc k) s.0 rise (omega (arith, later)) s.1)
 
 -- the set of a worker's banks is set out: the place of each is its number divided by that of workers
 pub set_out : (net : Net) (set : List ℕ) (workers i : ℕ) → 1 ≤ workers
@@ -87,7 +78,7 @@ set_out net set workers i some are =
     record {
       some = some;
       placed = λ k l.
-          let low = (one_of n workers i k some l).low in
+          let low = (one_of n workers i k some l).2 in
           (are (get_or banks k 0) ∙ list_any_at (λ y. get_or banks k 0 == y) banks k 0 l (eq-eqb (get_or banks k 0) (get_or banks k 0) refl), ap (λ b. b / workers) (placed n workers i k some l) ∙ div-mul-add k workers i low);
       only = λ b e.
           let p = Any-from_list_any (λ y. b == y) banks (sym (are b) ∙ e) in

@@ -1,5 +1,5 @@
 -- Words of a set of banks: one bit more or less, and the first bit in two sets.
-use Rattle.std.proofs.Common.{◌≡◌, ◌≢◌, ℕ, ◌+◌, ◌*◌, ◌-◌, ◌/◌, ◌%◌, ◌^◌, ◌<◌, ◌≤◌, ◌==◌, Bool, true, false, not, List, length, get_or, replicate, set, min, max, inl, inr, refl, sym, ap, ◌∙◌, ⊎_elim, arith, eqb-true, eq-eqb, ne_eqb, get_or-set_same, get_or-set_other, w64}
+use Rattle.std.proofs.Common.{◌≡◌, ◌≢◌, ℕ, ◌+◌, ◌*◌, ◌-◌, ◌/◌, ◌%◌, ◌^◌, ◌<◌, ◌≤◌, ◌==◌, Bool, true, false, not, List, length, get_or, replicate, set, min, max, inl, inr, refl, sym, ap, ◌∙◌, arith, eqb-true, eq-eqb, ne_eqb, get_or-set_same, get_or-set_other, w64}
 use Rattle.std.specs.Prelude.{◌&&◌, ◌||◌, bit_and, bit_or}
 use Rattle.std.specs.Int.{bit_at, bit_not, trailing_zeros}
 use Rattle.std.proofs.lemmas.Bool.{cases_eq}
@@ -98,13 +98,6 @@ pub none_in_word : (xs ys : List ℕ) (from k mask : ℕ) → IsMask from k mask
 none_in_word xs ys from k mask m before none b ge lt e =
     none_more xs ys from k mask 64 m before (omega arith) (λ i l. ap (λ n. bit_at n i) none ∙ bit_at-zero i) b ge (omega arith) e
 
--- the bank is the first from one on that is in both sets
-pub record IsFirstInBoth (xs ys : List ℕ) (from b : ℕ) : Type 0 where
-  pub ahead : from ≤ b
-  pub first_set : is_in xs b ≡ true
-  pub second_set : is_in ys b ≡ true
-  pub none_before : HaveNoneInBoth xs ys from b
-
 -- the common word, read from lists that are equal to these
 pub common_of : (xs ys zs ws : List ℕ) (k mask : ℕ) → xs ≡ zs → ys ≡ ws → bit_and (bit_and (get_or xs k 0) (get_or ys k 0)) mask ≡ common zs ws k mask
 unfolding common
@@ -112,7 +105,9 @@ common_of xs ys zs ws k mask p q = λ i. bit_and (bit_and (get_or (p i) k 0) (ge
 
 -- so the first bank is found by the count of zeros below the lowest bit
 pub found_in_word : (xs ys : List ℕ) (from k mask w : ℕ) → IsMask from k mask → HaveNoneInBoth xs ys from (k * 64) → w ≡ common xs ys k mask
-    → mask < 2 ^ 64 → w ≢ 0 → IsFirstInBoth xs ys from (k * 64 + trailing_zeros w64 w)
+    → mask < 2 ^ 64 → w ≢ 0
+    → ((from ≤ k * 64 + trailing_zeros w64 w) × (is_in xs (k * 64 + trailing_zeros w64 w) ≡ true) × (is_in ys (k * 64 + trailing_zeros w64 w) ≡ true))
+    × HaveNoneInBoth xs ys from (k * 64 + trailing_zeros w64 w)
 unfolding common
 found_in_word xs ys from k mask w m before e fits some =
     let h = bit_at-trailing_zeros w64 w (omega arith) (omega (arith, e, and_le_r (bit_and (get_or xs k 0) (get_or ys k 0)) mask)) in
@@ -121,12 +116,14 @@ found_in_word xs ys from k mask w m before e fits some =
     let word : (k * 64 + t) / 64 ≡ k = omega (arith, h.0) in
     let bit : (k * 64 + t) % 64 ≡ t = omega (arith, h.0) in
     let set : bit_at (common xs ys k mask) t ≡ 1 = ap (λ n. bit_at n t) (sym e) ∙ h.1 in
-    record {
-      ahead = elim (cases_lt (k * 64 + t) from) [ inl less ↦ absurd (omega (arith, both, set, m.off t h.0 less)) | inr ge ↦ ge ];
-      first_set = rw (word, bit) (eq-eqb (bit_at (get_or xs k 0) t) 1 (omega (arith, both, set)));
-      second_set = rw (word, bit) (eq-eqb (bit_at (get_or ys k 0) t) 1 (omega (arith, both, set)));
-      none_before = none_more xs ys from k mask t m before (omega arith) (λ i l. ap (λ n. bit_at n i) (sym e) ∙ h.2 i l);
-    }
+    let ahead : from ≤ k * 64 + t = elim (cases_lt (k * 64 + t) from) [ inl less ↦ absurd (omega (arith, both, set, m.off t h.0 less)) | inr ge ↦ ge ] in (
+      (
+        ahead,
+        rw (word, bit) (eq-eqb (bit_at (get_or xs k 0) t) 1 (omega (arith, both, set))),
+        rw (word, bit) (eq-eqb (bit_at (get_or ys k 0) t) 1 (omega (arith, both, set))),
+      ),
+      none_more xs ys from k mask t m before (omega arith) (λ i l. ap (λ n. bit_at n i) (sym e) ∙ h.2 i l),
+    )
 
 -- a bit of two words together is set where it is in one of them
 pub bit_of_either : (x y i : ℕ) → (bit_at (bit_or x y) i == 1) ≡ ((bit_at x i == 1) || (bit_at y i == 1))

@@ -1,11 +1,9 @@
 -- A worker stays staffed over a visit and over a take.
-use Rattle.std.proofs.Common.{ℕ, Bool, true, false, List, filter, length, sym, subst}
+use Rattle.std.proofs.Common.{ℕ, Bool, true, false, List}
 use Rattle.std.specs.Prelude.{if◌then◌else◌}
-use Rattle.std.specs.List.{range_with_len}
-use Rattle.clr_net.specs.Net.{Net}
 use Rattle.clear_core.specs.declared.event.Raise.{Raise}
 use Rattle.pay_words.specs.declared.view.Shown.{Shown}
-use Rattle.pay_words.specs.Views.{is_marked, took}
+use Rattle.pay_words.specs.Views.{took}
 use Rattle.bank_worker.specs.Offices.{IsOfficeFor, OfficeView}
 use Rattle.bank_worker.specs.Staff.{IsStaffed}
 use Rattle.bank_worker.specs.Views.{banks_held}
@@ -19,7 +17,4 @@ staffed_taken s b false journal o h = h
 
 -- the network and the banks of the seat stay, and so the office serves them
 pub office_kept : (s t : Shown) (o : OfficeView) → IsSameSeat s t → IsOfficeFor s.net (banks_held s) o → IsOfficeFor t.net (banks_held t) o
-office_kept s t o same h =
-    let banks = λ (net : Net) (bs : List Bool). filter (λ b. is_marked bs b) (range_with_len 0 (length net.banks)) in
-    subst (λ (net : Net). IsOfficeFor net (banks net t.banks) o) (sym same.net)
-    (subst (λ (bs : List Bool). IsOfficeFor s.net (banks s.net bs) o) (sym same.banks) h)
+office_kept s t o same h = rw (same.net, same.banks) h

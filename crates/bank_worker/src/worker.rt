@@ -8,7 +8,7 @@ ghost use Rattle.bank_worker.specs.Visits.{IsAllCalm, IsDown, IsSameCrew, IsVisi
 ghost use Rattle.bank_worker.specs.Visits.{WhenMem, WhenRaised};
 ghost use Rattle.clr_net.specs.declared.TheConstants.{MAX_BANKS, MAX_OWED};
 ghost use Rattle.pay_words.specs.Views.{IsAt, OwesNoRing, holds, is_of_worker, took};
-ghost use Rattle.std.specs.Prelude.{◌≡◌, ◌+◌, ◌*◌, ◌^◌, ◌<◌, ◌≤◌, ℕ, [], IfErr, IfNone, IfOk};
+ghost use Rattle.std.specs.Prelude.{◌≡◌, ◌+◌, ◌*◌, ◌^◌, ◌<◌, ◌≤◌, ℕ, [], IfErr, IfNone, IfOk, Some, codes};
 ghost use Rattle.std.specs.Prelude.{IfSome, drop, false, if◌then◌else◌, length, slice_index, true};
 
 use crate::bank_set::BankSet;
@@ -19,12 +19,21 @@ use clr_edge::Gate;
 use clr_net::{BankId, MAX_BANKS, Mem, Network};
 use pay_words::{Board, PaySeat};
 use std::alloc::Global;
+use std::fmt;
 use std::marker::Model;
 
 /// Want of memory, with the seat for which there was none.
 #[derive(Drop)]
 pub struct SeatBack {
     pub seat: PaySeat,
+}
+
+impl fmt::Display for SeatBack {
+    ghost output = { λ _. Some (codes "out of memory") };
+
+    fn fmt<W: fmt::Write>(&self, f: &mut fmt::Formatter<W>) -> fmt::Result {
+        f.write_str("out of memory")
+    }
 }
 
 /// One of the workers of a board: a seat, a desk for each bank of the seat, and a journal of the

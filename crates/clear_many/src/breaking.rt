@@ -34,14 +34,15 @@ pub fn tell_breaking<R: Threads + Sync>(
 // How many blocks the cuts are parted into: as many for each thread as there are threads.
 const BLOCKS: usize = THREADS * THREADS;
 
-// The cut at which a block begins, and at which the one before it has ended: 0, 67, 134 and so on up to 938, then 998 and
-// 1001. A clearing after which hardly any cash is left takes the longest by far, so the last blocks have few cuts.
+// The cut at which a block begins, and at which the one before it has ended: 0, 84, 168 and so on up
+// to 924, then 998 and 1001. A clearing after which hardly any cash is left takes the longest by far.
+// So blocks 3, 7 and 11 have no cut, and the thread that has the last block has nothing else.
 fn edge(block: usize) -> u32
     requires { block ≤ BLOCKS }
     ensures { result ≡ edge_of block }
 {
     let block = block as u32;
-    (67 * block).min(98 + 60 * block).min(953 + 3 * block)
+    (84 * (block - block / 4)).min(998 + 3 * (block / 16))
 }
 
 // The block that is gone through in a place, and the place of a block. The higher the cuts, the more

@@ -1,6 +1,5 @@
 -- A journal that is shown is read again as it was, and replayed.
-use Rattle.std.proofs.Common.{◌≡◌, ℕ, ◌^◌, ◌<◌, List, Option, None, Some, Ok, Err, refl, sym, ap, ◌∙◌, subst, true, arith}
-use Rattle.std.specs.Option.{option_map}
+use Rattle.std.proofs.Common.{◌≡◌, ℕ, ◌^◌, ◌<◌, List, None, Some, Ok, Err, refl, sym, ap, ◌∙◌, subst, arith}
 use Rattle.clr_net.specs.Limits.{IsNetwork}
 use Rattle.clr_net.specs.Net.{Net}
 use Rattle.clear_core.specs.declared.event.Raise.{Raise}
@@ -15,14 +14,13 @@ use Rattle.net_check.specs.declared.fault.FaultKind.TheVariants as fault
 use Rattle.net_csv.proofs.KeptNames.{network_of_names}
 use Rattle.net_csv.proofs.Networks.{network_of_ok}
 use Rattle.net_csv.specs.Reading.{is_within_limit}
-use Rattle.pay_words.specs.Sealed.{Sealed}
 use Rattle.raise_journal.proofs.ReadBacks.{closed_journal_back}
 use Rattle.raise_journal.specs.ReadJournal.{journal_of, raises_in_file}
 use Rattle.raise_journal.specs.Verdicts.{judged}
 use Rattle.raise_journal.specs.declared.verdict.Verdict.TheVariants as verdict
 use Rattle.clear_top.specs.Evidence.{IsEvidence, ReplaysText, ShowsJournal}
-use Rattle.clear_top.specs.Meaning.{ComesTo, IsRun, Means, Settles, answer_to, clear_text, plan_of}
-use Rattle.clear_top.specs.Reading.{Files, Input, Read, alone, all_whole, both_whole, contents, in_size}
+use Rattle.clear_top.specs.Meaning.{ComesTo, Means, Settles, answer_to, clear_text, plan_of}
+use Rattle.clear_top.specs.Reading.{Files, Input, Read, alone, all_whole, both_whole, contents}
 use Rattle.clear_top.specs.Reading.{net_in, reading, reading_by, then_read, whole}
 use Rattle.clear_top.specs.Sources.{source_of}
 use Rattle.clear_top.specs.Outcome.{Outcome}

@@ -1,7 +1,7 @@
 -- Why the files of a job are not all fetched.
-use Rattle.std.proofs.Common.{◌≡◌, ◌∙◌, ℕ, true, List, Option, Some, Ok, Err}
-use Rattle.std.proofs.Common.{refl, sym, ap}
-use Rattle.clr_edge.specs.Faults.{HasRisen, NoneFalls}
+use Rattle.std.proofs.Common.{◌≡◌, ◌∙◌, ℕ, true, List, Option, Some, Err}
+use Rattle.std.proofs.Common.{refl}
+use Rattle.clr_edge.specs.Faults.{NoneFalls}
 use Rattle.clear_words.specs.declared.job.Job.{Job}
 use Rattle.net_check.specs.declared.fault.Fault.{Fault}
 use Rattle.net_check.specs.declared.fault.FileKind.{FileKind}

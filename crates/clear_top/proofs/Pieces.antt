@@ -1,17 +1,16 @@
 -- A sink that takes a text piece by piece.
 use Rattle.std.proofs.Math.Seq.{take-add}
-use Rattle.std.proofs.Common.{ap₂, ◌≡◌, ℕ, ◌+◌, ◌<◌, ◌≤◌, List, [], ◌∷◌, ◌++◌, length, take}
+use Rattle.std.proofs.Common.{◌≡◌, ℕ, ◌+◌, ◌<◌, ◌≤◌, List, [], ◌++◌, length, take}
 use Rattle.std.proofs.Common.{drop, get_or, map, Option, None, Some, refl, sym, ap, ◌∙◌, inl, inr}
 use Rattle.std.proofs.Common.{⊎_elim, append_assoc, length-append, arith, true, false, true≢false}
 use Rattle.std.proofs.Common.{Result, Ok, Err}
 use Rattle.std.specs.List.{concat}
 use Rattle.std.specs.Result.{is_err, OnOk, OnErr}
-use Rattle.std.proofs.lemmas.List.{take_at, drop_at, take-append-drop, take_more, drop_more, take-append-le, append-nil, get_or-map, length-map, map-append}
+use Rattle.std.proofs.lemmas.List.{take_at, drop_at, take-append-drop, take_more, drop_more, take-append-le, append-nil, map-append}
 use Rattle.std.proofs.lemmas.List.Folds.{concat-append}
 use Rattle.clr_edge.specs.Faults.{HasRisen}
 use Rattle.clr_edge.specs.Sink.{with_bytes, WritesPart}
 use Rattle.clear_top.specs.Ending.{TakesPart, sink_call}
-use Rattle.clear_top.specs.Message.{TakesText}
 
 -- bytes and then bytes
 pub with_bytes-twice : (w : Option (List ℕ)) (a b : List ℕ) → with_bytes (with_bytes w a) b ≡ with_bytes w (a ++ b)
@@ -28,16 +27,11 @@ part_of_whole : (old mid new : Option (List ℕ)) (before piece after whole : Li
 part_of_whole old mid new before piece after whole at is part = record {
   count = length before + part.count;
   not_all = omega (arith, ap length is, length-append before (piece ++ after), length-append piece after, part.not_all);
-  part = rw (
-    part.part,
-    at,
-    is,
-    take-add (length before) part.count (before ++ (piece ++ after)),
-    take_at before (piece ++ after) (length before) refl,
-    drop_at before (piece ++ after) (length before) refl,
-    take-append-le part.count piece after (omega (arith, part.not_all)),
-  )
-      (with_bytes-twice old before (take part.count piece));
+  part = rw (part.part, at, is, take-add (length before) part.count (before ++ (piece ++ after)))
+      (rw (take_at before (piece ++ after) (length before) refl)
+      (rw (drop_at before (piece ++ after) (length before) refl)
+      (rw (take-append-le part.count piece after (omega (arith, part.not_all)))
+      (with_bytes-twice old before (take part.count piece)))));
 }
 
 -- nothing is written yet

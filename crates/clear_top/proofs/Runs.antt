@@ -1,14 +1,11 @@
 -- What a run of settle comes to, and the lists that its reports are made of.
 use Rattle.cascade.proofs.Limits.{clearing_over}
-use Rattle.std.proofs.Common.{◌≡◌, ℕ, ◌+◌, ◌≤◌, List, length, sum, All, Result, Ok, Err, IfOk, Vec, Global, ap, ◌∙◌, subst, arith}
+use Rattle.std.proofs.Common.{◌≡◌, ◌+◌, ◌≤◌, List, length, sum, All, ap, ◌∙◌, subst, arith}
 use Rattle.std.proofs.lemmas.List.{length-append}
-use Rattle.std.proofs.lemmas.List.FromFn.{length-map-range_with_len}
 use Rattle.clr_net.specs.Limits.{IsNetwork}
 use Rattle.clr_net.specs.Net.{Net}
-use Rattle.cascade.specs.Standings.{standing, standings}
-use Rattle.cascade.specs.declared.standing.Standing.{Standing}
 use Rattle.clear_core.proofs.Least.{least_clears}
-use Rattle.clear_core.specs.Clearing.{Clears, least}
+use Rattle.clear_core.specs.Clearing.{least}
 use Rattle.clear_core.specs.declared.event.Raise.{Raise}
 use Rattle.raise_journal.proofs.Lawful.{lawful_pays_least}
 use Rattle.pay_words.proofs.Lawful.{sum-least_le}

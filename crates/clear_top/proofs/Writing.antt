@@ -1,5 +1,5 @@
 -- How a run ends whose work came to something.
-use Rattle.std.proofs.Common.{◌≡◌, ◌≢◌, ◌⊎◌, ℕ, List, Option, Ok, refl, subst, inl, inr, ⊎_elim}
+use Rattle.std.proofs.Common.{ℕ, List, Option, Ok, inl, inr}
 use Rattle.clr_net.specs.Net.{Net}
 use Rattle.clear_core.specs.declared.event.Raise.{Raise}
 use Rattle.clear_words.specs.declared.job.Job.{Job}

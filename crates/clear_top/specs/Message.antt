@@ -1,11 +1,10 @@
 -- What is written for a person where a run does not end well.
 use Rattle.std.specs.Prelude.{◌≡◌, ◌⊎◌, ℕ, List, [], ◌∷◌, codes, Option, None, Some}
 use Rattle.std.specs.List.{concat}
-use Rattle.std.specs.Fmt.{decimal}
 use Rattle.std.specs.Option.{unwrap_or}
 use Rattle.clr_edge.specs.Sink.{with_bytes, WritesPart}
 use Rattle.net_check.specs.declared.fault.FileKind.{FileKind}
-use Rattle.net_check.specs.Words.{file_word, kind_word, kind_number}
+use Rattle.net_check.specs.FaultText.{fault_text}
 use Rattle.clear_words.specs.declared.job.Job.{Job}
 use Rattle.clear_top.specs.Ending.{SinkCall, SinkRose}
 use Rattle.clear_top.specs.Sources.{name_in}
@@ -23,9 +22,7 @@ message status.Done job = []
 message status.Usage job = codes "clearing: the command line is not understood\n"
 message (status.ReadFault k) job =
     concat (codes "clearing: cannot read " ∷ name_if job k ∷ codes "\n" ∷ [])
-message (status.Refused f) job = concat (
-    codes "clearing: " ∷ file_word f.file ∷ codes " row " ∷ decimal f.row ∷ codes ": "
-    ∷ kind_word f.kind ∷ codes " (" ∷ decimal (kind_number f.kind) ∷ codes ")\n" ∷ [])
+message (status.Refused f) job = concat (codes "clearing: " ∷ fault_text f ∷ codes "\n" ∷ [])
 message status.WriteFault job = codes "clearing: cannot write the output\n"
 message status.Mem job = codes "clearing: out of memory\n"
 message (status.Unlawful v) job =

@@ -1,4 +1,5 @@
 pub mod Faults
+pub mod FaultTexts
 pub mod MemShelf
 pub mod MemSink
 pub mod Shelf

@@ -1,9 +1,12 @@
 ghost use Rattle.clr_edge.specs.Faults.{HasRisen, NoneFalls};
+ghost use Rattle.clr_edge.specs.FaultTexts.{fetch_fault_text};
 ghost use Rattle.clr_edge.specs.Shelf.{IsFetched};
 ghost use Rattle.clr_edge.specs.declared.shelf.FetchFault.TheVariants.{Mem};
-ghost use Rattle.std.specs.Prelude.{◌≡◌, ◌<◌, ◌^◌, ℕ, List, Option, IfOk, IsErrOf};
+ghost use Rattle.std.specs.Prelude.{◌≡◌, ◌<◌, ◌^◌, ℕ, List, Option, Some, IfOk, IsErrOf};
 
 use std::alloc::{AllocError, AllocFailed, Global};
+use std::error::Error;
+use std::fmt;
 
 /// Why a file was not fetched.
 #[derive(Clone, Copy, Debug, PartialEq, Eq)]
@@ -13,6 +16,19 @@ pub enum FetchFault {
     /// Want of memory.
     Mem,
 }
+
+impl fmt::Display for FetchFault {
+    ghost output = { λ fault. Some (fetch_fault_text fault) };
+
+    fn fmt<W: fmt::Write>(&self, f: &mut fmt::Formatter<W>) -> fmt::Result {
+        f.write_str(match self {
+            FetchFault::Failed => "cannot read the file",
+            FetchFault::Mem => "out of memory",
+        })
+    }
+}
+
+impl Error for FetchFault {}
 
 impl From<AllocError> for FetchFault {
     ghost from_gives = { λ _ e. e ≡ Mem };

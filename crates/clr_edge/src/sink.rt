@@ -1,10 +1,23 @@
 ghost use Rattle.clr_edge.specs.Faults.{HasRisen};
 ghost use Rattle.clr_edge.specs.Sink.{with_bytes, WritesPart};
-ghost use Rattle.std.specs.Prelude.{◌≡◌, ◌<◌, ◌≤◌, ℕ, List, Option, length, take, IfOk, OnOk, OnErr};
+ghost use Rattle.std.specs.Prelude.{◌≡◌, ◌<◌, ◌≤◌, ℕ, List, Option, Some, codes, length, take, IfOk, OnOk, OnErr};
+
+use std::error::Error;
+use std::fmt;
 
 /// The sink failed, and counted it.
 #[derive(Clone, Copy, Debug, PartialEq, Eq)]
 pub struct SinkFault;
+
+impl fmt::Display for SinkFault {
+    ghost output = { λ _. Some (codes "cannot write the output") };
+
+    fn fmt<W: fmt::Write>(&self, f: &mut fmt::Formatter<W>) -> fmt::Result {
+        f.write_str("cannot write the output")
+    }
+}
+
+impl Error for SinkFault {}
 
 /// What takes bytes, in order.
 pub trait Sink {

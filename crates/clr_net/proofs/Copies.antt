@@ -1,6 +1,5 @@
 -- A network is made again bank by bank, and then debt by debt; and the names of its banks are indexed again.
-use Rattle.std.proofs.Common.{◌≡◌, ℕ, zero, suc, ◌+◌, ◌<◌, ◌≤◌, List, [], ◌∷◌, ◌++◌, take, map, length, get_or, slice_get, Result, Ok, Err, false, true≢false, Option, Some, Vec, Global, refl, sym, ap, ◌∙◌, arith}
-use Rattle.std.specs.Option.{option_map_or}
+use Rattle.std.proofs.Common.{◌≡◌, ℕ, zero, suc, ◌+◌, ◌<◌, ◌≤◌, List, [], ◌∷◌, ◌++◌, take, map, length, slice_get, Result, Ok, Err, false, true≢false, Some, Vec, Global, refl, ap, ◌∙◌, arith}
 use Rattle.std.specs.Result.{OnOk, is_err}
 use Rattle.std.specs.Str.{bytes_eq}
 use Rattle.std.proofs.lemmas.List.{take_more, take_all, length-take-le, map_push}

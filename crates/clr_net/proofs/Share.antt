@@ -1,7 +1,6 @@
 -- A division over classes by any lawful choice: each debt gets at most its claim, all together what there is,
 -- and no debt gets less of a larger estate.
-use Rattle.std.proofs.Common.{◌≡◌, ℕ, zero, suc, ◌+◌, ◌-◌, ◌<◌, ◌≤◌, min, List, length, get_or, replicate, sum, Option, ap, sym, ◌∙◌, ⊎_elim, arith}
-use Rattle.std.proofs.lemmas.Bool.{cases_eq}
+use Rattle.std.proofs.Common.{◌≡◌, ℕ, zero, suc, ◌+◌, ◌-◌, ◌<◌, ◌≤◌, min, List, length, get_or, replicate, sum, Option, ap, sym, ◌∙◌, arith}
 use Rattle.std.proofs.lemmas.List.{length-replicate}
 use Rattle.std.proofs.lemmas.List.Folds.{sum_by-replicate}
 use Rattle.clr_net.specs.declared.TheConstants.{MAX_CLASS}

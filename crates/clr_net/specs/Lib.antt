@@ -1,5 +1,6 @@
 pub mod Amounts
 pub mod Name
+pub mod NameFault
 pub mod Net
 pub mod Limits
 pub mod Claims

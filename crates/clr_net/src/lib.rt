@@ -17,6 +17,8 @@ mod name;
 mod network;
 mod rule;
 
+ghost use Rattle.std.specs.Prelude.{Some, codes};
+
 pub use amounts::Amounts;
 pub use bank::Bank;
 pub use debt::{BankId, Debt, DebtId};
@@ -24,6 +26,8 @@ pub use name::{Name, NameFault};
 pub use network::Network;
 pub use rule::RuleKind;
 use std::alloc::{AllocError, AllocFailed};
+use std::error::Error;
+use std::fmt;
 
 /// The most banks of a network.
 pub const MAX_BANKS: u32 = 1_000;
@@ -52,6 +56,16 @@ pub const MAX_OUTSIDE: u64 = 100_000_000_000;
 /// Want of memory. What was to be changed is as it was.
 #[derive(Clone, Copy, Debug, PartialEq, Eq)]
 pub struct Mem;
+
+impl fmt::Display for Mem {
+    ghost output = { λ _. Some (codes "out of memory") };
+
+    fn fmt<W: fmt::Write>(&self, f: &mut fmt::Formatter<W>) -> fmt::Result {
+        f.write_str("out of memory")
+    }
+}
+
+impl Error for Mem {}
 
 impl From<AllocError> for Mem {
     fn from(_e: AllocError) -> Mem {

@@ -1,8 +1,11 @@
 ghost use Rattle.clr_net.specs.Name.{is_name, may_stand_in_name as may_stand, is_control as is_control_character};
-ghost use Rattle.std.specs.Prelude.{◌≡◌, ◌↔◌, false, IfOk, IsTrue, IsErrOf};
+ghost use Rattle.clr_net.specs.NameFault.{name_fault_text};
+ghost use Rattle.std.specs.Prelude.{◌≡◌, ◌↔◌, false, IfOk, IsTrue, IsErrOf, Some};
 
 use crate::{MAX_NAME_BYTES, Mem};
 use std::alloc::Global;
+use std::error::Error;
+use std::fmt;
 use std::marker::Model;
 
 /// The name of a bank: 1 to [`MAX_NAME_BYTES`] bytes of UTF-8 without comma, double quote and
@@ -31,6 +34,19 @@ pub enum NameFault {
     /// Want of memory.
     Mem,
 }
+
+impl fmt::Display for NameFault {
+    ghost output = { λ fault. Some (name_fault_text fault) };
+
+    fn fmt<W: fmt::Write>(&self, f: &mut fmt::Formatter<W>) -> fmt::Result {
+        f.write_str(match self {
+            NameFault::Bad => "not a name",
+            NameFault::Mem => "out of memory",
+        })
+    }
+}
+
+impl Error for NameFault {}
 
 impl Name {
     /// The name that these bytes are. [`NameFault::Bad`] exactly where they are no name, and

@@ -99,34 +99,27 @@ pub cancelling_begins : (net : Net) (c s place m : ℕ) (C W : List ℕ) (marks 
     → ((k : ℕ) → place ≤ k → k < length W → m ≤ get_or C (get_or W k 0) 0)
     → IsCancelling net c s place m C marks (set C x (get_or C x 0 - m)) W marks
 cancelling_begins net c s place m C W marks x l w live link in_walk closed pos enough all =
-    let same : (k : ℕ) → k < length W → get_or (set C x (get_or C x 0 - m)) (get_or W k 0) 0
-    ≡ get_or C (get_or W k 0) 0 =
-    λ k b. get_or-set_other C x (get_or W k 0) (get_or C x 0 - m) 0
-    (closing_apart x k w b link) in
+    let other = λ (y : ℕ) (ne : y ≢ x). get_or-set_other C x y (get_or C x 0 - m) 0 ne in
+    let same = λ (k : ℕ) (b : k < length W). other (get_or W k 0) (closing_apart x k w b link) in
     let r : x < length C = omega (arith, live.debt) in
     record {
       xs = x ∷ [];
       claims = refl;
       can = (r, enough, tt);
-      classes = λ k b. at k (omega arith);
+      classes = λ k b. let first : k ≡ 0 = omega arith in rw first live.class;
       leads = (sym closed, link);
       within = in_walk;
       walk = walk_stays (set C x (get_or C x 0 - m)) w same;
       enough = λ k g b. omega (arith, all k g b, same k b);
-      others = λ y other. get_or-set_other C x y (get_or C x 0 - m) 0
-          (λ e. other (ap (class_of net) e ∙ live.class));
+      others = λ y ne. other y (λ e. ne (ap (class_of net) e ∙ live.class));
       less = omega (arith, sum_by-set (λ n. n) C x (get_or C x 0 - m) 0 r);
       banks = refl;
       stays = λ b e. e;
       done = λ R d. done_lowered (set C x (get_or C x 0 - m)) x d
-          (λ y ne. get_or-set_other C x y (get_or C x 0 - m) 0 ne)
-          (omega (arith, get_or-set_same C x (get_or C x 0 - m) 0 r))
+          other (omega (arith, get_or-set_same C x (get_or C x 0 - m) 0 r))
           (λ e. walked_not_done (length W) (sym (w.marked (length W) (omega arith))
           ∙ ap (mark_of marks) (sym link) ∙ e));
     }
-  where
-    at : (k : ℕ) → k ≡ 0 → class_of net (get_or (x ∷ []) k 0) ≡ c
-    at k e = ap (λ k. class_of net (get_or (x ∷ []) k 0)) e ∙ live.class
 
 -- the last debt of the walk, on the way
 pub record IsLast (net : Net) (c m : ℕ) (D : List ℕ) (y : ℕ) : Type 0 where

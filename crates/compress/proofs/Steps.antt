@@ -1,34 +1,20 @@
 -- The two other steps: a walk goes on to a new bank, or its last bank is done.
-use Rattle.std.proofs.Common.{◌≡◌, ◌≢◌, ℕ, ◌<◌, ◌≤◌, List, [], ◌∷◌, ◌++◌, length, length-set, get_or, set, true, Option, Some, None, refl, sym, ap, ◌∙◌, subst, ⊎_elim, arith}
+use Rattle.std.proofs.Common.{◌≡◌, ◌≢◌, ℕ, ◌<◌, ◌≤◌, List, [], ◌∷◌, ◌++◌, length, length-set, set, true, Option, Some, None, refl, sym, ap, ◌∙◌, subst, ⊎_elim, arith}
 use Rattle.std.proofs.lemmas.Bool.{cases_lt}
 use Rattle.std.proofs.lemmas.List.{get_or_past, get_or-set_same, length_push, map-append}
 use Rattle.std.specs.Option.{is_some, option_to_list}
 use Rattle.clr_net.specs.declared.debt.DebtId.{DebtId}
 use Rattle.clr_net.specs.Net.{Net, numbers, debtor_of}
-use Rattle.compress.specs.Compression.{rank_above}
 use Rattle.compress.specs.declared.mark.Mark.{Mark}
 use Rattle.compress.specs.declared.mark.Mark.TheVariants.{Done}
-use Rattle.compress.specs.Walk.{mark_of, end_of, HasNoWalk, IsWalk, AreDone, IsKept, IsReady}
+use Rattle.compress.specs.Walk.{mark_of, end_of, HasNoWalk, IsWalk, IsKept}
 use Rattle.compress.proofs.Walks.{stop_last, walk_back, walk_ends, walked_not_done}
-use Rattle.compress.proofs.Dones.{done_more, marks_stay}
+use Rattle.compress.proofs.Dones.{marks_stay}
 
 pub not_done_in_range : (marks : List Mark) (b : ℕ) → mark_of marks b ≢ Done → b < length marks
 not_done_in_range marks b ne = ⊎_elim (λ (l : b < length marks). l)
     (λ (g : length marks ≤ b). absurd (ne (get_or_past marks b Done g)))
     (cases_lt b (length marks))
-
--- marks alone change, and banks that are done stay so
-pub kept_marks : (net : Net) (c : ℕ) (C : List ℕ) (before after : List Mark)
-    → length after ≡ length before
-    → ((b : ℕ) → mark_of before b ≡ Done → mark_of after b ≡ Done) → IsKept net c C C before after
-kept_marks net c C before after l h = record {
-  as_many = refl;
-  falls = λ k. omega arith;
-  others = λ x ne. refl;
-  balances = λ k b same. same;
-  banks = l;
-  stays = h;
-}
 
 -- steps one after another
 pub kept_both : {net : Net} {c : ℕ} {C D E : List ℕ} {m n o : List Mark} → IsKept net c C D m n
@@ -45,8 +31,14 @@ kept_both a b = record {
 -- a bank that was not done is
 pub kept_done : (net : Net) (c : ℕ) (C : List ℕ) (marks : List Mark) (b : ℕ) (v : Mark)
     → mark_of marks b ≢ Done → IsKept net c C C marks (set marks b v)
-kept_done net c C marks b v was = kept_marks net c C marks (set marks b v) (length-set marks b v)
-    (marks_stay marks b v was)
+kept_done net c C marks b v was = record {
+  as_many = refl;
+  falls = λ k. omega arith;
+  others = λ x ne. refl;
+  balances = λ k b same. same;
+  banks = length-set marks b v;
+  stays = marks_stay marks b v was;
+}
 
 module _ (net : Net) (c s : ℕ) (C W : List ℕ) (marks : List Mark)
     (w : IsWalk net c s C W marks) where
@@ -55,16 +47,6 @@ module _ (net : Net) (c s : ℕ) (C W : List ℕ) (marks : List Mark)
 
   pub end_in_range : end_of net s W < length marks
   end_in_range = not_done_in_range marks (end_of net s W) end_not_done
-
-  pub retired_kept : IsKept net c C C marks (set marks (end_of net s W) Done)
-  retired_kept = kept_done net c C marks (end_of net s W) Done end_not_done
-
-  pub retired_done : (R : List ℕ) (v : ℕ) → AreDone net c C R marks → length R ≡ length marks
-      → IsReady net c (end_of net s W) C marks
-      → v ≡ rank_above net C (λ j. get_or R j 0) c (end_of net s W)
-      → AreDone net c C (set R (end_of net s W) v) (set marks (end_of net s W) Done)
-  retired_done R v d l ready e =
-      done_more (end_of net s W) v d end_in_range (omega (arith, end_in_range)) end_not_done ready e
 
   pub retired_back : (V : List ℕ) (y : ℕ) → W ≡ V ++ y ∷ []
       → IsWalk net c s C V (set marks (end_of net s W) Done)

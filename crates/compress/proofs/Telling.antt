@@ -1,5 +1,5 @@
 -- What is told of the banks stays so, as a walk begins, looks on, and its last bank is done.
-use Rattle.std.proofs.Common.{◌≡◌, ℕ, zero, suc, ◌<◌, List, [], ◌∷◌, length, length-set, get_or, set, sym, ap, ◌∙◌, subst, arith}
+use Rattle.std.proofs.Common.{◌≡◌, ◌≢◌, ℕ, ◌<◌, List, length, length-set, get_or, set, sym, ap, ◌∙◌, subst, arith}
 use Rattle.std.specs.Global.{Vec}
 use Rattle.std.proofs.lemmas.List.{with_items_is}
 use Rattle.std.specs.Vec.{with_item, with_items}
@@ -12,16 +12,9 @@ use Rattle.compress.specs.declared.mark.Mark.TheVariants.{New, Walked, Done}
 use Rattle.compress.specs.declared.walk.Walk.{Walk}
 use Rattle.compress.specs.Walk.{mark_of, end_of, AreDone, ArePassed, IsWalk, IsKept, IsReady, IsTold, IsUnderWay, IsAtRest}
 use Rattle.compress.proofs.Walks.{walk_begins, walked_not_done}
-use Rattle.compress.proofs.Dones.{done_marked}
+use Rattle.compress.proofs.Dones.{done_marked, done_more}
 use Rattle.compress.proofs.Cursors.{passed_kept}
-use Rattle.compress.proofs.Steps.{kept_done, retired_done, retired_kept}
-
--- a mark, as it is read
-pub read_mark : (marks : List Mark) (b : ℕ) (m : Mark) → b < length marks → m ≡ get_or marks b m
-    → mark_of marks b ≡ m
-read_mark [] b m l e = absurd (omega arith)
-read_mark (x ∷ marks) zero m l e = sym e
-read_mark (x ∷ marks) (suc b) m l e = read_mark marks b m (omega arith) e
+use Rattle.compress.proofs.Steps.{end_not_done, kept_done, not_done_in_range}
 
 -- a bank that is new is walked to
 pub begun_kept : (net : Net) (c : ℕ) (C : List ℕ) (marks : List Mark) (s : ℕ)
@@ -84,20 +77,15 @@ pub retired_told : {net : Net} {c : ℕ} {C : List ℕ} {w : Walk} (ids : Vec De
       ranks = with_item w.ranks e v;
     })
 retired_told {net = net} {c = c} {C = C} {w = w} ids e v old at ready is =
-    let s = w.start.0 in
-    let W = numbers w.debts.items in
     let marks = w.marks.items in
-    let R = w.ranks.items in
     let sizes = old.told.sizes in
-    let ready_end = subst (λ b. IsReady net c b C marks) at ready in
-    let is_end : v ≡ rank_above net C (λ j. get_or R j 0) c (end_of net s W) =
-    is ∙ ap (rank_above net C (λ j. get_or R j 0) c) at in
+    let not_done = subst (λ (b : ℕ). mark_of marks b ≢ Done) (sym at)
+    (end_not_done net c w.start.0 C (numbers w.debts.items) marks old.walk) in
+    let inside = not_done_in_range marks e not_done in
     record {
-      done = subst (λ b. AreDone net c C (set R b v) (set marks b Done)) (sym at)
-          (retired_done net c s C W marks old.walk R v old.told.done
-          (omega (arith, sizes.ranks, sizes.marks)) ready_end is_end);
-      passed = subst (λ b. ArePassed net c C (set marks b Done) w.cursors.items) (sym at)
-          (passed_kept w.cursors.items (retired_kept net c s C W marks old.walk) old.told.passed);
+      done = done_more e v old.told.done inside (omega (arith, inside, sizes.ranks, sizes.marks))
+          not_done ready is;
+      passed = passed_kept w.cursors.items (kept_done net c C marks e Done not_done) old.told.passed;
       sizes = record {
         marks = omega (arith, length-set {A = Mark}, sizes.marks);
         cursors = sizes.cursors;

@@ -75,21 +75,17 @@ pub walk_begins : (net : Net) (c s : ℕ) (C : List ℕ) (marks : List Mark) →
 walk_begins net c s C marks l none = record {
   live = λ k m. absurd (omega arith);
   links = λ k m. absurd (omega arith);
-  marked = λ k m. at k (omega arith);
+  marked = λ k m.
+      let first : k ≡ 0 = omega arith in rw first (get_or-set_same marks s (Walked 0) Done l);
   placed = λ b p e. ⊎_elim
       (λ (same : b ≡ s).
       let here : Walked 0 ≡ Walked p = sym (get_or-set_same marks s (Walked 0) Done l)
       ∙ ap (λ b. get_or (set marks s (Walked 0)) b Done) (sym same) ∙ e in
-      begins b p (sym (same_place 0 p here)) same)
+      let first = same_place 0 p here in
+      (omega arith, rw (← first) (sym same)))
       (λ (ne : b ≢ s). absurd (none b p (sym (get_or-set_other marks s b (Walked 0) Done ne) ∙ e)))
       (cases_eq b s);
 }
-  where
-    at : (k : ℕ) → k ≡ 0 → mark_of (set marks s (Walked 0)) (get_or (stops net s []) k 0) ≡ Walked k
-    at k e = rw e (get_or-set_same marks s (Walked 0) Done l)
-
-    begins : (b p : ℕ) → p ≡ 0 → b ≡ s → (p < 0 + 1) × (get_or (stops net s []) p 0 ≡ b)
-    begins b p e same = (omega arith, rw e (sym same))
 
 -- a walk grows by a debt above 0 to its end, owed by a bank that is new
 pub walk_grows : (net : Net) (c s : ℕ) (C W : List ℕ) (marks : List Mark) (x : ℕ)

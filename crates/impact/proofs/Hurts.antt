@@ -2,9 +2,8 @@
 use Rattle.std.proofs.Common.{◌≡◌, ℕ, ◌+◌, ◌-◌, ◌<◌, ◌≤◌, ◌==◌, ◌&&◌, not, Bool, true, false, cond, All, List, [], ◌∷◌, ◌++◌, length, map, filter, count_by, get_or, refl, sym, ap, ◌∙◌, arith}
 use Rattle.std.specs.List.{range_with_len}
 use mir.Val.{bool_byte}
-use Rattle.std.proofs.Math.Path.{ap₂}
 use Rattle.std.proofs.lemmas.List.Elements.{All-filter, All-map, filter-append}
-use Rattle.std.proofs.lemmas.List.FromFn.{get_or-map-range_with_len, get_or-range_with_len, length-map-range_with_len, length-range_with_len, map-range_with_len_more, filter_of_map_range_with_len_more}
+use Rattle.std.proofs.lemmas.List.FromFn.{get_or-range_with_len, length-range_with_len, map-range_with_len_more, filter_of_map_range_with_len_more}
 use Rattle.std.proofs.lemmas.List.Sums.{sum_by_push}
 use Rattle.std.proofs.lemmas.List.{append-nil, map-id}
 use Rattle.clr_net.specs.Limits.{IsNetwork}
@@ -47,10 +46,7 @@ module _ (net : Net) (j i : ℕ) (before after : List Standing)
       → a ≡ (get_or before i d).equity + (get_or before i d).outside_paid
       → b ≡ (get_or after i e).equity + (get_or after i e).outside_paid
       → a - b ≡ kept_less net j i
-  keeps_less d e a b first second =
-      ap₂ (λ (x y : ℕ). x - y)
-      (first ∙ ap (λ (s : Standing). s.equity + s.outside_paid) (stood d))
-      (second ∙ ap (λ (s : Standing). s.equity + s.outside_paid) (stood_after e))
+  keeps_less d e a b first second = rw (first, second, stood d, stood_after e)
 
   -- and that it does not keep more
   pub no_more : IsNetwork net → j < length net.banks → (d e : Standing) (a b : ℕ)
@@ -66,10 +62,7 @@ module _ (net : Net) (j i : ℕ) (before after : List Standing)
   pub told : (d e : Standing) (lost : ℕ) (fell : Bool) → lost ≡ kept_less net j i
       → fell ≡ (is_sound (get_or before i d).health && not (is_sound (get_or after i e).health))
       → ◌≡◌ {A = Hurt} (record { bank = record { 0 = i }; lost = lost; falls = fell }) (hurt_to net j i)
-  told d e lost fell less broken =
-      ap₂ (λ (n : ℕ) (b : Bool). record { bank = record { 0 = i }; lost = n; falls = b }) less
-      (broken
-      ∙ ap₂ (λ (s t : Standing). is_sound s.health && not (is_sound t.health)) (stood d) (stood_after e))
+  told d e lost fell less broken = rw (less, broken, stood d, stood_after e)
 
 -- one number more
 range_more : (n : ℕ) → range_with_len 0 (n + 1) ≡ range_with_len 0 n ++ n ∷ []
@@ -116,11 +109,8 @@ pub hurts_more : (net : Net) (j n : ℕ) (all more : List Hurt) (h : Hurt) (b : 
     → h ≡ hurt_to net j n → is_hurt h ≡ b → more ≡ all ++ cond b (h ∷ []) []
     → more ≡ filter is_hurt (map (hurt_to net j) (range_with_len 0 (n + 1)))
 hurts_more net j n all more h b so_far e is m =
-    m
-    ∙ ap₂ (λ (xs : List Hurt) (b : Bool). xs ++ cond b (h ∷ []) []) so_far (sym is)
-    ∙ ap (λ (h : Hurt). filter is_hurt (map (hurt_to net j) (range_with_len 0 n))
-    ++ cond (is_hurt h) (h ∷ []) []) e
-    ∙ sym (filter_of_map_range_with_len_more is_hurt (hurt_to net j) 0 n n (omega arith))
+    rw (m, so_far, ← is, e)
+    (sym (filter_of_map_range_with_len_more is_hurt (hurt_to net j) 0 n n (omega arith)))
 
 -- all that are hurt are banks of the network
 pub hurt_are_banks : (net : Net) (j : ℕ) → All (λ h. h.bank.0 < length net.banks) (hurt_by net j)

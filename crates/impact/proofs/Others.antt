@@ -1,7 +1,6 @@
 -- What a bank and all others keep less, together.
-use Rattle.std.proofs.Common.{◌≡◌, ℕ, ◌+◌, ◌<◌, ◌==◌, not, Bool, true, false, cond, List, [], ◌∷◌, length, filter, sum_by, refl, sym, ap, ⊎_elim, arith, eq-eqb, ne_eqb}
+use Rattle.std.proofs.Common.{◌≡◌, ℕ, ◌+◌, ◌<◌, ◌==◌, not, Bool, cond, List, [], ◌∷◌, length, filter, sum_by, refl, arith, eq-eqb, ne_eqb}
 use Rattle.std.specs.List.{range_with_len}
-use Rattle.std.proofs.lemmas.Bool.{cases_eq}
 use Rattle.std.proofs.lemmas.List.Filters.{sum_by-filter_both}
 use Rattle.std.proofs.lemmas.List.Sums.{sum_by-cons}
 use Rattle.clr_net.specs.Limits.{IsNetwork}
@@ -26,7 +25,8 @@ own_and_others : (f : ℕ → ℕ) (j n : ℕ) → j < n
 own_and_others f j n l =
     let all = range_with_len 0 n in
     let both = sum_by-filter_both (λ i. i == j) (λ i. not (i == j)) (λ i. refl) f all in
-    let own = one_term (λ i. i == j) f 0 n j (eq-eqb j j refl) (λ i. ne_eqb i j) (omega arith) (omega arith) in
+    let own = one_term (λ i. i == j) f 0 n j (eq-eqb j j refl) (λ i. ne_eqb i j) (omega arith)
+    (omega arith) in
     omega (arith, sum_filtered (λ i. i == j) f all)
 
 -- what the ruined bank keeps less, and what all others do, is the cash that was lost

@@ -1,5 +1,5 @@
 -- A bank or a debt that a record gives may be added to the network read so far.
-use Rattle.std.proofs.Common.{◌≡◌, ℕ, ◌+◌, ◌<◌, ◌==◌, not, nat_le, true, false, List, [], ◌∷◌, length, Option, Some, None, Result, Ok, Err, IfOk, refl, sym, ap, ◌∙◌, subst, eq-eqb}
+use Rattle.std.proofs.Common.{◌≡◌, ℕ, ◌+◌, ◌<◌, ◌==◌, not, true, false, List, [], ◌∷◌, length, Option, Some, None, Result, Ok, Err, IfOk, refl, sym, ap, ◌∙◌, subst, eq-eqb}
 use Rattle.std.specs.List.{list_any}
 use Rattle.std.specs.Option.{ok_or}
 use Rattle.std.proofs.lemmas.Bool.{leb-true, not-true, true≢false}
@@ -13,7 +13,7 @@ use Rattle.clr_net.specs.declared.debt.Debt.{Debt}
 use Rattle.clr_net.specs.declared.rule.RuleKind.{RuleKind}
 use Rattle.net_check.specs.Checks.{and_then, fault_unless}
 use Rattle.net_check.specs.Field.{class_in, rule_in}
-use Rattle.net_check.specs.Record.{number_up_to, bank_in, outside_in, as_bank, new_bank, bank_from, debt_from, in_row}
+use Rattle.net_check.specs.Record.{number_up_to, outside_in, as_bank, new_bank, bank_from, debt_from, in_row}
 use Rattle.net_check.specs.declared.fault.Fault.{Fault}
 use Rattle.net_check.specs.declared.fault.FileKind.{FileKind}
 use Rattle.net_check.specs.declared.fault.FaultKind.{FaultKind}
@@ -66,42 +66,27 @@ new_bank-ok net name cash rule outside b h l =
 -- so does a record
 pub bank_from-ok : (net : Net) (fields : List (List ℕ)) (b : Bank) → bank_from net fields ≡ Ok b → length net.banks < MAX_BANKS
     → IsNewBank net b
-bank_from-ok net [] b h l = cc
-bank_from-ok net (name ∷ []) b h l = cc
-bank_from-ok net (name ∷ cash ∷ []) b h l = cc
 bank_from-ok net (name ∷ cash ∷ rule ∷ []) b h l = new_bank-ok net name cash rule None b h l
 bank_from-ok net (name ∷ cash ∷ rule ∷ outside ∷ []) b h l = new_bank-ok net name cash rule (Some outside) b h l
-bank_from-ok net (name ∷ cash ∷ rule ∷ outside ∷ more ∷ fields) b h l = cc
+bank_from-ok net fields b h l = cc
 
 -- a debt that a record gives is new, within the limits
 pub debt_from-ok : (net : Net) (fields : List (List ℕ)) (d : Debt) → debt_from net fields ≡ Ok d → length net.debts < MAX_DEBTS
     → IsNewDebt net d
-debt_from-ok net [] d h l = cc
-debt_from-ok net (debtor ∷ []) d h l = cc
-debt_from-ok net (debtor ∷ creditor ∷ []) d h l = cc
-debt_from-ok net (debtor ∷ creditor ∷ class ∷ []) d h l = cc
 debt_from-ok net (debtor ∷ creditor ∷ class ∷ claim ∷ []) d h l =
     let made : ℕ → ℕ → ℕ → ℕ → Debt =
     λ a b c n. record { debtor = record { 0 = a }; creditor = record { 0 = b }; class = c; claim = n } in
-    let after_kind : ℕ → ℕ → ℕ → ℕ → Result Debt FaultKind =
-    λ a b c n. fault_unless (nat_le (units_owed net + n) MAX_OWED) fault.Total (Ok (made a b c n)) in
-    let after_claim : ℕ → ℕ → ℕ → ℕ → Result Debt FaultKind =
-    λ a b c n. fault_unless (not (list_any (is_debt_of a b c) net.debts)) fault.DoubleDebt (after_kind a b c n) in
-    let after_class : ℕ → ℕ → ℕ → Result Debt FaultKind = λ a b c. and_then (number_up_to MAX_CLAIM claim) (after_claim a b c) in
-    let after_two : ℕ → ℕ → Result Debt FaultKind = λ a b. and_then (ok_or (class_in class) fault.Class) (after_class a b) in
-    let after_creditor : ℕ → ℕ → Result Debt FaultKind = λ a b. fault_unless (not (a == b)) fault.SelfDebt (after_two a b) in
-    let after_debtor : ℕ → Result Debt FaultKind = λ a. and_then (bank_in net creditor) (after_creditor a) in
-    let the_debtor = and_then-ok (bank_in net debtor) after_debtor d h in
+    let the_debtor = and_then-ok _ _ d h in
     let a = the_debtor.0 in
-    let the_creditor = and_then-ok (bank_in net creditor) (after_creditor a) d the_debtor.2 in
+    let the_creditor = and_then-ok _ _ d the_debtor.2 in
     let b = the_creditor.0 in
-    let two_banks = fault_unless-ok (not (a == b)) fault.SelfDebt (after_two a b) d the_creditor.2 in
-    let the_class = and_then-ok (ok_or (class_in class) fault.Class) (after_class a b) d two_banks.1 in
+    let two_banks = fault_unless-ok _ _ _ d the_creditor.2 in
+    let the_class = and_then-ok _ _ d two_banks.1 in
     let c = the_class.0 in
-    let the_claim = and_then-ok (number_up_to MAX_CLAIM claim) (after_claim a b c) d the_class.2 in
+    let the_claim = and_then-ok _ _ d the_class.2 in
     let n = the_claim.0 in
-    let is_new = fault_unless-ok (not (list_any (is_debt_of a b c) net.debts)) fault.DoubleDebt (after_kind a b c n) d the_claim.2 in
-    let in_total = fault_unless-ok (nat_le (units_owed net + n) MAX_OWED) fault.Total (Ok (made a b c n)) d is_new.1 in
+    let is_new = fault_unless-ok _ _ _ d the_claim.2 in
+    let in_total = fault_unless-ok _ _ _ d is_new.1 in
     let same : made a b c n ≡ d = cc in
     let in_class = class_in-some class c (ok_or-ok (class_in class) fault.Class c the_class.1) in
     subst (IsNewDebt net) {x = made a b c n} same (record {
@@ -115,7 +100,7 @@ debt_from-ok net (debtor ∷ creditor ∷ class ∷ claim ∷ []) d h l =
       claim_in_limit = number_up_to-ok MAX_CLAIM claim n the_claim.1;
       only_of_its_kind = new_kind net a b c false (sym (not-true (list_any (is_debt_of a b c) net.debts) is_new.0));
     })
-debt_from-ok net (debtor ∷ creditor ∷ class ∷ claim ∷ more ∷ fields) d h l = cc
+debt_from-ok net fields d h l = cc
 
 -- so is the debt of a row
 pub debt_in_row-ok : (net : Net) (fields : List (List ℕ)) (f : FileKind) (row : ℕ) (r : Result Debt Fault)

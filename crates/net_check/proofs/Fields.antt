@@ -5,7 +5,7 @@ use Rattle.std.specs.Char.{is_ascii_digit}
 use Rattle.std.proofs.Math.Nat.{pow-suc}
 use Rattle.std.proofs.lemmas.Bool.{le-leb}
 use Rattle.std.proofs.lemmas.Bool.Decides.{nat_tests}
-use Rattle.std.proofs.lemmas.List.{at_drop_more, at_drop_all, take_all, reverse-append, reverse-reverse}
+use Rattle.std.proofs.lemmas.List.{at_drop_more, at_drop_all, take_all, reverse-append, reverse-reverse, nil_from_length}
 use Rattle.net_check.specs.Field.{is_space_or_tab, trimmed_start, number_after, number_in}
 use Rattle.net_check.specs.declared.TheConstants.{MAX_DIGITS}
 
@@ -21,8 +21,7 @@ trimmed_start-stops field rest b e other = ap trimmed_start e ∙ ap (λ t. cond
 
 pub trimmed_start-empty : (field : List ℕ) → length field ≡ 0 → trimmed_start field ≡ field
 unfolding trimmed_start
-trimmed_start-empty [] h = refl
-trimmed_start-empty (b ∷ rest) h = absurd (omega arith)
+trimmed_start-empty field h = rw (nil_from_length field h) refl
 
 -- the same at the end
 pub trimmed_end-drops : (field rest : List ℕ) (b : ℕ) → field ≡ rest ++ b ∷ [] → is_space_or_tab b ≡ true
@@ -38,8 +37,7 @@ trimmed_end-stops field rest b e other =
 
 pub trimmed_end-empty : (field : List ℕ) → length field ≡ 0 → reverse (trimmed_start (reverse field)) ≡ field
 unfolding trimmed_start
-trimmed_end-empty [] h = refl
-trimmed_end-empty (b ∷ rest) h = absurd (omega arith)
+trimmed_end-empty field h = rw (nil_from_length field h) refl
 
 -- one digit more
 pub number_after_more : (field : List ℕ) (i n : ℕ) → i < length field

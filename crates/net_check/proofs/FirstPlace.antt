@@ -1,12 +1,11 @@
 -- Whether an element passes a test, by the first place that does.
-use Rattle.std.proofs.Common.{◌≡◌, ℕ, suc, ◌+◌, ◌||◌, not, nat_lt, Bool, true, false, cond, List, [], ◌∷◌, length, Option, Some, None, is_some, position, refl, sym, ap, ◌∙◌, arith}
+use Rattle.std.proofs.Common.{◌≡◌, ℕ, suc, ◌+◌, ◌||◌, not, nat_lt, Bool, cond, List, [], ◌∷◌, length, Option, is_some, position, refl, arith}
 use Rattle.std.specs.List.{list_any, position_or_len}
 use Rattle.std.specs.Option.{option_map}
 use Rattle.std.proofs.lemmas.Bool.Decides.{nat_tests}
 
 step : (b r : Bool) (a n : ℕ) → r ≡ nat_lt a n → (b || r) ≡ nat_lt (cond (not b) (1 + a) 0) (suc n)
-step true r a n e = grind (arith, nat_tests)
-step false r a n e = grind (arith, nat_tests)
+step b r a n e = grind (arith, nat_tests)
 
 list_any-position_or_len : {X : Type 0} (p : X → Bool) (xs : List X) → list_any p xs ≡ nat_lt (position_or_len p xs) (length xs)
 list_any-position_or_len p [] = refl
@@ -16,14 +15,4 @@ list_any-position_or_len p (x ∷ xs) =
 -- a first place, counted in any way, is there just where an element passes
 pub is_some-position : {X Y : Type 0} (number : Y → ℕ) (p : X → Bool) (xs : List X) (r : Option Y) → option_map number r ≡ position p xs
     → is_some r ≡ list_any p xs
-is_some-position {Y = Y} number p xs r e =
-    sym (by_number r) ∙ ap is_some e ∙ by_test (nat_lt (position_or_len p xs) (length xs)) (position_or_len p xs)
-    ∙ sym (list_any-position_or_len p xs)
-  where
-    by_number : (r : Option Y) → is_some (option_map number r) ≡ is_some r
-    by_number (Some y) = refl
-    by_number None = refl
-
-    by_test : (b : Bool) (i : ℕ) → is_some (cond b (Some i) None) ≡ b
-    by_test true i = refl
-    by_test false i = refl
+is_some-position number p xs r e = let first = list_any-position_or_len p xs in grind arith

@@ -55,12 +55,11 @@ in_row-ok f row (Err k) a h = cc
 
 -- a class is in its limits
 pub class_in-some : (field : List ℕ) (c : ℕ) → class_in field ≡ Some c → (1 ≤ c) × (c ≤ MAX_CLASS)
-class_in-some [] c h = cc
 class_in-some (digit ∷ []) c h =
     let (test, same) = cond_some (nat_le 49 digit && nat_le digit (48 + MAX_CLASS)) (digit - 48) c h in
     let both = and_parts (nat_le 49 digit) (nat_le digit (48 + MAX_CLASS)) test in
     (omega (arith, leb-true 49 digit both.0), omega (arith, leb-true digit (48 + MAX_CLASS) both.1))
-class_in-some (digit ∷ more ∷ rest) c h = cc
+class_in-some field c h = cc
 
 -- no bank read so far has the name
 pub new_name : (name : List ℕ) (banks : List Bank) → list_any (has_name name) banks ≡ false → (j : ℕ) → j < length banks

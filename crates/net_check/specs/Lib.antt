@@ -1,5 +1,6 @@
 pub mod Checks
 pub mod Field
 pub mod Words
+pub mod FaultText
 pub mod Record
 pub mod Cases

@@ -1,7 +1,10 @@
+ghost use Rattle.net_check.specs.FaultText.{fault_text, kind_text, read_net_text};
 ghost use Rattle.net_check.specs.Words.{file_limit, file_word, kind_word, kind_number};
-ghost use Rattle.std.specs.Prelude.{◌≡◌};
+ghost use Rattle.std.specs.Prelude.{◌≡◌, Some};
 
 use crate::{MAX_FILE_BYTES, MAX_JOURNAL_BYTES};
+use std::error::Error;
+use std::fmt;
 
 /// The files that are read, and the words of a command line, which may name a bank.
 #[derive(Clone, Copy, Debug, PartialEq, Eq)]
@@ -130,6 +133,17 @@ impl FaultKind {
     }
 }
 
+/// The word of the kind, and its number in brackets.
+impl fmt::Display for FaultKind {
+    ghost output = { λ kind. Some (kind_text kind) };
+
+    fn fmt<W: fmt::Write>(&self, f: &mut fmt::Formatter<W>) -> fmt::Result {
+        write!(f, "{} ({})", self.word(), self.number())
+    }
+}
+
+impl Error for FaultKind {}
+
 /// What is wrong, and in which row of which file: the header is row 0.
 #[derive(Clone, Copy, Debug, PartialEq, Eq)]
 pub struct Fault {
@@ -137,6 +151,17 @@ pub struct Fault {
     pub row: u32,
     pub kind: FaultKind,
 }
+
+/// As the program's message names the fault: file, row, kind and the kind's number.
+impl fmt::Display for Fault {
+    ghost output = { λ fault. Some (fault_text fault) };
+
+    fn fmt<W: fmt::Write>(&self, f: &mut fmt::Formatter<W>) -> fmt::Result {
+        write!(f, "{} row {}: {}", self.file.word(), self.row, self.kind)
+    }
+}
+
+impl Error for Fault {}
 
 /// Why files are not read.
 #[derive(Clone, Copy, Debug, PartialEq, Eq)]
@@ -146,3 +171,16 @@ pub enum ReadNet {
     /// Want of memory.
     Mem,
 }
+
+impl fmt::Display for ReadNet {
+    ghost output = { λ why. Some (read_net_text why) };
+
+    fn fmt<W: fmt::Write>(&self, f: &mut fmt::Formatter<W>) -> fmt::Result {
+        match self {
+            ReadNet::Refused(fault) => write!(f, "{fault}"),
+            ReadNet::Mem => f.write_str("out of memory"),
+        }
+    }
+}
+
+impl Error for ReadNet {}

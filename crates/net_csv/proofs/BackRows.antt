@@ -89,21 +89,29 @@ kept_short (fields ∷ rest) all =
     rw (flat_map-cons line fields rest) (omega arith)
 
 -- the record of a bank, in each version
-pub bank_row : (v : Version) (net : Net) (b : Bank) → IsNewBank net b → trimmed_field b.name ≡ b.name → IsKeptRow (bank_fields v b)
+pub bank_row : (v : Version) (net : Net) (b : Bank) → IsNewBank net b
+    → trimmed_field b.name ≡ b.name → IsKeptRow (bank_fields v b)
 bank_row version.One net b new kept =
     let name = name_is_short b.name new.named in
     let cash = length-decimal-le 20 b.cash (omega arith) (omega arith) (omega arith) in
     let word = (is_rule_word b.rule).short in
-    kept_row b.name (decimal b.cash) (rule_word b.rule ∷ [])
-    (kept_name b.name new.named kept, (kept_decimal b.cash (omega arith), ((is_rule_word b.rule).kept, tt)))
+    kept_row b.name (decimal b.cash) (rule_word b.rule ∷ []) (
+      kept_name b.name new.named kept,
+      (kept_decimal b.cash (omega arith), ((is_rule_word b.rule).kept, tt)),
+    )
     (rw (name_has_byte b.name new.named) refl) (simp length-append (omega arith))
 bank_row version.Two net b new kept =
     let name = name_is_short b.name new.named in
     let cash = length-decimal-le 20 b.cash (omega arith) (omega arith) (omega arith) in
     let word = (is_rule_word b.rule).short in
     let outside = length-decimal-le 20 b.outside (omega arith) (omega arith) (omega arith) in
-    kept_row b.name (decimal b.cash) (rule_word b.rule ∷ decimal b.outside ∷ [])
-    (kept_name b.name new.named kept, (kept_decimal b.cash (omega arith), ((is_rule_word b.rule).kept, (kept_decimal b.outside (omega arith), tt))))
+    kept_row b.name (decimal b.cash) (rule_word b.rule ∷ decimal b.outside ∷ []) (
+      kept_name b.name new.named kept,
+      (
+        kept_decimal b.cash (omega arith),
+        ((is_rule_word b.rule).kept, (kept_decimal b.outside (omega arith), tt)),
+      ),
+    )
     (rw (name_has_byte b.name new.named) refl) (simp length-append (omega arith))
 
 -- a version says all of a bank
@@ -145,7 +153,8 @@ debt_row net done d new debtor creditor =
     )
     (rw (name_has_byte (name_of net d.debtor.0) debtor.named) refl) (simp length-append (omega arith))
 
-pub debt_read_back : (net : Net) (done : List Debt) (row : ℕ) (d : Debt) → IsNewDebt (with_debts net done) d
+pub debt_read_back : (net : Net) (done : List Debt) (row : ℕ) (d : Debt)
+    → IsNewDebt (with_debts net done) d
     → IsBackName net d.debtor.0 → IsBackName net d.creditor.0
     → debt_in_row (with_debts net done) (row, debt_fields net d) ≡ Ok d
 debt_read_back net done row d new debtor creditor = rw (

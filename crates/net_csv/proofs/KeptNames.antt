@@ -1,12 +1,12 @@
 -- The names of a network that was read begin and end with no space.
-use Rattle.std.proofs.Common.{◌≡◌, ◌<◌, ℕ, List, [], ◌∷◌, length, Option, Some, None, Ok, arith, ⊎_elim, subst}
+use Rattle.std.proofs.Common.{◌≡◌, ℕ, List, [], ◌∷◌, length, Some, None, Ok, arith, subst}
 use Rattle.std.proofs.lemmas.Bool.{cases_eq}
 use Rattle.std.proofs.lemmas.List.{length_push}
 use Rattle.clr_net.specs.Net.{Net, with_bank, with_debt}
 use Rattle.clr_net.specs.declared.bank.Bank.{Bank}
 use Rattle.clr_net.proofs.Networks.{slice_get_push_before, slice_get_push_at}
 use Rattle.net_check.specs.Field.{trimmed_field}
-use Rattle.net_check.specs.Record.{new_bank, bank_from}
+use Rattle.net_check.specs.Record.{bank_from}
 use Rattle.net_check.proofs.Passed.{and_then-ok}
 use Rattle.net_check.proofs.Additions.{new_bank-given}
 use Rattle.net_csv.specs.Printing.{KeepsNames}
@@ -18,7 +18,8 @@ use Rattle.net_csv.proofs.Networks.{bank_in_row-ok, network_of-keeps}
 -- the name of a bank that a record gives is the record's first field
 bank_from-name : (net : Net) (fields : Fields) (b : Bank) → trimmed_fields fields ≡ fields → bank_from net fields ≡ Ok b
     → trimmed_field b.name ≡ b.name
-bank_from-name net (name ∷ cash ∷ rule ∷ []) b kept h = rw (new_bank-given net name cash rule None b h).name_is (cc)
+bank_from-name net (name ∷ cash ∷ rule ∷ []) b kept h =
+    rw (new_bank-given net name cash rule None b h).name_is (cc)
 bank_from-name net (name ∷ cash ∷ rule ∷ outside ∷ []) b kept h =
     rw (new_bank-given net name cash rule (Some outside) b h).name_is (cc)
 bank_from-name net fields b kept h = cc

@@ -11,7 +11,8 @@ use Rattle.csv.specs.declared.parser.State.TheVariants as st
 use Rattle.net_csv.specs.Left.{IsReading, text_left, records_after, records_left}
 
 -- an action that ends a record leaves the machine between two records
-step-between : (s : State) (c : ℕ) → is_end (step default_config s c).1 ≡ true → ends_at_end (step default_config s c).0 ≡ false
+step-between : (s : State) (c : ℕ) → is_end (step default_config s c).1 ≡ true
+    → ends_at_end (step default_config s c).0 ≡ false
 step-between s c e = grind arith
 
 -- a record ends between two records, and takes no byte that comes after it, and one byte at least where it begins between two
@@ -25,14 +26,16 @@ next_record-leaves : (s : State) (fields : List (List ℕ)) (field xs : List ℕ
 unfolding next_record
 next_record-leaves s fields field [] p e =
     let h = cond_some (ends_at_end s) (fields ++ (field ∷ []), st.StartRecord, []) p e in
-    rw (← h.1) (record { between = refl; no_more = omega arith; fewer = λ f. absurd (true≢false (sym h.0 ∙ f)) })
+    let never = λ (f : ends_at_end s ≡ false). true≢false (sym h.0 ∙ f) in
+    rw (← h.1) (search (arith, never))
 next_record-leaves s fields field (c ∷ rest) p e = ⊎_elim
     (λ (end : is_end (step default_config s c).1 ≡ true).
     let same = same_Some _ p (rw end at e) in
-    rw (← same) (record { between = step-between s c end; no_more = omega arith; fewer = λ _. omega arith }))
+    let between = step-between s c end in
+    rw (← same) (search arith))
     (λ (on : is_end (step default_config s c).1 ≡ false).
     let more = next_record-leaves (step default_config s c).0 _ _ rest p (rw on at e) in
-    record { between = more.between; no_more = omega (arith, more.no_more); fewer = λ _. omega (arith, more.no_more) })
+    search (arith, more.no_more))
     (cases_Bool (is_end (step default_config s c).1))
 
 -- more turns than there are bytes change nothing
@@ -47,7 +50,8 @@ records-enough (suc n) (suc m) s xs between few more =
     by : (o : Option Read) → ((p : Read) → o ≡ Some p → Leaves s xs p)
         → ((t : State) (ys : List ℕ) → ends_at_end t ≡ false → length ys < n → length ys < m
         → records_from default_config n t ys ≡ records_from default_config m t ys)
-        → records_next (records_from default_config n) o ≡ records_next (records_from default_config m) o
+        → records_next (records_from default_config n) o
+        ≡ records_next (records_from default_config m) o
     by None leaves again = refl
     by (Some p) leaves again =
         let l = leaves p refl in
@@ -76,14 +80,17 @@ pub record ReadsOne (s : State) (xs : List ℕ) (left : Option (List ℕ)) (fiel
   pub first : records_after s (Some xs) ≡ fields ∷ records_after t left
 
 -- what a read tells
-told : (s : State) (xs : List ℕ) (left : Option (List ℕ)) (found : Bool) (fields : List (List ℕ)) (t : State) → ends_at_end s ≡ false
+told : (s : State) (xs : List ℕ) (left : Option (List ℕ)) (found : Bool) (fields : List (List ℕ))
+    (t : State) → ends_at_end s ≡ false
     → ReadsNext default_config s (Some xs) left found fields t
-    → (found ≡ true → ReadsOne s xs left fields t) × (found ≡ false → records_after s (Some xs) ≡ [])
+    → (found ≡ true → ReadsOne s xs left fields t)
+    × (found ≡ false → records_after s (Some xs) ≡ [])
 told s xs None found fields t between h = absurd h
 told s xs (Some ys) found fields t between h = by (next_record default_config s [] [] xs) refl h
   where
     by : (o : Option Read) → next_record default_config s [] [] xs ≡ o → NextIs o found fields t ys
-        → (found ≡ true → ReadsOne s xs (Some ys) fields t) × (found ≡ false → records_after s (Some xs) ≡ [])
+        → (found ≡ true → ReadsOne s xs (Some ys) fields t)
+        × (found ≡ false → records_after s (Some xs) ≡ [])
     by None e n = (λ f. absurd (cc), λ f. records-none s xs e)
     by (Some p) e n = (
       λ f. record {
@@ -101,7 +108,8 @@ pub found_is_first : (old new : Reader (Bor (List ℕ))) (found : Bool) (fields 
     → IsReading new × (records_left old ≡ fields ∷ records_left new)
 found_is_first old new found fields reading read first bends e =
     let next = rw (reading.by_default, reading.text_is) at read.0 in
-    let one = (told old.state reading.text (pending_of (Some new.rdr.now) new) found fields new.state reading.between next).0 e in
+    let one = (told old.state reading.text (pending_of (Some new.rdr.now) new) found fields
+    new.state reading.between next).0 e in
     let same : pending_of (Some new.rdr.now) new ≡ text_left new = rw read.1 refl in (
       record {
         by_default = read.2 ∙ reading.by_default;
@@ -119,7 +127,8 @@ pub none_is_left : (old new : Reader (Bor (List ℕ))) (found : Bool) (fields : 
     → ReadRecord (λ text. Some text.now) old new found fields → found ≡ false → records_left old ≡ []
 none_is_left old new found fields reading read e =
     let next = rw (reading.by_default, reading.text_is) at read.0 in
-    rw reading.text_is ((told old.state reading.text (pending_of (Some new.rdr.now) new) found fields new.state reading.between next).1 e)
+    rw reading.text_is ((told old.state reading.text (pending_of (Some new.rdr.now) new) found
+    fields new.state reading.between next).1 e)
 
 -- a text has no more records than the turns that they take
 length-records_from : (n : ℕ) (s : State) (xs : List ℕ) → length (records_from default_config n s xs) ≤ n
@@ -135,7 +144,8 @@ length-records_from (suc n) s xs = by (next_record default_config s [] [] xs) (l
 length-strip_bom : (xs : List ℕ) → length (strip_bom xs) ≤ length xs
 unfolding strip_bom
 length-strip_bom (a ∷ b ∷ c ∷ rest) =
-    cond_both (is_bom a b c) rest (a ∷ b ∷ c ∷ rest) (λ t. length t ≤ length (a ∷ b ∷ c ∷ rest)) (λ _. omega arith) (λ _. omega arith)
+    cond_both (is_bom a b c) rest (a ∷ b ∷ c ∷ rest) (λ t. length t ≤ length (a ∷ b ∷ c ∷ rest))
+    (λ _. omega arith) (λ _. omega arith)
 length-strip_bom xs = omega arith
 
 -- a file has no more records than bytes, and one

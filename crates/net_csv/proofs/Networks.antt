@@ -1,5 +1,5 @@
 -- What every network that is read has: what the bank or the debt of each row keeps.
-use Rattle.std.proofs.Common.{◌≡◌, ◌<◌, ◌≤◌, ◌==◌, ℕ, nat_lt, List, [], ◌∷◌, length, Ok, subst, ltb-true}
+use Rattle.std.proofs.Common.{◌≡◌, ◌<◌, ◌≤◌, ℕ, List, [], ◌∷◌, length, Ok, subst, ltb-true}
 use Rattle.std.proofs.lemmas.Bool.{le-leb, leb-true}
 use Rattle.csv.specs.Reading.{records, default_config, strip_bom}
 use Rattle.clr_net.specs.Net.{Net, empty_net, with_bank, with_debt}
@@ -8,14 +8,12 @@ use Rattle.clr_net.specs.declared.TheConstants.{MAX_BANKS, MAX_DEBTS}
 use Rattle.clr_net.specs.declared.bank.Bank.{Bank}
 use Rattle.clr_net.specs.declared.debt.Debt.{Debt}
 use Rattle.clr_net.proofs.Networks.{IsNetwork-empty_net, IsNetwork-with_bank, IsNetwork-with_debt}
-use Rattle.net_check.specs.Checks.{and_then, fault_unless}
-use Rattle.net_check.specs.Record.{bank_from, debt_from, fault_at}
+use Rattle.net_check.specs.Record.{bank_from, debt_from}
 use Rattle.net_check.specs.Words.{file_limit}
 use Rattle.net_check.specs.declared.fault.FileKind.TheVariants as file
-use Rattle.net_check.specs.declared.fault.FaultKind.TheVariants as fault
 use Rattle.net_check.proofs.Passed.{fault_unless-ok, and_then-ok, in_row-ok}
 use Rattle.net_check.proofs.Additions.{bank_from-ok, debt_from-ok}
-use Rattle.net_csv.specs.Reading.{Fields, trimmed_fields, records_of, banks_header, header, file_of, bank_in_row, debt_in_row, with_row, read_rows, rows_in_file, with_file, version_of, with_banks_of, with_debts_of, is_within_limit, network_of}
+use Rattle.net_csv.specs.Reading.{Fields, trimmed_fields, records_of, header, file_of, bank_in_row, debt_in_row, with_row, read_rows, rows_in_file, with_file, version_of, with_banks_of, with_debts_of, network_of}
 use Rattle.net_csv.specs.declared.layout.Layout.{Layout}
 use Rattle.net_csv.specs.declared.layout.Layout.TheVariants as layout
 use Rattle.net_csv.specs.declared.layout.Version.{Version}

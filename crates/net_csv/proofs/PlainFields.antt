@@ -1,19 +1,18 @@
 -- Fields that a file keeps as they are: without quotes, and with no space or tab at their ends.
-use Rattle.std.proofs.Common.{◌≡◌, ◌≢◌, ◌∙◌, ◌<◌, ◌≤◌, ◌+◌, ◌-◌, ◌*◌, ◌/◌, ◌%◌, ◌^◌, ◌==◌, ◌&&◌, ℕ, Bool, true, false, cond, not, nat_le, List, [], ◌∷◌, ◌++◌, length, get_or, reverse, Some, refl, sym, ap, arith}
+use Rattle.std.proofs.Common.{◌≡◌, ◌∙◌, ◌<◌, ◌≤◌, ◌+◌, ◌-◌, ◌*◌, ◌%◌, ◌^◌, ◌==◌, ℕ, Bool, true, false, List, [], ◌∷◌, ◌++◌, length, get_or, reverse, Some, refl, sym, ap, arith}
 use Rattle.std.specs.List.{list_all, list_any}
 use Rattle.std.specs.Char.{is_ascii_digit}
 use Rattle.std.specs.Fmt.{decimal}
 use Rattle.std.specs.Str.{is_utf8, chars}
-use Rattle.std.proofs.lemmas.Bool.{and_parts, ne_eqb, le-leb, leb-true, not-true}
+use Rattle.std.proofs.lemmas.Bool.{and_parts, le-leb}
 use Rattle.std.proofs.lemmas.Fmt.{decimal_by_steps_wide, decimal_digit, length-decimal-le_wide}
 use Rattle.std.proofs.lemmas.List.{length-append}
 use Rattle.std.proofs.lemmas.List.Folds.{list_all-append, list_any-append, list_any_none}
 use Rattle.std.proofs.lemmas.List.Sums.{AllPass-from_list_all}
 use Rattle.std.proofs.lemmas.Str.{IsUtf8-from_is_utf8, chars-encodes}
-use lib.Dec.{ltb}
-use lib.Utf8.{encode, encodes, next}
+use lib.Utf8.{encode, encodes}
 use Rattle.csv.specs.Writing.{default_writer, needs_byte}
-use Rattle.clr_net.specs.Name.{is_name, is_control, may_stand_in_name}
+use Rattle.clr_net.specs.Name.{is_name, may_stand_in_name}
 use Rattle.clr_net.specs.declared.TheConstants.{MAX_CLASS, MAX_NAME_BYTES}
 use Rattle.net_check.specs.Field.{is_space_or_tab, trimmed_start, trimmed_field, number_after, number_in, class_in}
 use Rattle.net_check.specs.declared.TheConstants.{MAX_DIGITS}
@@ -60,7 +59,8 @@ plain_digit b h = (grind arith, grind arith)
 
 plain_digits : (ds : List ℕ) → list_all is_ascii_digit ds ≡ true → IsPlain ds
 plain_digits ds h = record {
-  unquoted = list_any_none (needs_byte default_writer) ds (λ k d l. (plain_digit (get_or ds k d) (AllPass-from_list_all is_ascii_digit ds h k d l)).0);
+  unquoted = list_any_none (needs_byte default_writer) ds
+      (λ k d l. (plain_digit (get_or ds k d) (AllPass-from_list_all is_ascii_digit ds h k d l)).0);
 }
 
 -- the last of some elements that pass

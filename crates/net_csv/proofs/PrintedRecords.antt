@@ -1,5 +1,5 @@
 -- A printed file, read record by record.
-use Rattle.std.proofs.Common.{◌≡◌, ◌∙◌, ◌||◌, ℕ, Bool, true, false, List, [], ◌∷◌, ◌++◌, map, Some, refl, sym, ap}
+use Rattle.std.proofs.Common.{◌≡◌, ◌∙◌, ℕ, false, List, [], ◌∷◌, ◌++◌, map, Some, refl, sym, ap}
 use Rattle.std.specs.List.{AllByRecursion, flat_map, join_with_byte, list_any}
 use Rattle.std.proofs.lemmas.Bool.{or_parts}
 use Rattle.std.proofs.lemmas.List.{append-nil}
@@ -31,7 +31,8 @@ pub record IsRow (fields : Fields) : Type 0 where
 plain_words : (words : Fields) → list_any (list_any (needs_byte default_writer)) words ≡ false → ArePlain words
 plain_words [] h = tt
 plain_words (x ∷ rest) h =
-    let parts = or_parts (list_any (needs_byte default_writer) x) (list_any (list_any (needs_byte default_writer)) rest) h in
+    let parts = or_parts (list_any (needs_byte default_writer) x)
+    (list_any (list_any (needs_byte default_writer)) rest) h in
     (record { unquoted = parts.0 }, plain_words rest parts.1)
 
 pub word_row : (first second : List ℕ) (others : Fields) → list_any (list_any (needs_byte default_writer)) (first ∷ second ∷ others) ≡ false

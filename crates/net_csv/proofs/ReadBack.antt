@@ -2,7 +2,7 @@
 use Rattle.std.proofs.Common.{◌≡◌, ◌∙◌, ◌≤◌, ◌+◌, ◌*◌, ◌==◌, ℕ, Bool, true, false, List, [], ◌∷◌, ◌++◌, length, map, Result, Ok, refl, sym, ap, arith, append_assoc, if◌then◌else◌}
 use Rattle.std.specs.Prelude.{codes}
 use Rattle.std.specs.List.{flat_map, list_all}
-use Rattle.std.proofs.lemmas.Bool.{eqb-true, and_parts}
+use Rattle.std.proofs.lemmas.Bool.{eqb-true}
 use Rattle.std.proofs.lemmas.List.{append-nil, length-append, length-map}
 use Rattle.std.proofs.lemmas.Option.{slice_get_within, get_or_from_slice_get}
 use Rattle.std.proofs.lemmas.List.Sums.{AllPass-from_list_all}
@@ -33,21 +33,27 @@ use Rattle.net_csv.proofs.BackRows.{IsKeptRow, AreKeptRows, records_printed, kep
 
 -- the headers
 header_row : (l : Layout) → IsRow (header l)
-header_row (layout.Banks version.One) = word_row (codes "name") (codes "cash") (codes "rule" ∷ []) refl
-header_row (layout.Banks version.Two) = word_row (codes "name") (codes "cash") (codes "rule" ∷ codes "outside" ∷ []) refl
-header_row layout.Debts = word_row (codes "debtor") (codes "creditor") (codes "class" ∷ codes "claim" ∷ []) refl
+header_row (layout.Banks version.One) =
+    word_row (codes "name") (codes "cash") (codes "rule" ∷ []) refl
+header_row (layout.Banks version.Two) =
+    word_row (codes "name") (codes "cash") (codes "rule" ∷ codes "outside" ∷ []) refl
+header_row layout.Debts =
+    word_row (codes "debtor") (codes "creditor") (codes "class" ∷ codes "claim" ∷ []) refl
 
-header_back : (l : Layout) (below : List Fields) → below_header (file_of l) (header l) (trimmed_fields (header l) ∷ below) ≡ Ok below
+header_back : (l : Layout) (below : List Fields)
+    → below_header (file_of l) (header l) (trimmed_fields (header l) ∷ below) ≡ Ok below
 unfolding trimmed_start
 header_back (layout.Banks version.One) below = refl
 header_back l below = refl
 
-version_back : (v : Version) (below : List Fields) → version_of (trimmed_fields (banks_header v) ∷ below) ≡ v
+version_back : (v : Version) (below : List Fields)
+    → version_of (trimmed_fields (banks_header v) ∷ below) ≡ v
 unfolding trimmed_start
 version_back version.One below = refl
 version_back version.Two below = refl
 
-unmarked : (l : Layout) (text : List ℕ) → strip_bom (line (header l) ++ text) ≡ line (header l) ++ text
+unmarked : (l : Layout) (text : List ℕ)
+    → strip_bom (line (header l) ++ text) ≡ line (header l) ++ text
 unfolding strip_bom
 unmarked (layout.Banks version.One) text = refl
 unmarked l text = refl
@@ -72,7 +78,11 @@ module _ {X : Type 0} {l : Layout} {fields_of : X → Fields} {so_far : List X �
   -- a file keeps the records
   all_kept : (rest done : List X) → all ≡ done ++ rest → AreKeptRows (map fields_of rest)
   all_kept [] done e = tt
-  all_kept (x ∷ rest) done e = (printed.kept done rest x e, all_kept rest (done ++ x ∷ []) (e ∙ sym (append_assoc done (x ∷ []) rest)))
+  all_kept (x ∷ rest) done e = (
+    printed.kept done rest x e,
+    all_kept rest (done ++ x ∷ [])
+        (e ∙ sym (append_assoc done (x ∷ []) rest)),
+  )
 
   -- it is short
   short : length (file_text l fields_of all) ≤ 40 + 151 * length all
@@ -96,14 +106,18 @@ module _ {X : Type 0} {l : Layout} {fields_of : X → Fields} {so_far : List X �
       ∙ ap (λ xs. Ok (so_far xs)) (append_assoc done (x ∷ []) rest)
 
   -- a printed file is read as what it was printed of
-  records_back : records_of (file_text l fields_of all) ≡ trimmed_fields (header l) ∷ map fields_of all
+  records_back : records_of (file_text l fields_of all)
+      ≡ trimmed_fields (header l) ∷ map fields_of all
   records_back =
-      ap (λ t. records_of (line (header l) ++ t)) (lines-map fields_of (λ x. line (fields_of x)) (λ x. refl) all)
-      ∙ records_printed (header l) (map fields_of all) (header_row l) (all_kept all [] refl) (unmarked l (flat_map line (map fields_of all)))
+      ap (λ t. records_of (line (header l) ++ t))
+      (lines-map fields_of (λ x. line (fields_of x)) (λ x. refl) all)
+      ∙ records_printed (header l) (map fields_of all) (header_row l) (all_kept all [] refl)
+      (unmarked l (flat_map line (map fields_of all)))
 
   file_back : with_file l (file_text l fields_of all) (so_far []) ≡ Ok (so_far all)
   file_back =
-      file-below l (file_text l fields_of all) (so_far []) (trimmed_fields (header l) ∷ map fields_of all) (map fields_of all)
+      file-below l (file_text l fields_of all) (so_far [])
+      (trimmed_fields (header l) ∷ map fields_of all) (map fields_of all)
       (sym records_back) (header_back l (map fields_of all))
       ∙ rows_back all [] 1 refl
 
@@ -113,14 +127,18 @@ SaysBanks v net = (done rest : List Bank) (b : Bank) → net.banks ≡ done ++ b
 
 module _ (net : Net) (network : IsNetwork net) (names : KeepsNames net) where
   -- the banks of a network are read back
-  banks_printed : (v : Version) → SaysBanks v net → IsPrinted Bank (layout.Banks v) (bank_fields v) with_banks net.banks
+  banks_printed : (v : Version) → SaysBanks v net
+      → IsPrinted Bank (layout.Banks v) (bank_fields v) with_banks net.banks
   banks_printed v says = record {
     kept = λ done rest b e.
         let at = at_end net.banks done rest b e in
         bank_row v (with_banks done) b (bank_back net network done rest b e)
         (rw at at (names (length done) (slice_get_within net.banks (length done) b at)));
-    read = λ done rest b row e. ap (λ (r : Result Bank Fault). and_then r (λ b. Ok (with_bank (with_banks done) b)))
-        (bank_read_back v (with_banks done) row b (bank_back net network done rest b e) (says done rest b e));
+    read =
+        λ done rest b row e. ap (λ (r : Result Bank Fault). and_then r
+        (λ b. Ok (with_bank (with_banks done) b)))
+        (bank_read_back v (with_banks done) row b (bank_back net network done rest b e)
+        (says done rest b e));
   }
 
   -- and its debts
@@ -128,20 +146,26 @@ module _ (net : Net) (network : IsNetwork net) (names : KeepsNames net) where
   debts_printed = record {
     kept = λ done rest d e.
         let new = debt_back net network done rest d e in
-        debt_row net done d new (name_back net network names d.debtor.0 new.debtor_known) (name_back net network names d.creditor.0 new.creditor_known);
+        debt_row net done d new (name_back net network names d.debtor.0 new.debtor_known)
+        (name_back net network names d.creditor.0 new.creditor_known);
     read = λ done rest d row e.
         let new = debt_back net network done rest d e in
-        ap (λ (r : Result Debt Fault). and_then r (λ d. Ok (with_debt (with_debts net done) d))) (debt_read_back net done row d new
-        (name_back net network names d.debtor.0 new.debtor_known) (name_back net network names d.creditor.0 new.creditor_known));
+        ap (λ (r : Result Debt Fault). and_then r (λ d. Ok (with_debt (with_debts net done) d)))
+        (debt_read_back net done row d new
+        (name_back net network names d.debtor.0 new.debtor_known)
+        (name_back net network names d.creditor.0 new.creditor_known));
   }
 
   -- with the banks that a printed file gives, a file of debts that is read with them is read as before
-  banks_back : (v : Version) (debts : List ℕ) → SaysBanks v net → length debts ≤ file_limit file.Debts
-      → with_debts_of debts (with_banks net.banks) ≡ Ok net → network_of (banks_text_in v net) debts ≡ Ok net
+  banks_back : (v : Version) (debts : List ℕ) → SaysBanks v net
+      → length debts ≤ file_limit file.Debts
+      → with_debts_of debts (with_banks net.banks) ≡ Ok net
+      → network_of (banks_text_in v net) debts ≡ Ok net
   banks_back v debts says small read =
       let printed = banks_printed v says in
       let text = banks_text_in v net in
-      let version : version_of (records_of text) ≡ v = ap version_of (records_back printed) ∙ version_back v (map (bank_fields v) net.banks) in
+      let version : version_of (records_of text) ≡ v =
+      ap version_of (records_back printed) ∙ version_back v (map (bank_fields v) net.banks) in
       network_of_read text debts net (record {
         some = with_banks net.banks;
         small = omega (arith, short printed, network.banks_in_limit);
@@ -155,7 +179,9 @@ version_says : (net : Net) → SaysBanks (version_for net) net
 version_says net done rest b e = by (list_all (λ b. b.outside == 0) net.banks) refl
   where
     by : (t : Bool) → list_all (λ b. b.outside == 0) net.banks ≡ t → SaysAll (if t then version.One else version.Two) b
-    by true h = eqb-true b.outside 0 (rw (get_or_from_slice_get net.banks (length done) b b (at_end net.banks done rest b e))
+    by true h =
+        eqb-true b.outside 0 (rw (get_or_from_slice_get net.banks (length done) b b
+        (at_end net.banks done rest b e))
         at (AllPass-from_list_all (λ b. b.outside == 0) net.banks h (length done) b
         (slice_get_within net.banks (length done) b (at_end net.banks done rest b e))))
     by false h = tt
@@ -194,4 +220,5 @@ converted_is_read_back banks debts net h =
     let same_banks = with_file-keeps (λ n. n.banks ≡ r.some.banks) layout.Debts (no_bank_added r.some.banks) debts r.some net refl r.read_too in
     let some : r.some ≡ with_banks net.banks =
     ap (λ ds. record { banks = r.some.banks; debts = ds }) no_debts ∙ ap with_banks (sym same_banks) in
-    banks_back net network names version.Two debts (λ done rest b e. tt) r.small_too (ap (with_debts_of debts) (sym some) ∙ r.read_too)
+    banks_back net network names version.Two debts (λ done rest b e. tt) r.small_too
+    (ap (with_debts_of debts) (sym some) ∙ r.read_too)

@@ -1,12 +1,12 @@
 -- A file read row by row.
-use Rattle.std.proofs.Common.{◌≡◌, ◌↔◌, ◌∙◌, ℕ, suc, ◌+◌, ◌≤◌, not, Bool, true, false, length, map, List, [], ◌∷◌, ◌++◌, Result, Ok, Err, refl, ap, arith}
+use Rattle.std.proofs.Common.{◌≡◌, ◌↔◌, ◌∙◌, ℕ, suc, ◌+◌, ◌≤◌, not, true, false, length, map, List, [], ◌∷◌, ◌++◌, Result, Ok, Err, refl, ap, arith}
 use Rattle.std.specs.List.{enumerate_from}
 use Rattle.std.proofs.lemmas.List.{length-map}
 use Rattle.std.proofs.lemmas.List.Elements.{filter-append}
 use Rattle.csv.specs.Reading.{records, default_config, strip_bom}
 use Rattle.net_csv.proofs.Left.{length-records}
 use Rattle.clr_net.specs.Net.{Net}
-use Rattle.net_check.specs.Checks.{and_then, fault_unless}
+use Rattle.net_check.specs.Checks.{and_then}
 use Rattle.net_check.specs.Field.{are_words}
 use Rattle.net_check.specs.Record.{fault_at}
 use Rattle.net_check.specs.declared.fault.FaultKind.TheVariants as fault
@@ -14,7 +14,7 @@ use Rattle.net_check.specs.declared.fault.Fault.{Fault}
 use Rattle.net_check.specs.declared.fault.FileKind.{FileKind}
 use Rattle.net_check.proofs.Passed.{fault_unless-ok}
 use Rattle.net_csv.specs.declared.layout.Layout.{Layout}
-use Rattle.net_csv.specs.Reading.{Fields, trimmed_fields, is_blank, rows_from, records_of, below_header, header, file_of, rows_in_file, with_row, read_rows, with_file}
+use Rattle.net_csv.specs.Reading.{Fields, trimmed_fields, is_blank, rows_from, records_of, below_header, header, file_of, with_row, read_rows, with_file}
 
 -- the first record's row, and then those after it
 rows_from-cons : (row : ℕ) (fields : Fields) (rest : List Fields)
@@ -85,7 +85,8 @@ below_header-fewer : (kind : FileKind) (header : Fields) (left below : List Fiel
     → length left ≡ suc (length below)
 below_header-fewer kind header [] below e = absurd (cc e)
 below_header-fewer kind header (fields ∷ rest) below e =
-    let passed = fault_unless-ok (are_words header fields) (fault_at kind 0 fault.Header) (Ok rest) below e in
+    let passed =
+    fault_unless-ok (are_words header fields) (fault_at kind 0 fault.Header) (Ok rest) below e in
     let same : rest ≡ below = cc in
     ap (λ t. suc (length t)) same
 

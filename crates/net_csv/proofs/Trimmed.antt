@@ -16,7 +16,8 @@ use Rattle.net_csv.specs.Reading.{Fields, trimmed_fields, is_blank, rows_from, b
 start-twice : (x : List ℕ) → trimmed_start (trimmed_start x) ≡ trimmed_start x
 unfolding trimmed_start
 start-twice [] = refl
-start-twice (b ∷ rest) = cond_both (is_space_or_tab b) (trimmed_start rest) (b ∷ rest) (λ t. trimmed_start t ≡ t)
+start-twice (b ∷ rest) =
+    cond_both (is_space_or_tab b) (trimmed_start rest) (b ∷ rest) (λ t. trimmed_start t ≡ t)
     (λ _. start-twice rest) (λ other. rw other refl)
 
 -- what trimming takes off the start
@@ -25,7 +26,8 @@ unfolding trimmed_start
 start-split [] = ([], refl)
 start-split (b ∷ rest) =
     let more = start-split rest in
-    cond_both (is_space_or_tab b) (trimmed_start rest) (b ∷ rest) (λ t. (front : List ℕ) × (b ∷ rest ≡ front ++ t))
+    cond_both (is_space_or_tab b) (trimmed_start rest) (b ∷ rest)
+    (λ t. (front : List ℕ) × (b ∷ rest ≡ front ++ t))
     (λ _. (b ∷ more.0, ap (λ t. b ∷ t) more.1)) (λ _. ([], refl))
 
 -- the front of a list with nothing to trim at its start has nothing either
@@ -64,14 +66,17 @@ rows_trimmed : (raw : List Fields) (row : ℕ) → AreTrimmed (rows_from row (ma
 rows_trimmed [] row = tt
 rows_trimmed (fields ∷ rest) row =
     let more = rows_trimmed rest (row + 1) in
-    cond_both (not (is_blank (trimmed_fields fields))) _ _ AreTrimmed (λ _. (fields-twice fields, more)) (λ _. more)
+    cond_both (not (is_blank (trimmed_fields fields))) _ _ AreTrimmed
+    (λ _. (fields-twice fields, more)) (λ _. more)
 
 -- the rows of a file have nothing to be trimmed
 pub file_rows : (kind : FileKind) (header : Fields) (raw : List Fields) (rows : List (ℕ × Fields))
     → and_then (below_header kind header (map trimmed_fields raw)) (λ below. Ok (rows_from 1 below)) ≡ Ok rows → AreTrimmed rows
 file_rows kind header [] rows h = cc
 file_rows kind header (fields ∷ rest) rows h =
-    let below = and_then-ok (below_header kind header (map trimmed_fields (fields ∷ rest))) (λ below. Ok (rows_from 1 below)) rows h in
-    let passed = fault_unless-ok (are_words header (trimmed_fields fields)) (fault_at kind 0 fault.Header) (Ok (map trimmed_fields rest)) below.0 below.1 in
+    let below = and_then-ok (below_header kind header (map trimmed_fields (fields ∷ rest)))
+    (λ below. Ok (rows_from 1 below)) rows h in
+    let passed = fault_unless-ok (are_words header (trimmed_fields fields))
+    (fault_at kind 0 fault.Header) (Ok (map trimmed_fields rest)) below.0 below.1 in
     let same : rows_from 1 (map trimmed_fields rest) ≡ rows = cc in
     subst AreTrimmed same (rows_trimmed rest 1)

@@ -5,21 +5,18 @@ use Rattle.pay_words.proofs.Views.{got}
 use Rattle.std.proofs.lemmas.Bool.{cond-true}
 use Rattle.pay_words.specs.BoardRule.{taken_of, made_of}
 use Rattle.std.proofs.Common.{length}
-use Rattle.std.proofs.Common.{◌≡◌, ◌≢◌, ℕ, zero, suc, ◌+◌, ◌*◌, ◌<◌, ◌≤◌, List, [], ◌∷◌, set, get_or, sum, sum_by, Bool, true, false, refl, sym, ap, ◌∙◌, subst, ⊎_elim, arith, le_trans, le_of_eq, zero-le, length-set, get_or-set_same, get_or-set_other}
+use Rattle.std.proofs.Common.{◌≡◌, ◌≢◌, ℕ, zero, suc, ◌+◌, ◌*◌, ◌<◌, ◌≤◌, List, [], ◌∷◌, set, get_or, sum, sum_by, Bool, true, false, refl, sym, ap, ◌∙◌, subst, arith, length-set, get_or-set_other}
 use Rattle.std.specs.Prelude.{if◌then◌else◌}
 use Rattle.std.specs.List.{range_with_len}
-use Rattle.std.proofs.lemmas.Bool.{cases_Bool}
 use Rattle.std.proofs.lemmas.List.{ext_get_or}
 use Rattle.std.proofs.lemmas.List.FromFn.{length-range_with_len, get_or-range_with_len}
 use Rattle.std.proofs.lemmas.List.Sums.{sum_by-cons, sum_by-set, get_or-le-sum_by, sum_by-le, sum-map}
 use mathlib.Core.Option.{some, some-ne-none, some-injective}
-use mathlib.Core.Logic.{dite}
-use native.Mathlib.Decide.{ℕ_discrete}
 use lib.ListN.{get_elem?}
 use Rattle.pay_words.specs.declared.view.View.{View}
 use Rattle.pay_words.specs.Views.{tabled}
 use Rattle.pay_words.specs.BoardRule.{how_many}
-use Rattle.pay_words.proofs.Tables.{tabled_at, length-tabled, sum_less, tabled_most, changed, changed_here, changed_else}
+use Rattle.pay_words.proofs.Tables.{tabled_at, length-tabled, sum_less, tabled_most, changed}
 
 -- what a live seat took, and how many raises it made
 pub live_of : (v : View) → v.live ≡ true → (taken_of v ≡ v.shown.taken) × (made_of v ≡ length v.shown.raises)
@@ -27,11 +24,13 @@ live_of v on = (cond-true v.live v.shown.taken 0 on, cond-true v.live (length v.
 
 -- a sum over all views when one changes
 pub sum_views : (f : View → ℕ) (views : List View) (id : ℕ) (v w : View) → get_elem? views id ≡ some v → sum_by f (set views id w) + f v ≡ sum_by f views + f w
-sum_views f views id v w at = subst (λ (u : View). sum_by f (set views id w) + f u ≡ sum_by f views + f w) (got views id v v at).1 (sum_by-set f views id w v (got views id v v at).0)
+sum_views f views id v w at = subst (λ (u : View). sum_by f (set views id w) + f u ≡ sum_by f views + f w)
+    (got views id v v at).1 (sum_by-set f views id w v (got views id v v at).0)
 
 -- a sum over all views is at least what one has, and it is that where the others have nothing
 pub sum_least : (f : View → ℕ) (views : List View) (id : ℕ) (v : View) → get_elem? views id ≡ some v → f v ≤ sum_by f views
-sum_least f views id v at = subst (λ (u : View). f u ≤ sum_by f views) (got views id v v at).1 (get_or-le-sum_by f views id v (got views id v v at).0)
+sum_least f views id v at = subst (λ (u : View). f u ≤ sum_by f views) (got views id v v at).1
+    (get_or-le-sum_by f views id v (got views id v v at).0)
 
 sum_none : (f : View → ℕ) (views : List View) → ((j : ℕ) (u : View) → get_elem? views j ≡ some u → f u ≡ 0) → sum_by f views ≡ 0
 sum_none f [] h = refl
@@ -79,6 +78,7 @@ one_less n marks less x lt was now h =
     let g : ℕ → ℕ = λ y. if marks y then 1 else 0 in
     omega (
       arith,
-      sum_less (tabled n f) (tabled n g) x (omega (arith, lt, length-tabled n f)) (tabled_most n f g (λ y _. grind (arith, h y)))
+      sum_less (tabled n f) (tabled n g) x (omega (arith, lt, length-tabled n f))
+          (tabled_most n f g (λ y _. grind (arith, h y)))
           (grind (arith, now, was, tabled_at n f x 0 lt, tabled_at n g x 0 lt)),
     )

@@ -1,6 +1,6 @@
 -- What the words and the raises are when a board is closed by a master that holds all banks.
 use Rattle.pay_words.proofs.Standing.{stands}
-use Rattle.std.proofs.Common.{◌≡◌, ℕ, ◌+◌, ◌<◌, ◌≤◌, All, List, ◌++◌, length, get_or, sum, Bool, true, refl, sym, ap, ◌∙◌, subst, arith, ⊎_elim}
+use Rattle.std.proofs.Common.{◌≡◌, ℕ, ◌+◌, ◌<◌, ◌≤◌, All, List, ◌++◌, length, get_or, sum, Bool, true, refl, sym, ap, ◌∙◌, subst, arith}
 use Rattle.std.specs.Prelude.{slice_index}
 use Rattle.std.proofs.lemmas.List.{append-nil, ext_get_or}
 use Rattle.atomic_table.specs.Table.{Final, Seen}
@@ -21,14 +21,14 @@ use Rattle.pay_words.specs.Traces.{Traces, AreLawfulTraces, ending, raises_of, l
 use Rattle.pay_words.specs.Views.{tabled, HoldsAll, holds, a_raise}
 use Rattle.pay_words.specs.BoardRule.{Ledger, Suits, taken_of, made_of, own_raises}
 use Rattle.pay_words.proofs.Tables.{tabled_at, tabled_agree, length-tabled}
-use Rattle.pay_words.proofs.Traces.{read_back, under_own_ending}
-use Rattle.pay_words.proofs.Lawful.{value_fits, paid_in_below}
+use Rattle.pay_words.proofs.Traces.{under_own_ending}
+use Rattle.pay_words.proofs.Lawful.{paid_in_below}
 use Rattle.pay_words.proofs.Pasts.{covered}
 use Rattle.pay_words.proofs.Orders.{same_of, all_ordered}
 use Rattle.pay_words.proofs.Histories.{lawful_agree, history_of, replayed_is}
 use Rattle.pay_words.proofs.Views.{rule, not_both, its_raises}
 use Rattle.pay_words.proofs.Bells.{live_of, sum_least, sum_alone}
-use Rattle.std.proofs.lemmas.Bool.{false_from_ne_true, cond_both, cases_lt}
+use Rattle.std.proofs.lemmas.Bool.{false_from_ne_true, cond_both}
 use Rattle.std.proofs.Common.{◌≢◌}
 use mathlib.Core.List.{map-map}
 
@@ -117,7 +117,8 @@ closes d id v ws xs on chief all final =
     (λ x lt. f.pays x lt (mine x lt) ∙ ap ending (sym (same x lt)))) in
     record {
       size = ap length (sym final.2) ∙ h.size;
-      payments = λ x lt. ap (λ (l : List ℕ). payment_of (slice_index l (x + 1))) (sym final.2) ∙ stands d s.words s.views h x lt ∙ sym (f.pays x lt (mine x lt));
+      payments = λ x lt. ap (λ (l : List ℕ). payment_of (slice_index l (x + 1))) (sym final.2)
+          ∙ stands d s.words s.views h x lt ∙ sym (f.pays x lt (mine x lt));
       ends = subst (Ends net d.past v.shown) (sym shown) (record {
         payments_are = sym shown;
         below_least = values_below net raises known lawful;

@@ -2,9 +2,9 @@
 use Rattle.std.proofs.lemmas.Bool.{cond_both}
 use Rattle.std.proofs.lemmas.Bool.Decides.{nat_tests}
 use Rattle.std.proofs.lemmas.Grind.{get_or-set_at}
-use Rattle.std.proofs.Common.{◌≡◌, ◌≢◌, ℕ, suc, ◌<◌, ◌==◌, List, [], ◌∷◌, length, set, map, slice_get, Some, Bool, true, false, inl, inr, refl, sym, ap, ◌∙◌, subst, arith, length-set, get_or-set_same, get_or-set_other, All, get_or, ◌≤◌, ⊎_elim}
-use Rattle.std.specs.Prelude.{slice_index, cond, sum}
-use Rattle.std.proofs.lemmas.Bool.{eq-eqb, ne_eqb, cases_Bool, cases_order}
+use Rattle.std.proofs.Common.{◌≡◌, ℕ, suc, ◌<◌, ◌==◌, List, [], ◌∷◌, length, set, map, slice_get, Some, inl, inr, refl, sym, ap, ◌∙◌, subst, arith, length-set, get_or-set_other, All, get_or, ◌≤◌}
+use Rattle.std.specs.Prelude.{slice_index, sum}
+use Rattle.std.proofs.lemmas.Bool.{eq-eqb}
 use Rattle.std.proofs.lemmas.List.{length-replicate, ext_get_or, get_or_default}
 use mathlib.Core.Logic.{dite}
 use native.Mathlib.Decide.{ℕ_discrete, dec_lt}
@@ -45,7 +45,8 @@ lawful_agree net t u h same = record {
     all = ap sum (tabled_agree 0 (length net.debts) (λ y. (ending (u y)).value) (λ y. (ending (t y)).value) (λ y l. ap (λ (rs : List Raise). (ending rs).value) (same y l)))
 
 rise_tail : (x : ℕ) (a : Raise) (rs : List Raise) → Rise (raises_of x (a ∷ rs)) → Rise (raises_of x rs)
-rise_tail x a rs = cond_both (a.debt.0 == x) (a ∷ raises_of x rs) (raises_of x rs) (λ l. Rise l → Rise (raises_of x rs)) (λ _. rise_rest a (raises_of x rs)) (λ _ h. h)
+rise_tail x a rs = cond_both (a.debt.0 == x) (a ∷ raises_of x rs) (raises_of x rs)
+    (λ l. Rise l → Rise (raises_of x rs)) (λ _. rise_rest a (raises_of x rs)) (λ _ h. h)
 
 -- raises that rise by debt differ
 differ : (rs : List Raise) → ((x : ℕ) → Rise (raises_of x rs)) → AllPairs Differ rs
@@ -112,7 +113,15 @@ replayed_at : (P : List ℕ) (rs : List Raise) (x stamp : ℕ) → x < length P 
 unfolding replayed_from
 replayed_at P [] x stamp lt = refl
 replayed_at P (r ∷ rs) x stamp lt =
-    grind (arith, nat_tests, get_or-set_at, get_or-set_other {A = ℕ}, length-set {A = ℕ}, replayed_at (set P r.debt.0 r.to) rs x r.stamp, replayed_at (set P r.debt.0 r.to) rs x stamp)
+    grind (
+      arith,
+      nat_tests,
+      get_or-set_at,
+      get_or-set_other {A = ℕ},
+      length-set {A = ℕ},
+      replayed_at (set P r.debt.0 r.to) rs x r.stamp,
+      replayed_at (set P r.debt.0 r.to) rs x stamp,
+    )
 
 pub replayed_is : (net : Net) (rs : List Raise) → replayed net rs ≡ map (λ p. p.value) (start_of net rs)
 replayed_is net rs =

@@ -1,16 +1,13 @@
 -- The master takes a seat back.
 use Rattle.pay_words.proofs.Views.{its, got}
-use Rattle.pay_words.specs.BoardRule.{IsCalled}
 use Rattle.pay_words.specs.Views.{PaysWithin}
-use Rattle.std.proofs.Common.{le_refl}
 use Rattle.std.proofs.lemmas.Bool.{cond_both}
 use Rattle.pay_words.proofs.Views.{each_set, at_its, Keeps}
 use Rattle.pay_words.proofs.Bells.{live_of}
-use Rattle.std.proofs.Common.{◌≡◌, ◌≢◌, ◌⊎◌, ℕ, ◌<◌, ◌≤◌, max, List, [], ◌++◌, length, set, Bool, true, false, true≢false, refl, sym, ap, ◌∙◌, subst, ⊎_elim, arith, le_trans, le_of_eq, length-set, append_assoc, All}
+use Rattle.std.proofs.Common.{◌≡◌, ◌≢◌, ℕ, ◌<◌, ◌≤◌, max, List, [], ◌++◌, length, set, Bool, true, false, true≢false, refl, sym, ap, ◌∙◌, subst, ⊎_elim, arith, le_of_eq, length-set, append_assoc, All}
 use Rattle.std.specs.Prelude.{slice_index, if◌then◌else◌, ◌||◌}
-use Rattle.std.proofs.lemmas.Bool.{cases_Bool, cond-true, cond-false, or_left, or_right, false_from_ne_true}
+use Rattle.std.proofs.lemmas.Bool.{cases_Bool, cond-false, or_left, or_right, false_from_ne_true}
 use Rattle.std.proofs.lemmas.List.{append-nil}
-use mathlib.Core.Logic.{⊎_map}
 use mathlib.Core.Option.{some, some-injective}
 use lib.ListN.{get_elem?}
 use Rattle.atomic_table.specs.Table.{Joins}
@@ -95,7 +92,8 @@ sound_both s t e f g =
       f,
     )
 
-module _ (past : List Raise) (k : Ledger) (roll count id other : ℕ) (v w : View) (chief : v.shown.master ≡ true) (plain : w.shown.master ≡ false)
+module _ (past : List Raise) (k : Ledger) (roll count id other : ℕ) (v w : View) (chief : v.shown.master ≡ true)
+    (plain : w.shown.master ≡ false)
     (f : Suits (its past v) k roll count id v) (g : Suits (its past v) k roll count other w) where
   abbrev d : Deed
   d = its past v
@@ -138,7 +136,14 @@ module _ (past : List Raise) (k : Ledger) (roll count id other : ℕ) (v w : Vie
     past_by_clock = λ i e l. omega (arith, f.past_by_clock i e l);
     late = All-append (λ r. All (λ p. p.stamp < r.stamp) past) s.raises t.raises f.late g.late;
     clock_low = omega (arith, f.clock_low, g.clock_low);
-    leads = λ e. let l = f.leads e in (l.0, ap (λ (rs : List Raise). rs ++ t.raises) l.1 ∙ append_assoc past s.raises t.raises, l.2, l.3, l.4);
+    leads = λ e. let l = f.leads e in (
+      l.0,
+      ap (λ (rs : List Raise). rs ++ t.raises) l.1
+          ∙ append_assoc past s.raises t.raises,
+      l.2,
+      l.3,
+      l.4,
+    );
   }
 
   -- the others do not hold what comes back
@@ -155,9 +160,12 @@ module _ (past : List Raise) (k : Ledger) (roll count id other : ℕ) (v w : Vie
       outside b e = false_from_ne_true (holds t b) (λ h. far (sym (a.mine b e) ∙ g.mine b h))
 
 -- the bells come back with their banks
-module _ (past : List Raise) (t : Traces) (words : List ℕ) (views : List View) (id other : ℕ) (v w : View) (h : IsRung (its past v) t words views)
-    (paid : (x : ℕ) → x < length v.shown.net.debts → holds w.shown (debtor_of v.shown.net x) ≡ true → slice_index w.shown.paid x ≡ (ending (t x)).value)
-    (calm : (x : ℕ) → x < length v.shown.net.debts → holds w.shown (debtor_of v.shown.net x) ≡ true → is_marked w.shown.owes_ring x ≡ false) where
+module _ (past : List Raise) (t : Traces) (words : List ℕ) (views : List View) (id other : ℕ) (v w : View)
+    (h : IsRung (its past v) t words views)
+    (paid : (x : ℕ) → x < length v.shown.net.debts → holds w.shown (debtor_of v.shown.net x) ≡ true
+    → slice_index w.shown.paid x ≡ (ending (t x)).value)
+    (calm : (x : ℕ) → x < length v.shown.net.debts → holds w.shown (debtor_of v.shown.net x) ≡ true
+    → is_marked w.shown.owes_ring x ≡ false) where
   abbrev net : Net
   net = v.shown.net
 
@@ -209,7 +217,8 @@ module _ (past : List Raise) (t : Traces) (words : List ℕ) (views : List View)
           live_of (both_of v w) on,
         );
     has = each_set (λ _ u. HasBells (its past v) higher u) (set views id (both_of v w)) other nobody
-        (λ j u far. each_set (λ _ u. HasBells (its past v) higher u) views id (both_of v w) (λ j u away e o. grind (arith, h.has j u e o, h.levels))
+        (λ j u far. each_set (λ _ u. HasBells (its past v) higher u) views id (both_of v w)
+        (λ j u away e o. grind (arith, h.has j u e o, h.levels))
         (λ _. both_has (h.has id v at on) (h.has other w was also)) j u)
         (λ e. absurd (true≢false (sym e)));
   }
@@ -248,7 +257,8 @@ joins d id v other w may s h at apart there =
           (λ t. (joined, seat, may.live, held_second v.shown.net v.shown w.shown b lt t))
           (λ t.
           let e = h.held b lt in
-          let m = sits_set s.views id v joined (k.owner b) (λ u. holds u.shown b ≡ true) at refl (held_first v.shown.net v.shown w.shown b lt) e in
+          let m = sits_set s.views id v joined (k.owner b) (λ u. holds u.shown b ≡ true) at refl
+          (held_first v.shown.net v.shown w.shown b lt) e in
           let off : k.owner b ≢ other = λ i. let same : e.0 ≡ w = some-injective e.0 w (sym e.1 ∙ ap (get_elem? s.views) i ∙ was) in
           absurd (true≢false (sym e.3 ∙ ap (λ (u : View). holds u.shown b) same ∙ t)) in
           (m.0, set_else one other (k.owner b) nobody off ∙ m.1, m.2, m.3));
@@ -256,7 +266,8 @@ joins d id v other w may s h at apart there =
       fits = rw (length-set one other nobody, length-set s.views id joined) (each_set fits one other nobody
           (λ j u far e o. each_set (λ j u. j ≢ other → fits j u) s.views id joined
           (λ j u away e o far. third_suits d.past k _ _ id other v w may.chief may.plain f g j u away far (h.fits j u e o))
-          (λ _ _. both_suits d.past k _ _ id other v w may.chief may.plain f g (sound_both v.shown w.shown g.net_is f.sound g.sound)) j u e o far)
+          (λ _ _. both_suits d.past k _ _ id other v w may.chief may.plain f g
+          (sound_both v.shown w.shown g.net_is f.sound g.sound)) j u e o far)
           (λ e. absurd (true≢false (sym e))));
       rung = rung_join d.past k.trace s.words s.views id other v w h.rung (λ x lt e. ap (λ (p : Payment). p.value) (g.pays x lt e))
           (rw g.net_is at may.calm) at may.live was may.also_live apart;

@@ -1,11 +1,11 @@
 -- One more raise keeps the raises lawful, and no payment word overflows.
 use Rattle.std.proofs.Common.{le_refl}
-use Rattle.std.proofs.Common.{◌≡◌, ◌≢◌, ℕ, ◌+◌, ◌<◌, ◌≤◌, List, length, sum, refl, sym, ap, ◌∙◌, le_trans, le_of_eq, arith, All, get_or, ◌++◌, ◌∷◌, []}
+use Rattle.std.proofs.Common.{◌≡◌, ◌≢◌, ℕ, ◌+◌, ◌<◌, ◌≤◌, List, length, sum, refl, ap, ◌∙◌, le_trans, arith, All, get_or, ◌++◌, ◌∷◌, []}
 use Rattle.std.specs.Prelude.{slice_index}
 use Rattle.std.proofs.lemmas.List.{get_or_past}
 use Rattle.std.proofs.lemmas.List.Sums.{sum_by-le-sum_by}
 use Rattle.clear_core.proofs.Within.{least_in_limit}
-use native.Mathlib.Decide.{ℕ_discrete, dec_lt}
+use native.Mathlib.Decide.{dec_lt}
 use mathlib.Core.Logic.{dite}
 use Rattle.clr_net.specs.declared.TheConstants.{MAX_CLAIM}
 use Rattle.clr_net.specs.Amounts.{IsAtMost}
@@ -85,7 +85,8 @@ module _ (net : Net) (t : Traces) (h : AreLawfulTraces net t) where
         most = changed_each (λ y rs. y < length net.debts → (ending rs).value ≤ slice_index (least net) y) x (t x ++ r ∷ []) t
             (λ _. omega (arith, below, ap (λ (q : Payment). q.value) (ending_push unpaid (t x) r))) (λ y _. h.most y);
         low = changed_each (λ y rs. y < length net.debts → (ending rs).stamp ≤ total net more) x (t x ++ r ∷ []) t
-            (λ _. omega (arith, low, total_rises, ap (λ (q : Payment). q.stamp) (ending_push unpaid (t x) r))) (λ y _ l. omega (arith, h.low y l, total_rises));
+            (λ _. omega (arith, low, total_rises, ap (λ (q : Payment). q.stamp) (ending_push unpaid (t x) r)))
+            (λ y _ l. omega (arith, h.low y l, total_rises));
       }
         where
           still : (y : ℕ) → y < length net.debts → All (λ s. s.to ≤ part net y (paid_to net more s.stamp y)) (t y)

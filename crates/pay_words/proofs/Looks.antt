@@ -22,14 +22,15 @@ use Rattle.pay_words.specs.Views.{IsSound, holds, looked}
 use Rattle.pay_words.specs.Traces.{Stood, ending, total}
 use Rattle.pay_words.specs.BoardRule.{Ledger, Suits, MeetsRule, LookTells, Looks, showing}
 use Rattle.pay_words.proofs.Tables.{after_set, set_above, set_below}
-use Rattle.pay_words.proofs.Traces.{read_back, ending_stood, stood_under}
-use Rattle.pay_words.proofs.Lawful.{total_le, value_fits}
+use Rattle.pay_words.proofs.Traces.{ending_stood, stood_under}
+use Rattle.pay_words.proofs.Lawful.{total_le}
 use Rattle.pay_words.proofs.Views.{rule, kept_again, not_both}
 use Rattle.pay_words.proofs.Rung.{rung_look}
 use Rattle.pay_words.proofs.Lengths.{over_looked}
 
 -- what a seat shows is sound after it has seen more
-sound_look : (s : Shown) (x : ℕ) (p : Payment) → IsSound s → slice_index s.sights x ≤ p.value → p.value ≤ slice_index (least s.net) x → max s.clock p.stamp ≤ units_owed s.net → IsSound (looked s x p)
+sound_look : (s : Shown) (x : ℕ) (p : Payment) → IsSound s → slice_index s.sights x ≤ p.value
+    → p.value ≤ slice_index (least s.net) x → max s.clock p.stamp ≤ units_owed s.net → IsSound (looked s x p)
 sound_look s x p h up below low =
     let within = λ (y : ℕ) (lt : y < length s.net.debts) (mine : holds s (debtor_of s.net y) ≡ true). le_trans (h.pays_within y lt mine)
     (part_mono s.net y _ _ (receipts_mono s.net s.sights (set s.sights x p.value) (debtor_of s.net y) (set_above s.sights x p.value up))) in
@@ -39,22 +40,27 @@ module _ (past : List Raise) (k : Ledger) (roll count id : ℕ) (v : View) (x : 
   abbrev found : Payment
   found = ending (k.trace x)
 
-  looked_suits : x < length v.shown.net.debts → found.stamp ≤ total v.shown.net k.trace → IsSound (looked v.shown x found) → Suits (its past v) k roll count id v
+  looked_suits : x < length v.shown.net.debts → found.stamp ≤ total v.shown.net k.trace
+      → IsSound (looked v.shown x found) → Suits (its past v) k roll count id v
       → Suits (its past v) k roll count id (showing v (looked v.shown x found))
   looked_suits lt low sound f =
       let n : ℕ = length v.shown.net.debts in
       let clock : ℕ = max v.shown.clock found.stamp in
-      let stood = set_both (λ z a b. z < n → Stood (k.trace z) a b) v.shown.sights v.shown.sight_stamps x found.value found.stamp (omega (arith, lt, f.sound.over.sights))
+      let stood = set_both (λ z a b. z < n → Stood (k.trace z) a b) v.shown.sights v.shown.sight_stamps x
+      found.value found.stamp (omega (arith, lt, f.sound.over.sights))
       (omega (arith, lt, f.sound.over.sight_stamps)) (λ _. ending_stood (k.trace x)) (λ z _. f.stood z) in
       let seen = after_set (λ z m. m ≤ clock) v.shown.sight_stamps x found.stamp (omega arith) (λ z. omega (arith, f.seen_by_clock z)) in
-      let stamps : (y : ℕ) → y < n → holds v.shown (debtor_of v.shown.net y) ≡ true → (ending (k.trace y)).stamp ≤ clock = λ y l i. omega (arith, f.paid_by_clock y l i) in
+      let stamps : (y : ℕ) → y < n → holds v.shown (debtor_of v.shown.net y) ≡ true
+      → (ending (k.trace y)).stamp ≤ clock = λ y l i. omega (arith, f.paid_by_clock y l i) in
       let past : All (λ r. r.stamp ≤ clock) past = λ i e l. omega (arith, f.past_by_clock i e l) in
       let most : clock ≤ total v.shown.net k.trace = omega (arith, f.clock_low, low) in
       assumption (stood, seen, stamps, past, most, f)
 
-pub looks : (d : Deed) (slots id : ℕ) (me : Me (Unit {0}) View) (x : ℕ) → me.0.shown.net ≡ d.net → me.0.live ≡ true → x < length me.0.shown.net.debts → holds me.0.shown (creditor_of me.0.shown.net x) ≡ true
+pub looks : (d : Deed) (slots id : ℕ) (me : Me (Unit {0}) View) (x : ℕ) → me.0.shown.net ≡ d.net → me.0.live ≡ true
+    → x < length me.0.shown.net.debts → holds me.0.shown (creditor_of me.0.shown.net x) ≡ true
     → Allows (rule d) slots id me (x + 1) (λ n. n) (Looks (step slots (x + 1) 0 0 none) me)
-looks d slots id me x over on lt to_me = allowed d slots id me (x + 1) (λ n. n) (Looks (step slots (x + 1) 0 0 none) me) (λ n. showing me.0 (looked me.0.shown x (payment_of n))) over (λ s h at.
+looks d slots id me x over on lt to_me = allowed d slots id me (x + 1) (λ n. n)
+    (Looks (step slots (x + 1) 0 0 none) me) (λ n. showing me.0 (looked me.0.shown x (payment_of n))) over (λ s h at.
     let k = h.ledger in
     let v = me.0 in
     let net = v.shown.net in
@@ -72,8 +78,10 @@ looks d slots id me x over on lt to_me = allowed d slots id me (x + 1) (λ n. n)
       below = h.lawful.most x lt;
       own = λ mine. sym (f.pays x lt mine);
     } in
-    let after = subst (λ (q : Payment). MeetsRule (its d.past v) s.words (set s.views id (showing v (looked v.shown x q))) × LookTells v.shown x q) (sym is) (
-      kept_again (its d.past v) s.words s.words s.views id _ v (showing v (looked v.shown x p)) k.trace h at on refl refl refl refl refl h.stands h.lawful (λ _ _ _ _ _ f. f)
+    let after = subst (λ (q : Payment). MeetsRule (its d.past v) s.words
+    (set s.views id (showing v (looked v.shown x q))) × LookTells v.shown x q) (sym is) (
+      kept_again (its d.past v) s.words s.words s.views id _ v
+          (showing v (looked v.shown x p)) k.trace h at on refl refl refl refl refl h.stands h.lawful (λ _ _ _ _ _ f. f)
           (λ f. looked_suits d.past k _ _ id v x lt low sound f)
           (rung_look (its d.past v) k.trace s.words s.views id v at on h.rung x lt to_me f.sound.over.sights f.sound.over.pending
           (λ j u ne e t. not_both (its d.past v) k _ _ id j u v (creditor_of net x) ne f to_me (h.fits j u e t))),
@@ -81,7 +89,8 @@ looks d slots id me x over on lt to_me = allowed d slots id me (x + 1) (λ n. n)
     ) in (
       rw (set-get_or s.words (x + 1) 0) after.0,
       λ y e. let same : x ≡ y = omega arith in
-          subst (λ (z : ℕ). (◌≡◌ {A = Me (Unit {0}) View} (showing v (looked v.shown x (payment_of n)), me.1) (showing v (looked v.shown z (payment_of n)), me.1)) × LookTells v.shown z (payment_of n)) same (refl, after.1),
+          subst (λ (z : ℕ). (◌≡◌ {A = Me (Unit {0}) View} (showing v (looked v.shown x (payment_of n)), me.1)
+          (showing v (looked v.shown z (payment_of n)), me.1)) × LookTells v.shown z (payment_of n)) same (refl, after.1),
     ))
 
 -- the sight of a debt after a look at it

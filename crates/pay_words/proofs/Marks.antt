@@ -1,11 +1,9 @@
 -- Marks of banks, and lists of which one part is chosen from another.
-use Rattle.std.proofs.Common.{◌≡◌, ℕ, ◌<◌, ◌≤◌, List, length, get_or, sum_by, Bool, true, false, true≢false, sym, ◌∙◌, subst, ⊎_elim, arith}
+use Rattle.std.proofs.Common.{◌≡◌, ℕ, ◌<◌, ◌≤◌, List, length, get_or, sum_by, Bool, true, false, ◌∙◌, arith}
 use Rattle.std.specs.Prelude.{slice_index, if◌then◌else◌, ◌&&◌, ◌||◌, not, slice_index_or}
-use Rattle.std.proofs.lemmas.Bool.{cond_both, cond-true, cond-false, and_from, and_parts, or_cases, not-true, not_from_false}
+use Rattle.std.proofs.lemmas.Bool.{cond_both, cond-true, cond-false}
 use Rattle.std.proofs.lemmas.List.{get_or_past}
 use Rattle.clr_net.proofs.Lists.{sums_agree}
-use mathlib.Core.Logic.{dite}
-use native.Mathlib.Decide.{dec_lt}
 use Rattle.clr_net.specs.Net.{Net, column, creditor_of}
 use Rattle.clr_net.proofs.RowsAndColumns.{column_place}
 use Rattle.clear_core.specs.Clearing.{receipts}
@@ -26,7 +24,8 @@ pub marked_without : (s t : Bool) → s ≡ true → t ≡ false → (s && not t
 marked_without s t e f = grind (arith, e, f)
 
 -- a bank of either list that is not the second's is the first's
-pub either_marked : (n : ℕ) (xs ys : List Bool) (b : ℕ) → is_marked (tabled n (λ c. is_marked xs c || is_marked ys c)) b ≡ true → is_marked ys b ≡ false → is_marked xs b ≡ true
+pub either_marked : (n : ℕ) (xs ys : List Bool) (b : ℕ)
+    → is_marked (tabled n (λ c. is_marked xs c || is_marked ys c)) b ≡ true → is_marked ys b ≡ false → is_marked xs b ≡ true
 either_marked n xs ys b e out = grind (arith, (marked_if n (λ c. is_marked xs c || is_marked ys c) b e).1, out)
 
 module _ {A : Type 0} (none : A) (n : ℕ) (p : ℕ → Bool) (xs ys : List A) where

@@ -5,10 +5,8 @@ use Rattle.pay_words.proofs.Seats.{at_master}
 use Rattle.std.proofs.Common.{◌≡◌, ℕ, zero, suc, ◌+◌, ◌<◌, ◌≤◌, max, List, [], ◌∷◌, ◌++◌, length, map, get_or, true, false, refl, sym, ap, ◌∙◌, subst, arith, le_refl, le_trans, le_of_eq, zero-le, replicate}
 use Rattle.std.specs.Prelude.{◌%◌, slice_index}
 use Rattle.std.proofs.Math.Nat.{mod-lt}
-use Rattle.std.proofs.lemmas.List.{get_or-replicate, length-replicate, append-nil, get_or_past, get_or_append_left, length-append}
+use Rattle.std.proofs.lemmas.List.{get_or-replicate, length-replicate, append-nil, get_or_append_left, length-append}
 use mathlib.Core.Option.{some-ne-none}
-use mathlib.Core.Logic.{dite}
-use native.Mathlib.Decide.{dec_lt}
 use Rattle.clr_net.specs.Amounts.{IsAtMost}
 use Rattle.clr_net.specs.Limits.{IsNetwork}
 use Rattle.clr_net.specs.Net.{Net, debtor_of, debt_numbers}
@@ -82,13 +80,15 @@ module _ (d : Deed) (start : List Payment) (network : IsNetwork d.net) (h : Belo
   values_below = rw (values_paid net start d.past h) (paid_in_below net t lawful)
 
   clock_low : greatest (map (λ p. p.stamp) start) ≤ total net t
-  clock_low = greatest_most (map (λ p. p.stamp) start) (total net t) (λ x lt. let l : x < n = omega (arith, lt, over (λ p. p.stamp)) in omega (arith, stamp_at x l, start_low net start d.past h x l))
+  clock_low = greatest_most (map (λ p. p.stamp) start) (total net t)
+      (λ x lt. let l : x < n = omega (arith, lt, over (λ p. p.stamp)) in omega (arith, stamp_at x l, start_low net start d.past h x l))
 
   pub sound_opening : IsSound (opening net start)
   sound_opening = record {
     network = network;
     over = over_opening net start (start_over net start d.past h);
-    pays_within = λ x lt _. le_trans (le_of_eq (value_at x lt)) (start_within net start d.past h x lt (map (λ p. p.value) start) value_at (over (λ p. p.value)));
+    pays_within = λ x lt _. le_trans (le_of_eq (value_at x lt))
+        (start_within net start d.past h x lt (map (λ p. p.value) start) value_at (over (λ p. p.value)));
     sights_below = values_below;
     paid_below = values_below;
     clock_below = le_trans clock_low (total_le net t lawful);
@@ -160,7 +160,8 @@ module _ (d : Deed) (start : List Payment) (network : IsNetwork d.net) (h : Belo
       bell_up : (b : ℕ) → b < length net.banks → bell net (opening_words net start) b ≡ 1
       bell_up b lt =
           let e : n + 1 + b ≡ length (map word_of start) + b + 1 = omega (arith, over word_of) in
-          ap (slice_index (opening_words net start)) e ∙ next_at 1 (map word_of start ++ replicate (length net.banks) 1) (length (map word_of start) + b)
+          ap (slice_index (opening_words net start)) e
+          ∙ next_at 1 (map word_of start ++ replicate (length net.banks) 1) (length (map word_of start) + b)
           ∙ get_or-append-add (map word_of start) (replicate (length net.banks) 1) b 0 ∙ get_or-replicate (length net.banks) b 1 0 lt
 
   pub opens_past : MeetsRule d (opening_words net start) (opening_view d ∷ [])
@@ -187,9 +188,11 @@ module _ (d : Deed) (start : List Payment) (network : IsNetwork d.net) (h : Belo
       → IsInMemory (opening_view d) (purse [] (replicate workers (map (λ p. p.value) start)) debtors workers 0) clock 0
   kept_opening clock workers debtors e f some' =
       let values : List ℕ = map (λ p. p.value) start in
-      subst (λ (ps : List Payment). IsInMemory (record { live = true; rolled = 1; shown = opening net ps }) (purse [] (replicate workers values) debtors workers 0) clock 0) h.start_is
+      subst (λ (ps : List Payment). IsInMemory (record { live = true; rolled = 1; shown = opening net ps })
+      (purse [] (replicate workers values) debtors workers 0) clock 0) h.start_is
       (at_master first_view _ _ _ refl refl sound_opening f refl some' (record {
         lists = length-replicate workers values;
         debtors = e;
-        tells = λ x lt _. rw (get_or-replicate workers (debtor_of net x % workers) values [] (mod-lt (debtor_of net x) some')) (omega (arith, lt, over (λ p. p.value)), refl);
+        tells = λ x lt _. rw (get_or-replicate workers (debtor_of net x % workers) values []
+            (mod-lt (debtor_of net x) some')) (omega (arith, lt, over (λ p. p.value)), refl);
       }))

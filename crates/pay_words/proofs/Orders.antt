@@ -2,12 +2,10 @@
 use Rattle.clear_core.proofs.Ordered.{ordered_moves}
 use Rattle.std.proofs.lemmas.List.Sorted.{All-permutation}
 use Rattle.std.proofs.Common.{◌≡◌, ◌<◌, ◌≤◌, ℕ, ◌==◌, List, [], ◌∷◌, refl, ap, ◌∙◌, ⊎_elim, arith, true, false, All, suc}
-use Rattle.std.specs.Prelude.{cond}
 use Rattle.std.proofs.lemmas.Grind.{common_steps}
 use Rattle.clear_core.specs.History.{may_precede, with_raise, ordered}
 use Rattle.clear_core.specs.declared.event.Raise.{Raise}
 use Rattle.pay_words.specs.Traces.{Rise, raises_of}
-use Rattle.std.proofs.lemmas.List.Elements.{All-cons, All-head, All-tail}
 use Rattle.std.proofs.lemmas.Bool.{cond_both, cases_Bool}
 use Rattle.pay_words.proofs.Traces.{rise_rest}
 
@@ -28,7 +26,8 @@ put_first x r (q ∷ rs) its low = cond_both (may_precede r q) (r ∷ q ∷ rs) 
     (λ l. raises_of x l ≡ r ∷ raises_of x (q ∷ rs))
     (λ _. rw its refl)
     (λ after. ⊎_elim
-    (λ (e : (q.debt.0 == x) ≡ true). let least : All (λ s. r.stamp < s.stamp) (q ∷ raises_of x rs) = rw e at low in absurd (omega (arith, least 0 q (omega arith), follows r q after)))
+    (λ (e : (q.debt.0 == x) ≡ true). let least : All (λ s. r.stamp < s.stamp)
+    (q ∷ raises_of x rs) = rw e at low in absurd (omega (arith, least 0 q (omega arith), follows r q after)))
     (λ (e : (q.debt.0 == x) ≡ false). rw e (put_first x r rs its (rw e at low)))
     (cases_Bool (q.debt.0 == x)))
 
@@ -39,7 +38,8 @@ same_of x (r ∷ rs) rise = ⊎_elim
     (λ (e : (r.debt.0 == x) ≡ true).
     let h : Rise (r ∷ raises_of x rs) = rw e at rise in
     let rest = same_of x rs (rise_rest r (raises_of x rs) h) in
-    let low : All (λ s. r.stamp < s.stamp) (raises_of x (ordered rs)) = rw rest (λ k d l. (h 0 (suc k) d (omega arith) (omega (arith, l))).0) in
+    let low : All (λ s. r.stamp < s.stamp) (raises_of x (ordered rs)) =
+    rw rest (λ k d l. (h 0 (suc k) d (omega arith) (omega (arith, l))).0) in
     rw e (put_first x r (ordered rs) e low ∙ ap (λ (l : List Raise). r ∷ l) rest))
     (λ (e : (r.debt.0 == x) ≡ false). rw e (put_else x r (ordered rs) e ∙ same_of x rs (rw e at rise)))
     (cases_Bool (r.debt.0 == x))

@@ -1,6 +1,6 @@
 -- A past that belongs to a network makes a lawful history, and the first state of a board.
 use Rattle.pay_words.specs.Traces.{paid_in}
-use Rattle.std.proofs.Common.{◌≡◌, ◌≢◌, ◌⊎◌, ℕ, suc, ◌<◌, ◌≤◌, ◌==◌, max, List, [], ◌∷◌, length, map, set, get_or, sum, true, false, refl, sym, ap, ◌∙◌, subst, ⊎_elim, All, arith, le_trans, le_of_eq, zero-le, length-set, get_or-set_same, get_or-set_other}
+use Rattle.std.proofs.Common.{◌≡◌, ◌≢◌, ◌⊎◌, ℕ, suc, ◌<◌, ◌≤◌, ◌==◌, max, List, [], ◌∷◌, length, map, set, get_or, sum, true, false, refl, sym, ap, ◌∙◌, ⊎_elim, All, arith, le_trans, le_of_eq, zero-le, length-set, get_or-set_same, get_or-set_other}
 use Rattle.std.specs.Prelude.{slice_index, ◌&&◌, nat_lt}
 use Rattle.std.proofs.lemmas.Bool.{eqb-true, eqb-false, cases_Bool, cond_both}
 use Rattle.std.proofs.lemmas.List.{get_or_past, get_or-map, length-map, length-replicate}
@@ -21,8 +21,8 @@ use Rattle.pay_words.specs.Words.{unpaid}
 use Rattle.pay_words.specs.Belongs.{Belongs}
 use Rattle.pay_words.specs.Ends.{HaveLowStamps, values}
 use Rattle.pay_words.proofs.Tables.{tabled_at, length-tabled}
-use Rattle.pay_words.proofs.Traces.{left_by, in_raises_of, ending_each, under_ending}
-use Rattle.std.specs.List.{Contains, AllPairs}
+use Rattle.pay_words.proofs.Traces.{in_raises_of, ending_each, under_ending}
+use Rattle.std.specs.List.{AllPairs}
 use Rattle.std.proofs.lemmas.List.Kept.{AllPairs-cons}
 use Rattle.std.proofs.lemmas.List.Elements.{All-cons, All-tail, All-contains, All-filter}
 use Rattle.std.proofs.lemmas.Option.{slice_get-get_or}
@@ -114,7 +114,8 @@ module _ (net : Net) (start : List Payment) (past : List Raise) (h : Belongs net
   past_most : (x : ℕ) → x < length net.debts → (ending (traces x)).value ≤ slice_index (least net) x
   past_most x lt = ending_each (λ p. p.value ≤ slice_index (least net) x) unpaid (traces x) zero-le (λ k d l.
       let o = in_raises_of x past k d l in
-      let below = All-contains (λ r. r.to ≤ slice_index (least net) r.debt.0) past _ (λ k d l. traced_le_least net past h.traced k _ (slice_get-get_or past k d l)) o.0 in
+      let below = All-contains (λ r. r.to ≤ slice_index (least net) r.debt.0) past _
+      (λ k d l. traced_le_least net past h.traced k _ (slice_get-get_or past k d l)) o.0 in
       omega (arith, below, ap (slice_index (least net)) o.1))
 
   past_within : (x : ℕ) → x < length net.debts → All (λ r. r.to ≤ part net x (paid_to net traces r.stamp x)) (traces x)
@@ -148,9 +149,11 @@ module _ (net : Net) (start : List Payment) (past : List Raise) (h : Belongs net
   -- what stands at first is within what each bank has
   pub start_within : (x : ℕ) → x < length net.debts → (sights : List ℕ) → ((y : ℕ) → y < length net.debts → slice_index sights y ≡ (ending (traces y)).value) → length sights ≡ length net.debts
       → (ending (traces x)).value ≤ part net x (receipts net sights (debtor_of net x))
-  start_within x lt sights at size = ending_each (λ p. p.value ≤ part net x (receipts net sights (debtor_of net x))) unpaid (traces x) zero-le (λ k d l.
+  start_within x lt sights at size = ending_each (λ p. p.value ≤ part net x (receipts net sights (debtor_of net x)))
+      unpaid (traces x) zero-le (λ k d l.
       le_trans (past_within x lt k d l)
-      (part_mono net x _ _ (sum_by-le-sum_by (λ y. raised_before (get_or (traces x) k d).stamp (traces y) y) (slice_index sights) (column net (debtor_of net x)) (below _))))
+      (part_mono net x _ _ (sum_by-le-sum_by (λ y. raised_before (get_or (traces x) k d).stamp (traces y) y)
+      (slice_index sights) (column net (debtor_of net x)) (below _))))
     where
       none_past : (y : ℕ) → length net.debts ≤ y → (stamp : ℕ) → raised_before stamp (traces y) y ≤ 0
       none_past y ge stamp = before_most stamp y 0 (traces y) (λ k d l.
@@ -166,7 +169,12 @@ module _ (net : Net) (start : List Payment) (past : List Raise) (h : Belongs net
   -- the values are at most what all banks would pay from them
   pub covered : IsAtMost (values start) (pay net (values start))
   covered x = dite (dec_lt x (length net.debts))
-      (λ lt. omega (arith, at_first (λ p. p.value) x lt, start_within x lt (values start) (at_first (λ p. p.value)) (over_first (λ p. p.value)), pay_at net (values start) x lt))
+      (λ lt. omega (
+        arith,
+        at_first (λ p. p.value) x lt,
+        start_within x lt (values start) (at_first (λ p. p.value)) (over_first (λ p. p.value)),
+        pay_at net (values start) x lt,
+      ))
       (λ ge. omega (arith, get_or_past (values start) x 0 (omega (arith, over_first (λ p. p.value)))))
 
 -- a lawful journal in order, with no stamp above the sum of the values, is a past
@@ -188,4 +196,5 @@ belongs_of net rs stands traced order low = record {
 pub belongs_at_first : (net : Net) (start : List Payment) → start ≡ start_of net [] → Belongs net start []
 unfolding StandsFrom
 belongs_at_first net start e =
-    rw e (belongs_of net [] tt (record { differ = λ i j a b lt f g. absurd (cc); within = λ i r f. absurd (cc) }) refl (λ k d lt. absurd (omega (arith, lt))))
+    rw e (belongs_of net [] tt (record { differ = λ i j a b lt f g. absurd (cc); within = λ i r f. absurd (cc) })
+    refl (λ k d lt. absurd (omega (arith, lt))))

@@ -5,8 +5,6 @@ use Rattle.std.specs.Prelude.{◌%◌, slice_index, slice_index_or, ◌&&◌, �
 use Rattle.std.proofs.lemmas.Bool.{eqb-true, eqb-false}
 use Rattle.std.proofs.lemmas.List.{get_or_read}
 use Rattle.std.proofs.Math.Nat.{mod-lt}
-use mathlib.Core.Logic.{dite}
-use native.Mathlib.Decide.{ℕ_discrete}
 use Rattle.clr_net.specs.Limits.{IsNetwork}
 use Rattle.clr_net.specs.Net.{Net, debtor_of}
 use Rattle.pay_words.specs.Seats.{Purse, HasAll, HasOwn, Tells, list_for, purse}
@@ -47,7 +45,8 @@ module _ (net : Net) (banks : List Bool) (paid : List ℕ) (p : Purse) (h : HasA
         let b = debtor_of net x in
         let g = marked_if (length net.banks) (λ c. is_marked banks c && not (is_of_worker p.workers i c)) b mine in
         let both = both_marked (is_marked banks b) (is_of_worker p.workers i b) g.1 in
-        subst (λ (l : List ℕ). Tells l paid x) (sym (get_or-set_other p.lists i (b % p.workers) [] [] (eqb-false (b % p.workers) i both.1))) (h.tells x lt both.0);
+        subst (λ (l : List ℕ). Tells l paid x)
+        (sym (get_or-set_other p.lists i (b % p.workers) [] [] (eqb-false (b % p.workers) i both.1))) (h.tells x lt both.0);
   }
 
 -- the master with the list of a seat that it takes back
@@ -71,9 +70,13 @@ module _ (net : Net) (mine theirs : List Bool) (paid their_paid : List ℕ) (p q
     tells = chosen_each 0 (length net.debts) owes paid their_paid
         (λ x m. is_marked (tabled (length net.banks) (λ b. is_marked mine b || is_marked theirs b)) (debtor_of net x) ≡ true
         → (x < length (list_for back (debtor_of net x))) × (slice_index (list_for back (debtor_of net x)) x ≡ m))
-        (λ x lt out held. rw (get_or-set_other p.lists q.worker (debtor_of net x % p.workers) q.own [] (eqb-false _ q.worker (its_worker x lt ∙ out)))
+        (λ x lt out held. rw (get_or-set_other p.lists q.worker (debtor_of net x % p.workers) q.own []
+        (eqb-false _ q.worker (its_worker x lt ∙ out)))
         (f.tells x lt (either_marked (length net.banks) mine theirs (debtor_of net x) held out)))
-        (λ x lt e _. rw (eqb-true (debtor_of net x % p.workers) q.worker (its_worker x lt ∙ e), get_or-set_same p.lists q.worker q.own [] (omega (arith, g.worker, same, f.lists))) (g.tells x lt e));
+        (λ x lt e _. rw (
+          eqb-true (debtor_of net x % p.workers) q.worker (its_worker x lt ∙ e),
+          get_or-set_same p.lists q.worker q.own [] (omega (arith, g.worker, same, f.lists)),
+        ) (g.tells x lt e));
   }
 
 -- the master's list for a debt, found by the debt's debtor
@@ -84,4 +87,5 @@ module _ (net : Net) (banks : List Bool) (paid : List ℕ) (p : Purse) (h : HasA
   pub list_tells : is_marked banks (debtor_of net x) ≡ true → (l : List ℕ) → l ≡ get_or p.lists (b % p.workers) l → Tells l paid x
   list_tells held l e =
       let found = at ∙ ap (λ (ds : List ℕ). get_or ds x b) h.debtors ∙ tabled_at (length net.debts) (debtor_of net) x b lt in
-      subst (λ (m : List ℕ). Tells m paid x) (sym (get_or_read p.lists (b % p.workers) l list_found e [] ∙ ap (list_for p) found)) (h.tells x lt held)
+      subst (λ (m : List ℕ). Tells m paid x)
+      (sym (get_or_read p.lists (b % p.workers) l list_found e [] ∙ ap (list_for p) found)) (h.tells x lt held)

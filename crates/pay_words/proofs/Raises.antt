@@ -40,7 +40,8 @@ sound_raise s x to h within below low = assumption (
   over_raised s x to h.over,
 )
 
-module _ (past : List Raise) (k : Ledger) (roll count : ℕ) (v : View) (x to : ℕ) (lt : x < length v.shown.net.debts) (h : AreLawfulTraces v.shown.net k.trace) (up : (ending (k.trace x)).value < to) where
+module _ (past : List Raise) (k : Ledger) (roll count : ℕ) (v : View) (x to : ℕ) (lt : x < length v.shown.net.debts)
+    (h : AreLawfulTraces v.shown.net k.trace) (up : (ending (k.trace x)).value < to) where
   abbrev net : Net
   net = v.shown.net
 
@@ -51,7 +52,8 @@ module _ (past : List Raise) (k : Ledger) (roll count : ℕ) (v : View) (x to : 
   next = record k { trace = pushed k.trace x r }
 
   -- another seat's view suits still
-  other_suits : (j : ℕ) (u : View) → Suits (its past v) k roll count j u → (holds u.shown (debtor_of net x) ≡ true → ⊥) → Suits (its past v) next roll count j u
+  other_suits : (j : ℕ) (u : View) → Suits (its past v) k roll count j u
+      → (holds u.shown (debtor_of net x) ≡ true → ⊥) → Suits (its past v) next roll count j u
   other_suits j u f away =
       let still = λ (y : ℕ) (i : holds u.shown (debtor_of net y) ≡ true). ending_else net k.trace h x lt r refl y (apart y i) in
       let pays = λ (y : ℕ) (l : y < length net.debts) (i : holds u.shown (debtor_of net y) ≡ true). f.pays y l i ∙ sym (still y i) in
@@ -59,7 +61,8 @@ module _ (past : List Raise) (k : Ledger) (roll count : ℕ) (v : View) (x to : 
       (k.trace x ++ r ∷ []) k.trace y (apart y i) ∙ f.told y l i in
       let stood = λ (y : ℕ) (l : y < length net.debts). stood_pushed k.trace x r y _ _ (f.stood y l) in
       let floor = λ (y : ℕ) (l : y < length net.debts). le_trans (f.floor y l) (ending_rises net k.trace h x lt r refl up y) in
-      let stamps = λ (y : ℕ) (l : y < length net.debts) (i : holds u.shown (debtor_of net y) ≡ true). le_trans (le_of_eq (ap (λ (q : Payment). q.stamp) (still y i))) (f.paid_by_clock y l i) in
+      let stamps = λ (y : ℕ) (l : y < length net.debts) (i : holds u.shown (debtor_of net y) ≡ true). le_trans
+      (le_of_eq (ap (λ (q : Payment). q.stamp) (still y i))) (f.paid_by_clock y l i) in
       let clock : u.shown.clock ≤ total net next.trace = omega (arith, f.clock_low, total_rises net k.trace h x lt r refl up) in
       assumption (pays, told, stood, floor, stamps, clock, f)
     where
@@ -73,19 +76,26 @@ module _ (past : List Raise) (k : Ledger) (roll count : ℕ) (v : View) (x to : 
     net_is = f.net_is;
     sound = sound;
     mine = f.mine;
-    pays = set_both (λ y a b. y < length net.debts → holds v.shown (debtor_of net y) ≡ true → record { value = a; stamp = b } ≡ ending (next.trace y))
-        v.shown.paid v.shown.paid_stamps x to (v.shown.clock + 1) (omega (arith, lt, f.sound.over.paid)) (omega (arith, lt, f.sound.over.paid_stamps))
-        (λ _ _. sym (ending_here net k.trace h x lt r refl x refl)) (λ y ne l i. f.pays y l i ∙ sym (ending_else net k.trace h x lt r refl y ne));
-    told = rw plain (changed_each (λ y rs. y < length net.debts → holds v.shown (debtor_of net y) ≡ true → rs ≡ raises_of y k.base ++ raises_of y (v.shown.raises ++ r ∷ []))
+    pays = set_both (λ y a b. y < length net.debts → holds v.shown (debtor_of net y) ≡ true
+        → record { value = a; stamp = b } ≡ ending (next.trace y))
+        v.shown.paid v.shown.paid_stamps x to (v.shown.clock + 1) (omega (arith, lt, f.sound.over.paid))
+        (omega (arith, lt, f.sound.over.paid_stamps))
+        (λ _ _. sym (ending_here net k.trace h x lt r refl x refl))
+        (λ y ne l i. f.pays y l i ∙ sym (ending_else net k.trace h x lt r refl y ne));
+    told = rw plain (changed_each (λ y rs. y < length net.debts → holds v.shown (debtor_of net y) ≡ true
+        → rs ≡ raises_of y k.base ++ raises_of y (v.shown.raises ++ r ∷ []))
         x (k.trace x ++ r ∷ []) k.trace
         (λ l i. rw (raises_of-push x v.shown.raises r refl, rw plain at (f.told x l i), append_assoc))
         (λ y ne l i. rw (raises_of-push_else y v.shown.raises r (λ e. ne (sym e))) (rw plain at (f.told y l i))));
-    only = rw plain (All-push (λ s. (s.debt.0 < length net.debts) × (holds v.shown (debtor_of net s.debt.0) ≡ true)) v.shown.raises r (rw plain at f.only) (lt, mine));
+    only = rw plain (All-push (λ s. (s.debt.0 < length net.debts) × (holds v.shown (debtor_of net s.debt.0) ≡ true))
+        v.shown.raises r (rw plain at f.only) (lt, mine));
     stood = λ y l. stood_pushed k.trace x r y _ _ (f.stood y l);
     floor = λ y l. le_trans (f.floor y l) (ending_rises net k.trace h x lt r refl up y);
     seen_by_clock = λ y. omega (arith, f.seen_by_clock y);
-    paid_by_clock = changed_each (λ y rs. y < length net.debts → holds v.shown (debtor_of net y) ≡ true → (ending rs).stamp ≤ v.shown.clock + 1) x (k.trace x ++ r ∷ []) k.trace
-        (λ _ _. le_of_eq (ap (λ (q : Payment). q.stamp) (ending_push unpaid (k.trace x) r))) (λ y _ l i. omega (arith, f.paid_by_clock y l i));
+    paid_by_clock = changed_each (λ y rs. y < length net.debts → holds v.shown (debtor_of net y) ≡ true
+        → (ending rs).stamp ≤ v.shown.clock + 1) x (k.trace x ++ r ∷ []) k.trace
+        (λ _ _. le_of_eq (ap (λ (q : Payment). q.stamp) (ending_push unpaid (k.trace x) r)))
+        (λ y _ l i. omega (arith, f.paid_by_clock y l i));
     past_by_clock = λ i e l. omega (arith, f.past_by_clock i e l);
     late = All-push (λ s. All (λ p. p.stamp < s.stamp) past) v.shown.raises r f.late (λ i e l. omega (arith, f.past_by_clock i e l));
     clock_low = omega (arith, f.clock_low, total_rises net k.trace h x lt r refl up);
@@ -100,9 +110,12 @@ pub record MayRaise (net : Net) (s : Shown) (x to : ℕ) : Type 0 where
   pub more : slice_index s.paid x < to
   pub within : to ≤ part net x (receipts net s.sights (debtor_of net x))
 
-pub raises : (d : Deed) (slots id : ℕ) (me : Me (Unit {0}) View) (x to word : ℕ) → me.0.shown.net ≡ d.net → word ≡ (me.0.shown.clock + 1) * 4294967296 + to → me.0.live ≡ true → to < 4294967296
-    → MayRaise me.0.shown.net me.0.shown x to → Allows (rule d) slots id me (x + 1) (λ _. word) (λ _. Raises (step slots (x + 1) word 0 none) me word)
-raises d slots id me x to word over is on fits may = allowed d slots id me (x + 1) (λ _. word) (λ _. Raises (step slots (x + 1) word 0 none) me word) (λ _. showing me.0 (raised me.0.shown x to)) over (λ s h at.
+pub raises : (d : Deed) (slots id : ℕ) (me : Me (Unit {0}) View) (x to word : ℕ) → me.0.shown.net ≡ d.net
+    → word ≡ (me.0.shown.clock + 1) * 4294967296 + to → me.0.live ≡ true → to < 4294967296
+    → MayRaise me.0.shown.net me.0.shown x to
+    → Allows (rule d) slots id me (x + 1) (λ _. word) (λ _. Raises (step slots (x + 1) word 0 none) me word)
+raises d slots id me x to word over is on fits may = allowed d slots id me (x + 1) (λ _. word)
+    (λ _. Raises (step slots (x + 1) word 0 none) me word) (λ _. showing me.0 (raised me.0.shown x to)) over (λ s h at.
     let k = h.ledger in
     let v = me.0 in
     let net = v.shown.net in
@@ -113,20 +126,29 @@ raises d slots id me x to word over is on fits may = allowed d slots id me (x + 
     let paid : (ending (k.trace x)).value < to = omega (arith, may.more, ap (λ (q : Payment). q.value) (f.pays x lt may.debtor)) in
     let stamp : (ending (k.trace x)).stamp < v.shown.clock + 1 = omega (arith, f.paid_by_clock x lt may.debtor) in
     let below : to ≤ slice_index (least net) x = le_trans may.within (part_le_least net v.shown.sights x lt f.sound.sights_below) in
-    let before = le_trans may.within (seen_before net k.trace h.lawful v.shown.sights v.shown.sight_stamps (v.shown.clock + 1) x f.sound.over.sights f.stood (λ y. omega (arith, f.seen_by_clock y))) in
-    let lawful : AreLawfulTraces net (pushed k.trace x r) = lawful_push net k.trace h.lawful x lt r refl paid stamp before below (omega (arith, f.clock_low)) in
+    let before = le_trans may.within (seen_before net k.trace h.lawful v.shown.sights v.shown.sight_stamps
+    (v.shown.clock + 1) x f.sound.over.sights f.stood (λ y. omega (arith, f.seen_by_clock y))) in
+    let lawful : AreLawfulTraces net (pushed k.trace x r) =
+    lawful_push net k.trace h.lawful x lt r refl paid stamp before below (omega (arith, f.clock_low)) in
     let sound = sound_raise v.shown x to f.sound may.within below
     (omega (arith, f.clock_low, total_rises net k.trace h.lawful x lt r refl paid, total_le net (pushed k.trace x r) lawful)) in
-    let alone : NoOther s.views id (debtor_of net x) = λ j u ne e t. not_both (its d.past v) k _ _ id j u v (debtor_of net x) ne f may.debtor (h.fits j u e t) in (
-      kept_again (its d.past v) s.words (set s.words (x + 1) word) s.views id _ v (showing v (raised v.shown x to)) (pushed k.trace x r) h at on refl refl refl (length-set s.words (x + 1) word)
+    let alone : NoOther s.views id (debtor_of net x) =
+    λ j u ne e t. not_both (its d.past v) k _ _ id j u v (debtor_of net x) ne f may.debtor (h.fits j u e t) in (
+      kept_again (its d.past v) s.words (set s.words (x + 1) word) s.views id _ v (showing v (raised v.shown x to))
+          (pushed k.trace x r) h at on refl refl refl (length-set s.words (x + 1) word)
           (get_or-set_other s.words (x + 1) 0 word 0 (λ e. absurd (omega (arith, e))))
           (λ y l. dite (ℕ_discrete y x)
-          (λ e. rw e (get_or-set_same s.words (x + 1) word 0 (omega (arith, h.size, lt)) ∙ is ∙ ap word_of (sym (ending_here net k.trace h.lawful x lt r refl x refl))))
-          (λ ne. get_or-set_other s.words (x + 1) (y + 1) word 0 (λ e. ne (omega (arith, e))) ∙ h.stands y l ∙ ap word_of (sym (ending_else net k.trace h.lawful x lt r refl y ne))))
+          (λ e. rw e (get_or-set_same s.words (x + 1) word 0 (omega (arith, h.size, lt)) ∙ is
+          ∙ ap word_of (sym (ending_here net k.trace h.lawful x lt r refl x refl))))
+          (λ ne. get_or-set_other s.words (x + 1) (y + 1) word 0 (λ e. ne (omega (arith, e))) ∙ h.stands y l
+          ∙ ap word_of (sym (ending_else net k.trace h.lawful x lt r refl y ne))))
           lawful
           (λ j u ne e t g. other_suits d.past k _ _ v x to lt h.lawful paid j u g (alone j u ne e t))
           (λ f. raised_suits d.past k _ _ v x to lt h.lawful paid id may.not_the_master may.debtor sound f)
-          (rung_raise (its d.past v) k.trace s.words s.views id v at on h.rung x lt to word r may.debtor f.sound.over.owes_ring alone (ending_rises net k.trace h.lawful x lt r refl paid)),
+          (rung_raise (its d.past v) k.trace s.words s.views id v at on h.rung x lt to word r may.debtor
+          f.sound.over.owes_ring alone (ending_rises net k.trace h.lawful x lt r refl paid)),
       λ y e. let same : x ≡ y = omega arith in
-          subst (λ (z : ℕ × ℕ). (◌≡◌ {A = Me (Unit {0}) View} (showing v (raised v.shown x to), me.1) (showing v (raised v.shown z.0 z.1), me.1)) × IsSound (raised v.shown z.0 z.1)) (λ i. (same i, value i)) (refl, sound),
+          subst (λ (z : ℕ × ℕ). (◌≡◌ {A = Me (Unit {0}) View} (showing v (raised v.shown x to), me.1)
+          (showing v (raised v.shown z.0 z.1), me.1)) × IsSound (raised v.shown z.0 z.1))
+          (λ i. (same i, value i)) (refl, sound),
     ))

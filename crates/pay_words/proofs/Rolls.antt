@@ -19,7 +19,8 @@ rolls d slots id me n on chief room s h sized at small =
       w,
       keeps,
       tt,
-      kept_again d s.words (set s.words 0 n) s.views id n v w k.trace h at on refl refl refl (length-set s.words 0 n) (get_or-set_same s.words 0 n 0 big)
+      kept_again d s.words (set s.words 0 n) s.views id n v w k.trace h at on refl refl refl
+          (length-set s.words 0 n) (get_or-set_same s.words 0 n 0 big)
           (λ y l. get_or-set_other s.words 0 (y + 1) n 0 (λ e. absurd (omega (arith, e))) ∙ h.stands y l)
           h.lawful
           (λ j u apart _ _ g.

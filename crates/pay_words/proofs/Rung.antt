@@ -1,14 +1,11 @@
 -- Each step keeps the rule of the bells.
 use Rattle.std.proofs.lemmas.Grind.{common_steps, get_or-set_at}
 use Rattle.std.proofs.lemmas.Bool.Decides.{nat_tests}
-use Rattle.pay_words.specs.Views.{is_marked}
 use Rattle.pay_words.proofs.Views.{each_set}
 use Rattle.pay_words.proofs.Bells.{live_of}
-use Rattle.std.proofs.Common.{◌≡◌, ◌≢◌, ℕ, ◌+◌, ◌<◌, ◌≤◌, List, length, set, sum, Bool, true, false, inl, inr, refl, sym, ap, ◌∙◌, subst, arith, le_trans, length-append, get_or-set_other, ◌++◌, ◌∷◌, []}
+use Rattle.std.proofs.Common.{◌≡◌, ◌≢◌, ℕ, ◌+◌, ◌<◌, ◌≤◌, List, length, set, sum, Bool, true, false, ap, ◌∙◌, arith, le_trans, length-append, get_or-set_other}
 use Rattle.std.specs.Prelude.{if◌then◌else◌}
 use mathlib.Core.Option.{some}
-use mathlib.Core.Logic.{dite, ⊎_map}
-use native.Mathlib.Decide.{ℕ_discrete}
 use lib.ListN.{get_elem?}
 use Rattle.clr_net.specs.Net.{Net, debtor_of, creditor_of}
 use Rattle.clear_core.specs.declared.event.Raise.{Raise}
@@ -17,8 +14,8 @@ use Rattle.pay_words.specs.declared.payment.Payment.{Payment}
 use Rattle.pay_words.specs.declared.view.View.{View}
 use Rattle.pay_words.specs.Traces.{Traces, ending}
 use Rattle.pay_words.specs.Views.{holds, looked, raised}
-use Rattle.pay_words.specs.BoardRule.{Tower, HasBells, IsCalled, IsRung, bell, bells_up, taken_of, made_of, showing}
-use Rattle.pay_words.proofs.Tables.{tabled_agree, changed, changed_here, changed_else}
+use Rattle.pay_words.specs.BoardRule.{Tower, HasBells, IsRung, bell, bells_up, taken_of, made_of, showing}
+use Rattle.pay_words.proofs.Tables.{tabled_agree, changed}
 use Rattle.pay_words.proofs.Traces.{pushed}
 use Rattle.pay_words.proofs.Bells.{sum_views, marks_grow_by_one}
 
@@ -77,7 +74,8 @@ module _ (d : Deed) (t : Traces) (words : List ℕ) (views : List View) (id : �
           let b = sum_views made_of views id v (showing v (looked v.shown x p)) at in
           omega (arith, h.few, a, b);
       has = each_set (λ _. HasBells d seen_tower) views id (showing v (looked v.shown x p))
-          (λ j u ne e o. grind (arith, nat_tests, h.has j u e o, alone j u ne e o)) (λ _. grind (arith, nat_tests, get_or-set_at, get_or-set_other {A = ℕ}, get_or-set_other {A = Bool}, h.has id v at on, size, also));
+          (λ j u ne e o. grind (arith, nat_tests, h.has j u e o, alone j u ne e o))
+          (λ _. grind (arith, nat_tests, get_or-set_at, get_or-set_other {A = ℕ}, get_or-set_other {A = Bool}, h.has id v at on, size, also));
     }
 
   -- a raise
@@ -110,5 +108,6 @@ module _ (d : Deed) (t : Traces) (words : List ℕ) (views : List View) (id : �
           let g : length u.shown.raises ≡ length v.shown.raises + 1 = length-append v.shown.raises _ in
           omega (arith, h.few, a, b, c, g, marks_grow_by_one n w.owed x lt, live_of v on, live_of u on);
       has = each_set (λ _. HasBells d owing) views id (showing v (raised v.shown x to))
-          (λ j u ne e o. grind (arith, nat_tests, h.has j u e o, alone j u ne e o)) (λ _. grind (arith, common_steps, h.has id v at on, size));
+          (λ j u ne e o. grind (arith, nat_tests, h.has j u e o, alone j u ne e o))
+          (λ _. grind (arith, common_steps, h.has id v at on, size));
     }

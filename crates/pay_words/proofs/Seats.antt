@@ -1,10 +1,12 @@
 -- What a seat has in memory after each of its steps.
+use Rattle.clear_core.specs.Clearing.{part}
+use Rattle.pay_words.specs.Views.{holds}
 use Rattle.clear_core.specs.Clearing.{receipts}
 use Rattle.std.proofs.lemmas.Bool.{cond_both}
 use Rattle.pay_words.proofs.Splits.{goes_from, stays_if, sound_fewer}
 use Rattle.pay_words.proofs.Tables.{length-tabled}
-use Rattle.std.proofs.Common.{◌≡◌, ℕ, ◌+◌, ◌<◌, ◌≤◌, max, [], length, set, true, false, true≢false, refl, sym, ap, ◌∙◌, subst, arith}
-use Rattle.std.specs.Prelude.{slice_index_or, ◌==◌}
+use Rattle.std.proofs.Common.{◌≡◌, ℕ, ◌+◌, ◌<◌, ◌≤◌, max, [], length, set, true, false, true≢false, sym, ap, ◌∙◌, subst, arith}
+use Rattle.std.specs.Prelude.{slice_index, slice_index_or, ◌==◌}
 use Rattle.std.proofs.lemmas.Bool.{false_from_ne_true, true_from_ne_false, eqb-true, eqb-false}
 use Rattle.clr_net.specs.declared.TheConstants.{MAX_CLAIM, MAX_OWED}
 use Rattle.clr_net.specs.Limits.{IsNetwork}
@@ -32,8 +34,10 @@ module _ (v : View) (p : Purse) (clock seats : ℕ) (h : IsInMemory v p clock se
   pub kept_raise : (x to : ℕ) → x < length v.shown.net.debts → v.shown.master ≡ false → IsSound (raised v.shown x to) → IsInMemory (showing v (raised v.shown x to)) (record p { own = set p.own x to }) (clock + 1) seats
   kept_raise x to lt plain sound =
       let clock = ap (λ (n : ℕ). n + 1) h.clock_is in
-      let own = λ (e : v.shown.master ≡ false). own_raised v.shown.net v.shown.banks v.shown.paid p x to (omega (arith, lt, h.sound.over.paid)) (h.at_worker e) in
-      let none : v.shown.master ≡ true → HasAll v.shown.net v.shown.banks (set v.shown.paid x to) (record p { own = set p.own x to }) = λ e. absurd (true≢false (sym e ∙ plain)) in
+      let own = λ (e : v.shown.master ≡ false). own_raised v.shown.net v.shown.banks v.shown.paid p x to
+      (omega (arith, lt, h.sound.over.paid)) (h.at_worker e) in
+      let none : v.shown.master ≡ true → HasAll v.shown.net v.shown.banks (set v.shown.paid x to)
+      (record p { own = set p.own x to }) = λ e. absurd (true≢false (sym e ∙ plain)) in
       assumption (sound, clock, own, none, h)
 
   -- of a debt that the seat may raise, its own list has what is paid
@@ -42,7 +46,8 @@ module _ (v : View) (p : Purse) (clock seats : ℕ) (h : IsInMemory v p clock se
 
   -- a seat without lists reads its own, and another is the master
   pub at_own : (n : ℕ) → (n == 0) ≡ true → n ≡ length p.lists → HasOwn v.shown.net v.shown.banks v.shown.paid p
-  at_own n e f = h.at_worker (false_from_ne_true v.shown.master (λ m. let all = h.at_master m in omega (arith, eqb-true n 0 e, f, all.lists, h.some_workers)))
+  at_own n e f = h.at_worker (false_from_ne_true v.shown.master
+      (λ m. let all = h.at_master m in omega (arith, eqb-true n 0 e, f, all.lists, h.some_workers)))
 
   pub at_all : (n : ℕ) → (n == 0) ≡ false → n ≡ length p.lists → HasAll v.shown.net v.shown.banks v.shown.paid p
   at_all n e f = h.at_master (true_from_ne_false v.shown.master (λ m. eqb-false n 0 e (f ∙ ap length (h.at_worker m).no_lists)))
@@ -52,13 +57,26 @@ pub net_within : (s t : Chair) (b c : Panel) → s ≡ t → b ≡ c → t.shows
 net_within s t b c e f same = ap (λ (x : Chair). x.shows.net) e ∙ same ∙ sym (ap (λ (x : Panel). x.net) f)
 
 -- what is asked of a seat and its board, seen from within
-pub may_within : (net : Net) (s t : Chair) (x to : ℕ) → IsNetwork s.shows.net → s ≡ t → t.shows.net ≡ net → MayRaise net t.shows x to → MayRaise s.shows.net s.shows x to × (to ≤ MAX_CLAIM)
-may_within net s t x to network e f may =
-    let here : MayRaise s.shows.net s.shows x to = subst (λ (y : Chair). MayRaise y.shows.net y.shows x to) (sym e) (subst (λ (n : Net). MayRaise n t.shows x to) (sym f) may) in
-    (here, omega (arith, here.within, part_within s.shows.net x (receipts s.shows.net s.shows.sights (debtor_of s.shows.net x)) here.debt, claim_in_limit s.shows.net x network))
+pub may_within : (net : Net) (s t : Chair) (x to : ℕ) → IsNetwork s.shows.net → s ≡ t → t.shows.net ≡ net → x < length net.debts
+    → t.shows.master ≡ false → holds t.shows (debtor_of net x) ≡ true → slice_index t.shows.paid x < to
+    → to ≤ part net x (receipts net t.shows.sights (debtor_of net x)) → MayRaise s.shows.net s.shows x to × (to ≤ MAX_CLAIM)
+may_within net s t x to network e f debt plain debtor more within =
+    let may : MayRaise net t.shows x to = assumption in
+    let here : MayRaise s.shows.net s.shows x to =
+    subst (λ (y : Chair). MayRaise y.shows.net y.shows x to) (sym e) (subst (λ (n : Net). MayRaise n t.shows x to) (sym f) may) in (
+      here,
+      omega (arith, here.within, part_within s.shows.net x (receipts s.shows.net s.shows.sights (debtor_of s.shows.net x)) here.debt, claim_in_limit s.shows.net x network),
+    )
+
+-- what is asked of a debt of a seat, seen from within
+pub debt_within : (s t : Chair) (x : ℕ) → s ≡ t → x < length t.shows.net.debts → holds t.shows (debtor_of t.shows.net x) ≡ true
+    → (x < length s.shows.net.debts) × (holds s.shows (debtor_of s.shows.net x) ≡ true)
+debt_within s t x e lt held =
+    subst (λ (y : Chair). (x < length y.shows.net.debts) × (holds y.shows (debtor_of y.shows.net x) ≡ true)) (sym e) (lt, held)
 
 -- what the master has in memory, by its lists
-pub at_master : (v : View) (p : Purse) (clock seats : ℕ) → v.shown.master ≡ true → v.live ≡ true → IsSound v.shown → clock ≡ v.shown.clock → seats ≡ v.shown.seats → 0 < p.workers
+pub at_master : (v : View) (p : Purse) (clock seats : ℕ) → v.shown.master ≡ true → v.live ≡ true → IsSound v.shown
+    → clock ≡ v.shown.clock → seats ≡ v.shown.seats → 0 < p.workers
     → HasAll v.shown.net v.shown.banks v.shown.paid p → IsInMemory v p clock seats
 at_master v p clock seats chief on sound time many some' all =
     let none : v.shown.master ≡ false → HasOwn v.shown.net v.shown.banks v.shown.paid p = λ e. absurd (true≢false (sym chief ∙ e)) in
@@ -69,21 +87,26 @@ module _ (i : ℕ) (v : View) (p : Purse) (clock seats : ℕ) (h : IsInMemory v 
   pub kept_handed : i < p.workers → HoldsAllOf p.workers i v.shown → IsInMemory (part_of p.workers i v) (purse (slice_index_or p.lists i []) [] [] p.workers i) clock 0
   kept_handed low all =
       let own = own_handed v.shown.net v.shown.banks v.shown.paid p (h.at_master chief) i low all in
-      let none : false ≡ true → HasAll v.shown.net (part_of p.workers i v).shown.banks v.shown.paid (purse (slice_index_or p.lists i []) [] [] p.workers i) = λ e. absurd (true≢false (sym e)) in
-      let sound : IsSound (part_of p.workers i v).shown = sound_fewer v _ _ _ _ _ _ (goes_from p.workers i v.shown all) (length-tabled _ _) h.sound in
+      let none : false ≡ true → HasAll v.shown.net (part_of p.workers i v).shown.banks v.shown.paid
+      (purse (slice_index_or p.lists i []) [] [] p.workers i) = λ e. absurd (true≢false (sym e)) in
+      let sound : IsSound (part_of p.workers i v).shown =
+      sound_fewer v _ _ _ _ _ _ (goes_from p.workers i v.shown all) (length-tabled _ _) h.sound in
       assumption (own, none, sound, h)
 
   pub kept_without : IsInMemory (rest_of p.workers i v) (record p { lists = set p.lists i [] }) clock (seats + 1)
   kept_without = at_master (rest_of p.workers i v) _ _ _ chief h.live
-      (sound_fewer v _ _ _ _ _ _ (λ b e. (stays_if p.workers i v.shown b e).0) (length-tabled _ _) h.sound) h.clock_is (ap (λ (n : ℕ). n + 1) h.seats_are)
+      (sound_fewer v _ _ _ _ _ _ (λ b e. (stays_if p.workers i v.shown b e).0) (length-tabled _ _) h.sound)
+      h.clock_is (ap (λ (n : ℕ). n + 1) h.seats_are)
       h.some_workers (all_without v.shown.net v.shown.banks v.shown.paid p (h.at_master chief) i)
 
 -- and after one was taken back
 module _ (v w : View) (p q : Purse) (clock their_clock seats their_seats : ℕ) (f : IsInMemory v p clock seats) (g : IsInMemory w q their_clock their_seats)
     (same : w.shown.net ≡ v.shown.net) (chief : v.shown.master ≡ true) (plain : w.shown.master ≡ false) (workers : q.workers ≡ p.workers) where
   pub kept_both : (now : ℕ) → now ≡ max clock their_clock → IsInMemory (both_of v w) (record p { lists = set p.lists q.worker q.own }) now seats
-  kept_both now e = at_master (both_of v w) _ _ _ chief f.live (sound_both v.shown w.shown same f.sound g.sound) (e ∙ (λ i. max (f.clock_is i) (g.clock_is i))) f.seats_are f.some_workers
-      (all_back v.shown.net v.shown.banks w.shown.banks v.shown.paid w.shown.paid p q f.sound.network (f.at_master chief) (rw same at (g.at_worker plain)) workers)
+  kept_both now e = at_master (both_of v w) _ _ _ chief f.live (sound_both v.shown w.shown same f.sound g.sound)
+      (e ∙ (λ i. max (f.clock_is i) (g.clock_is i))) f.seats_are f.some_workers
+      (all_back v.shown.net v.shown.banks w.shown.banks v.shown.paid w.shown.paid p q f.sound.network
+      (f.at_master chief) (rw same at (g.at_worker plain)) workers)
 
   -- the master has a list for the seat's worker
   pub list_there : q.worker < length p.lists
@@ -116,5 +139,6 @@ kept_take v p clock seats b n h = cond_both (n == 0) v.shown (took v.shown b) (�
     (λ _. assumption (sound_took v.shown b h.sound, h))
 
 -- the place of a bell, by what the board has in memory
-pub bell_at : (s t : Chair) (b c : Panel) (debts k : ℕ) → s ≡ t → b ≡ c → t.shows.net ≡ c.net → debts ≡ length b.net.debts → debts + 1 + k ≡ length s.shows.net.debts + 1 + k
+pub bell_at : (s t : Chair) (b c : Panel) (debts k : ℕ) → s ≡ t → b ≡ c → t.shows.net ≡ c.net
+    → debts ≡ length b.net.debts → debts + 1 + k ≡ length s.shows.net.debts + 1 + k
 bell_at s t b c debts k e f same d = omega (arith, d, ap (λ (n : Net). length n.debts) (net_within s t b c e f same))

@@ -9,7 +9,7 @@ use Rattle.pay_words.proofs.Views.{each_set, each_longer, not_both}
 use Rattle.pay_words.proofs.Bells.{live_of}
 use Rattle.std.proofs.Common.{◌≡◌, ◌≢◌, ℕ, ◌+◌, ◌<◌, ◌≤◌, List, [], ◌∷◌, ◌++◌, length, set, Bool, true, false, true≢false, refl, sym, ap, ◌∙◌, arith, length-set, length-append, All}
 use Rattle.std.specs.Prelude.{slice_index, if◌then◌else◌, ◌&&◌, not}
-use Rattle.std.proofs.lemmas.Bool.{cond-true, cond-false, false_from_ne_true}
+use Rattle.std.proofs.lemmas.Bool.{cond-true, cond-false}
 use Rattle.atomic_table.specs.Table.{Splits}
 use Rattle.atomic_table.proofs.Lists.{at_longer, at_last}
 use Rattle.clr_net.specs.Net.{Net, debtor_of}
@@ -20,7 +20,7 @@ use Rattle.pay_words.specs.declared.view.View.{View}
 use Rattle.pay_words.specs.Views.{IsSound, HoldsAllOf, holds, is_of_worker, handed, without}
 use Rattle.pay_words.specs.Traces.{raises_of}
 use Rattle.pay_words.specs.BoardRule.{Ledger, Leads, Suits, Sits, Tower, HasBells, taken_of, made_of, own_raises, rest_of, part_of}
-use Rattle.pay_words.proofs.Marks.{marked_if, marked, both_marked, marked_without}
+use Rattle.pay_words.proofs.Marks.{marked_if, marked}
 use Rattle.pay_words.proofs.Views.{rule, sits_set}
 use Rattle.pay_words.proofs.Bells.{sum_views}
 use Rattle.std.proofs.lemmas.List.Sums.{sum_by-append, sum_by-cons}
@@ -38,7 +38,12 @@ module _ (workers i : ℕ) (s : Shown) where
   goes_from all b e = let g = goes_if b e in all b g.0 g.1
 
   pub stays_if : (b : ℕ) → holds (without workers i s) b ≡ true → (holds s b ≡ true) × (goes b ≡ false)
-  stays_if b e = grind (arith, marked_if (length s.net.banks) (λ c. holds s c && not (is_of_worker workers i c)) b e, tabled_at (length s.net.banks) (is_of_worker workers i) b false)
+  stays_if b e = grind (
+    arith,
+    marked_if (length s.net.banks)
+        (λ c. holds s c && not (is_of_worker workers i c)) b e,
+    tabled_at (length s.net.banks) (is_of_worker workers i) b false,
+  )
 
   pub stays : (b : ℕ) → b < length s.net.banks → holds s b ≡ true → goes b ≡ false → holds (without workers i s) b ≡ true
   stays b lt h e = marked (length s.net.banks) (λ c. holds s c && not (is_of_worker workers i c)) b lt
@@ -52,18 +57,23 @@ module _ (v : View) (m : Bool) (banks : List Bool) (raises : List Raise) (seats 
 
   pub sound_fewer : length banks ≡ length v.shown.net.banks → IsSound v.shown → IsSound fewer.shown
   sound_fewer size h =
-      let within = λ (x : ℕ) (lt : x < length v.shown.net.debts) (e : is_marked banks (debtor_of v.shown.net x) ≡ true). h.pays_within x lt (its_own _ e) in
+      let within = λ (x : ℕ) (lt : x < length v.shown.net.debts)
+      (e : is_marked banks (debtor_of v.shown.net x) ≡ true). h.pays_within x lt (its_own _ e) in
       assumption (size, within, h)
 
-  fewer_suits : (d : Deed) (k : Ledger) (owner : ℕ → ℕ) (roll count now id j : ℕ) → v.shown.master ≡ true → length banks ≡ length v.shown.net.banks → Suits d k roll count id v
+  fewer_suits : (d : Deed) (k : Ledger) (owner : ℕ → ℕ) (roll count now id j : ℕ) → v.shown.master ≡ true
+      → length banks ≡ length v.shown.net.banks → Suits d k roll count id v
       → ((b : ℕ) → is_marked banks b ≡ true → owner b ≡ j) → own_raises m raises ≡ [] → AreAfter d.past raises
       → Leads d (record k { owner = owner }) roll now j fewer → Suits d (record k { owner = owner }) roll now j fewer
   fewer_suits d k owner roll count now id j chief size f mine none late leads =
       let pays = λ (x : ℕ) (lt : x < length d.net.debts) (e : is_marked banks (debtor_of d.net x) ≡ true). f.pays x lt (its_own _ e) in
-      let told : (x : ℕ) → x < length d.net.debts → is_marked banks (debtor_of d.net x) ≡ true → k.trace x ≡ raises_of x k.base ++ raises_of x (own_raises m raises) =
+      let told : (x : ℕ) → x < length d.net.debts → is_marked banks (debtor_of d.net x) ≡ true
+      → k.trace x ≡ raises_of x k.base ++ raises_of x (own_raises m raises) =
       λ x lt e. rw none (simp chief at (f.told x lt (its_own _ e))) in
-      let stamps = λ (x : ℕ) (lt : x < length d.net.debts) (e : is_marked banks (debtor_of d.net x) ≡ true). f.paid_by_clock x lt (its_own _ e) in
-      let only : All (λ r. (r.debt.0 < length d.net.debts) × (is_marked banks (debtor_of d.net r.debt.0) ≡ true)) (own_raises m raises) = rw none (All-nil _) in
+      let stamps = λ (x : ℕ) (lt : x < length d.net.debts)
+      (e : is_marked banks (debtor_of d.net x) ≡ true). f.paid_by_clock x lt (its_own _ e) in
+      let only : All (λ r. (r.debt.0 < length d.net.debts) × (is_marked banks (debtor_of d.net r.debt.0) ≡ true))
+      (own_raises m raises) = rw none (All-nil _) in
       assumption (mine, pays, told, stamps, only, late, leads, sound_fewer size f.sound, f)
 
   fewer_has : (d : Deed) (w : Tower) → HasBells d w v → HasBells d w fewer
@@ -76,7 +86,8 @@ module _ (v : View) (m : Bool) (banks : List Bool) (raises : List Raise) (seats 
   }
 
 -- another seat suits a ledger in which its banks have the owners that they had, however many seats there are
-other_owner : (d : Deed) (k : Ledger) (roll count : ℕ) (owner : ℕ → ℕ) (id j : ℕ) (v u : View) → Suits d k roll count id v → v.shown.master ≡ true → j ≢ id → Suits d k roll count j u
+other_owner : (d : Deed) (k : Ledger) (roll count : ℕ) (owner : ℕ → ℕ) (id j : ℕ) (v u : View)
+    → Suits d k roll count id v → v.shown.master ≡ true → j ≢ id → Suits d k roll count j u
     → ((b : ℕ) → holds u.shown b ≡ true → owner b ≡ k.owner b) → Suits d (record k { owner = owner }) roll (count + 1) j u
 other_owner d k roll count owner id j v u f chief apart g same =
     let mine = λ (b : ℕ) (e : holds u.shown b ≡ true). same b e ∙ g.mine b e in
@@ -122,9 +133,11 @@ splits d id v workers i may s h at =
       led = sits_longer rest (part ∷ []) k.chief _ (sits_set s.views id v left k.chief (λ u. u.shown.master ≡ true) at refl (λ e. e) h.led);
       fits = rw (length-append rest (part ∷ []), length-set s.views id left) (each_longer fits rest part
           (each_set fits s.views id left (λ j u ne e o. other_owner d k _ count owner id j v u f may.chief ne (h.fits j u e o)
-          (λ b e'. cond_both (goes b) count (k.owner b) (λ x. x ≡ k.owner b) (λ t. absurd (not_both d k _ _ id j u v b ne f (its b t) (h.fits j u e o) e')) (λ _. refl)))
+          (λ b e'. cond_both (goes b) count (k.owner b) (λ x. x ≡ k.owner b)
+          (λ t. absurd (not_both d k _ _ id j u v b ne f (its b t) (h.fits j u e o) e')) (λ _. refl)))
           (λ _. fewer_suits v _ _ _ _ _ _ (λ b e. (stay b e).0) d k owner _ _ _ id id may.chief (length-tabled _ _) f
-          (λ b e. cond-false (goes b) count (k.owner b) (stay b e).1 ∙ f.mine b (stay b e).0) (ap (λ (m : Bool). own_raises m v.shown.raises) may.chief) f.late
+          (λ b e. cond-false (goes b) count (k.owner b) (stay b e).1 ∙ f.mine b (stay b e).0)
+          (ap (λ (m : Bool). own_raises m v.shown.raises) may.chief) f.late
           (λ _. (l.0, l.1, l.2, omega (arith, l.3), omega (arith, may.room)))))
           (rw (length-set s.views id left) (fewer_suits v _ _ _ _ _ _ its d k owner _ _ _ id count may.chief (length-tabled _ _) f
           (λ b e. cond-true (goes b) count (k.owner b) e) refl (All-nil _) (λ e. absurd (true≢false (sym e))))));
@@ -148,7 +161,8 @@ splits d id v workers i may s h at =
               live_of part may.live,
             );
         has = each_longer bells rest part
-            (each_set bells s.views id left (λ j u _. h.rung.has j u) (λ _. fewer_has v _ _ _ _ _ _ (λ b e. (stay b e).0) d _ (h.rung.has id v at may.live)))
+            (each_set bells s.views id left (λ j u _. h.rung.has j u)
+            (λ _. fewer_has v _ _ _ _ _ _ (λ b e. (stay b e).0) d _ (h.rung.has id v at may.live)))
             (fewer_has v _ _ _ _ _ _ its d _ (h.rung.has id v at may.live));
       };
     }

@@ -3,15 +3,13 @@ use Rattle.std.proofs.lemmas.Grind.{get_or-set_at}
 use Rattle.std.proofs.Common.{◌≡◌, ◌≢◌, ℕ, ◌<◌, List, [], ◌∷◌, ◌++◌, length, map, replicate, set, refl, sym, ap, ◌∙◌, subst, arith, length-set, get_or-set_same, get_or-set_other}
 use Rattle.std.specs.Prelude.{slice_index}
 use Rattle.std.proofs.lemmas.List.{ext_get_or, get_or-replicate, length-replicate}
-use mathlib.Core.Logic.{dite}
-use native.Mathlib.Decide.{ℕ_discrete}
 use mathlib.Core.List.{map-map}
 use Rattle.clr_net.specs.Net.{Net, debt_numbers}
 use Rattle.clear_core.specs.declared.event.Raise.{Raise}
 use Rattle.pay_words.specs.declared.payment.Payment.{Payment}
 use Rattle.pay_words.specs.declared.view.Shown.{Shown}
 use Rattle.pay_words.specs.Ends.{payments_of, values}
-use Rattle.pay_words.specs.Traces.{ending, last_payment, raises_of, start_of}
+use Rattle.pay_words.specs.Traces.{last_payment, raises_of, start_of}
 use Rattle.pay_words.specs.Words.{unpaid}
 use Rattle.pay_words.proofs.Tables.{tabled_at, length-tabled}
 use Rattle.pay_words.proofs.Traces.{left_by, ending_push, raises_of-push, raises_of-push_else}
@@ -35,7 +33,17 @@ start_more net rs r = ext_get_or unpaid (start_of net (rs ++ r ∷ [])) (set (st
     (start_over net (rs ++ r ∷ []) ∙ sym (length-set (start_of net rs) r.debt.0 (left_by r) ∙ start_over net rs))
     (λ x lt.
     let l : x < length net.debts = omega (arith, lt, start_over net (rs ++ r ∷ [])) in
-    grind (arith, get_or-set_at, get_or-set_other {A = Payment}, start_at net (rs ++ r ∷ []) x l, start_at net rs x l, start_over net rs, raises_of-push x rs r, raises_of-push_else x rs r, ending_push unpaid (raises_of x rs) r))
+    grind (
+      arith,
+      get_or-set_at,
+      get_or-set_other {A = Payment},
+      start_at net (rs ++ r ∷ []) x l,
+      start_at net rs x l,
+      start_over net rs,
+      raises_of-push x rs r,
+      raises_of-push_else x rs r,
+      ending_push unpaid (raises_of x rs) r,
+    ))
 
 -- the values of the payments that a seat shows are what it shows as paid
 pub values_shown : (s : Shown) → length s.paid ≡ length s.net.debts → values (payments_of s) ≡ s.paid

@@ -1,6 +1,6 @@
 -- Lists over banks and debts: one that a function gives, and one of whose places changes.
 use Rattle.std.proofs.lemmas.Bool.{cond_both, eqb-true, eqb-false}
-use Rattle.std.proofs.Common.{◌≡◌, ℕ, ◌+◌, ◌<◌, ◌≤◌, List, length, set, get_or, sum, sym, ◌∙◌, subst, le_refl, arith, get_or-set_same, get_or-set_other, ◌≢◌, ap, refl, ◌==◌, eq-eqb}
+use Rattle.std.proofs.Common.{◌≡◌, ℕ, ◌+◌, ◌<◌, ◌≤◌, List, length, set, get_or, sum, sym, ◌∙◌, subst, le_refl, arith, get_or-set_same, get_or-set_other, ◌≢◌, ◌==◌, eq-eqb}
 use Rattle.std.specs.Prelude.{slice_index, if◌then◌else◌}
 use Rattle.std.proofs.lemmas.List.{ext_get_or, set_past, get_or_past}
 use Rattle.std.proofs.lemmas.List.FromFn.{get_or-map-range_with_len, length-map-range_with_len}
@@ -33,7 +33,8 @@ set_each F xs x a d lt here other y = dite (ℕ_discrete y x)
     (λ ne. subst (F y) (sym (get_or-set_other xs x y a d ne)) (other y ne))
 
 -- the same of two lists that change in one place
-pub set_both : (F : ℕ → ℕ → ℕ → Type 0) (xs ys : List ℕ) (x a b : ℕ) → x < length xs → x < length ys → F x a b → ((y : ℕ) → y ≢ x → F y (get_or xs y 0) (get_or ys y 0))
+pub set_both : (F : ℕ → ℕ → ℕ → Type 0) (xs ys : List ℕ) (x a b : ℕ) → x < length xs → x < length ys → F x a b
+    → ((y : ℕ) → y ≢ x → F y (get_or xs y 0) (get_or ys y 0))
     → (y : ℕ) → F y (get_or (set xs x a) y 0) (get_or (set ys x b) y 0)
 set_both F xs ys x a b l m here other = set_each (λ y c. F y c (get_or (set ys x b) y 0)) xs x a 0 l (rw (get_or-set_same ys x b 0 m) here)
     (λ y ne. rw (get_or-set_other ys x y b 0 ne) (other y ne))

@@ -1,10 +1,9 @@
 -- The raises of one debt, in order.
 use Rattle.std.proofs.lemmas.Bool.Decides.{nat_tests}
 use Rattle.std.proofs.lemmas.Grind.{common_steps}
-use Rattle.std.proofs.Common.{◌≡◌, ◌≢◌, ◌⊎◌, ℕ, ◌<◌, ◌≤◌, List, [], ◌∷◌, ◌++◌, Bool, true, true≢false, inl, inr, ⊎_elim, refl, sym, ap, ◌∙◌, le_refl, zero-le, arith, All, suc, zero, get_or, length}
-use Rattle.std.specs.Prelude.{◌==◌, ◌&&◌, ◌/◌, ◌%◌, nat_lt, filter, cond, not}
-use Rattle.std.proofs.lemmas.Bool.{eqb-true, eq-eqb, ne_eqb, lt-ltb, not-true, cond-true, and_from}
-use Rattle.std.proofs.lemmas.List.{append-nil}
+use Rattle.std.proofs.Common.{◌≡◌, ◌≢◌, ℕ, ◌<◌, ◌≤◌, List, [], ◌∷◌, ◌++◌, Bool, true, true≢false, inl, inr, ⊎_elim, refl, sym, ap, ◌∙◌, le_refl, zero-le, arith, All, suc, zero, get_or, length}
+use Rattle.std.specs.Prelude.{◌==◌, ◌/◌, ◌%◌, filter, not}
+use Rattle.std.proofs.lemmas.Bool.{eqb-true, eq-eqb, not-true}
 use Rattle.std.proofs.lemmas.List.Elements.{filter-append, All-filter, All-contains_itself, filter_passes, All-weaker, All-contains, Contains-append_cases, Contains-append_left, All-tail}
 use Rattle.clear_core.specs.History.{raised_before}
 use Rattle.clear_core.specs.declared.event.Raise.{Raise}
@@ -78,7 +77,8 @@ ending_each P p [] here each = here
 ending_each P p (r ∷ rs) here each = ending_each P (left_by r) rs (each 0 r (omega arith)) (All-tail (λ s. P (left_by s)) r rs each)
 
 pub ending_stood : (rs : List Raise) → Stood rs (ending rs).value (ending rs).stamp
-ending_stood rs = ending_each (λ p. Stood rs p.value p.stamp) unpaid rs (inl (refl, refl)) (λ k d l. inr (get_or rs k d, All-contains_itself rs k d l, refl, refl))
+ending_stood rs = ending_each (λ p. Stood rs p.value p.stamp) unpaid rs (inl (refl, refl))
+    (λ k d l. inr (get_or rs k d, All-contains_itself rs k d l, refl, refl))
 
 pub stood_more : (rs : List Raise) (s : Raise) (v m : ℕ) → Stood rs v m → Stood (rs ++ s ∷ []) v m
 stood_more rs s v m (inl e) = inl e

@@ -38,7 +38,8 @@ sits_set views id v w j P at on keep t = dite (ℕ_discrete j id)
     (λ ne. (t.0, set_else views id j w ne ∙ t.1, t.2, t.3))
 
 -- what holds of each other live seat, and of the new view, holds of all
-pub each_set : (P : ℕ → View → Type 0) (views : List View) (id : ℕ) (w : View) → ((j : ℕ) (u : View) → j ≢ id → get_elem? views j ≡ some u → u.live ≡ true → P j u)
+pub each_set : (P : ℕ → View → Type 0) (views : List View) (id : ℕ) (w : View)
+    → ((j : ℕ) (u : View) → j ≢ id → get_elem? views j ≡ some u → u.live ≡ true → P j u)
     → (w.live ≡ true → P id w) → (j : ℕ) (u : View) → get_elem? (set views id w) j ≡ some u → u.live ≡ true → P j u
 each_set P views id w others mine j u e on = ⊎_elim
     (λ (t : (j ≡ id) × (w ≡ u)). subst (λ (y : ℕ × View). P y.0 y.1) (λ i. (sym t.0 i, t.1 i)) (mine (ap (λ (y : View). y.live) t.1 ∙ on)))
@@ -46,7 +47,8 @@ each_set P views id w others mine j u e on = ⊎_elim
     (at_set views id j w u e)
 
 -- what holds of each live seat, and of one more, holds of all
-pub each_longer : (P : ℕ → View → Type 0) (l : List View) (w : View) → ((j : ℕ) (u : View) → get_elem? l j ≡ some u → u.live ≡ true → P j u) → P (length l) w
+pub each_longer : (P : ℕ → View → Type 0) (l : List View) (w : View)
+    → ((j : ℕ) (u : View) → get_elem? l j ≡ some u → u.live ≡ true → P j u) → P (length l) w
     → (j : ℕ) (u : View) → get_elem? (l ++ w ∷ []) j ≡ some u → u.live ≡ true → P j u
 each_longer P [] w h here zero u e on = subst (P 0) (some-injective w u e) here
 each_longer P [] w h here (suc j) u e on = absurd (some-ne-none u (sym e))
@@ -66,20 +68,24 @@ abbrev pub Keeps : List ℕ → List ℕ → List View → List View → Deed �
 Keeps words now views after d = MeetsRule d words views → MeetsRule d now after
 
 -- a step that takes no slot is allowed where it keeps the rule
-pub allowed : (d : Deed) (slots id : ℕ) (me : Me (Unit {0}) View) (i : ℕ) (f : ℕ → ℕ) (then : ℕ → Me (Unit {0}) View → Type 0) (w : ℕ → View) → me.0.shown.net ≡ d.net
+pub allowed : (d : Deed) (slots id : ℕ) (me : Me (Unit {0}) View) (i : ℕ) (f : ℕ → ℕ) (then : ℕ → Me (Unit {0}) View
+    → Type 0) (w : ℕ → View) → me.0.shown.net ≡ d.net
     → ((s : State (Unit {0}) View) (h : MeetsRule (its d.past me.0) s.words s.views) → get_elem? s.views id ≡ some me.0
-    → MeetsRule (its d.past me.0) (set s.words i (f (slice_index s.words i))) (set s.views id (w (slice_index s.words i))) × then (slice_index s.words i) (w (slice_index s.words i), me.1))
+    → MeetsRule (its d.past me.0) (set s.words i (f (slice_index s.words i)))
+    (set s.views id (w (slice_index s.words i))) × then (slice_index s.words i) (w (slice_index s.words i), me.1))
     → Allows (rule d) slots id me i f then
 allowed d slots id me i f then w e step s h sized at small =
     let n = slice_index s.words i in
-    let within : MeetsRule (its d.past me.0) s.words s.views = subst (λ (n : Net). MeetsRule (record { net = n; past = d.past }) s.words s.views) (sym e) h in
+    let within : MeetsRule (its d.past me.0) s.words s.views =
+    subst (λ (n : Net). MeetsRule (record { net = n; past = d.past }) s.words s.views) (sym e) h in
     let after = step s within at in
     (w n, keeps, tt, at_its (λ d. MeetsRule d (set s.words i (f n)) (set s.views id (w n))) d me.0 e after.0, after.1)
 
 -- a step of the seat `id`, which holds the banks that it held, keeps the rule where words, raises,
 -- seats and bells go together again
 pub kept_again : (d : Deed) (words now : List ℕ) (views : List View) (id roll : ℕ) (v w : View) (t : Traces) (h : MeetsRule d words views)
-    → get_elem? views id ≡ some v → v.live ≡ true → w.live ≡ v.live → w.shown.banks ≡ v.shown.banks → w.shown.master ≡ v.shown.master → length now ≡ length words → slice_index now 0 ≡ roll
+    → get_elem? views id ≡ some v → v.live ≡ true → w.live ≡ v.live → w.shown.banks ≡ v.shown.banks
+    → w.shown.master ≡ v.shown.master → length now ≡ length words → slice_index now 0 ≡ roll
     → ((x : ℕ) → x < length d.net.debts → slice_index now (x + 1) ≡ word_of (ending (t x))) → AreLawfulTraces d.net t
     → ((j : ℕ) (u : View) → j ≢ id → get_elem? views j ≡ some u → u.live ≡ true → Suits d h.ledger (slice_index words 0) (length views) j u
     → Suits d (record h.ledger { trace = t }) roll (length views) j u)
@@ -92,7 +98,8 @@ kept_again d words now views id roll v w t h at on live banks chief long first s
   stands = stands;
   lawful = lawful;
   known = h.known;
-  held = λ b l. sits_set views id v w (h.ledger.owner b) (λ u. holds u.shown b ≡ true) at live (λ e. ap (λ (bs : List Bool). is_marked bs b) banks ∙ e) (h.held b l);
+  held = λ b l. sits_set views id v w (h.ledger.owner b) (λ u. holds u.shown b ≡ true) at live
+      (λ e. ap (λ (bs : List Bool). is_marked bs b) banks ∙ e) (h.held b l);
   led = sits_set views id v w h.ledger.chief (λ u. u.shown.master ≡ true) at live (λ e. chief ∙ e) h.led;
   fits = rw (first, length-set views id w) (each_set (Suits d (record h.ledger { trace = t }) roll (length views)) views id w
       (λ j u ne e o. others j u ne e o (h.fits j u e o)) (λ _. mine (h.fits id v at on)));

@@ -2,7 +2,7 @@
 use Rattle.std.proofs.Common.{⊎_elim}
 use Rattle.std.proofs.lemmas.Bool.{cases_Bool}
 use Rattle.std.proofs.lemmas.Bool.Decides.{nat_tests}
-use Rattle.std.proofs.Common.{◌≡◌, ◌∙◌, ℕ, suc, ◌+◌, ◌≤◌, ◌==◌, ◌&&◌, nat_lt, not, Bool, true, false, cond, length, List, [], ◌∷◌, ◌++◌, Result, Ok, Err, refl, ap, arith, ne_eqb}
+use Rattle.std.proofs.Common.{◌≡◌, ℕ, ◌+◌, ◌≤◌, ◌==◌, true, false, length, List, [], ◌∷◌, ◌++◌, Result, Ok, Err, refl, ap, arith}
 use Rattle.std.specs.Prelude.{codes}
 use Rattle.std.specs.List.{list_all}
 use Rattle.std.specs.Option.{is_some}
@@ -11,15 +11,13 @@ use Rattle.std.proofs.lemmas.Bool.{and_parts, le-leb}
 use Rattle.std.proofs.lemmas.Slice.Eq.{bytes_eq-Decides}
 use Rattle.clr_net.specs.Net.{Net}
 use Rattle.clear_core.specs.declared.event.Raise.{Raise}
-use Rattle.net_check.specs.Checks.{and_then, fault_unless}
+use Rattle.net_check.specs.Checks.{and_then}
 use Rattle.net_check.specs.Field.{number_in}
-use Rattle.net_check.specs.Record.{fault_at, in_row}
 use Rattle.net_check.specs.declared.fault.Fault.{Fault}
 use Rattle.net_check.specs.declared.fault.FileKind.TheVariants as file
 use Rattle.net_check.specs.declared.fault.FaultKind.TheVariants as fault
 use Rattle.net_csv.specs.Reading.{Fields, is_blank, rows_from, below_header, records_of}
 use Rattle.net_check.specs.declared.TheConstants.{MAX_JOURNAL_BYTES}
-use Rattle.raise_journal.specs.declared.TheConstants.{MAX_RAISES}
 use Rattle.raise_journal.specs.Texts.{journal_header}
 use Rattle.raise_journal.specs.ReadJournal.{raise_from, raise_in_row, is_closing, read_raises, added, closed_early_at, raises_in_file, journal_of}
 

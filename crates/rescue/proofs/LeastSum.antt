@@ -1,9 +1,9 @@
 -- A sum that saves a bank: there is a least one, and every greater sum saves it too.
-use Rattle.std.proofs.Common.{◌≡◌, ℕ, ◌+◌, ◌-◌, ◌<◌, ◌≤◌, Option, Some, None, cond, find, min, List, length, sym, ap, ◌∙◌, subst, ⊎_elim, arith, ne_eqb}
+use Rattle.std.proofs.Common.{◌≡◌, ℕ, ◌+◌, ◌-◌, ◌<◌, ◌≤◌, Option, Some, None, find, min, List, length, sym, ap, ◌∙◌, subst, arith}
 use Rattle.std.specs.List.{range_with_len}
 use Rattle.std.specs.Option.{option_map_or}
 use Rattle.std.proofs.lemmas.Bool.Decides.{nat_tests}
-use Rattle.std.proofs.lemmas.Bool.{cases_lt, true≢false}
+use Rattle.std.proofs.lemmas.Bool.{true≢false}
 use Rattle.clr_net.specs.Amounts.{IsAtMost}
 use Rattle.clr_net.specs.Limits.{IsNetwork}
 use Rattle.clr_net.specs.Net.{Net, cash_of}
@@ -14,7 +14,7 @@ use Rattle.clear_core.proofs.Richer.{least_le_richer}
 use Rattle.cascade.specs.Standings.{due, is_sound, paid_by, owed_by}
 use Rattle.cascade.proofs.Limits.{clearing_over}
 use Rattle.cascade.proofs.Healths.{sound_enough, enough_sound, sound_told}
-use Rattle.rescue.specs.Rescue.{added, health_with, is_saved_by, Saves, IsRescue, lacks, rescue, short_of}
+use Rattle.rescue.specs.Rescue.{added, health_with, is_saved_by, Saves, IsRescue, rescue, short_of}
 use Rattle.cascade.proofs.CashAt.{cash_at, outside_stays}
 use Rattle.cascade.proofs.MoreCash.{nobody_loses, pays_where_clearing}
 use Rattle.rescue.proofs.MoreCash.{cash_added, more_by_more, richer_by_more}
@@ -34,7 +34,8 @@ goes_on net i a b l =
     let less = added net i a in
     let P = least less in (
       clearing_over less P (least_clears less),
-      subst (λ (Q : List ℕ). IsAtMost Q (pay (added net i b) P)) (least_clears less) (richer.pays P),
+      subst (λ (Q : List ℕ). IsAtMost Q (pay (added net i b) P)) (least_clears less)
+          (richer.pays P),
       least_le_richer less (added net i b) richer,
     )
 

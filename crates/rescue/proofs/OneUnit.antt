@@ -1,12 +1,10 @@
 -- One unit more at a bank is kept once, and goes round exactly where the bank passes it on.
-use Rattle.std.proofs.Common.{◌≡◌, ℕ, ◌+◌, ◌<◌, ◌≤◌, min, List, length, get_or, sum, sum_by, inl, inr, refl, sym, ap, ◌∙◌, subst, ⊎_elim, arith}
+use Rattle.std.proofs.Common.{◌≡◌, ℕ, ◌+◌, ◌<◌, ◌≤◌, min, List, length, sum, sum_by, inl, inr, refl, sym, ap, ◌∙◌, subst, ⊎_elim, arith}
 use Rattle.std.specs.List.{range_with_len}
-use Rattle.std.proofs.lemmas.Bool.{cases_eq, cases_lt}
-use Rattle.std.proofs.lemmas.List.FromFn.{fill_by_all}
-use Rattle.std.proofs.lemmas.List.Sums.{sum-map}
+use Rattle.std.proofs.lemmas.Bool.{cases_lt}
 use Rattle.clr_net.specs.declared.bank.Bank.{Bank}
 use Rattle.clr_net.specs.Limits.{IsNetwork}
-use Rattle.clr_net.specs.Net.{Net, cash_of, debt_numbers}
+use Rattle.clr_net.specs.Net.{Net, cash_of}
 use Rattle.clr_net.proofs.Lists.{same_from_sum, sum_rises}
 use Rattle.clear_core.specs.Clearing.{receipts, estate, spend, pay, least, Clears}
 use Rattle.clear_core.proofs.Least.{least_clears, clears_only_at_least}

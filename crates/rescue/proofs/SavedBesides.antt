@@ -1,7 +1,6 @@
 -- Whom it saves besides, that a bank is given the least sum that saves it.
 use Rattle.std.proofs.Common.{◌≡◌, ℕ, ◌+◌, ◌<◌, ◌==◌, ◌&&◌, not, Bool, true, false, cond, List, [], ◌∷◌, ◌++◌, length, map, filter, count_by, get_or, refl, sym, ap, ◌∙◌, subst, arith}
 use Rattle.std.specs.List.{range_with_len}
-use Rattle.std.proofs.Math.Path.{ap₂}
 use Rattle.std.proofs.lemmas.List.{map-id}
 use Rattle.std.proofs.lemmas.List.{map-append}
 use Rattle.std.proofs.lemmas.List.Folds.{fold-map}
@@ -45,7 +44,8 @@ module _ (net : Net) (i : ℕ) (after : List Standing)
   counted_after =
       let more = rescued net i in
       ap (count_by (λ (s : Standing). not (is_sound s.health))) is
-      ∙ fold-map (λ a (s : Standing). a + cond (not (is_sound s.health)) 1 0) (standing more (least more)) 0
+      ∙ fold-map (λ a (s : Standing). a + cond (not (is_sound s.health)) 1 0)
+      (standing more (least more)) 0
       (bank_numbers more)
       ∙ ap (λ n. count_by (λ k. not (is_sound_at_least more k)) (range_with_len 0 n))
       (as_many_rescued net i)
@@ -59,10 +59,12 @@ pub saving_told : (net : Net) (i k : ℕ) (before after : List Standing)
     → (other && cured) ≡ is_saved_with net i k
 saving_told net i k before after was is bank d e other cured o t =
     let more = rescued net i in
-    ap₂ (λ (a b : Bool). a && b) o
-    (t ∙ ap₂ (λ (s u : Standing). not (is_sound s.health) && is_sound u.health)
-    (stands_there net (least net) before was k d bank)
-    (stands_there more (least more) after is k e (omega (arith, as_many_rescued net i, bank))))
+    rw (
+      o,
+      t,
+      stands_there net (least net) before was k d bank,
+      stands_there more (least more) after is k e (omega (arith, as_many_rescued net i, bank)),
+    )
 
 -- the banks that pass, with the bank n, which does or does not
 pub passing_more : (p : ℕ → Bool) (n : ℕ) (all more : List BankId) (b : BankId) (v : Bool)
@@ -70,13 +72,8 @@ pub passing_more : (p : ℕ → Bool) (n : ℕ) (all more : List BankId) (b : Ba
     → more ≡ all ++ cond v (b ∷ []) []
     → map (λ b. b.0) more ≡ filter p (range_with_len 0 (n + 1))
 passing_more p n all more b v so_far e is m =
-    ap (map (λ (b : BankId). b.0)) m
-    ∙ map-append (λ (b : BankId). b.0) all (cond v (b ∷ []) [])
-    ∙ ap₂ (λ (xs ys : List ℕ). xs ++ ys) so_far (one v)
-    ∙ ap (λ v. filter p (range_with_len 0 n) ++ cond v (n ∷ []) []) (sym is)
-    ∙ ap (λ xs. filter p xs ++ cond (p n) (n ∷ []) []) (sym (map-id (range_with_len 0 n)))
-    ∙ sym (filter_of_map_range_with_len_more p (λ (k : ℕ). k) 0 n n (omega arith))
-    ∙ ap (filter p) (map-id (range_with_len 0 (n + 1)))
+    rw (m, map-append (λ (b : BankId). b.0) all (cond v (b ∷ []) []), so_far, one v, ← is)
+    (simp map-id at (sym (filter_of_map_range_with_len_more p (λ (k : ℕ). k) 0 n n (omega arith))))
   where
     one : (v : Bool) → map (λ b. b.0) (cond v (b ∷ []) []) ≡ cond v (n ∷ []) []
     one true = ap (λ k. k ∷ []) e

@@ -1,6 +1,6 @@
 -- How far the search for a sum has come, and what each step adds.
-use Rattle.std.proofs.Common.{◌≡◌, ℕ, ◌+◌, ◌-◌, ◌<◌, ◌≤◌, List, length, slice_get, Some, cond, sym, ap, ◌∙◌, subst, ne_eqb, arith}
-use Rattle.std.specs.Option.{option_map_or}
+use Rattle.std.proofs.Common.{◌≡◌, ℕ, ◌+◌, ◌-◌, ◌<◌, ◌≤◌, List, length, slice_get, Some, sym, ap, ◌∙◌, subst, arith}
+use Rattle.std.proofs.lemmas.Bool.Decides.{nat_tests}
 use Rattle.clr_net.specs.declared.TheConstants.{MAX_CASH, MAX_OWED, MAX_OUTSIDE}
 use Rattle.clr_net.specs.declared.bank.Bank.{Bank}
 use Rattle.clr_net.specs.Limits.{IsNetwork}
@@ -117,11 +117,8 @@ module _ {net : Net} {i low high short : ℕ} {known : List ℕ} (network : IsNe
         saves = s.saves;
         fails = λ b m. less_fails net i network middle b (omega arith)
             (λ saved. absurd (omega (arith, is, some, saves_enough net i network middle saved)));
-        known_is = e ∙ ap (λ (a : ℕ). least (added net i a)) (sym one_less);
-        short_is = is
-            ∙ ap (lacks net i) (sym one_less)
-            ∙ sym (ap (λ b. cond b 0 (lacks net i (middle + 1 - 1)))
-            (ne_eqb (middle + 1) 0 (λ e. omega arith)));
+        known_is = rw one_less e;
+        short_is = rw one_less (grind (arith, nat_tests, is));
       }
 
   -- where no sum is left between them, it is found

@@ -42,15 +42,27 @@ fn levels_around(kind: RuleKind, greatest: u64) -> (u64, u64)
     }
 }
 
-// A level between two others, as far from the first as some units are from none, of those and others together; or next to an end.
+// A level between two others: as far from the first as some units are from none, on the way to all
+// of those below and above; but next to an end at most.
 fn level_between(low: u64, high: u64, below: u64, above: u64) -> u64
     requires { low + 1 < high }
     ensures { (low < result) × (result < high) }
 {
-    let width = u128::from(high - low);
-    let all = u128::from(below) + u128::from(above);
-    let far = width * u128::from(below) / all.max(1);
-    low + far.min(width - 1).max(1) as u64
+    let width = high - low;
+    let all = below.saturating_add(above).max(1);
+    // Half of the greatest width times the greatest units is within 64 bits.
+    let far = ((width / 2).saturating_mul(below) / all).saturating_mul(2);
+    low + far.min(width - 1).max(1)
+}
+
+// What is aimed at first for some units of so many claims: what a rule rounds off or up is half a
+// unit for each claim on average.
+fn first_aim(kind: RuleKind, claims: usize, units: u64) -> u64 {
+    match kind {
+        RuleKind::Jefferson => units.saturating_add(claims as u64 / 2),
+        RuleKind::Adams => units.saturating_sub(claims as u64 / 2),
+        _ => units,
+    }
 }
 
 // By a divisor, the level at which a claim gets one unit more than these.
@@ -66,7 +78,8 @@ fn level_of_next(kind: RuleKind, claim: u64, units: u64) -> u64
     }
 }
 
-// A level between two others: by a divisor one at which some claim gets a unit more, if there is one. Else the level in the middle.
+// A level between two others: by a divisor one at which some claim gets a unit more, if there is
+// one. Else the level in the middle.
 fn step_between(kind: RuleKind, claims: &[u64], low: u64, high: u64) -> u64
     requires limit { All (λ c. c ≤ MAX_CLAIM) claims.now }
     requires between { low + 1 < high }
@@ -87,18 +100,17 @@ fn step_between(kind: RuleKind, claims: &[u64], low: u64, high: u64) -> u64
 }
 
 // Some units, or half of them.
-fn half_if(half: bool, units: u64) -> u64
-    ensures { result ≤ units }
-{
+fn half_if(half: bool, units: u64) -> u64 {
     if half { units / 2 } else { units }
 }
 
 // The level at which the units for these claims end: at it the debts get no more than these, and at
 // the next no less. `total` is what they claim. Answers too what they get at it.
 //
-// Of nine levels that are looked at, six are as far from the lowest that is left as the units are between what is given there and
-// at the highest, where an end that stays counts half (regula falsi by Illinois); one is where a claim gets a unit more, one is
-// just below the highest, and one halves what is left. Where the debts get just these units at a level, the search ends there.
+// Of nine levels that are looked at, six are as far from the lowest that is left as the units are
+// between what is given there and at the highest, where an end that stays counts half (regula falsi
+// by Illinois); one is where a claim gets a unit more, one is just below the highest, and one halves
+// what is left. Where the debts get just these units at a level, the search ends there.
 pub fn level_for(kind: RuleKind, claims: &[u64], total: u64, units: u64) -> (u64, u64)
     requires has_levels { kind ≢ Order }
     requires limit { All (λ c. c ≤ MAX_CLAIM) claims.now }
@@ -113,7 +125,7 @@ pub fn level_for(kind: RuleKind, claims: &[u64], total: u64, units: u64) -> (u64
     let (mut low, top) = levels_around(kind, greatest_claim(claims));
     let mut high = if units == 0 { low } else { top };
     let mut at_low = 0;
-    let mut below = units;
+    let mut below = first_aim(kind, claims.len(), units);
     let mut above = total - units;
     let mut rose = false;
     let mut looks: u8 = 0;

@@ -1,14 +1,9 @@
 -- Lists that are changed place by place.
 use Rattle.std.proofs.Common.{◌≡◌, ℕ, suc, ◌+◌, ◌<◌, ◌≤◌, List, [], ◌∷◌, ◌++◌, length, get_or, take, sym, ◌∙◌, refl, arith}
 use Rattle.std.proofs.lemmas.List.{take-append-le, take_all}
-use Rattle.cascade.specs.declared.standing.Health.TheVariants.{Sound}
-use Rattle.stress.specs.declared.broken.Broken.{Broken}
 use Rattle.stress.specs.declared.tally.Falls.{Falls}
 
 -- what stands past the ends
-abbrev pub unbroken : Broken
-unbroken = record { cut = 0; health = Sound }
-
 abbrev pub never : Falls
 never = record { defaults = 0; fundamental = 0 }
 

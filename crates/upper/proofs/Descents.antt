@@ -1,6 +1,5 @@
 -- What the rounds from all debts paid in full come to, and the waves with them.
-use Rattle.std.proofs.Common.{◌≡◌, ◌≢◌, ℕ, zero, suc, ◌+◌, ◌<◌, ◌≤◌, List, length, get_or, replicate, sum, sym, ap, ◌∙◌, subst, ⊎_elim, below_more, refl, arith}
-use Rattle.std.proofs.lemmas.Bool.{cases_eq, cases_lt}
+use Rattle.std.proofs.Common.{◌≡◌, ◌≢◌, ℕ, suc, ◌+◌, ◌≤◌, List, length, get_or, replicate, sum, sym, ap, ◌∙◌, subst, arith}
 use Rattle.std.proofs.lemmas.List.{length-map, length-replicate}
 use Rattle.std.proofs.lemmas.List.Sums.{sum-map}
 use Rattle.std.proofs.lemmas.List.FromFn.{fill_by_all, get_or-map-range_with_len}
@@ -10,19 +9,17 @@ use Rattle.clr_net.specs.Net.{Net, units_owed}
 use Rattle.clr_net.proofs.Lists.{sum_rises, zeros_at}
 use Rattle.clr_net.proofs.RowsAndColumns.{claim_of_at}
 use Rattle.clear_core.specs.Buffers.{AreInLimit}
-use Rattle.clear_core.specs.Clearing.{NeverFalls, pay_by, estate, least}
+use Rattle.clear_core.specs.Clearing.{NeverFalls, pay_by, estate}
 use Rattle.clear_core.specs.Rounds.{rounds_of}
-use Rattle.clear_core.proofs.Least.{least_clears}
 use Rattle.clear_core.proofs.Pay.{length-pay_by}
 use Rattle.clear_core.proofs.Rows.{claim_in_limit}
 use Rattle.cascade.specs.Standings.{due}
-use Rattle.cascade.proofs.Equities.{equities_are_one}
 use Rattle.clr_net.specs.Claims.{all_claims}
-use Rattle.upper.specs.Bounds.{greatest, wave, waves, IsGreatest, IsWave, EquitiesAreFixed, WavesTellHealth}
+use Rattle.upper.specs.Bounds.{wave, waves, IsWave, WavesTellHealth}
 use Rattle.upper.specs.Greatest.{falling_by, greatest_by}
-use Rattle.upper.specs.Waves.{FallsShortIn, HoldsBeforeIn, IsWaveIn, wave_in, waves_in}
+use Rattle.upper.specs.Waves.{FallsShortIn, IsWaveIn, wave_in, waves_in}
 use Rattle.upper.specs.Descent.{IsWaveTo, AreWavesTo, AreMarked}
-use Rattle.upper.proofs.Tops.{falling_falls, falling_back, falling_settled, greatest_rounds}
+use Rattle.upper.proofs.Tops.{falling_falls, falling_back, falling_settled}
 use Rattle.upper.proofs.Waves.{wave_is, wave_in_known, wave_tells}
 
 -- the payments after n rounds by f, which never falls; each round took a unit off at least

@@ -1,11 +1,8 @@
 -- The list of the banks that were hit, kept as falls are added and wiped.
-use Rattle.std.proofs.Common.{◌≡◌, ◌≢◌, ℕ, suc, ◌<◌, ◌≤◌, true, List, [], ◌∷◌, length, get_or, replicate, sym, ap, ◌∙◌, ⊎_elim, arith, ne_eqb}
+use Rattle.std.proofs.Common.{◌≡◌, ◌≢◌, ℕ, suc, ◌<◌, true, List, [], ◌∷◌, length, ⊎_elim, arith, ne_eqb}
 use Rattle.std.proofs.lemmas.Bool.{cases_eq}
-use Rattle.std.proofs.lemmas.Grind.{common_steps}
-use Rattle.std.proofs.lemmas.List.{ext_get_or, length-replicate}
 use Rattle.clr_net.specs.declared.debt.BankId.{BankId}
-use Rattle.clr_net.proofs.Lists.{zeros_at}
-use Rattle.upper.specs.Falls.{bank_at, is_listed, AreHit}
+use Rattle.upper.specs.Falls.{bank_at, is_listed}
 
 -- a place of a list that has a bank
 pub record StandsAt (banks : List BankId) (i k : ℕ) : Type 0 where

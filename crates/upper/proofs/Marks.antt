@@ -1,13 +1,10 @@
 -- Banks that are short get their wave, one after another.
-use Rattle.std.proofs.Common.{◌≡◌, ◌≢◌, ℕ, ◌<◌, ◌≤◌, List, length, get_or, sym, ap, ◌∙◌, ⊎_elim, arith}
-use Rattle.std.proofs.lemmas.Bool.{cases_eq}
+use Rattle.std.proofs.Common.{◌≡◌, ◌≢◌, ℕ, ◌<◌, ◌≤◌, List, length, get_or}
 use Rattle.clr_net.specs.declared.debt.BankId.{BankId}
 use Rattle.clr_net.specs.Net.{Net}
 use Rattle.clear_core.specs.Clearing.{estate}
 use Rattle.cascade.specs.Standings.{due}
-use Rattle.upper.specs.Descent.{AreMarked, HaveEnough}
-use Rattle.upper.specs.Falls.{bank_at, AreHit}
-use Rattle.upper.proofs.Hits.{listed_place}
+use Rattle.upper.specs.Falls.{bank_at}
 
 -- so it is with the first j banks of a list; what was changed was changed to this round
 pub record AreMarkedAmong (net : Net) (P : List ℕ) (round : ℕ) (banks : List BankId)

@@ -1,6 +1,5 @@
 -- What is known between two rounds, and what the last one tells.
-use Rattle.std.proofs.Common.{◌≡◌, ◌≢◌, ℕ, ◌+◌, ◌<◌, ◌≤◌, List, [], length, get_or, replicate, sum, sym, ap, ◌∙◌, ⊎_elim, subst, arith}
-use Rattle.std.proofs.lemmas.Bool.{cases_eq, cases_lt}
+use Rattle.std.proofs.Common.{◌≡◌, ◌≢◌, ℕ, ◌+◌, ◌<◌, ◌≤◌, List, length, get_or, replicate, sum, sym, ap, ◌∙◌, subst, arith}
 use Rattle.std.proofs.lemmas.List.{ext_get_or, get_or-replicate, length-replicate}
 use Rattle.clr_net.specs.declared.debt.BankId.{BankId}
 use Rattle.clr_net.specs.Limits.{IsNetwork}

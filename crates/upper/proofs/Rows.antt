@@ -1,6 +1,5 @@
 -- What a round writes, row by row.
-use Rattle.std.proofs.Common.{◌≡◌, ◌≢◌, ℕ, ◌<◌, ◌≤◌, List, length, get_or, sym, ◌∙◌, ⊎_elim, arith}
-use Rattle.std.proofs.lemmas.Bool.{cases_eq}
+use Rattle.std.proofs.Common.{◌≡◌, ℕ, ◌<◌, ◌≤◌, List, length, get_or, sym, ◌∙◌, arith}
 use Rattle.std.proofs.lemmas.List.{ext_get_or}
 use Rattle.clr_net.specs.declared.debt.BankId.{BankId}
 use Rattle.clr_net.specs.Net.{Net, debtor_of}
@@ -26,4 +25,5 @@ pub all_paid_for : (net : Net) (falls : List ℕ) (banks : List BankId) (wanted 
 all_paid_for net falls banks wanted start now j hit g as_many over current paid =
     ext_get_or 0 now wanted (as_many ∙ sym over) (λ x l.
     let in_range : x < length net.debts = omega arith in
-    grind (arith, hit.listed (debtor_of net x), listed_place banks (debtor_of net x), paid.rest x, paid.done, current x))
+    let i = debtor_of net x in
+    grind (arith, hit.listed i, listed_place banks i, paid.rest x, paid.done, current x))

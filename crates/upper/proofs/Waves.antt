@@ -1,11 +1,11 @@
 -- In which round a bank falls: in the first by its own fundamentals, and in none where it is sound
 -- at last.
-use Rattle.std.proofs.Common.{◌≡◌, ◌↔◌, ℕ, zero, suc, ◌+◌, ◌-◌, ◌<◌, ◌≤◌, Option, Some, None, find, List, get_or, ⊎_elim, refl, ap, subst, arith}
+use Rattle.std.proofs.Common.{◌≡◌, ◌↔◌, ℕ, ◌+◌, ◌-◌, ◌<◌, ◌≤◌, Option, Some, None, find, List, get_or, arith}
 use Rattle.std.specs.Option.{option_map_or}
 use Rattle.std.specs.List.{range_with_len}
 use Rattle.std.proofs.Math.Dec.{ltb}
 use Rattle.std.proofs.lemmas.Bool.Decides.{nat_tests}
-use Rattle.std.proofs.lemmas.Bool.{ltb-true, ltb-false, cases_eq, cases_lt}
+use Rattle.std.proofs.lemmas.Bool.{ltb-true, ltb-false}
 use Rattle.clr_net.specs.Limits.{IsNetwork}
 use Rattle.clr_net.specs.Net.{Net, units_owed, column, claim_of}
 use Rattle.clr_net.proofs.Ranges.{Found, found}
@@ -21,9 +21,9 @@ use Rattle.cascade.proofs.Limits.{estate_le_worth}
 use Rattle.cascade.proofs.PayingOut.{paid_is}
 use Rattle.cascade.proofs.Healths.{sound_enough, enough_sound, fundamental_below, below_fundamental}
 use Rattle.clr_net.specs.Claims.{all_claims}
-use Rattle.upper.specs.Bounds.{falling, greatest, wave, IsWave, TellsHealth}
+use Rattle.upper.specs.Bounds.{greatest, wave, IsWave, TellsHealth}
 use Rattle.upper.specs.Greatest.{falling_by}
-use Rattle.upper.specs.Waves.{FallsShortIn, HoldsBeforeIn, IsWaveIn, wave_in}
+use Rattle.upper.specs.Waves.{IsWaveIn, wave_in}
 use Rattle.upper.proofs.Tops.{rounds_come_to, greatest_clears, estate_le_falling}
 
 -- where R n are the payments after n rounds
@@ -48,7 +48,9 @@ module _ (net : Net) (R : ℕ → List ℕ) where
   -- there is only one wave
   wave_only : (i v w : ℕ) → IsWaveIn net R i v → IsWaveIn net R i w → v ≡ w
   wave_only i v w a b =
-      grind (arith, a.falls (v - 1), b.falls (w - 1), λ (e : v ≡ 0). a.never e (w - 1), λ (e : w ≡ 0). b.never e (v - 1))
+      let first = λ (e : v ≡ 0). a.never e (w - 1) in
+      let second = λ (e : w ≡ 0). b.never e (v - 1) in
+      grind (arith, a.falls (v - 1), b.falls (w - 1), first, second)
 
 module _ (net : Net) (f : ℕ → ℕ → ℕ) (never : NeverFalls f) where
   -- so `wave_in` computes it of the rounds by f

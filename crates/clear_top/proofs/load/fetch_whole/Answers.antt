@@ -1,19 +1,17 @@
 -- What was fetched is the whole file, since it is not longer than the limit; or it shows that the
 -- file is.
-use Rattle.std.proofs.Common.{◌≡◌, ℕ, ◌+◌, ◌^◌, ◌<◌, ◌≤◌, List, [], length, take}
-use Rattle.std.proofs.Common.{Option, None, Some, Ok, Err, refl, sym, ap, ◌∙◌, subst}
+use Rattle.std.proofs.Common.{◌≡◌, ℕ, ◌+◌, ◌^◌, ◌<◌, ◌≤◌, List, length, take}
+use Rattle.std.proofs.Common.{Option, None, Some, Ok, Err, refl, ap, ◌∙◌}
 use Rattle.std.proofs.Common.{arith}
-use Rattle.std.specs.Option.{option_map}
 use Rattle.std.proofs.lemmas.Bool.{le-leb, lt-leb}
 use Rattle.std.proofs.lemmas.List.{take_all, length-take}
 use Rattle.clr_edge.specs.Shelf.{IsFetched}
-use Rattle.net_check.specs.Checks.{fault_unless}
 use Rattle.net_check.specs.Record.{fault_at}
 use Rattle.net_check.specs.declared.fault.FileKind.{FileKind}
 use Rattle.net_check.specs.declared.fault.FileKind.TheVariants as file
 use Rattle.net_check.specs.declared.fault.FaultKind.TheVariants as fault
 use Rattle.clear_top.specs.Ending.{GivesWhole}
-use Rattle.clear_top.specs.Reading.{Files, in_size}
+use Rattle.clear_top.specs.Reading.{Files}
 use Rattle.net_check.specs.Words.{file_limit}
 use Rattle.clear_top.proofs.load.fetch_whole.Goals as goal
 

@@ -1,10 +1,8 @@
 -- What a text of payments asks for holds of a run, and a journal stands below it.
-use Rattle.std.proofs.Common.{◌≡◌, ℕ, List, ◌++◌, Some, IfOk, length, append_assoc, sym, ◌∙◌, ap, subst}
+use Rattle.std.proofs.Common.{◌≡◌, List, ◌++◌, Some, IfOk, length, append_assoc, sym, ◌∙◌, ap, subst}
 use Rattle.std.specs.List.{flat_map}
 use Rattle.std.proofs.lemmas.Result.{IfOk-weaker}
 use Rattle.clr_net.specs.Lines.{line}
-use Rattle.clr_net.specs.Net.{Net}
-use Rattle.clear_core.specs.Clearing.{least}
 use Rattle.clear_core.specs.declared.event.Raise.{Raise}
 use Rattle.clear_report.specs.Text.{payments_text}
 use Rattle.clear_report.specs.Words.{empty_line}

@@ -1,5 +1,4 @@
 use Rattle.std.proofs.Common.{length, ◌∙◌, ap}
-use Rattle.clear_report.specs.Blocks.{scenario_block}
 use Rattle.clear_top.proofs.Runs.{least_places}
 use Rattle.clear_top.proofs.scenarios.block_text.Goals as goal
 

@@ -9,14 +9,11 @@ loop-scenario-init g c = record { so_far = ap (map (λ block. block.items)) c.in
 
 pub loop-scenario-preserved : goal.loop-scenario-preserved
 loop-scenario-preserved g c = record {
-  so_far = rw (
-    c.in_ok-push.ensures.items,
-    map_more (block_of c.args.net.now) c.args.scenarios.now
-        c.loop-scenario.scenario-index c.scenario-item.result c.loop-scenario-test.true,
-  )
+  so_far = rw c.in_ok-push.ensures.items (rw (map_more (block_of c.args.net.now) c.args.scenarios.now
+      c.loop-scenario.scenario-index c.scenario-item.result c.loop-scenario-test.true)
       (map_push (λ block. block.items) c.loop-scenario.all.items c.in_ok-text.text
       ∙ ap₂ (λ ts t. ts ++ t ∷ []) c.loop-scenario.invariant.so_far
-      (c.in_ok-text.ensures.text ∙ ap (block_of c.args.net.now) c.scenario-item.is));
+      (c.in_ok-text.ensures.text ∙ ap (block_of c.args.net.now) c.scenario-item.is)));
   alike = c.in_ok-text.ensures.alike;
   offices = c.in_ok-text.ensures.offices;
 }

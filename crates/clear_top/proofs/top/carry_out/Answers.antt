@@ -1,6 +1,6 @@
 -- What the work came to was written, whole or in part.
-use Rattle.std.proofs.Common.{◌≡◌, sym, ap, ◌∙◌, subst}
-use Rattle.clear_top.specs.Ending.{JobEnds, WritesNothing, shelf_call, sink_call}
+use Rattle.std.proofs.Common.{◌≡◌, ap, ◌∙◌, subst}
+use Rattle.clear_top.specs.Ending.{WritesNothing}
 use Rattle.clear_top.specs.Outcome.{Outcome}
 use Rattle.clear_top.specs.declared.status.Ended.{Ended}
 use Rattle.clear_top.proofs.Writing.{ends_whole, work_writes}

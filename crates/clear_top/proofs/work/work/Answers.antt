@@ -1,17 +1,12 @@
 -- What is reported of a run is what its task comes to, of the network in the input.
-use Rattle.std.proofs.Common.{◌≡◌, ◌≤◌, ◌⊎◌, inl, inr, All, IfOk, Result, length, sym, subst}
+use Rattle.std.proofs.Common.{◌≡◌, ◌⊎◌, inl, inr, IfOk, Result, subst}
 use Rattle.clear_report.specs.Outcomes.{outcomes_text}
 use Rattle.clear_words.specs.declared.job.Job.{Job}
 use Rattle.clear_words.specs.declared.task.Task.{Task}
 use Rattle.clear_words.specs.declared.task.Task.TheVariants as task
-use Rattle.clear_top.specs.Ending.{IsUsable}
 use Rattle.clear_top.specs.Meaning.{ComesTo, IsPlain, Settles, plan_of, shown_of}
 use Rattle.clear_top.specs.Outcome.{Outcome}
 use Rattle.clear_top.specs.Reading.{Input}
-use Rattle.clear_top.specs.Sources.{source_of}
-use Rattle.clear_top.specs.declared.source.Source.TheVariants as source
-use Rattle.stress.specs.Shocks.{IsScenarioOf}
-use Rattle.stress.specs.declared.TheConstants.{MAX_SCENARIOS}
 use Rattle.clear_top.proofs.work.work.Goals as goal
 
 -- the scenarios are of the network in the input

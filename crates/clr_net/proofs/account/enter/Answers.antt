@@ -1,7 +1,6 @@
 -- Each of the two writes changes what its account shows.
-use Rattle.std.proofs.Common.{◌≡◌, slice_get, Some, set, length, ap, ◌∙◌, refl, arith}
+use Rattle.std.proofs.Common.{set, ap, ◌∙◌, arith}
 use Rattle.std.proofs.lemmas.List.{length-set}
-use Rattle.std.proofs.lemmas.Option.{slice_get_read}
 use Rattle.clr_net.specs.Accounts.{shown, owing, owed_one_more}
 use Rattle.clr_net.specs.Net.{changed_at}
 use Rattle.clr_net.proofs.ChangedAt.{map-set_changed}

@@ -4,10 +4,12 @@ use Rattle.clr_net.specs.declared.debt.DebtId.{DebtId}
 use Rattle.clr_net.specs.Net.{debtor_of, numbers}
 use Rattle.compress.specs.Walk.{ArePassed, IsUnderWay, end_of, mark_of}
 use Rattle.std.specs.Vec.{with_items}
+use Rattle.std.proofs.lemmas.List.{get_or_read}
+use Rattle.compress.specs.declared.mark.Mark.TheVariants.{Done}
 use Rattle.compress.proofs.Cancelling.{debtor_read}
 use Rattle.compress.proofs.Opening.{new_from}
 use Rattle.compress.proofs.Steps.{kept_both}
-use Rattle.compress.proofs.Telling.{begun, begun_kept, looked_on, read_mark}
+use Rattle.compress.proofs.Telling.{begun, begun_kept, looked_on}
 use Rattle.compress.proofs.walk.walk_from.Goals.{After-index, After-next_back}
 use Rattle.compress.proofs.walk.walk_from.Goals as goal
 
@@ -34,13 +36,13 @@ looked c = looked_on c.next_back.new.cursors c.loop-claims.invariant.under_way
 -- the mark of the debtor of the next debt
 marked : (c : After-index) → mark_of c.loop-claims.walk.marks.items c.debt.result.debtor.0
     ≡ c.index.result.now
-marked c = read_mark c.loop-claims.walk.marks.items c.debt.result.debtor.0 c.index.result.now
+marked c = sym (get_or_read c.loop-claims.walk.marks.items c.debt.result.debtor.0 c.index.result.now
     (omega (
       arith,
       debtor_read c.args.net.now c.in-Some.id.0 c.debt.result c.debt.ensures,
       (c.banks.ensures.network.each_debt _ c.in-Some.ensures.next.live.debt).debtor_known,
       c.loop-claims.invariant.under_way.told.sizes.marks,
-    )) c.index.ensures
+    )) c.index.ensures Done)
 
 pub retire-requires-clause-under_way : goal.retire-requires-clause-under_way
 retire-requires-clause-under_way c =

@@ -15,7 +15,8 @@ cash_is : (c : After-bank) → c.hurt_of-own.result.lost
 cash_is c =
     let own = ap (λ (h : Hurt). h.lost) c.hurt_of-own.ensures in
     let read = cash_read c.args.net.now c.args.ruined.0 c.bank.result.now c.bank.ensures in
-    omega (arith, own_and_others_are_cash c.args.net.now _ c.banks.ensures.network c.requires.ruined)
+    let cash = own_and_others_are_cash c.args.net.now _ c.banks.ensures.network c.requires.ruined in
+    omega arith
 
 pub overflow_sub-result : goal.overflow_sub-result
 overflow_sub-result c = omega (arith, cash_is (goal.at.overflow_sub-result c).After-bank)

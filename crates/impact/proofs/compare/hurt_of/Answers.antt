@@ -6,12 +6,13 @@ use Rattle.impact.proofs.compare.hurt_of.Goals as goal
 
 pub bounds-before-place : goal.bounds-before-place
 bounds-before-place c =
-    omega (arith, as_many_stand c.args.net.now _ c.args.before.now c.requires.before, c.requires.bank)
+    omega (arith, as_many_stand c.args.net.now _ c.args.before.now c.requires.before)
 
 pub bounds-after-place : goal.bounds-after-place
 bounds-after-place c =
     let bank = bank_after c.args.net.now c.args.ruined.0 c.args.bank.0 c.requires.bank in
-    omega (arith, as_many_stand (hit c.args.net.now c.args.ruined.0) _ c.args.after.now c.requires.after)
+    let after = hit c.args.net.now c.args.ruined.0 in
+    omega (arith, as_many_stand after _ c.args.after.now c.requires.after)
 
 pub kept-requires : goal.kept-requires
 kept-requires c =

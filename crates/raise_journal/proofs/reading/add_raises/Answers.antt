@@ -1,6 +1,6 @@
 use Rattle.net_check.specs.declared.fault.Fault.{Fault}
 use Rattle.clr_net.specs.Net.{Net}
-use Rattle.std.proofs.Common.{◌≡◌, ◌∙◌, ◌+◌, ◌<◌, ◌≤◌, ℕ, List, Result, map, length, Err, sym, ap, arith, rules}
+use Rattle.std.proofs.Common.{◌≡◌, ◌∙◌, ◌+◌, ℕ, List, Result, map, length, Err, sym, ap, arith, rules}
 use Rattle.std.proofs.lemmas.Result.{err_from_is_err_and}
 use Rattle.csv.specs.Records.{fields_of}
 use Rattle.clear_core.specs.declared.event.Raise.{Raise}

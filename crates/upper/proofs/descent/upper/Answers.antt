@@ -4,7 +4,7 @@ use Rattle.clr_net.specs.Limits.{IsNetwork}
 use Rattle.clr_net.specs.Net.{Net}
 use Rattle.clear_core.specs.Clearing.{least, pay}
 use Rattle.clear_core.proofs.Pay.{spend_mono}
-use Rattle.upper.specs.Bounds.{greatest, waves, WavesTellHealth}
+use Rattle.upper.specs.Bounds.{waves, WavesTellHealth}
 use Rattle.upper.specs.declared.bounds.Upper.{Upper}
 use Rattle.upper.proofs.Descents.{waves_tell}
 use Rattle.upper.proofs.Tops.{greatest_rounds}

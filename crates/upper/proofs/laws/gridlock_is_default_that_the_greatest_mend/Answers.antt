@@ -12,7 +12,8 @@ use Rattle.upper.proofs.laws.gridlock_is_default_that_the_greatest_mend.Goals as
 gridlock_is : (h g : Health) (w : ℕ) → ((w ≡ 0) ↔ (g ≡ Sound))
     → (is_gridlocked h w ≡ true) ↔ ((h ≢ Sound) × (g ≡ Sound))
 gridlock_is Sound g w none = (λ e. absurd (cc), λ p. absurd (p.0 refl))
-gridlock_is h g w none = (λ e. (λ f. absurd (cc), none.0 (eqb-true w 0 e)), λ p. eq-eqb w 0 (none.1 p.1))
+gridlock_is h g w none =
+    (λ e. (λ f. absurd (cc), none.0 (eqb-true w 0 e)), λ p. eq-eqb w 0 (none.1 p.1))
 
 pub returns : goal.returns
 returns c net i network =

@@ -8,13 +8,9 @@ returns c =
     let hit = c.banks-bank-items.ensures in
     record {
       as_many = old.as_many;
-      short = λ i l none below. grind (
-        arith,
-        c.requires.enough i l,
-        hit.listed i,
-        listed_place c.banks-bank-items.result.now i,
-        old.short,
-      );
+      short = λ i l none below.
+          let place = listed_place c.banks-bank-items.result.now i in
+          grind (arith, c.requires.enough i l, hit.listed i, place, old.short);
       enough = old.enough;
       had = old.had;
     }

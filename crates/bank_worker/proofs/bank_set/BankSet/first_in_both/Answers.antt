@@ -14,7 +14,7 @@ returns-then-word-ne0 c =
     let mask = c.loop-index.mask in
     let is = common_of c.self.inside.words c.other.inside.words c.args.self.now c.args.other.now k mask c.self.view_is c.other.view_is in
     let f = found_in_word c.args.self.now c.args.other.now c.args.from k mask _ c.loop-index.invariant.mask c.loop-index.invariant.before is (omega arith) c.if-word-ne0.true in
-    record { first = (f.ahead, f.first_set, f.second_set); none_before = f.none_before; none = tt }
+    record { first = f.0; none_before = f.1; none = tt }
 
 pub loop-index-preserved : goal.loop-index-preserved
 loop-index-preserved c =

@@ -1,6 +1,4 @@
-use Rattle.std.proofs.Common.{◌≡◌, drop, ap, ◌∙◌, subst}
-use Rattle.bank_worker.specs.Called.{AreCreditorsIn}
-use Rattle.bank_worker.specs.Views.{Crew}
+use Rattle.std.proofs.Common.{◌≡◌, drop, ap, ◌∙◌}
 use Rattle.bank_worker.proofs.Calling.{creditors_called, known_creditors}
 use Rattle.bank_worker.proofs.worker.Worker.call_creditors.Goals as goal
 
@@ -17,7 +15,6 @@ returns c =
     let is : made ≡ drop c.args.from c.self.inside.journal.raises = c.split_at.ensures.back ∙ ap (drop c.args.from) c.as_slice.ensures in
     record {
       kept = c.call_all.ensures.kept;
-      creditors = subst (λ (w : Crew). AreCreditorsIn w.seat.shows.net now (drop c.args.from w.journal)) c.self.view_is
-          (subst (AreCreditorsIn net now) is
-          (creditors_called net c.creditors.result.now now made (c.creditors.ensures ∙ c.self.invariant.office.creditors) c.call_all.ensures.creditors));
+      creditors = rw (← c.self.view_is, ← is)
+          (creditors_called net c.creditors.result.now now made (c.creditors.ensures ∙ c.self.invariant.office.creditors) c.call_all.ensures.creditors);
     }

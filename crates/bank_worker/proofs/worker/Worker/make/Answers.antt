@@ -1,7 +1,5 @@
-use Rattle.std.proofs.Common.{ℕ, [], ap, ◌∙◌, subst}
-use Rattle.clr_net.specs.Net.{Net}
-use Rattle.bank_worker.specs.Offices.{IsOfficeFor}
-use Rattle.bank_worker.specs.Views.{Crew, banks_held, desks_held}
+use Rattle.std.proofs.Common.{ℕ, [], ap, ◌∙◌}
+use Rattle.bank_worker.specs.Views.{Crew, desks_held}
 use Rattle.bank_worker.proofs.Rooms.{banks_of_seat}
 use Rattle.bank_worker.proofs.worker.Worker.make.Goals as goal
 
@@ -9,8 +7,7 @@ pub with-requires-clause-office : goal.with-requires-clause-office
 with-requires-clause-office c =
     let s = c.args.seat.shows in
     let same = banks_of_seat c.args.net.now s c.args.workers c.args.worker c.requires.net c.requires.banks in
-    subst (λ (m : Net). IsOfficeFor m (banks_held s) c.in-Ok.office) c.requires.net
-    (subst (λ banks. IsOfficeFor c.args.net.now banks c.in-Ok.office) same c.in-Ok.ensures.office)
+    rw (← same, ← c.requires.net) c.in-Ok.ensures.office
 
 pub returns-in-Ok-clause-worker : goal.returns-in-Ok-clause-worker
 returns-in-Ok-clause-worker c =

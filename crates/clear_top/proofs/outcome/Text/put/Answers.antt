@@ -1,7 +1,7 @@
 -- The pieces that were written whole, and of one piece a part.
 use Rattle.std.proofs.Common.{map, ap, ◌∙◌, subst, arith}
 use Rattle.std.specs.List.{concat}
-use Rattle.std.proofs.lemmas.List.{length-map, take_all}
+use Rattle.std.proofs.lemmas.List.{take_all}
 use Rattle.clr_edge.specs.Sink.{with_bytes, WritesPart}
 use Rattle.clear_top.proofs.Pieces.{on_err, piece_part, piece_taken, risen_since, with_nothing}
 use Rattle.clear_top.proofs.outcome.Text.put.Goals as goal

@@ -1,6 +1,5 @@
 -- The new bank's account stands at the end, and its name at the end of the index.
-use Rattle.std.proofs.Common.{◌≡◌, map, refl, ap, ◌∙◌, arith, mul-le-mul_right}
-use Rattle.clr_net.specs.declared.TheConstants.{MAX_CASH, MAX_OUTSIDE}
+use Rattle.std.proofs.Common.{◌≡◌, map, refl, ap, ◌∙◌, arith}
 use Rattle.clr_net.specs.Kept.{net_of}
 use Rattle.clr_net.specs.Limits.{IsNewBank}
 use Rattle.clr_net.proofs.BankNames.{names_grow}

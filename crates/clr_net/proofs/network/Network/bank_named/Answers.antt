@@ -1,5 +1,4 @@
-use Rattle.std.proofs.Common.{◌≡◌, true≢false, refl, sym, ◌∙◌, position, Some, None}
-use Rattle.clr_net.specs.Net.{has_name}
+use Rattle.std.proofs.Common.{true≢false, refl, sym, ◌∙◌}
 use Rattle.clr_net.proofs.BankNames.{place_of_name, named_there, new_without_place}
 use Rattle.clr_net.proofs.network.Network.bank_named.Goals as goal
 

@@ -1,7 +1,5 @@
-use Rattle.std.proofs.Common.{◌≡◌, ◌<◌, length, slice_get, Some, refl, sym, ap, ◌∙◌, arith, mul-le-mul_right}
-use Rattle.std.proofs.lemmas.List.{length-map, get_or_default}
-use Rattle.std.proofs.lemmas.Option.{slice_get_read}
-use Rattle.clr_net.specs.declared.TheConstants.{MAX_CASH}
+use Rattle.std.proofs.Common.{sym, ap, ◌∙◌, arith}
+use Rattle.std.proofs.lemmas.List.{get_or_default}
 use Rattle.clr_net.specs.Net.{with_cash}
 use Rattle.clr_net.proofs.AccountReads.{account_within}
 use Rattle.clr_net.proofs.Networks.{all_cash_le}

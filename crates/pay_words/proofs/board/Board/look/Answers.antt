@@ -12,10 +12,15 @@ use Rattle.pay_words.proofs.board.Board.look.Goals as goal
 pub load-word-requires : goal.load-word-requires
 load-word-requires c =
     let over = net_within _ _ _ _ c.seat.view_is c.self.view_is c.requires.seat.1 in
-    let may : (c.args.debt.0 < length c.args.seat.now.shows.net.debts) × (holds c.args.seat.now.shows (creditor_of c.args.seat.now.shows.net c.args.debt.0) ≡ true) =
+    let may : (c.args.debt.0 < length c.args.seat.now.shows.net.debts)
+    × (holds c.args.seat.now.shows (creditor_of c.args.seat.now.shows.net c.args.debt.0) ≡ true) =
     rw c.requires.seat.1 (c.requires.debt, c.requires.creditor) in
-    let here = subst (λ (s : Chair). (c.args.debt.0 < length s.shows.net.debts) × (holds s.shows (creditor_of s.shows.net c.args.debt.0) ≡ true)) (sym c.seat.view_is) may in
-    (search rules, omega (arith, c.self.invariant.0.words_are, here.0, ap (λ (n : Net). length n.debts) over), looks _ _ _ _ _ over c.seat.invariant.1.live here.0 here.1)
+    let here = subst (λ (s : Chair). (c.args.debt.0 < length s.shows.net.debts)
+    × (holds s.shows (creditor_of s.shows.net c.args.debt.0) ≡ true)) (sym c.seat.view_is) may in (
+      search rules,
+      omega (arith, c.self.invariant.0.words_are, here.0, ap (λ (n : Net). length n.debts) over),
+      looks _ _ _ _ _ over c.seat.invariant.1.live here.0 here.1,
+    )
 
 pub invariant_of-seat : goal.invariant_of-seat
 invariant_of-seat c =

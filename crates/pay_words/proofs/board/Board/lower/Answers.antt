@@ -17,12 +17,16 @@ swap-requires c =
     let over = net_within _ _ _ _ c.seat.view_is c.self.view_is c.requires.seat.1 in
     let place = bell_at _ _ _ _ c.self.inside.debts c.args.bank.0 c.seat.view_is c.self.view_is c.requires.seat.1 laid.debts_are in
     let held = subst (λ (s : Chair). holds s.shows c.args.bank.0 ≡ true) (sym c.seat.view_is) c.requires.held in
-    let bank = held_in_range c.seat.inside.seat.me.0.shown c.args.bank.0 c.seat.invariant.1.sound.over held in
-    (search rules, omega (arith, bank, laid.words_are, laid.debts_are, ap (λ (n : Net). length n.banks) over), takes _ _ _ _ _ _ over place bank c.seat.invariant.1.live held)
+    let bank = held_in_range c.seat.inside.seat.me.0.shown c.args.bank.0 c.seat.invariant.1.sound.over held in (
+      search rules,
+      omega (arith, bank, laid.words_are, laid.debts_are, ap (λ (n : Net). length n.banks) over),
+      takes _ _ _ _ _ _ over place bank c.seat.invariant.1.live held,
+    )
 
 pub invariant_of-seat : goal.invariant_of-seat
 invariant_of-seat c =
-    let told = c.swap.ensures.2 c.args.bank.0 (bell_at _ _ _ _ c.self.inside.debts _ c.seat.view_is c.self.view_is c.requires.seat.1 c.self.invariant.0.debts_are) in (
+    let told = c.swap.ensures.2 c.args.bank.0
+    (bell_at _ _ _ _ c.self.inside.debts _ c.seat.view_is c.self.view_is c.requires.seat.1 c.self.invariant.0.debts_are) in (
       ap (λ (m : Me (Unit {0}) View). m.1) told.0 ∙ c.seat.invariant.0,
       subst (λ (m : Me (Unit {0}) View). IsInMemory m.0 (purse c.seat.inside.own c.seat.inside.lists.items c.seat.inside.debtors.items c.seat.inside.workers c.seat.inside.worker) c.seat.inside.clock c.seat.inside.seats) (sym told.0)
           (kept_take _ _ _ _ c.args.bank.0 c.swap.result c.seat.invariant.1),
@@ -30,10 +34,12 @@ invariant_of-seat c =
 
 pub returns-clause-taken : goal.returns-clause-taken
 returns-clause-taken c =
-    let told = c.swap.ensures.2 c.args.bank.0 (bell_at _ _ _ _ c.self.inside.debts _ c.seat.view_is c.self.view_is c.requires.seat.1 c.self.invariant.0.debts_are) in
+    let told = c.swap.ensures.2 c.args.bank.0
+    (bell_at _ _ _ _ c.self.inside.debts _ c.seat.view_is c.self.view_is c.requires.seat.1 c.self.invariant.0.debts_are) in
     ap (λ (m : Me (Unit {0}) View). m.0.shown) told.0 ∙ ap (λ (s : Chair). after_take s.shows c.args.bank.0 c.swap.result) c.seat.view_is
 
 pub returns-clause-tells : goal.returns-clause-tells
 returns-clause-tells c =
-    let told = c.swap.ensures.2 c.args.bank.0 (bell_at _ _ _ _ c.self.inside.debts _ c.seat.view_is c.self.view_is c.requires.seat.1 c.self.invariant.0.debts_are) in
+    let told = c.swap.ensures.2 c.args.bank.0
+    (bell_at _ _ _ _ c.self.inside.debts _ c.seat.view_is c.self.view_is c.requires.seat.1 c.self.invariant.0.debts_are) in
     subst (λ (s : Chair). TakeTells s.shows c.args.bank.0 c.swap.result) c.seat.view_is told.1

@@ -11,28 +11,38 @@ use Rattle.pay_words.proofs.board.Board.raise.Goals as goal
 
 pub word-requires : goal.word-requires
 word-requires c =
-    let may = may_within _ _ _ c.args.debt.0 c.args.to c.seat.invariant.1.sound.network c.seat.view_is c.requires.seat.1 (record { debt = c.requires.debt; not_the_master = c.requires.not_the_master; debtor = c.requires.debtor; more = c.requires.more; within = c.requires.within }) in
+    let may = may_within _ _ _ _ c.args.to c.seat.invariant.1.sound.network c.seat.view_is c.requires.seat.1
+    c.requires.debt c.requires.not_the_master c.requires.debtor c.requires.more c.requires.within in
     omega (arith, may.1, clock_in_limit _ _ _ _ c.seat.invariant.1)
 
 pub store-requires : goal.store-requires
 store-requires c =
     let over = net_within _ _ _ _ c.seat.view_is c.self.view_is c.requires.seat.1 in
-    let may = may_within _ _ _ c.args.debt.0 c.args.to c.seat.invariant.1.sound.network c.seat.view_is c.requires.seat.1 (record { debt = c.requires.debt; not_the_master = c.requires.not_the_master; debtor = c.requires.debtor; more = c.requires.more; within = c.requires.within }) in
-    (search rules, omega (arith, c.self.invariant.0.words_are, may.0.debt, ap (λ (n : Net). length n.debts) over), raises _ _ _ _ _ _ _ over (c.word.ensures ∙ ap (λ (n : ℕ). (n + 1) * 4294967296 + c.args.to) c.seat.invariant.1.clock_is) c.seat.invariant.1.live (omega (arith, may.1)) may.0)
+    let may = may_within _ _ _ _ c.args.to c.seat.invariant.1.sound.network c.seat.view_is c.requires.seat.1
+    c.requires.debt c.requires.not_the_master c.requires.debtor c.requires.more c.requires.within in (
+      search rules,
+      omega (arith, c.self.invariant.0.words_are, may.0.debt, ap (λ (n : Net). length n.debts) over),
+      raises _ _ _ _ _ _ _ over (c.word.ensures
+          ∙ ap (λ (n : ℕ). (n + 1) * 4294967296 + c.args.to) c.seat.invariant.1.clock_is) c.seat.invariant.1.live
+          (omega (arith, may.1)) may.0,
+    )
 
 pub set-requires-clause-debt : goal.set-requires-clause-debt
 set-requires-clause-debt c =
-    let may = may_within _ _ _ c.args.debt.0 c.args.to c.seat.invariant.1.sound.network c.seat.view_is c.requires.seat.1 (record { debt = c.requires.debt; not_the_master = c.requires.not_the_master; debtor = c.requires.debtor; more = c.requires.more; within = c.requires.within }) in
+    let may = may_within _ _ _ _ c.args.to c.seat.invariant.1.sound.network c.seat.view_is c.requires.seat.1
+    c.requires.debt c.requires.not_the_master c.requires.debtor c.requires.more c.requires.within in
     (own_there _ _ _ _ c.seat.invariant.1 c.args.debt.0 c.args.to may.0).0
 
 pub set-requires-clause-fits : goal.set-requires-clause-fits
 set-requires-clause-fits c =
-    let may = may_within _ _ _ c.args.debt.0 c.args.to c.seat.invariant.1.sound.network c.seat.view_is c.requires.seat.1 (record { debt = c.requires.debt; not_the_master = c.requires.not_the_master; debtor = c.requires.debtor; more = c.requires.more; within = c.requires.within }) in
+    let may = may_within _ _ _ _ c.args.to c.seat.invariant.1.sound.network c.seat.view_is c.requires.seat.1
+    c.requires.debt c.requires.not_the_master c.requires.debtor c.requires.more c.requires.within in
     omega (arith, may.1)
 
 pub invariant_of-seat : goal.invariant_of-seat
 invariant_of-seat c =
-    let may = may_within _ _ _ c.args.debt.0 c.args.to c.seat.invariant.1.sound.network c.seat.view_is c.requires.seat.1 (record { debt = c.requires.debt; not_the_master = c.requires.not_the_master; debtor = c.requires.debtor; more = c.requires.more; within = c.requires.within }) in
+    let may = may_within _ _ _ _ c.args.to c.seat.invariant.1.sound.network c.seat.view_is c.requires.seat.1
+    c.requires.debt c.requires.not_the_master c.requires.debtor c.requires.more c.requires.within in
     let told = c.store.ensures.2 c.args.debt.0 refl in
     let value : c.word.result % 4294967296 ≡ c.args.to = omega (arith, may.1, c.word.ensures) in
     let kept = kept_raise _ _ _ _ c.seat.invariant.1 c.args.debt.0 c.args.to may.0.debt may.0.not_the_master (rw value at told.1) in
@@ -44,7 +54,9 @@ invariant_of-seat c =
 
 pub returns-clause-raised : goal.returns-clause-raised
 returns-clause-raised c =
-    let may = may_within _ _ _ c.args.debt.0 c.args.to c.seat.invariant.1.sound.network c.seat.view_is c.requires.seat.1 (record { debt = c.requires.debt; not_the_master = c.requires.not_the_master; debtor = c.requires.debtor; more = c.requires.more; within = c.requires.within }) in
+    let may = may_within _ _ _ _ c.args.to c.seat.invariant.1.sound.network c.seat.view_is c.requires.seat.1
+    c.requires.debt c.requires.not_the_master c.requires.debtor c.requires.more c.requires.within in
     let value : c.word.result % 4294967296 ≡ c.args.to = omega (arith, may.1, c.word.ensures) in
     ap (λ (m : Me (Unit {0}) View). m.0.shown) (c.store.ensures.2 c.args.debt.0 refl).0
-    ∙ ap (raised c.seat.inside.seat.me.0.shown c.args.debt.0) value ∙ ap (λ (s : Chair). raised s.shows c.args.debt.0 c.args.to) c.seat.view_is
+    ∙ ap (raised c.seat.inside.seat.me.0.shown c.args.debt.0) value
+    ∙ ap (λ (s : Chair). raised s.shows c.args.debt.0 c.args.to) c.seat.view_is
