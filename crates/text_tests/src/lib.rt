@@ -1,5 +1,5 @@
 //! Tests of the crates `clear_words`, `raise_journal` and `clear_report`, by their public calls
-//! alone.
+//! alone, and of what errors show.
 //!
 //! They stand in a crate of their own, since a crate with tests is proved twice.
 #![tactic(auto)]
@@ -8,6 +8,8 @@
 mod clear_report_tests;
 #[cfg(test)]
 mod clear_words_tests;
+#[cfg(test)]
+mod fault_text_tests;
 #[cfg(test)]
 mod outcome_text_tests;
 #[cfg(test)]
