@@ -6,16 +6,11 @@
 //! takes is in [`DirShelf`] and [`StdSink`], which count their faults and tell no content.
 #![tactic(auto)]
 
-mod dir_shelf;
 mod start;
-mod std_sink;
 
-use dir_shelf::DirShelf;
+use clr_host::{DirShelf, StdSink};
 use start::{Exit, arguments, refuse, start};
-use std_sink::StdSink;
 
-#[cfg(test)]
-mod stream_tests;
 #[cfg(test)]
 mod tests;
 

@@ -1,4 +1,4 @@
-ghost use Rattle.clear_main.specs.Front.{IsFront};
+ghost use Rattle.clr_host.specs.Front.{IsFront};
 ghost use Rattle.clr_edge.specs.Faults.{HasRisen, NoneFalls, counted};
 ghost use Rattle.clr_edge.specs.Shelf.{IsFetched};
 ghost use Rattle.clr_edge.specs.declared.shelf.FetchFault.{FetchFault};
