@@ -79,7 +79,7 @@ trap 'rm -rf "$work"' EXIT
 trap 'exit 1' INT TERM HUP
 cp "$root/crates.txt" "$work/" && cp "$root/HANDLES" "$work/" 2>/dev/null
 git -C "$work" init -q
-(cd "$root" && find crates \( -name out -o -name must-fail \) -prune -o -type f -print0 | tar --null -T - -cf -) | tar -C "$work" -xf - || exit 1
+(cd "$root" && find crates \( -name out -o -name must-fail -o -name edits \) -prune -o -type f -print0 | tar --null -T - -cf -) | tar -C "$work" -xf - || exit 1
 
 lines() { # the files' ending, and the folders
     ending=$1

@@ -41,7 +41,7 @@ class Picture(unittest.TestCase):
         for words, file, constant in (("after a round of 512 visits", "settle/src/drives.rt", "MANY_VISITS: u64 = 512;"),
                                       ("through a room of 64 KB", "raise_journal/src/lib.rt", "ROOM: usize = 65_536;"),
                                       ("in a buffer of 256 bytes", "net_csv/src/line.rt", "MAX_LINE: usize = 256;"),
-                                      ("is tried 64 times", "clear_main/src/std_sink.rt", "TRIES: u32 = 64;"),
+                                      ("is tried 64 times", "clr_host/src/std_sink.rt", "TRIES: u32 = 64;"),
                                       ("those of up to eight workers", "settle/src/teams.rt", "FEW_WORKERS: usize = 8;")):
             with self.subTest(words=words):
                 self.assertIn(words, text)

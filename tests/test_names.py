@@ -45,7 +45,7 @@ def words_in(paths):
 def words_of(crate):
     """All words of a crate: its sources, definitions and proofs, and the names of its files and edits."""
     folder = ROOT / "crates" / crate
-    files = [path for part in ("src", "specs", "proofs", "must-fail") for path in (folder / part).rglob("*") if path.is_file()]
+    files = [path for part in ("src", "specs", "proofs", "must-fail", "edits") for path in (folder / part).rglob("*") if path.is_file()]
     code = [path for path in files if path.suffix in (".rt", ".antt")]
     return words_in(code) | {path.stem for path in files} | {part for path in files for part in path.relative_to(folder).parts}
 

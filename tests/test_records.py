@@ -102,4 +102,4 @@ class Records(Case):
         self.assertEqual(lines[0], HEADER)
         for line in lines[1:]:
             # Of programs that were run before there was this file the first digits are known, or nothing.
-            self.assertRegex(line, r"^\d{4}-\d\d-\d\d\t([0-9a-f]{40}|none)\+?\t([0-9a-f]{64}|[0-9a-f]{8}|none)\t\w+\.sh\t[^\t]*\t[0-9]+\t[0-9]+$")
+            self.assertRegex(line, r"^\d{4}-\d\d-\d\d\t([0-9a-f]{40}|none)\+?\t([0-9a-f]{64}|[0-9a-f]{8}|none)\t\w+\.(sh|py)\t[^\t]*\t[0-9]+\t[0-9]+$")

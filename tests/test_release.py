@@ -137,8 +137,9 @@ class Release(Case):
         head = ran("git", "-C", self.checkout, "rev-parse", "HEAD").stdout.strip()
         for line in ("clearing 7.8.9", f"commit {head}", "gate 12 passed, 0 failed; 7 passed, 0 failed", "It was built and proved from this commit."):
             self.assertIn(line + "\n", record)
-        edits = len(list((ROOT / "crates").glob("*/must-fail/*.edit")))
-        self.assertIn(f"edits that must be refused {edits}\n", record)
+        for folder, words in (("must-fail", "edits that the gate refused"), ("edits", "edits beside the gate")):
+            number = len(list((ROOT / "crates").glob(f"*/{folder}/*.edit")))
+            self.assertIn(f"{words} {number}\n", record)
         self.assertEqual([path.name for path in prefix.rglob("*") if path.stem in ("release", "quick", "clearing-release")], [])
 
     def test_links_between_its_pages_lead_somewhere(self):

@@ -141,7 +141,8 @@ clearing $version
 commit $commit
 toolchain $kit
 crates $(find "$root"/crates/*/src -maxdepth 0 | wc -l)
-edits that must be refused $(find "$root"/crates/*/must-fail -name '*.edit' | wc -l)
+edits that the gate refused $(find "$root"/crates/*/must-fail -name '*.edit' | wc -l)
+edits beside the gate $(find "$root"/crates/*/edits -name '*.edit' 2>/dev/null | wc -l)
 gate $last
 program $(sha256sum <"$program" | cut -d ' ' -f 1)
 

@@ -21,7 +21,7 @@ ROOT = pathlib.Path(__file__).resolve().parents[2]
 LAYERS = [
     ("Tests", ["top_tests", "text_tests", "task_tests", "run_tests", "low_tests", "law_tests", "net_samples"],
      "public calls"),
-    ("The program", ["clear_main", "clear_top"],
+    ("The program", ["clear_main", "clear_top", "clr_host"],
      "texts, and the record of the run"),
     ("Written", ["clear_many", "clear_report"],
      "standings, greatest payments and waves, sums, shocked networks"),
