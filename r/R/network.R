@@ -1,0 +1,93 @@
+# Networks: two data frames, kept as the two files that the program reads.
+
+RULES <- c("order", "equal", "losses", "jefferson", "webster", "adams")
+
+# Beyond this not every whole number is a number of R.
+EXACT <- 2^53
+
+# Whole amounts of at least 0 as text; fails at what is not one, with the name of the column.
+whole_text <- function(values, column) {
+  if (is.factor(values)) values <- as.character(values)
+  if (is.character(values)) {
+    wrong <- is.na(values) | !grepl("^[0-9]{1,20}$", values)
+  } else if (is.numeric(values)) {
+    wrong <- is.na(values) | values < 0 | values != floor(values) | values > EXACT
+    values <- format(values, scientific = FALSE, trim = TRUE, digits = 16)
+  } else {
+    wrong <- rep(TRUE, length(values))
+  }
+  if (any(wrong)) fail(sprintf("%s, row %d: not a whole number of units from 0 on that R has exactly", column, which(wrong)[1]))
+  values
+}
+
+# A column of a data frame, or a value for all rows where there is no such column.
+column_or <- function(frame, name, default) {
+  if (is.null(frame[[name]])) rep(default, length.out = nrow(frame)) else frame[[name]]
+}
+
+# Names as the files have them; fails at what would be another field or line.
+name_text <- function(values, column) {
+  values <- enc2utf8(as.character(values))
+  wrong <- is.na(values) | grepl("[\",\n\r]", values)
+  if (any(wrong)) fail(sprintf("%s, row %d: a name has a comma, a quote or a line end, or is missing", column, which(wrong)[1]))
+  values
+}
+
+needed <- function(frame, columns, what) {
+  if (!is.data.frame(frame)) fail(sprintf("%s is no data frame", what))
+  missing <- setdiff(columns, names(frame))
+  if (length(missing)) fail(sprintf("%s has no column %s", what, missing[1]))
+}
+
+bank_network <- function(banks, debts, rule = "webster", class = 1) {
+  needed(banks, c("name", "cash"), "banks")
+  needed(debts, c("debtor", "creditor", "claim"), "debts")
+  outside <- whole_text(column_or(banks, "outside", 0), "outside")
+  is_second <- !is.null(banks[["outside"]])
+  fields <- list(name_text(banks$name, "name"), whole_text(banks$cash, "cash"), as.character(column_or(banks, "rule", rule)))
+  if (is_second) fields <- c(fields, list(outside))
+  header <- if (is_second) "name,cash,rule,outside" else "name,cash,rule"
+  rows <- list(name_text(debts$debtor, "debtor"), name_text(debts$creditor, "creditor"),
+               whole_text(column_or(debts, "class", class), "class"), whole_text(debts$claim, "claim"))
+  as_network(c(header, joined(fields)), c("debtor,creditor,class,claim", joined(rows)))
+}
+
+# The fields of rows with commas between; no row where there is none.
+joined <- function(fields) if (length(fields[[1]])) do.call(paste, c(fields, sep = ",")) else character(0)
+
+as_network <- function(banks, debts) structure(list(banks_file = banks, debts_file = debts), class = "bank_network")
+
+read_network <- function(banks, debts) {
+  for (file in c(banks, debts)) if (!file.exists(file) || dir.exists(file)) fail(paste("cannot read", file), 3L)
+  as_network(read_lines(banks), read_lines(debts))
+}
+
+write_network <- function(network, banks, debts) {
+  write_text(network$banks_file, banks)
+  write_text(network$debts_file, debts)
+  invisible(network)
+}
+
+# Calls a function with the names of the network's two files, which are there as long as it runs.
+with_files <- function(network, call) {
+  if (inherits(network, "bank_case")) network <- network$network
+  if (!inherits(network, "bank_network")) fail("the first argument is neither a network nor a case")
+  folder <- tempfile("clearing-")
+  dir.create(folder, mode = "0700")
+  on.exit(unlink(folder, recursive = TRUE))
+  files <- file.path(folder, c("banks.csv", "debts.csv"))
+  write_network(network, files[1], files[2])
+  call(files[1], files[2], folder)
+}
+
+print.bank_network <- function(x, ...) {
+  cat(sprintf("<network of %d banks and %d debts>\n", max(0, length(x$banks_file) - 1), max(0, length(x$debts_file) - 1)))
+  invisible(x)
+}
+
+summary.bank_network <- function(object, ...) structure(as.list(check(object)$totals), class = "summary.bank_network")
+
+print.summary.bank_network <- function(x, ...) {
+  for (name in names(x)) cat(sprintf("%-6s %s\n", name, format(x[[name]], big.mark = ",", scientific = FALSE)))
+  invisible(x)
+}

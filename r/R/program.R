@@ -1,0 +1,59 @@
+# The program: where it is, how it is run, and what its statuses mean.
+
+# What a status says where the program writes no text that is read. 0 is well, and 7 a verdict.
+STATUSES <- c(
+  "2" = "the command line is not understood",
+  "3" = "a file cannot be read",
+  "4" = "a file is refused",
+  "5" = "the output cannot be written",
+  "6" = "there is not enough memory"
+)
+
+find_program <- function() {
+  named <- Sys.getenv("CLEARING")
+  if (nzchar(named)) {
+    found <- if (grepl("/", named, fixed = TRUE)) named else unname(Sys.which(named))
+  } else {
+    found <- unname(Sys.which("clearing"))
+  }
+  if (!nzchar(found) || !file.exists(found) || dir.exists(found)) {
+    stop("there is no program `clearing`: install it, or let the environment variable CLEARING name it", call. = FALSE)
+  }
+  normalizePath(found)
+}
+
+# A condition of class `clearing_error` with the status of the program, or NA where it was not run.
+fail <- function(message, status = NA_integer_) {
+  stop(structure(list(message = message, call = NULL, status = status), class = c("clearing_error", "error", "condition")))
+}
+
+# Runs the program with some words; gives the bytes that it printed, as one text in UTF-8, and its status.
+run_program <- function(words) {
+  output <- tempfile("clearing-out-")
+  message <- tempfile("clearing-err-")
+  on.exit(unlink(c(output, message)))
+  # Words are given to the shell byte by byte, whatever the locale has.
+  quoted <- shQuote(enc2utf8(words))
+  Encoding(quoted) <- "unknown"
+  status <- system2(find_program(), quoted, stdout = output, stderr = message)
+  told <- sub("^clearing: ", "", trimws(paste(read_lines(message), collapse = "\n")))
+  if (!status %in% c(0L, 7L)) {
+    if (!nzchar(told)) told <- if (status %in% names(STATUSES)) STATUSES[[as.character(status)]] else paste("status", status)
+    fail(told, as.integer(status))
+  }
+  list(lines = read_lines(output), status = as.integer(status))
+}
+
+# The lines of a file, in UTF-8, whatever the locale has.
+read_lines <- function(file) {
+  size <- file.size(file)
+  if (is.na(size) || size == 0) return(character(0))
+  whole <- rawToChar(readBin(file, "raw", size))
+  Encoding(whole) <- "UTF-8"
+  strsplit(whole, "\n", fixed = TRUE)[[1]]
+}
+
+# Writes a text as it is, in UTF-8.
+write_text <- function(lines, file) {
+  writeBin(charToRaw(enc2utf8(paste0(lines, "\n", collapse = ""))), file)
+}

@@ -1,0 +1,34 @@
+\name{bank_network}
+\alias{bank_network}
+\alias{read_network}
+\alias{write_network}
+\alias{print.bank_network}
+\alias{summary.bank_network}
+\alias{print.summary.bank_network}
+\title{Networks of banks and debts}
+\description{Makes a network of two data frames, or of the two files of the program, and writes the files. Amounts are whole units, from 0 on. What the columns mean, the limits and the kinds of fault are those of the program.}
+\usage{
+bank_network(banks, debts, rule = "webster", class = 1)
+read_network(banks, debts)
+write_network(network, banks, debts)
+\method{summary}{bank_network}(object, ...)
+\method{print}{bank_network}(x, ...)
+}
+\arguments{
+  \item{banks}{a data frame with the columns \code{name} and \code{cash}, and perhaps \code{rule} and \code{outside}; of \code{read_network} and \code{write_network} the name of a banks file}
+  \item{debts}{a data frame with the columns \code{debtor}, \code{creditor} and \code{claim}, and perhaps \code{class}; or the name of a debts file}
+  \item{rule}{the rule of all banks, where there is no such column: \code{order}, \code{equal}, \code{losses}, \code{jefferson}, \code{webster} or \code{adams}}
+  \item{class}{the class of all debts, where there is no such column, from 1 to 9}
+  \item{network, object, x}{a network}
+  \item{...}{not used}
+}
+\value{A network; \code{write_network} gives its network invisibly. \code{summary} gives the counts that the program reads: banks, debts, all claims and all cash.}
+\examples{
+banks <- data.frame(name = c("A", "B", "C"), cash = c(7, 1, 0))
+debts <- data.frame(debtor = c("A", "B"), creditor = c("B", "C"), claim = c(10, 9))
+net <- bank_network(banks, debts)
+net
+if (nzchar(Sys.which("clearing")) || nzchar(Sys.getenv("CLEARING"))) {
+  summary(net)
+}
+}
