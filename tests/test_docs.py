@@ -70,6 +70,12 @@ class Pages(Case):
                 self.assertIn("$ ", text)
                 self.assertEqual(page_run(text).splitlines(), text.splitlines())
 
+    def test_no_command_closes_the_pipe_into_which_the_program_writes(self):
+        """A program whose reader has gone says that it cannot write, or does not, as the two happen to run. `sed -n` reads to the end."""
+        for path in [*ROOT.glob("*.md"), *(ROOT / "docs").glob("*.md"), ROOT / "examples/README.md"]:
+            lines = [line for block in BLOCK.findall(path.read_text(encoding="utf-8")) for line in block.splitlines()]
+            self.assertEqual([line for line in lines if re.search(r"clearing .*\| *(head|grep -[a-zA-Z]*[qm])", line)], [], path.name)
+
     def test_the_page_of_examples_names_each(self):
         text = (ROOT / "examples/README.md").read_text(encoding="utf-8")
         for folder in sorted((ROOT / "examples").iterdir()):

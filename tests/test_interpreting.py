@@ -1,4 +1,5 @@
 """The table of docs/INTERPRETING.md: the program beside pro rata in real numbers, on three networks."""
+import importlib.util
 import os
 import re
 import shlex
@@ -26,11 +27,11 @@ def by_program(name):
     return [f"{sum_:,}" for sum_ in paid], [str(short), str(short - stuck)]
 
 
-def in_real_numbers(name, *words):
+def in_real_numbers(name, *words, end="greatest"):
     run = [sys.executable, "examples/pro-rata/real.py", f"examples/{name}", *words]
-    first = subprocess.run(run, cwd=ROOT, capture_output=True, encoding="utf-8", check=True).stdout.splitlines()[0]
-    paid, short = re.fullmatch(r"paid ([\d.]+), banks that leave debts unpaid: (\d+)", first).groups()
-    return f"{float(paid):,.1f}", short
+    printed = subprocess.run(run, cwd=ROOT, capture_output=True, encoding="utf-8", check=True).stdout
+    found = re.search(rf"^{end}: paid ([\d.]+), banks that leave debts unpaid: (\d+)$", printed, re.MULTILINE)
+    return f"{float(found[1]):,.1f}", found[2]
 
 
 class RealNumbers(unittest.TestCase):
@@ -59,6 +60,27 @@ class Table(unittest.TestCase):
                 paid.append(real[0])
                 short.append(real[1])
             self.assertEqual([rows[start][1:], rows[start + 1][1:]], [paid, short], name)
+
+    def test_the_least_in_real_numbers_are_the_greatest_but_for_circles_without_cash(self):
+        for name, same in (("twelve-banks", True), ("core", True), ("gridlock", False)):
+            for words in ((), ("--one-class",)):
+                least, greatest = (in_real_numbers(name, *words, end=end) for end in ("least", "greatest"))
+                self.assertEqual(least == greatest, same, (name, words))
+        self.assertEqual(in_real_numbers("gridlock", end="least"), ("0.0", "3"))
+
+    def test_debt_by_debt_the_distance_is_what_it_says(self):
+        spec = importlib.util.spec_from_file_location("real", ROOT / "examples/pro-rata/real.py")
+        real = importlib.util.module_from_spec(spec)
+        spec.loader.exec_module(real)
+        banks, debts = real.read(ROOT / "examples/core", False)
+        exact = real.repeated(banks, debts, [claim for *_, claim in debts])
+        rows = [row for row in told("bounds", "core") if len(row) == 6 and row[3].isdigit()]
+        self.assertEqual(len(rows), len(debts))
+        text = " ".join(TEXT.split())
+        off = [[abs(int(row[place]) - amount) for row, amount in zip(rows, exact)] for place in (4, 5)]
+        self.assertIn(f"add up to {sum(off[0]):.1f} units over {len(debts)} debts, and none is above {max(off[0]) + 0.005:.2f}.", text)
+        self.assertIn(f"For the greatest list they add up to {sum(off[1]):.1f}.", text)
+        self.assertLess(sum(int(row[4]) for row in rows) - sum(exact), 4)
 
 
 if __name__ == "__main__":

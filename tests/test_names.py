@@ -52,8 +52,8 @@ def words_of(crate):
 
 @functools.cache
 def all_words():
-    scripts = [path for folder in ("tools", "bench", "tests", "python", "examples") for path in (ROOT / folder).rglob("*")
-               if path.suffix in (".py", ".sh", ".rs", ".c", ".csv", ".toml", ".bash", ".fish") and path.name != "test_names.py"]
+    scripts = [path for folder in ("tools", "bench", "tests", "python", "examples", "r") for path in (ROOT / folder).rglob("*")
+               if path.suffix in (".py", ".sh", ".rs", ".c", ".csv", ".toml", ".bash", ".fish", ".R") and path.name != "test_names.py"]
     return set().union(*map(words_of, CRATES)) | words_in(scripts) | set(CRATES) | {path.stem for path in scripts}
 
 
@@ -201,7 +201,7 @@ class Names(unittest.TestCase):
     def test_the_laws_that_are_tried_at_networks_are_counted(self):
         laws = sum(len(re.findall(r"^pub fn ", path.read_text(), re.MULTILINE)) for path in ROOT.glob("crates/*/src/laws.rt"))
         tried = {name for path in ROOT.glob("crates/law_tests/src/*.rt") for name in re.findall(r"\w+::laws::\w+", path.read_text())}
-        self.assertIn(f"`law_tests`, of {len(tried)} of the {laws} laws", (ROOT / "docs/PROVED.md").read_text())
+        self.assertIn(f"`law_tests`, of {len(tried)} of the {laws} laws", (ROOT / "docs/CLAUSES.md").read_text())
 
     def test_no_page_speaks_of_the_commit_that_it_stands_in(self):
         """What was measured or run names its commit, since a page outlives the one that it was written in."""

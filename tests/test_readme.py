@@ -1,4 +1,4 @@
-"""The README: its command prints what stands there, its table has each task, and its sentences are short."""
+"""The README: its command prints what stands there, its files are the example's, and its tables have each task and each rule."""
 import re
 import shlex
 import subprocess
@@ -6,16 +6,11 @@ import unittest
 
 from common import PROGRAM, ROOT
 
+import clearing_client.format
+
 TEXT = (ROOT / "README.md").read_text(encoding="utf-8")
-BLOCKS = re.findall(r"^```\n(.*?)^```$", TEXT, re.MULTILINE | re.DOTALL)
-
-
-def sentences(text):
-    """The sentences of a page, without its tables, headings and code."""
-    prose = re.sub(r"```.*?```", "", text, flags=re.DOTALL)
-    lines = ["" if line.startswith(("|", "#", "!")) else line.removeprefix("> ") for line in prose.split("\n")]
-    for paragraph in "\n".join(lines).split("\n\n"):
-        yield from re.split(r"(?<=[.!?])\*{0,2}\s+(?=[A-Z`\[*])", " ".join(paragraph.split()))
+ALL_BLOCKS = re.findall(r"^```(\w*)\n(.*?)^```$", TEXT, re.MULTILINE | re.DOTALL)
+BLOCKS = [text for language, text in ALL_BLOCKS if not language]
 
 
 class Readme(unittest.TestCase):
@@ -29,14 +24,19 @@ class Readme(unittest.TestCase):
     def test_its_table_has_each_task_of_the_program(self):
         sources = (ROOT / "crates/clear_words/src/task.rt").read_text(encoding="utf-8")
         tasks = re.findall(r'"([a-z-]+)" => Some\(Task::', sources)
-        cells = re.findall(r"^\| (`[a-z-]+`(?:, `[a-z-]+`)?) \|", TEXT, re.MULTILINE)
+        table = TEXT[TEXT.index("| task | answers |") : TEXT.index("| rule | how |")]
+        cells = re.findall(r"^\| (`[a-z-]+`(?:, `[a-z-]+`)?) \|", table, re.MULTILINE)
         self.assertEqual(sorted(task for cell in cells for task in re.findall("`(.*?)`", cell)), sorted(tasks))
 
-    def test_it_is_short(self):
-        self.assertLessEqual(len(TEXT.split("\n")), 120)
-        self.assertLessEqual(len(TEXT.split()), 900)
-        long = [sentence for sentence in sentences(TEXT) if len(sentence.split()) > 25]
-        self.assertEqual(long, [])
+    def test_the_files_that_it_shows_are_those_of_the_example(self):
+        shown = [text for language, text in ALL_BLOCKS if language == "csv"]
+        files = [(ROOT / "examples/chain" / name).read_text(encoding="utf-8") for name in ("banks.csv", "debts.csv")]
+        self.assertEqual(shown, files)
+
+    def test_its_rules_are_those_of_the_program(self):
+        table = TEXT[TEXT.index("| rule | how |") :]
+        rules = re.findall(r"^\| `([a-z]+)` \|", table, re.MULTILINE)
+        self.assertEqual(rules, list(clearing_client.format.RULES))
 
     def test_the_headline_is_a_click_away(self):
         """The clause and the row that carry the theorem stand in the files that the README links to."""

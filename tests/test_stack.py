@@ -101,7 +101,7 @@ class Stack(Case):
     def said(self):
         """The bytes that PROVED says of the main thread, a thread, and the deepest scenarios."""
         text = (ROOT / "docs/PROVED.md").read_text(encoding="utf-8")
-        found = re.search(r"the main thread takes ([0-9,]+) KB at most .*?\ba thread ([0-9,]+) KB,.*? the deepest scenarios take ([0-9,]+) KB", text, re.DOTALL)
+        found = re.search(r"the main thread takes ([0-9,]+) KB at most .*?\bA thread takes ([0-9,]+) KB,.*? The deepest scenarios take ([0-9,]+) KB", text, re.DOTALL)
         return [int(number.replace(",", "")) * 1024 for number in found.groups()]
 
     def tasks(self):

@@ -42,6 +42,18 @@ class Paper(unittest.TestCase):
             self.assertEqual(list(given), [int(most)] + 10 * [int(each)])
             self.assertEqual(abs(55 * 90 / 100 - int(most)), float(off))
 
+    def test_the_nearest_method_is_what_the_plain_model_says(self):
+        claims, units = (10, 14, 18), 11
+        quotas = [units * claim / sum(claims) for claim in claims]
+        sums = {}
+        for rule, *cells in table_below("**Which method is nearest**"):
+            given = share(rule, claims, (1, 1, 1), units)
+            off = [abs(award - quota) for award, quota in zip(given, quotas)]
+            self.assertEqual(cells, [*map(str, given), f"{sum(off):.2f}", f"{max(off):.2f}"], rule)
+            sums[rule] = sum(off), max(off)
+        self.assertLess(sums["jefferson"][0], sums["webster"][0])
+        self.assertLess(sums["jefferson"][1], sums["webster"][1])
+
 
 if __name__ == "__main__":
     unittest.main()

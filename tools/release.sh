@@ -124,7 +124,7 @@ function Link(link)
   return link
 end
 LUA
-pages="GUIDE DATA INTERPRETING FORMATS THEORY PROVED REFERENCES"
+pages="GUIDE DATA INTERPRETING GLOSSARY FORMATS THEORY PROVED CLAUSES REFERENCES"
 printf 'PAGES = {%s}\n' "$(for page in $pages; do printf '%s = true, ' "$page"; done)" >"$work/pages.lua"
 cat "$work/pages.lua" "$work/links.lua" >"$work/filter.lua"
 for page in $pages; do

@@ -1,9 +1,13 @@
-"""Clears the two files of a folder in real numbers, pro rata, as Eisenberg and Noe (2001) do: the greatest payments.
+"""Clears the two files of a folder in real numbers, pro rata: the greatest payments and the least.
 
 Usage: python3 real.py FOLDER [--one-class]
 
-A bank in default pays each debt of a class the same share of its claim, whatever its rule; its outside claim comes first. With
---one-class all debts have one class. Prints what is paid on all debts, in units to a tenth, and which banks leave debts unpaid.
+A bank in default pays each debt of a class the same share of its claim, whatever its rule; its outside claim comes first.
+With --one-class all debts have one class, as Eisenberg and Noe (2001) have them.
+
+Goes down from all debts paid in full to the greatest payments, and up from nothing paid to the least, until no payment
+moves by more than a ten millionth. Prints of each what is paid on all debts, in units to a tenth, and how many banks leave
+debts unpaid; and then the names of those that do so by the greatest payments.
 """
 import csv
 import os
@@ -17,7 +21,9 @@ def read(folder, one_class):
         banks = {row["name"]: float(row["cash"]) - float(row.get("outside") or 0) for row in csv.DictReader(file)}
     with open(folder / "debts.csv", encoding="utf-8") as file:
         rows = [row for row in csv.DictReader(file) if row["debtor"]]
-    return banks, [(row["debtor"], row["creditor"], "1" if one_class else row["class"], float(row["claim"])) for row in rows]
+    return banks, [
+        (row["debtor"], row["creditor"], "1" if one_class else row["class"], float(row["claim"])) for row in rows
+    ]
 
 
 def paid_at_once(banks, debts, paid):
@@ -35,13 +41,27 @@ def paid_at_once(banks, debts, paid):
     return [claim * share[debtor, rank] for debtor, _, rank, claim in debts]
 
 
+def repeated(banks, debts, paid):
+    """What is paid once it no longer moves, beginning with these payments."""
+    last = None
+    while last is None or max(map(abs, (a - b for a, b in zip(paid, last))), default=0) > 1e-7:
+        paid, last = paid_at_once(banks, debts, paid), paid
+    return paid
+
+
 def main(folder, one_class):
     banks, debts = read(pathlib.Path(folder), one_class)
-    paid, last = [claim for *_, claim in debts], None
-    while last is None or max(map(abs, (a - b for a, b in zip(paid, last)))) > 1e-7:
-        paid, last = paid_at_once(banks, debts, paid), paid
-    short = {debtor for (debtor, _, _, claim), amount in zip(debts, paid) if amount < claim - 1e-6}
-    print(f"paid {sum(paid):.1f}, banks that leave debts unpaid: {len(short)}", *(bank for bank in banks if bank in short), sep="\n")
+    ends = {
+        "greatest": repeated(banks, debts, [claim for *_, claim in debts]),
+        "least": repeated(banks, debts, [0.0 for _ in debts]),
+    }
+    short = {
+        end: {debtor for (debtor, _, _, claim), amount in zip(debts, paid) if amount < claim - 1e-6}
+        for end, paid in ends.items()
+    }
+    for end, paid in ends.items():
+        print(f"{end}: paid {sum(paid):.1f}, banks that leave debts unpaid: {len(short[end])}")
+    print(*(bank for bank in banks if bank in short["greatest"]), sep="\n")
 
 
 if __name__ == "__main__":
