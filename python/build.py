@@ -1,12 +1,19 @@
 """Builds the package: a backend of PEP 517 and PEP 660 in a few lines, so that pip needs no network for one.
 
-It writes wheels of pure Python from `src/`, what is said in the table `project` of `pyproject.toml`, and `README.md`.
+It writes wheels of pure Python from `src/`, what is said in the table `project` of `pyproject.toml`, and `README.md`; and, with the
+setting `program`, or by
+
+    python3 build.py FOLDER PROGRAM
+
+a wheel with the program itself, for Linux on x86-64 and the glibc that it wants.
 """
 import base64
+import gzip
 import hashlib
 import io
 import pathlib
 import re
+import sys
 import tarfile
 import zipfile
 
@@ -25,6 +32,12 @@ def commands():
     return "".join(f"{name} = {function}\n" for name, function in re.findall(r'^([a-z-]+) = "([\w.:]+)"$', table, re.MULTILINE))
 
 
+def extras():
+    """The packages that a tool wants where it is to do all that it can, by the names of the sets."""
+    table = (HERE / "pyproject.toml").read_text(encoding="utf-8").partition("[project.optional-dependencies]\n")[2].partition("\n[")[0]
+    return {name: re.findall('"([^"]*)"', line) for name, line in re.findall(r"^([a-z]+) = \[(.*)\]$", table, re.MULTILINE)}
+
+
 def full_name():
     """The name and version, as wheels have them."""
     return f"{project()['name']}-{project()['version']}"
@@ -36,6 +49,8 @@ def metadata():
     fields = [("Metadata-Version", "2.1"), ("Name", told["name"]), ("Version", told["version"])]
     fields += [("Summary", told["description"]), ("Requires-Python", told["requires-python"])]
     fields += [("Description-Content-Type", "text/markdown")]
+    for extra, wanted in extras().items():
+        fields += [("Provides-Extra", extra), *(("Requires-Dist", f"{each}; extra == '{extra}'") for each in wanted)]
     readme = (HERE / told["readme"]).read_text(encoding="utf-8")
     return "".join(f"{name}: {value}\n" for name, value in fields) + "\n" + readme
 
@@ -46,21 +61,35 @@ def sources():
     return {path.relative_to(HERE / "src").as_posix(): path.read_bytes() for path in paths}
 
 
-def write_wheel(folder, files):
+# Where a wheel has the program.
+PLACE = "clearing_client/bin/clearing"
+
+
+def tag_of(program):
+    """The tag of a wheel with a program: that of the least glibc that has all that it names."""
+    if program[:4] != b"\x7fELF":
+        raise ValueError("the program of a wheel is no program of Linux")
+    versions = [tuple(map(int, found)) for found in re.findall(rb"GLIBC_([0-9]+)\.([0-9]+)", program)]
+    return "py3-none-manylinux_{}_{}_x86_64".format(*max(versions, default=(2, 17)))
+
+
+def write_wheel(folder, files, tag="py3-none-any"):
     """Writes a wheel of some files, and gives its name."""
     info = f"{full_name()}.dist-info"
     files = {name: text.encode() if isinstance(text, str) else text for name, text in files.items()}
     files[f"{info}/METADATA"] = metadata().encode()
-    files[f"{info}/entry_points.txt"] = f"[console_scripts]\n{commands()}".encode()
-    files[f"{info}/WHEEL"] = b"Wheel-Version: 1.0\nGenerator: clearing_client build\nRoot-Is-Purelib: true\nTag: py3-none-any\n"
+    own = "clearing = clearing_client.program:main\n" if PLACE in files else ""
+    files[f"{info}/entry_points.txt"] = f"[console_scripts]\n{own}{commands()}".encode()
+    pure = "false" if PLACE in files else "true"
+    files[f"{info}/WHEEL"] = f"Wheel-Version: 1.0\nGenerator: clearing_client build\nRoot-Is-Purelib: {pure}\nTag: {tag}\n".encode()
     lines = [f"{name},sha256={digest(data)},{len(data)}\n" for name, data in files.items()]
     files[f"{info}/RECORD"] = ("".join(lines) + f"{info}/RECORD,,\n").encode()
-    wheel = f"{full_name()}-py3-none-any.whl"
+    wheel = f"{full_name()}-{tag}.whl"
     with zipfile.ZipFile(pathlib.Path(folder) / wheel, "w", zipfile.ZIP_DEFLATED) as archive:
         for name, data in files.items():
             # One date for all, so that the same sources make the same wheel.
             entry = zipfile.ZipInfo(name, (1980, 1, 1, 0, 0, 0))
-            entry.compress_type, entry.external_attr = zipfile.ZIP_DEFLATED, 0o644 << 16
+            entry.compress_type, entry.external_attr = zipfile.ZIP_DEFLATED, (0o100755 if name == PLACE else 0o100644) << 16
             archive.writestr(entry, data)
     return wheel
 
@@ -74,7 +103,11 @@ def digest(data):
 
 
 def build_wheel(wheel_directory, config_settings=None, metadata_directory=None):
-    return write_wheel(wheel_directory, sources())
+    named = (config_settings or {}).get("program")
+    if named is None:
+        return write_wheel(wheel_directory, sources())
+    program = pathlib.Path(named).read_bytes()
+    return write_wheel(wheel_directory, {**sources(), PLACE: program}, tag_of(program))
 
 
 def build_editable(wheel_directory, config_settings=None, metadata_directory=None):
@@ -83,11 +116,27 @@ def build_editable(wheel_directory, config_settings=None, metadata_directory=Non
 
 def build_sdist(sdist_directory, config_settings=None):
     name = f"{full_name()}.tar.gz"
-    with tarfile.open(pathlib.Path(sdist_directory) / name, "w:gz") as archive:
-        for part in ("pyproject.toml", "build.py", "README.md", "src"):
-            keep = lambda entry: None if "__pycache__" in entry.name else entry  # noqa: E731
-            archive.add(HERE / part, f"{full_name()}/{part}", filter=keep)
-        told = tarfile.TarInfo(f"{full_name()}/PKG-INFO")
-        told.size = len(metadata().encode())
-        archive.addfile(told, io.BytesIO(metadata().encode()))
+    # Without dates and users, so that the same sources make the same file.
+    with open(pathlib.Path(sdist_directory) / name, "wb") as file, gzip.GzipFile("", "wb", fileobj=file, mtime=0) as packed:
+        with tarfile.open(fileobj=packed, mode="w") as archive:
+            for part in ("pyproject.toml", "build.py", "README.md", "src"):
+                archive.add(HERE / part, f"{full_name()}/{part}", filter=plain)
+            told = plain(tarfile.TarInfo(f"{full_name()}/PKG-INFO"))
+            told.size = len(metadata().encode())
+            archive.addfile(told, io.BytesIO(metadata().encode()))
     return name
+
+
+def plain(entry):
+    """A file of the sources without what a machine has of its own; none of those that Python keeps beside them."""
+    if "__pycache__" in entry.name:
+        return None
+    entry.mtime, entry.uid, entry.gid, entry.uname, entry.gname = 315532800, 0, 0, "", ""
+    entry.mode = 0o755 if entry.isdir() else 0o644
+    return entry
+
+
+if __name__ == "__main__":
+    if len(sys.argv) != 3:
+        sys.exit("build.py: the words are a folder and the program")
+    print(build_wheel(sys.argv[1], {"program": sys.argv[2]}))

@@ -54,7 +54,7 @@ class EvidenceCase(Case):
     def without_program(self, *words, **more):
         """A run of a copy of the tool alone, where no program is built."""
         package = pathlib.Path("python/src/clearing_tools")
-        for name in ("tools/evidence.sh", "tools/evidence.py", package / "__init__.py", package / "runner.py", package / "evidence"):
+        for name in ("tools/evidence.sh", "tools/evidence.py", *(package / part for part in ("__init__.py", "files.py", "runner.py", "evidence"))):
             if not (self.folder / name).exists():
                 (self.folder / name).parent.mkdir(parents=True, exist_ok=True)
                 (shutil.copytree if (ROOT / name).is_dir() else shutil.copy)(ROOT / name, self.folder / name)

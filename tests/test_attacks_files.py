@@ -1,4 +1,6 @@
 """What other users may plant where a tool writes, files below /dev, and who may read what a tool made of files that are not for all."""
+import contextlib
+import ctypes
 import os
 import pathlib
 import shutil
@@ -7,6 +9,7 @@ import stat
 import subprocess
 import sys
 import tempfile
+import threading
 import time
 import unittest
 import unittest.mock
@@ -95,14 +98,96 @@ class Planted(Case):
         target, real = self.file("target", "old\n"), os.link
 
         def planted(source, name, **more):
-            if not os.path.lexists(name):
-                os.symlink(victim, name)
+            os.symlink(victim, name, dir_fd=more["dst_dir_fd"])
             return real(source, name, **more)
 
         with unittest.mock.patch("clearing_tools.files.os.link", planted):
             with self.assertRaisesRegex(Failed, "File exists"):
                 files.write_all({target: "new\n"})
         self.assertEqual((victim.read_text(), target.read_text()), ("kept\n", "old\n"))
+
+    def exchange(self, way, victim, until):
+        """Has a folder be a link of another user to a victim's, and a folder of his, in turn, as fast as can be."""
+        link = self.folder / "link-aside"
+        link.symlink_to(victim)
+        os.chown(link, ANOTHER, ANOTHER, follow_symlinks=False)
+        here, exchange = -100, 2  # AT_FDCWD, RENAME_EXCHANGE
+        while not until.is_set():
+            self.assertEqual(ctypes.CDLL(None).renameat2(here, os.fsencode(way), here, os.fsencode(link), exchange), 0)
+
+    @unittest.skipUnless(os.geteuid() == 0, "only root gives links to others")
+    def test_a_folder_that_is_exchanged_sends_no_write_elsewhere(self):
+        """Thousands of writes while somebody exchanges the folder for a link of his; and once just between the look and the write."""
+        victim, way = self.folder / "victim", self.folder / "way"
+        victim.mkdir()
+        way.mkdir()
+        os.chown(way, ANOTHER, ANOTHER)
+        for number, write in enumerate(writers()):
+            between = "mask_of" if hasattr(files, "mask_of") else "mode_of_new"
+            real, done = getattr(files, between), []
+
+            def exchanged(*words):
+                if not done:
+                    done.append(way.rename(self.folder / "aside"))
+                    way.symlink_to(victim)
+                    os.chown(way, ANOTHER, ANOTHER, follow_symlinks=False)
+                return real(*words)
+
+            with unittest.mock.patch.object(files, between, exchanged), self.assertRaises(Failed):
+                write(way / "new")
+            self.assertEqual((len(done), os.listdir(victim)), (1, []), number)
+            way.unlink()
+            (self.folder / "aside").rename(way)
+        until = threading.Event()
+        exchanging = threading.Thread(target=self.exchange, args=(way, victim, until))
+        exchanging.start()
+        counts, ends = {True: 0, False: 0}, time.monotonic() + 5
+        try:
+            while time.monotonic() < ends:
+                try:
+                    files.write_all({way / "new": "x"})
+                    counts[True] += 1
+                except Failed:
+                    counts[False] += 1
+        finally:
+            until.set()
+            exchanging.join()
+        self.assertEqual(os.listdir(victim), [])
+        self.assertGreater(counts[True], 0)
+        self.assertGreater(counts[False], 0)
+
+    def test_a_folder_of_evidence_that_is_exchanged_sends_no_write_elsewhere(self):
+        """The program of the evidence has the new folder be a link to a victim's, as whoever has the folder above can."""
+        victim, place = self.folder / "victim", self.folder / "place"
+        victim.mkdir()
+        place.mkdir()
+        # When all runs have begun.
+        self.program(f'[ "$1" = defaults ] && sleep 1 && for part in "{place}"/.part-*; do [ -h "$part" ] || {{ mv "$part" "{place}/moved-$$"; ln -s "{victim}" "$part"; }}; done\n'
+                     f'exec {PROGRAM} "$@"\n')
+        done = subprocess.run([str(ROOT / "tools/evidence.sh"), "make", str(place / "evidence"), *map(str, FILES)], capture_output=True, encoding="utf-8")
+        self.assertEqual(os.listdir(victim), [], done.stderr)
+
+    def test_a_way_goes_where_its_name_leads(self):
+        """By any steps: the descriptors lead to the file that the name is of."""
+        (self.folder / "a/b/c").mkdir(parents=True)
+        (self.folder / "a/up").symlink_to("..")
+        (self.folder / "a/deep").symlink_to(self.folder / "a/b")
+        (self.folder / "a/b/again").symlink_to("../deep/c")
+        before = os.getcwd()
+        self.addCleanup(os.chdir, before)
+        os.chdir(self.folder / "a/b")
+        for name in ("x", "./x", "../x", "../../x", "c/../x", "c/x", "../up/x", "../deep/c/x", "again/x", "again/../x", f"{self.folder}/a/deep/../x", "c//x", "c/./x",
+                     "../../../../../../../../../../tmp/../" + str(self.folder).lstrip("/") + "/x"):
+            with contextlib.closing(files.Way(name)) as way:
+                self.assertEqual(os.path.join(os.readlink(f"/proc/self/fd/{way.folder}"), way.last), os.path.join(os.path.realpath(os.path.dirname(name)), "x"), name)
+            files.write_all({name: name})
+            self.assertEqual(pathlib.Path(name).read_text(), name)
+            os.unlink(name)
+        loop = self.folder / "loop"
+        loop.symlink_to("loop")
+        with self.assertRaises((Failed, OSError)):
+            files.Way(str(loop / "x"))
+        self.assertLess(len(os.listdir("/proc/self/fd")), 40)
 
     def test_a_folder_of_results_that_others_can_write_is_refused(self):
         jobs = self.file("jobs.tsv", "\t".join(["a", "check", *map(str, FILES)]) + "\n")

@@ -1,4 +1,5 @@
 """No tool runs a program that was planted: one in the working folder, in a folder above it, or on an entry of the path that is not absolute."""
+import ast
 import os
 import pathlib
 import shutil
@@ -9,6 +10,40 @@ import unittest
 from common import CHAIN, HUB, PROGRAM, ROOT, Case
 
 PLANTED = "#!/bin/sh\ntouch {}\necho planted\n"
+# Commands that scripts and tools call, each of which is planted.
+COMMANDS = ["rt", "git", "sh", "python3", "awk", "basename", "cat", "chmod", "cp", "cut", "date", "dirname", "find", "flock", "getconf", "grep", "head", "id",
+            "ln", "mkdir", "mktemp", "mv", "nproc", "realpath", "rm", "sed", "seq", "setsid", "sha256sum", "sleep", "sort", "stat", "tail", "touch", "tr",
+            "uname", "wc", "xargs"]
+# What finds or starts a program, by the modules of Python.
+STARTERS = {"Popen", "run", "call", "check_call", "check_output", "getoutput", "getstatusoutput", "system", "popen", "execv", "execve", "execvp", "execvpe",
+            "execl", "execle", "execlp", "spawnv", "spawnvp", "spawnl", "spawnlp", "posix_spawn", "posix_spawnp", "create_subprocess_exec",
+            "create_subprocess_shell", "which", "get_exec_path", "find_executable", "startfile"}
+MODULES = {"subprocess", "os", "shutil", "asyncio", "pty", "sysconfig", "distutils"}
+# The only places that do, and what each starts.
+PLACES = {
+    ("clearing_tools/runner.py", "on_path"): "finds", ("clearing_client/program.py", "on_path"): "finds",
+    ("clearing_tools/runner.py", "run_on"): "the program, or Python", ("clearing_tools/runner.py", "said_by"): "what on_path finds",
+    ("clearing_tools/runner.py", "built"): "the repository's script", ("clearing_tools/evidence/source.py", "run_tool"): "Python", ("clearing_client/program.py", "started"): "the program",
+    ("clearing_client/program.py", "find_program"): "a file that CLEARING names", ("clearing_client/program.py", "main"): "the program",
+}
+GUARD = """# Of the path the absolute entries alone count: no command is one that the working folder has.
+set -f; IFS=: path=; for entry in $PATH; do case $entry in /*) path=$path:$entry ;; esac; done
+PATH=${path#:} && export PATH; unset IFS; set +f
+"""
+SCRIPTS = [ROOT / "clearing", ROOT / "first-look", *sorted((ROOT / "tools").glob("*.sh"))]
+
+
+def starters_in(path):
+    """The functions of a file that find or start a program, by the names that they call of the modules that can."""
+    tree = ast.parse(path.read_text(encoding="utf-8"))
+    for function in ast.walk(tree):
+        if isinstance(function, (ast.FunctionDef, ast.AsyncFunctionDef, ast.Module)):
+            inner = [node for node in ast.walk(function) if isinstance(node, ast.Attribute) and node.attr in STARTERS
+                     and isinstance(node.value, ast.Name) and node.value.id in MODULES]
+            taken = [node for node in ast.walk(function) if isinstance(node, ast.ImportFrom) and node.module in MODULES
+                     and {name.name for name in node.names} & STARTERS]
+            if taken or inner and not isinstance(function, ast.Module):
+                yield getattr(function, "name", "the file itself")
 
 
 class Planted(Case):
@@ -22,6 +57,13 @@ class Planted(Case):
         for path in (self.work / "clearing", self.work / "bin/clearing"):
             path.write_text(PLANTED.format(self.mark))
             path.chmod(0o755)
+
+    def plant(self, names):
+        """Plants more commands in the working folder, and in a folder of it."""
+        for name in names:
+            for path in (self.work / name, self.work / "bin" / name):
+                path.write_text(f"#!/bin/sh\n/usr/bin/touch '{self.mark}'\necho planted\n")
+                path.chmod(0o755)
 
     def run_in(self, folder, words, **variables):
         own = {key: value for key, value in os.environ.items() if key not in ("CLEARING", "PYTHONPATH")}
@@ -76,6 +118,49 @@ class Planted(Case):
             self.assertEqual((done.returncode, self.mark.exists()), (0, False), (done.stdout, done.stderr))
             self.assertIn("not checked: the same by the program: none is built here\n", done.stdout)
             shutil.rmtree(self.work / "crates", ignore_errors=True)
+
+    def test_there_is_one_way_to_find_a_program(self):
+        """In both packages nothing else finds or starts one, and the two that find one are the same."""
+        packages = ROOT / "python/src"
+        found = {(str(path.relative_to(packages)), name) for path in packages.rglob("*.py") for name in starters_in(path)}
+        self.assertEqual(found - set(PLACES), set(), "finds or starts a program by a way of its own; take runner.on_path or said_by")
+        self.assertEqual(set(PLACES) - found, set(), "is listed, and starts nothing")
+        both = [next(ast.unparse(node) for node in ast.walk(ast.parse((packages / name).read_text())) if getattr(node, "name", "") == "on_path")
+                for name in ("clearing_tools/runner.py", "clearing_client/program.py")]
+        self.assertEqual(*both)
+        # What looks for it finds it.
+        probe = self.file("probe.py", "import subprocess\ndef f():\n    subprocess.run(['rt'])\ndef g():\n    from shutil import which\n")
+        self.assertEqual(set(starters_in(probe)), {"f", "g", "the file itself"})
+
+    def test_no_tool_runs_any_command_of_the_working_folder(self):
+        """Not rt, git or a shell either, of which a report, an evidence and the scripts ask."""
+        net = ["--banks", HUB / "banks.csv", "--debts", HUB / "debts.csv"]
+        jobs = self.file("jobs.tsv", "\t".join(["a", "check", *map(str, net)]) + "\n")
+        self.plant(COMMANDS)
+        script = self.folder / "script"
+        script.mkdir()
+        for name, words, statuses in [
+            ("report.py", [*net, "--out", "OUT.html"], [0]), ("evidence.sh", ["make", "OUT-evidence", *net], [0]), ("many.sh", ["run", jobs, "OUT-many", 1], [0]),
+            ("install.sh", ["OUT-prefix"], [0]), ("../first-look", ["check"], [8]), ("clean.sh", ["--dry-run"], [0, 1]), ("quick.sh", [], [2]),
+            ("test.sh", ["--help"], [0]), ("release.sh", [], [2]), ("evidence.sh", ["check", "OUT-evidence"], [0]),
+        ]:
+            run = [sys.executable] if name.endswith(".py") else []
+            path = os.pathsep.join([".", "", "bin", os.path.dirname(sys.executable), "/usr/bin", "/bin"])
+            place = [str(word).replace("OUT", str(self.folder / "made")) for word in words]
+            done = self.run_in(self.work, [*run, ROOT / "tools" / name, *place], CLEARING=os.path.abspath(PROGRAM), PATH=path, XDG_CACHE_HOME=str(script))
+            self.assertFalse(self.mark.exists(), (name, "a planted command ran", done.stderr))
+            self.assertIn(done.returncode, statuses, (name, done.stdout, done.stderr))
+
+    def test_each_script_takes_the_absolute_entries_of_the_path_alone(self):
+        """Before its first command."""
+        self.assertGreater(len(SCRIPTS), 8)
+        for path in SCRIPTS:
+            lines = path.read_text(encoding="utf-8").split("\n")
+            first = next(at for at, line in enumerate(lines) if line and not line.startswith("#"))
+            self.assertEqual("\n".join(lines[first - 1 : first + 2]) + "\n", GUARD, path)
+        for given, left in ((".:/usr/bin", "/usr/bin"), (":/bin::a:/usr/bin:", "/bin:/usr/bin"), ("", ""), ("a/b:./x", ""), ("/a b:*", "/a b")):
+            done = subprocess.run(["/bin/sh", "-c", GUARD + 'printf %s "$PATH"'], cwd="/", env={"PATH": given}, capture_output=True, encoding="utf-8")
+            self.assertEqual(done.stdout, left, given)
 
     def test_of_the_path_the_absolute_entries_alone_are_looked_at(self):
         net = ["--banks", HUB / "banks.csv", "--debts", HUB / "debts.csv"]

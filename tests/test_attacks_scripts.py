@@ -1,5 +1,7 @@
 """The scripts of the shell under other masks, interrupted, with planted links and names that have ends of lines."""
+import contextlib
 import os
+import pathlib
 import shlex
 import shutil
 import signal
@@ -124,6 +126,100 @@ class Importing(Case):
         done = subprocess.run([str(ROOT / "tools/evidence.sh"), "check", "."], cwd=self.folder, env={**os.environ, "PYTHONPATH": ":"}, capture_output=True)
         self.assertEqual(done.returncode, 3)
         self.assertFalse(mark.exists())
+
+
+class Ended(Case):
+    """A request to end ends what was begun, and leaves nothing that runs."""
+
+    def running(self):
+        """How many runs of the test's program there are."""
+        found = 0
+        for path in pathlib.Path("/proc").glob("[0-9]*/cmdline"):
+            with contextlib.suppress(OSError):
+                found += str(self.folder).encode() + b"/clearing" in path.read_bytes()
+        return found
+
+    def start(self, *words):
+        self.program('echo begun >>"$BEGUN"\nwhile :; do sleep 0.2; done\n')
+        environment = {**os.environ, "BEGUN": str(self.folder / "begun")}
+        environment.pop("MANY_SESSION", None)
+        running = subprocess.Popen([str(ROOT / "tools/many.sh"), *map(str, words)], env=environment, stdin=subprocess.DEVNULL, stdout=subprocess.PIPE,
+                                   stderr=subprocess.PIPE, encoding="utf-8", start_new_session=True)
+        self.addCleanup(running.stdout.close)
+        self.addCleanup(running.stderr.close)
+        return running
+
+    def begun(self, count):
+        deadline = time.monotonic() + 60
+        while time.monotonic() < deadline:
+            if (self.folder / "begun").exists() and len((self.folder / "begun").read_text().split()) >= count:
+                return
+            time.sleep(0.02)
+        self.fail("the jobs did not begin")
+
+    def test_a_signal_ends_all_jobs_and_what_is_left_is_counted(self):
+        jobs = self.file("jobs.tsv", "".join(f"job-{at}\tgen\t{at}\n" for at in range(20)))
+        for number, words, count, told in [(signal.SIGTERM, ["run", jobs, self.folder / "a", 14], 14, "0 done, 0 failed, 20 not finished\n"),
+                                           (signal.SIGINT, ["run", jobs, self.folder / "b", 3], 3, "0 done, 0 failed, 20 not finished\n"),
+                                           (signal.SIGHUP, ["run", jobs, self.folder / "c", 2], 2, "0 done, 0 failed, 20 not finished\n"),
+                                           (signal.SIGTERM, ["one", jobs, self.folder / "d", 1], 1, ""), (signal.SIGTERM, ["one", jobs, self.folder / "e", 1, 9], 1, "")]:
+            with contextlib.suppress(FileNotFoundError):
+                (self.folder / "begun").unlink()
+            running = self.start(*words)
+            self.begun(count)
+            # To the script alone, as `kill`, `timeout` or a cluster sends it.
+            running.send_signal(number)
+            self.assertEqual(running.wait(60), 128 + number, words)
+            self.assertEqual(running.stdout.read(), told, words)
+            self.assertEqual(self.running(), 0, words)
+        # The same command goes on.
+        self.program("echo done\n")
+        done = subprocess.run([str(ROOT / "tools/many.sh"), "run", str(jobs), str(self.folder / "a")], stdin=subprocess.DEVNULL, capture_output=True, encoding="utf-8")
+        self.assertEqual((done.returncode, done.stdout), (0, "20 done, 0 failed\n"), done.stderr)
+        self.assertEqual({path.suffix for path in (self.folder / "a").iterdir()}, {".out", ".job"})
+
+    def test_jobs_are_read_from_standard_input_as_before(self):
+        self.program('echo "$*"\n')
+        jobs = self.file("jobs.tsv", "a\tgen\t1\n")
+        with open(jobs) as given:
+            done = subprocess.run([str(ROOT / "tools/many.sh"), "one", "/dev/stdin", str(self.folder / "f"), "1"], stdin=given, capture_output=True, encoding="utf-8")
+        self.assertEqual((done.returncode, (self.folder / "f/a.out").read_text()), (0, "gen 1\n"), done.stderr)
+
+
+class Prefixes(Installing):
+    locals().update({name: None for name in vars(Installing) if name.startswith("test_")})
+
+    def run_it(self, prefix):
+        return subprocess.run([str(ROOT / "tools/install.sh"), str(prefix)], env={**os.environ, "CLEARING": str(self.script)}, stdin=subprocess.DEVNULL,
+                              capture_output=True, encoding="utf-8")
+
+    def test_a_prefix_with_the_end_of_a_line_is_refused(self):
+        for name in ("a\nb", "a\n", "\nb", "a\rb", "a\x1b[2J"):
+            done = self.run_it(self.folder / "in" / name)
+            self.assertEqual((done.returncode, done.stdout, (self.folder / "in").exists()), (2, "", False), (name, done.stderr))
+            self.assertNotIn("\x1b", done.stderr)
+
+    @unittest.skipUnless(os.geteuid() == 0, "only root gives files to others")
+    def test_no_link_or_folder_of_another_user_is_followed(self):
+        elsewhere = self.folder / "elsewhere"
+        elsewhere.mkdir()
+        for name in ("bin", "share/man", ""):
+            for kind in ("link", "folder"):
+                place = self.prefix / name
+                place.parent.mkdir(parents=True, exist_ok=True)
+                place.symlink_to(elsewhere) if kind == "link" else place.mkdir()
+                os.chown(place, 54321, 54321, follow_symlinks=False)
+                done = self.run_it(self.prefix)
+                self.assertEqual((done.returncode, done.stdout), (1, ""), (name, kind))
+                self.assertIn("is another user's", done.stderr)
+                self.assertEqual([path for path in [*elsewhere.rglob("*"), *self.prefix.rglob("*")] if path.is_symlink() or not path.is_dir()], [place] if kind == "link" and name else [])
+                place.unlink() if kind == "link" else shutil.rmtree(place)
+                shutil.rmtree(self.prefix, ignore_errors=True)
+        # One's own link is followed.
+        self.prefix.mkdir()
+        (self.prefix / "bin").symlink_to(elsewhere)
+        self.assertEqual(self.run_it(self.prefix).returncode, 0)
+        self.assertTrue((elsewhere / "clearing").exists())
 
 
 if __name__ == "__main__":

@@ -121,6 +121,7 @@ class Install(Case):
         told = tomllib.loads((ROOT / "python/pyproject.toml").read_text(encoding="utf-8"))["project"]
         self.assertEqual(told.pop("dependencies"), [])
         scripts = told.pop("scripts")
+        self.assertEqual(build.extras(), told.pop("optional-dependencies"))
         self.assertEqual(build.project(), told)
         self.assertEqual(build.commands(), "".join(f"{name} = {function}\n" for name, function in scripts.items()))
         tools = {path.stem for path in (ROOT / "tools").glob("*.py")}

@@ -59,7 +59,7 @@ class Tasks(Case):
         text = printed("clear", *files_of(TWELVE), "--workers", 1, "--show", "journal")
         seen = self.folder / "seen.csv"
         net, before = of(TWELVE), os.environ["CLEARING"]
-        self.program(f'for word; do case $word in */journal.csv) cat "$word" >{seen};; esac; done; exec {before} "$@"')
+        self.program(f'for word; do case $last in --journal) cat "$word" >{seen};; esac; last=$word; done; exec {before} "$@"')
         self.assertTrue(net.replay(cc.read(text)).lawful)
         self.assertEqual(seen.read_text(encoding="utf-8"), text)
 

@@ -19,6 +19,18 @@ class Types(Case):
         done = self.mypy("src")
         self.assertEqual(done.returncode, 0, done.stdout + done.stderr)
 
+    def test_the_rooms_that_are_typed_stay_so(self):
+        """As `mypy --strict` has them, without what other rooms may leave; and in lines of at most 120 columns."""
+        rooms = [*sorted((ROOT / "python/src/clearing_client").glob("*.py")), *sorted((ROOT / "python/src/clearing_tools/evidence").glob("*.py")),
+                 *(ROOT / f"python/src/clearing_tools/{name}.py" for name in ("cli", "files", "runner", "texts"))]
+        others = ",".join(f"clearing_tools.{room}.*" for room in ("analysis", "checks", "desk", "drawing", "exports", "imports", "report"))
+        settings = f"[mypy]\nstrict = True\npython_version = 3.9\nmypy_path = src\n[mypy-{others}]\nignore_errors = True\n[mypy-tomllib.*]\nignore_missing_imports = True\n"
+        line = [MYPY, "--cache-dir", str(self.folder / "cache"), "--config-file", str(self.file("strict.ini", settings)), *map(str, rooms)]
+        done = subprocess.run(line, cwd=ROOT / "python", capture_output=True, encoding="utf-8")
+        self.assertEqual(done.returncode, 0, done.stdout + done.stderr)
+        wide = [f"{path.name}:{at}" for path in rooms for at, text in enumerate(path.read_text(encoding="utf-8").split("\n"), 1) if len(text) > 120]
+        self.assertEqual(wide, [])
+
     def test_the_packages_have_no_idle_name(self):
         if not FLAKE8:
             self.skipTest("without flake8 (Debian's package flake8)")

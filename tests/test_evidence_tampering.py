@@ -12,7 +12,7 @@ import unittest.mock
 
 from common import PROGRAM, ROOT
 from clearing_tools.evidence.checking import FIRST, Checking
-from clearing_tools.runner import Failed
+from clearing_tools.evidence.parts import NoRoom
 from evidences import EvidenceCase, evidence
 
 ONE = """[[scenario]]
@@ -261,28 +261,27 @@ class Tampering(EvidenceCase):
         others = {f"scenario-{number}/{name}.csv" for number in (9, 999) for name in ("banks", "journal", "payments", "defaults")}
         for name in others:
             put(name, "x" * 1000)(folder)
-        checking = self.copied(folder)
-        self.assertEqual({str(path.relative_to(checking.folder)) for path in checking.folder.rglob("*") if path.is_file()}, belongs)
-        self.assertEqual(set(checking.read_sums), belongs | others)
+        read = self.copied(folder).folder
+        self.assertEqual({str(path.relative_to(read.copy)) for path in read.copy.rglob("*") if path.is_file()}, belongs)
+        self.assertEqual(set(read.sums), belongs)
         # Nothing belongs to inputs that are none but what says so.
         put("inputs/banks.csv", "x")(folder)
-        checking = self.copied(folder)
-        self.assertLess({path.name for path in checking.folder.rglob("*") if path.is_file()}, {os.path.basename(name) for name in FIRST})
-        self.assertEqual(set(checking.read_sums), belongs | others)
+        read = self.copied(folder).folder
+        self.assertLess({path.name for path in read.copy.rglob("*") if path.is_file()}, {os.path.basename(name) for name in FIRST})
+        self.assertLess(set(read.sums), FIRST)
         shutil.rmtree(folder)
         # Nor is a copy made that takes more than half of the room.
         folder = self.hub(ONE)
-        with unittest.mock.patch("shutil.disk_usage", return_value=shutil._ntuple_diskusage(0, 0, 9_000)), self.assertRaises(Failed) as caught:
+        with unittest.mock.patch("shutil.disk_usage", return_value=shutil._ntuple_diskusage(0, 0, 9_000)), self.assertRaises(NoRoom) as caught:
             self.copied(folder)
-        self.assertEqual(caught.exception.status, 3)
-        self.assertIn(" bytes, and in temporary folders there is room for 4,500", str(caught.exception))
+        self.assertIn(" bytes, and there is room for 4,500", str(caught.exception))
 
     def copied(self, folder):
         """A folder under check, of which a copy was made."""
         shutil.rmtree(self.folder / "copy", ignore_errors=True)
         (self.folder / "copy").mkdir()
         checking = Checking(folder, self.folder / "copy")
-        checking.copy()
+        self.addCleanup(checking.folder.close)
         return checking
 
     def test_a_change_while_it_is_checked_is_told(self):

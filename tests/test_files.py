@@ -44,10 +44,10 @@ class Files(Case):
     def test_a_fault_at_any_step_leaves_all_as_it_was(self):
         names = {self.file("one", "1"): "a", self.folder / "new" / "two": "b", self.file("three", "3"): "c"}
         before = self.state()
-        calls = {"os.replace": 3, "os.fchmod": 3, "tempfile.mkstemp": 3}
+        calls = {"os.replace": 3, "os.fchmod": 3, "put_into": 3}
         for call, count in calls.items():
             for at in range(count):
-                real = {"os.replace": os.replace, "os.fchmod": os.fchmod, "tempfile.mkstemp": files.tempfile.mkstemp}[call]
+                real = {"os.replace": os.replace, "os.fchmod": os.fchmod, "put_into": files.put_into}[call]
                 left = [at]
 
                 def failing(*words, **options):

@@ -35,7 +35,7 @@ class Install(Case):
         self.assertEqual([place for place in places if not any(file.startswith(place) for file in told)], [])
         for what in ("bash", "zsh", "fish", "Python package"):
             self.assertIn(what, lines.partition("\n")[0])
-        self.assertTrue(lines.endswith("where the words are not understood.\n"), lines)
+        self.assertTrue(" ".join(lines.split()).endswith("where the words are not understood."), lines)
         # A tool from there, by its own name, and one that runs the program.
         for folder in ("chain", "hub"):
             files = [word for kind in ("banks", "debts") for word in (f"--{kind}", ROOT / f"examples/{folder}/{kind}.csv")]

@@ -4,10 +4,14 @@ import pathlib
 import re
 import shutil
 import subprocess
+import sys
 import tempfile
 import unittest
 
 from common import PROGRAM, ROOT, Case
+
+sys.path.insert(0, str(ROOT / "python"))
+import build  # noqa: E402
 
 LACKS = [name for name in ("pandoc", "dpkg-deb", "git") if not shutil.which(name)]
 TASKS = sorted("""check clear central defaults stress outcomes replay bounds rescue rescues breaking impact compress costs cost-bounds convert
@@ -112,7 +116,9 @@ class Release(Case):
     @classmethod
     def made(cls, folder):
         done = cls.release("--gate", cls.log, folder)
-        names = ["clearing-7.8.9-x86_64.tar.gz", "clearing_7.8.9_amd64.deb", "SHA256SUMS"]
+        full = build.full_name()
+        wheel = f"{full}-{build.tag_of((cls.checkout / 'crates/clear_main/out/clear_main').read_bytes())}.whl"
+        names = ["clearing-7.8.9-x86_64.tar.gz", "clearing_7.8.9_amd64.deb", wheel, f"{full}-py3-none-any.whl", f"{full}.tar.gz", "clearing-7.8.9.RECORD", "SHA256SUMS"]
         wanted = (0, "", [f"{folder}/{name}" for name in names])
         if (done.returncode, done.stderr, done.stdout.split()) != wanted:
             raise AssertionError(done)
@@ -124,7 +130,7 @@ class Release(Case):
         self.assertEqual((done.returncode, done.stdout.split()[1:]), (0, ["A,B,1,10,7", "B,C,1,9,8"]))
 
     def test_the_archive_is_whole(self):
-        archive, _, sums = self.one
+        archive, *_, sums = self.one
         self.assertEqual(ran("sha256sum", "--check", "SHA256SUMS", cwd=sums.parent).returncode, 0)
         prefix = self.folder / "prefix"
         prefix.mkdir()
@@ -134,6 +140,7 @@ class Release(Case):
                      "fish/vendor_completions.d/clearing.fish", "doc/clearing/guide.html", "doc/clearing/examples/chain/banks.csv"):
             self.assertTrue((prefix / "share" / name).is_file(), name)
         record = (prefix / "share/doc/clearing/RECORD").read_text()
+        self.assertEqual(self.one[-2].read_text(), record)
         head = ran("git", "-C", self.checkout, "rev-parse", "HEAD").stdout.strip()
         for line in ("clearing 7.8.9", f"commit {head}", "gate 12 passed, 0 failed; 7 passed, 0 failed", "It was built and proved from this commit."):
             self.assertIn(line + "\n", record)
@@ -141,6 +148,21 @@ class Release(Case):
             number = len(list((ROOT / "crates").glob(f"*/{folder}/*.edit")))
             self.assertIn(f"{words} {number}\n", record)
         self.assertEqual([path.name for path in prefix.rglob("*") if path.stem in ("release", "quick", "clearing-release")], [])
+
+    def test_its_record_is_compared_with_a_build(self):
+        """By a toolchain that says which it is: what is the same, and what differs."""
+        (self.folder / "rt").write_text("#!/bin/sh\necho other logic 7\n")
+        (self.folder / "rt").chmod(0o755)
+        record = self.one[-2].read_text()
+        told = re.search("(?m)^toolchain (.*)$", record)[1]
+        done = ran(self.checkout / "tools/dev/check_record.sh", self.one[-2], env={**os.environ, "PATH": f"{self.folder}:/usr/bin:/bin"})
+        self.assertEqual((done.returncode, done.stdout.count("same: ")), (1, 2), (done.stdout, done.stderr))
+        self.assertIn(f"differs: toolchain is {told} in the record, and here other logic 7\n", done.stdout)
+        (self.folder / "rt").write_text(f"#!/bin/sh\necho '{told}'\n")
+        done = ran(self.checkout / "tools/dev/check_record.sh", self.one[-2], env={**os.environ, "PATH": f"{self.folder}:/usr/bin:/bin"})
+        self.assertEqual((done.returncode, done.stdout.count("same: ")), (0, 3), (done.stdout, done.stderr))
+        wrong = self.file("RECORD", record.replace("program ", "program 0"))
+        self.assertEqual(ran(self.checkout / "tools/dev/check_record.sh", wrong, env={**os.environ, "PATH": f"{self.folder}:/usr/bin:/bin"}).returncode, 1)
 
     def test_links_between_its_pages_lead_somewhere(self):
         archive = self.one[0]

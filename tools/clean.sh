@@ -10,6 +10,11 @@
 # inside name. While ./clearing or ./first-look builds, nothing is removed.
 #
 # Ends with 0, with 1 where something cannot be removed or a build is going on, and with 2 where the words are not understood.
+
+# Of the path the absolute entries alone count: no command is one that the working folder has.
+set -f; IFS=: path=; for entry in $PATH; do case $entry in /*) path=$path:$entry ;; esac; done
+PATH=${path#:} && export PATH; unset IFS; set +f
+
 dry=
 case $#:${1:-} in
 0:) ;;

@@ -1,5 +1,10 @@
 #!/bin/sh
 # Makes a folder of evidence for what `clearing` says of a network, and checks one; --help says how.
+
+# Of the path the absolute entries alone count: no command is one that the working folder has.
+set -f; IFS=: path=; for entry in $PATH; do case $entry in /*) path=$path:$entry ;; esac; done
+PATH=${path#:} && export PATH; unset IFS; set +f
+
 command -v python3 >/dev/null 2>&1 || { echo "evidence.sh: python3 is not on the path" >&2; exit 2; }
 tool=$(dirname -- "$(realpath -- "$0")")/evidence.py
 top=$(dirname -- "$(dirname -- "$(realpath -- "$tool")")")

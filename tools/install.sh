@@ -15,10 +15,16 @@
 #
 # All files are written beside their places first and then moved there; where one cannot be, each older file is left or put back.
 #
-# Ends with 0, with 1 where a file cannot be put in place, and with 2 where the words are not understood.
+# Ends with 0, with 1 where a file cannot be put in place, or a folder or link on the way there is another user's, and with 2 where
+# the words are not understood.
+
+# Of the path the absolute entries alone count: no command is one that the working folder has.
+set -f; IFS=: path=; for entry in $PATH; do case $entry in /*) path=$path:$entry ;; esac; done
+PATH=${path#:} && export PATH; unset IFS; set +f
+
 case "${1:-}" in
 --help | -h)
-    sed -n '2,18s/^# \{0,1\}//p' "$0" || exit 1
+    sed -n '2,19s/^# \{0,1\}//p' "$0" || exit 1
     exit 0
     ;;
 -*)
@@ -28,6 +34,7 @@ case "${1:-}" in
 esac
 [ $# -le 1 ] || { echo "install.sh: the only word is a prefix, a folder" >&2; exit 2; }
 [ $# -eq 0 ] || [ -n "$1" ] || { echo "install.sh: the prefix has no name" >&2; exit 2; }
+case ${1-} in *[[:cntrl:]]*) echo "install.sh: the prefix has the end of a line or another control character" >&2 && exit 2 ;; esac
 unset CDPATH
 prefix=${1-/usr/local}
 here=$(dirname -- "$(realpath -- "$0")")
@@ -66,27 +73,48 @@ else
         fail "the program is not built"
     program=$root/crates/clear_main/out/clear_main
 fi
-# One without a folder is looked for in the absolute entries of the path alone.
+# One without a folder is looked for on the path.
 case $program in
 */*) ;;
 *)
-    name=$program program= rest=$PATH:
-    while [ -n "$rest" ] && [ -z "$program" ]; do
-        entry=${rest%%:*} rest=${rest#*:}
-        case $entry in
-        /*) [ ! -f "$entry/$name" ] || [ ! -x "$entry/$name" ] || program=$entry/$name ;;
-        esac
-    done
-    [ -n "$program" ] || fail "CLEARING names $name, which is on no absolute entry of the path"
+    name=$program program=$(command -v -- "$program")
+    case $program in /*) ;; *) fail "CLEARING names $name, which is on no absolute entry of the path" ;; esac
     ;;
 esac
 [ -x "$program" ] && [ -f "$program" ] || fail "$program is no program"
 case $(realpath -- "$program") in */first-look) fail "$program is a first look, which is not proved" ;; esac
 
+# The first folder or link on the way to a place that is neither this user's nor the system's: whoever has it says where the way leads.
+others() { # the place
+    case $1 in
+    /*) up=$1 ;;
+    *) up=$(pwd)/$1 ;;
+    esac
+    set --
+    while [ -n "$up" ]; do set -- "$up" "$@" && up=${up%/*}; done
+    me=$(id -u)
+    # A link and what it names.
+    { stat -c '%u %n' -- "$@"; stat -L -c '%u %n' -- "$@"; } 2>/dev/null | while read -r owner name; do
+        [ "$owner" = 0 ] || [ "$owner" = "$me" ] || { printf '%s\n' "$name" && break; }
+    done
+}
+
+checked='|'
 ready() { # the place under the prefix, after its folder is made
     to=$prefix/$1
+    # Once for each folder: before it is made, and then where it leads to.
+    case $checked in
+    *"|${to%/*}|"*) ;;
+    *)
+        other=$(others "${to%/*}")
+        [ -n "$other" ] || mkdir -p -- "${to%/*}" 2>/dev/null || fail "$to cannot be written"
+        other=${other:-$(others "$(realpath -- "${to%/*}")")}
+        [ -z "$other" ] || fail "$other is another user's, who could have all that is installed stand elsewhere"
+        checked=$checked${to%/*}'|'
+        ;;
+    esac
     printf '%s\n' "$to" >>"$list/places"
-    mkdir -p -- "${to%/*}" 2>/dev/null && [ ! -d "$to" ] || fail "$to cannot be written"
+    [ ! -d "$to" ] || fail "$to cannot be written"
 }
 
 put() { # the file, its place under the prefix, its mode

@@ -22,14 +22,19 @@
 # after an interrupt the same command goes on, and what was changed is made anew. When a job begins again its older result goes,
 # and so does what a killed run left beside it, NAME.part+MACHINE.PROCESS.
 #
-# Ends with 0, with 1 where a job failed or is not finished, and with 2 where the words, or a file or folder that they name,
-# cannot be used.
+# Ends with 0, with 1 where a job failed or is not finished, with 2 where the words, or a file or folder that they name, cannot
+# be used, and with 129, 130 or 143 where it was ended by a signal, HUP, INT or TERM, which ends all its jobs too.
 #
 # Example: the network of each of a thousand seeds, in sums
 #   for seed in $(seq 1000); do
 #       printf 'seed-%d\tgen\t--seed\t%d\t--size\t200\t--tries\t4000\t--workers\t1\n' $seed $seed
 #   done >jobs.tsv
 #   tools/many.sh run jobs.tsv results
+
+# Of the path the absolute entries alone count: no command is one that the working folder has.
+set -f; IFS=: path=; for entry in $PATH; do case $entry in /*) path=$path:$entry ;; esac; done
+PATH=${path#:} && export PATH; unset IFS; set +f
+
 unset CDPATH
 self=$(realpath -- "$0")
 root=$(dirname -- "$(dirname -- "$self")")
@@ -174,18 +179,40 @@ slurm) [ $# -ge 3 ] || refuse "slurm takes a file of jobs and a folder" ;;
 one) [ $# -eq 4 ] || [ $# -eq 5 ] || refuse "one takes a file of jobs, a folder and a number, or a first and a last" ;;
 *) refuse "the first word is run, one or slurm" ;;
 esac
-# The program by its file: one without a folder is looked for in the absolute entries of the path alone.
+# What is begun here ends with it: it has a session of its own, and a request to end is handed on to all that is in it.
+if [ "$1" != slurm ] && [ -z "${MANY_SESSION:-}" ]; then
+    export MANY_SESSION=1
+    ended= session=
+    end_session() { # the status
+        ended=$1
+        [ -z "$session" ] || kill -s TERM -- "-$session" 2>/dev/null || kill -s TERM "$session" 2>/dev/null
+    }
+    trap 'end_session 129' HUP
+    trap 'end_session 130' INT
+    trap 'end_session 143' TERM
+    if { true <&0; } 2>/dev/null; then exec 3<&0; else exec 3</dev/null; fi
+    setsid -- "$self" "$@" <&3 3<&- &
+    session=$!
+    exec 3<&-
+    [ -z "$ended" ] || end_session "$ended"
+    wait "$session"
+    status=$?
+    [ -n "$ended" ] || exit "$status"
+    trap '' HUP INT TERM
+    tries=0
+    while kill -s 0 -- "-$session" 2>/dev/null && [ "$tries" -lt 100 ]; do
+        sleep 0.05
+        tries=$((tries + 1))
+    done
+    kill -s KILL -- "-$session" 2>/dev/null
+    exit "$ended"
+fi
+# The program by its file: one without a folder is looked for on the path.
 case $program in
 */*) ;;
 *)
-    name=$program program= rest=$PATH:
-    while [ -n "$rest" ] && [ -z "$program" ]; do
-        entry=${rest%%:*} rest=${rest#*:}
-        case $entry in
-        /*) [ ! -f "$entry/$name" ] || [ ! -x "$entry/$name" ] || program=$entry/$name ;;
-        esac
-    done
-    [ -n "$program" ] || refuse "CLEARING names $name, which is on no absolute entry of the path"
+    name=$program program=$(command -v -- "$program")
+    case $program in /*) ;; *) refuse "CLEARING names $name, which is on no absolute entry of the path" ;; esac
     ;;
 esac
 task=$1 jobs=$2 folder=$3
@@ -250,14 +277,16 @@ if [ "$task" = one ]; then
 fi
 MANY_PROGRAM_SUM=$(program_sum) CLEARING=$program
 export MANY_PROGRAM_SUM CLEARING
-# Each run has a shell above it, which outlives it and tells how it ended.
+# Each run has a shell above it, which outlives it and tells how it ended. What counts outlives them all.
 seq "$count" | xargs -n 1 -P "$slots" sh -c '"$0" one "$@" && echo done && exit
     [ $? -lt 128 ] || echo "many.sh: the run of job $3 was killed; the same command runs it again" >&2
-    echo failed' "$self" "$jobs" "$folder" |
-    awk -v count="$count" '
+    echo failed' "$self" "$jobs" "$folder" | (
+    trap '' HUP INT TERM
+    exec awk -v count="$count" '
         { ended[$0]++ }
         END {
             left = count - ended["done"] - ended["failed"]
             print ended["done"] + 0 " done, " ended["failed"] + 0 " failed" (left ? ", " left " not finished" : "")
             exit (ended["done"] < count)
-        }' || exit 1
+        }'
+) || exit 1

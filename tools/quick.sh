@@ -11,6 +11,11 @@
 #
 # Runs one check at a time, at a low priority. What an earlier check has proved is not proved again.
 # Ends with 0 where no step failed, with 1 where one did, and with 2 where the words are not understood.
+
+# Of the path the absolute entries alone count: no command is one that the working folder has.
+set -f; IFS=: path=; for entry in $PATH; do case $entry in /*) path=$path:$entry ;; esac; done
+PATH=${path#:} && export PATH; unset IFS; set +f
+
 case "${1:-}" in
 --help | -h)
     sed -n '2,14s/^# \{0,1\}//p' "$0" || exit 1

@@ -1,20 +1,26 @@
 #!/bin/sh
-# Makes a release of the program that was built and proved: an archive, a Debian package, and their checksums.
+# Makes a release of the program that was built and proved: an archive, a Debian package, wheels for Python, and their checksums.
 #
 #   tools/release.sh [--draft] [--gate LOG] FOLDER
 #
 # In:   a checkout without changes, its built program, and LOG, what `.ci/run` printed of it: its parts end with `N passed, 0 failed`,
 #       and no source is newer. FOLDER is made where it is not there. With --draft changes and a missing log are let through, and
 #       the environment variable CLEARING may name another program; the record says then that it is a draft.
-# Out:  FOLDER/clearing-VERSION-x86_64.tar.gz, FOLDER/clearing_VERSION_amd64.deb and FOLDER/SHA256SUMS; their names on standard output. They have the
-#       program, the tools, manual pages, completions for bash, zsh and fish, the documents as HTML, examples, and the record of the
-#       gate. The same checkout and program make the same bytes.
+# Out:  FOLDER/clearing-VERSION-x86_64.tar.gz and FOLDER/clearing_VERSION_amd64.deb, which have the program, the tools, manual pages,
+#       completions for bash, zsh and fish, the documents as HTML, examples, and the record of the gate; the wheel of the package for
+#       Python with the program, the one without it, and its sources; FOLDER/clearing-VERSION.RECORD, the same record; and
+#       FOLDER/SHA256SUMS. Their names on standard output. The same checkout and program make the same bytes.
 #
 # Wants pandoc and dpkg-deb (Debian's packages pandoc and dpkg).
 # Ends with 0, with 1 and a message where something is not as it must be, and with 2 where the words are not understood.
+
+# Of the path the absolute entries alone count: no command is one that the working folder has.
+set -f; IFS=: path=; for entry in $PATH; do case $entry in /*) path=$path:$entry ;; esac; done
+PATH=${path#:} && export PATH; unset IFS; set +f
+
 case "${1:-}" in
 --help | -h)
-    sed -n '2,17s/^# \{0,1\}//p' "$0" || exit 1
+    sed -n '2,18s/^# \{0,1\}//p' "$0" || exit 1
     exit 0
     ;;
 esac
@@ -198,8 +204,16 @@ chmod 755 "$tree/DEBIAN/prerm"
 find "$tree" -exec touch -h -d "@$SOURCE_DATE_EPOCH" {} +
 dpkg-deb --root-owner-group --build "$tree" "$work/$package" >"$work/dpkg.log" 2>&1 || fail "dpkg-deb: $(cat "$work/dpkg.log")"
 
-(cd "$work" && sha256sum "$archive" "$package" >SHA256SUMS) || exit 1
-for name in "$archive" "$package" SHA256SUMS; do
+# The package for Python: with the program, without it, and its sources.
+wheel=$(cd "$root/python" && python3 -IB build.py "$work" "$(realpath -- "$program")") || fail "the wheel with the program cannot be written"
+others=$(cd "$root/python" && python3 -B -c '
+import build, sys
+print(build.build_wheel(sys.argv[1]), build.build_sdist(sys.argv[1]))' "$work") || fail "the package for Python cannot be written"
+# What was built and proved, beside the files; tools/dev/check_record.sh compares it with a build of one'"'"'s own.
+cp "$docs/RECORD" "$work/clearing-$version.RECORD" || exit 1
+# shellcheck disable=SC2086
+(cd "$work" && sha256sum "$archive" "$package" "$wheel" $others "clearing-$version.RECORD" >SHA256SUMS) || exit 1
+for name in "$archive" "$package" "$wheel" $others "clearing-$version.RECORD" SHA256SUMS; do
     mv -fT -- "$work/$name" "$folder/$name" 2>/dev/null || fail "$folder cannot be written"
     echo "$folder/$name"
 done

@@ -14,6 +14,11 @@
 # python3.
 #
 # Ends with 0 where no test failed, else with 1.
+
+# Of the path the absolute entries alone count: no command is one that the working folder has.
+set -f; IFS=: path=; for entry in $PATH; do case $entry in /*) path=$path:$entry ;; esac; done
+PATH=${path#:} && export PATH; unset IFS; set +f
+
 case "${1:-}" in
 --help | -h)
     sed -n '2,16s/^# \{0,1\}//p' "$0" || exit 1

@@ -21,11 +21,14 @@ EVIDENCE = "clearing_tools.evidence."
 ALONE = {
     EVIDENCE + "audit": set(),
     EVIDENCE + "bounds": set(),
-    EVIDENCE + "shock": {EVIDENCE + "audit", EVIDENCE + "bounds"},
+    EVIDENCE + "confined": set(),
+    EVIDENCE + "shock": {EVIDENCE + "audit", EVIDENCE + "bounds", "clearing_tools.files", "clearing_tools.runner"},
     EVIDENCE + "parts": {EVIDENCE + "audit", EVIDENCE + "shock", "clearing_tools.runner"},
-    EVIDENCE + "source": {EVIDENCE + "audit", EVIDENCE + "parts", EVIDENCE + "shock", "clearing_tools.runner"},
+    EVIDENCE + "source": {EVIDENCE + "confined", EVIDENCE + "parts", "clearing_tools.runner"},
     EVIDENCE + "checking": {EVIDENCE + each for each in ("audit", "parts", "shock", "source")} | {"clearing_tools.runner"},
-    EVIDENCE + "evidence": {EVIDENCE + each for each in ("audit", "checking", "parts", "shock", "source")} | {"clearing_tools.runner"},
+    EVIDENCE + "evidence": {EVIDENCE + each for each in ("audit", "checking", "parts", "shock", "source")}
+    | {"clearing_tools.files", "clearing_tools.runner"},
+    "clearing_tools.files": {"clearing_tools.runner"},
     "clearing_tools.runner": set(),
 }
 BOX, TALL, GAP, ROW, LEFT, MOST = 132, 24, 10, 62, 20, 9

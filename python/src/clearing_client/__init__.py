@@ -139,11 +139,12 @@ NoProgramError     8, or none: there is no program, or it cannot be built
 StatusError        any other: it was ended by a signal, or is another program
 SheetError         none: a sheet makes no network
 TableError         none: a table cannot be written as a file, as an amount is not whole
-TextError          none: a text is not one that the program prints
+TextError          none: a text is not one that the program prints, or an answer on another network
+OutOfTimeError     none: a run took longer than its `timeout`, in seconds, and was ended
 MissingPackageError    none: a call wants pandas, numpy or networkx
 
-A journal that is not lawful (status 7) is an answer, a `Verdict`. That a file is refused says
-which, the row, the kind of fault, and the record:
+Each call takes a `timeout`. A journal that is not lawful (status 7) is an answer, a `Verdict`. That a file is refused
+says which, the row, the kind of fault, and the record:
 
 >>> try:
 ...     cc.Network([("Ash", 20, "pro rata")], []).check()
@@ -151,14 +152,15 @@ which, the row, the kind of fault, and the record:
 ...     print(fault.file, fault.row, fault.kind, fault.number, fault.record)
 banks 1 rule 5 ('Ash', '20', 'pro rata')
 
-The program is the one that the environment variable CLEARING names; else that of the
-repository or the installation that the package stands in, which a repository builds first
-where it is not built yet; else `clearing` on the path, whose absolute entries alone count.
+The program is the one that the environment variable CLEARING names; else the one that came in the wheel of this
+package, where that has one; else that of the repository or the installation that the package stands in, which a
+repository builds first where it is not built yet; else `clearing` on the path, whose absolute entries alone count.
 """
 from .errors import ClearingError as ClearingError
 from .errors import MissingPackageError as MissingPackageError
 from .errors import NoProgramError as NoProgramError
 from .errors import OutOfMemoryError as OutOfMemoryError
+from .errors import OutOfTimeError as OutOfTimeError
 from .errors import OutputError as OutputError
 from .errors import RefusedError as RefusedError
 from .errors import SheetError as SheetError

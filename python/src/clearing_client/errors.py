@@ -36,7 +36,8 @@ class TableError(ClearingError, ValueError):
 
 
 class SheetError(ClearingError, ValueError):
-    """A sheet that makes no network. `faults` has what is wrong, each in a line with its place as the sheet counts it."""
+    """A sheet that makes no network. `faults` has what is wrong, each in a line with its place as the sheet counts
+    it."""
 
     def __init__(self, faults: Sequence[str]) -> None:
         self.faults = tuple(faults)
@@ -99,6 +100,14 @@ class OutOfMemoryError(ClearingError):
 
     def __init__(self) -> None:
         super().__init__("the program ran out of memory")
+
+
+class OutOfTimeError(ClearingError, TimeoutError):
+    """The run took longer than the call allows, and was ended. `seconds` is how long that is."""
+
+    def __init__(self, seconds: float) -> None:
+        self.seconds = seconds
+        super().__init__(f"the program took longer than {seconds:g} seconds")
 
 
 class NoProgramError(ClearingError):

@@ -1,5 +1,5 @@
-"""What the formats of the program say, said once: limits, rules, states, kinds of fault, statuses. The headers are those of
-`texts`, which takes them from `records`. Amounts are whole units of account."""
+"""What the formats of the program say, said once: limits, rules, states, kinds of fault, statuses. The headers are
+those of `texts`, which takes them from `records`. Amounts are whole units of account."""
 from typing import Dict, Tuple
 
 RULES = ("order", "equal", "losses", "jefferson", "webster", "adams")

@@ -1,8 +1,8 @@
 """Many networks and any number of scenarios, side by side: in processes of this machine, or by an executor of others.
 
-The results come one after another, in the order of the networks and scenarios, so that what is held does not grow with them: a
-run has a few scenarios, and few runs are begun ahead of what is taken. Where an iterator is left before its end, what has not
-begun is called off.
+The results come one after another, in the order of the networks and scenarios, so that what is held does not grow with
+them: a run has a few scenarios, and few runs are begun ahead of what is taken. Where an iterator is left before its
+end, what has not begun is called off.
 """
 from __future__ import annotations
 
@@ -16,7 +16,7 @@ from concurrent.futures import Executor, ProcessPoolExecutor
 from typing import Any, Callable, Deque, Iterable, Iterator, List, NamedTuple, Optional, Tuple, TypeVar, Union
 
 from . import tabular
-from .errors import RefusedError
+from .errors import RefusedError, TextError
 from .format import MAX_SCENARIOS
 from .network import Network, ScenariosLike, as_scenarios, as_third, effort, is_file, read_file
 from .records import BankCounts, ScenarioSums
@@ -52,7 +52,13 @@ Pool = Optional[Executor]
 
 
 def map_stress(
-    networks: Networks, scenarios: ScenariosLike, jobs: Jobs = None, workers: int = 1, sweeps: int = 1, executor: Pool = None
+    networks: Networks,
+    scenarios: ScenariosLike,
+    jobs: Jobs = None,
+    workers: int = 1,
+    sweeps: int = 1,
+    executor: Pool = None,
+    timeout: Optional[float] = None,
 ) -> Iterator[Outcome]:
     """What the same scenarios leave of each network: an `Outcome` for each network and scenario, in the order of the
     networks, and for each of them in that of the scenarios, as they come. `network` and `number` say whose it is.
@@ -61,8 +67,9 @@ def map_stress(
     scenarios  as for `Network.stress`, but any number of them; a file has at most 100, and is one run
     jobs       how many runs go side by side, as many as there are processors where it is not said
     executor   what runs them, an `Executor` of `concurrent.futures` or what is used like one, such as Dask's
-               `client.get_executor()` or mpi4py's `MPIPoolExecutor()`; processes of this machine where it is not said. Its
-               workers need this package and the program, as `find_program` finds it there. It is not shut down.
+               `client.get_executor()` or mpi4py's `MPIPoolExecutor()`; processes of this machine where it is not said.
+               Its workers need this package and the program, as `find_program` finds it there. It is not shut down.
+    timeout    how many seconds a run may take; one that takes longer is ended, and raises `OutOfTimeError`
 
     The first fault is raised in the place of its outcome, and ends it.
 
@@ -70,13 +77,19 @@ def map_stress(
     >>> [(one.number, one.total.defaults) for one in map_stress(nets, Scenarios.cuts([0, 100]))]
     [(1, 0), (2, 1), (1, 0), (2, 0)]
     """
-    work = functools.partial(stressed, workers=workers, sweeps=sweeps)
+    work = functools.partial(stressed, workers=workers, sweeps=sweeps, timeout=timeout)
     return outcomes_of(in_turn(work, runs_of(networks, scenarios, most_in_a_run), jobs, executor))
 
 
-def map_outcomes(networks: Networks, scenarios: ScenariosLike, jobs: Jobs = None, executor: Pool = None) -> Iterator[Outcomes]:
-    """What the same scenarios leave of each network in sums: an `Outcomes` for each network, in order, as they come. The
-    words are those of `map_stress`. The program prints no payment, and each run has as many threads as it takes.
+def map_outcomes(
+    networks: Networks,
+    scenarios: ScenariosLike,
+    jobs: Jobs = None,
+    executor: Pool = None,
+    timeout: Optional[float] = None,
+) -> Iterator[Outcomes]:
+    """What the same scenarios leave of each network in sums: an `Outcomes` for each network, in order, as they come.
+    The words are those of `map_stress`. The program prints no payment, and each run has as many threads as it takes.
 
     >>> nets = [Network({"A": cash, "B": 0}, {("A", "B"): 10}) for cash in (10, 20)]
     >>> first, second = map_outcomes(nets, Scenarios.cuts([0, 100]))
@@ -87,11 +100,15 @@ def map_outcomes(networks: Networks, scenarios: ScenariosLike, jobs: Jobs = None
     >>> second.banks[0]
     BankCounts(bank='A', defaults=0, fundamental=0)
     """
-    return summed_up(in_turn(summed, runs_of(networks, scenarios, lambda _: MAX_SCENARIOS), jobs, executor))
+    work = functools.partial(summed, timeout=timeout)
+    return summed_up(in_turn(work, runs_of(networks, scenarios, lambda _: MAX_SCENARIOS), jobs, executor))
 
 
-def runs_of(networks: Networks, scenarios: ScenariosLike, most: Callable[[Network], int]) -> Iterator[Tuple[Network, Part]]:
-    """The runs, each a network and so many of the scenarios at most, or a file of them as it is. The scenarios are read at once."""
+def runs_of(
+    networks: Networks, scenarios: ScenariosLike, most: Callable[[Network], int]
+) -> Iterator[Tuple[Network, Part]]:
+    """The runs, each a network and so many of the scenarios at most, or a file of them as it is. The scenarios are
+    read at once."""
     known: Union[Scenarios, bytes] = read_file(scenarios) if is_file(scenarios) else as_scenarios(scenarios)
     return ((net, part) for net in networks for part in parts_of(known, most(net)))
 
@@ -143,7 +160,8 @@ def taken(begun: Deque[Tuple[Network, Part, Any]]) -> Tuple[Network, Part, Any]:
 
 
 def own_pool(jobs: int) -> ProcessPoolExecutor:
-    """Processes of this machine. They are forked where that can be, so that a script needs no `if __name__ == "__main__"`."""
+    """Processes of this machine. They are forked where that can be, so that a script needs no `if __name__ ==
+    "__main__"`."""
     how = "fork" if "fork" in multiprocessing.get_all_start_methods() else None
     return ProcessPoolExecutor(jobs, multiprocessing.get_context(how), initializer=end_at_interrupt)
 
@@ -201,15 +219,21 @@ def known_of(part: Part) -> Optional[Scenarios]:
     return None if isinstance(part.scenarios, bytes) else part.scenarios
 
 
-def stressed(net: Network, part: Part, workers: int, sweeps: int) -> List[Outcome]:
+def stressed(net: Network, part: Part, workers: int, sweeps: int, timeout: Optional[float] = None) -> List[Outcome]:
     """The outcomes of a run, numbered on from those before it. Parsed where it runs, as they come."""
-    third, known = as_third(part.scenarios), known_of(part)
-    with counted_on(part), net._stream("stress", *effort(workers, sweeps), third=third, known=known) as stream:
-        return list(outcomes_in(stream, part.before))
+    third, known, outcomes = as_third(part.scenarios), known_of(part), []
+    words = effort(workers, sweeps)
+    with counted_on(part), net._stream("stress", *words, third=third, known=known, timeout=timeout) as stream:
+        for outcome in outcomes_in(stream, part.before):
+            net._asked.check(outcome)
+            outcomes.append(outcome)
+    if known is not None and [one.name for one in outcomes] != [one.name for one in known]:
+        raise TextError(0, "the program printed an answer on other scenarios than it was asked about")
+    return outcomes
 
 
-def summed(net: Network, part: Part) -> Sums:
+def summed(net: Network, part: Part, timeout: Optional[float] = None) -> Sums:
     """The sums of a run."""
     with counted_on(part):
-        left = net._ask(Outcomes, "outcomes", third=as_third(part.scenarios), known=known_of(part))
+        left = net._ask(Outcomes, "outcomes", third=as_third(part.scenarios), known=known_of(part), timeout=timeout)
     return Sums(left.scenarios, left.banks)

@@ -2,18 +2,15 @@
 from __future__ import annotations
 
 import contextlib
-import csv
-import io
 import os
-import pathlib
-import tempfile
 from functools import cached_property
-from typing import IO, Any, Dict, Iterable, Iterator, List, Mapping, Optional, Tuple, Type, TypeVar, Union
+from typing import IO, Any, Dict, Iterable, Iterator, List, Mapping, Optional, Sequence, Tuple, Type, TypeVar, Union
 
 from . import tabular
 from .errors import RefusedError, TableError, TextError, UnreadableError
 from .format import MAX_BYTES
-from .program import Done, fault_of, run, started
+from .asked import Asked, record_at
+from .program import Done, fault_of, handed_over, run, started
 from .records import Bank, Debt, Raise
 from .results import (
     Bounds,
@@ -43,7 +40,7 @@ from .texts import parse
 T = TypeVar("T", bound=Result)
 File = Union[str, "os.PathLike[str]"]
 ScenariosLike = Union[Scenarios, Iterable[Union[Scenario, Mapping[str, Any]]], File]
-Third = Tuple[str, str, bytes]  # a file's option, its ending, and its bytes
+Third = Tuple[str, bytes]  # a file's option, and its bytes
 JournalLike = Union[Journal, Table[Raise], Iterable[Raise], File]
 
 LARGEST = MAX_BYTES["banks"]
@@ -53,19 +50,22 @@ LARGEST = MAX_BYTES["banks"]
 class Network:
     """Banks, and the debts between them.
 
-    banks   a DataFrame or a dict of columns `name`, `cash`, `rule`, `outside`; records (dicts, `Bank`s or tuples in that
-            order); a dict of each bank's cash; or the name of a banks file
-    debts   a DataFrame or a dict of columns `debtor`, `creditor`, `class`, `claim`; records (dicts, `Debt`s or tuples in
-            that order, or without the class); a dict from (debtor, creditor) or (debtor, creditor, class) to the claim; or
-            the name of a debts file
+    banks   a DataFrame or a dict of columns `name`, `cash`, `rule`, `outside`; records (dicts, `Bank`s or tuples in
+            that order); a dict of each bank's cash; or the name of a banks file
+    debts   a DataFrame or a dict of columns `debtor`, `creditor`, `class`, `claim`; records (dicts, `Debt`s or tuples
+            in that order, or without the class); a dict from (debtor, creditor) or (debtor, creditor, class) to the
+            claim; or the name of a debts file
     rule    the rule of the banks where there is no column `rule`: `webster` (pro rata), `jefferson`, `adams`, `equal`,
             `losses` or `order`
     class_  the class of the debts where there is no column `class`
 
     With a networkx graph in place of both: nodes with `cash` (`rule`, `outside`), edges with `claim` (`class`).
 
-    Amounts are whole units of account. A float is taken where it is a whole number, and refused otherwise. Names are texts;
-    an integer is taken as its digits. The order of the rows is that of the files, and decides ties. Files are read once, here.
+    Each task takes a `timeout` in seconds: a run that takes longer is ended, and raises `OutOfTimeError`.
+
+    Amounts are whole units of account. A float is taken where it is a whole number, and refused otherwise. Names are
+    texts; an integer is taken as its digits. The order of the rows is that of the files, and decides ties. Files are
+    read once, here.
 
     >>> net = Network({"A": 7, "B": 1, "C": 0}, {("A", "B"): 10, ("B", "C"): 9}, rule="order")
     >>> print(net.clear().payments)
@@ -89,28 +89,30 @@ class Network:
 
     @classmethod
     def from_matrix(cls, matrix: Any, **options: Any) -> "Network":
-        """The network of a matrix of liabilities: a file of comma-separated records, a workbook (.xlsx, .ods) or a DataFrame with
-        the names as its index. The options are the words of `tools/from_matrix.py` with `_` for `-`, such as `table`, `sheet`,
-        `cash`, `outside`, `no_outside`, `unit`, `round`, `drop`, `groups`. Raises `SheetError` with every fault found."""
+        """The network of a matrix of liabilities: a file of comma-separated records, a workbook (.xlsx, .ods) or a
+        DataFrame with the names as its index. The options are the words of `tools/from_matrix.py` with `_` for `-`,
+        such as `table`, `sheet`, `cash`, `outside`, `no_outside`, `unit`, `round`, `drop`, `groups`. Raises
+        `SheetError` with every fault found."""
         return cls._of_sheet("matrix", matrix, options)[0]
 
     @classmethod
     def from_list(cls, exposures: Any, **options: Any) -> "Network":
-        """The network of a list of exposures and a `table` of banks. The options are the words of `tools/from_list.py`, such as
-        `debtor`, `creditor`, `amount`, `sum`, `where={"date": "2025-12-31"}`, `rate={"currency": "rates.csv"}`, `duplicates`."""
+        """The network of a list of exposures and a `table` of banks. The options are the words of
+        `tools/from_list.py`, such as `debtor`, `creditor`, `amount`, `sum`, `where={"date": "2025-12-31"}`,
+        `rate={"currency": "rates.csv"}`, `duplicates`."""
         return cls._of_sheet("list", exposures, options)[0]
 
     @classmethod
     def from_totals(cls, totals: Any, **options: Any) -> Union["Network", List["Network"]]:
-        """A network in which each bank owes and is owed what a table says; with `samples`, a list of them. The options are the words
-        of `tools/from_totals.py`, such as `method`, `seed`, `known`, `most`."""
+        """A network in which each bank owes and is owed what a table says; with `samples`, a list of them. The options
+        are the words of `tools/from_totals.py`, such as `method`, `seed`, `known`, `most`."""
         made = cls._of_sheet("totals", totals, options)
         return made if options.get("samples") else made[0]
 
     @classmethod
     def from_workbook(cls, workbook: Any, banks: str = "banks", debts: str = "debts", **options: Any) -> "Network":
-        """The network of a workbook with a sheet of banks (name, cash, rule, outside) and one of debts (debtor, creditor, class,
-        claim); the options are those of `from_list`."""
+        """The network of a workbook with a sheet of banks (name, cash, rule, outside) and one of debts (debtor,
+        creditor, class, claim); the options are those of `from_list`."""
         named = {"sheet": debts, "table": workbook, "table_sheet": banks, "amount": "claim", **options}
         return cls._of_sheet("list", workbook, named)[0]
 
@@ -152,7 +154,8 @@ class Network:
         return graph_of({bank.name: dict(zip(columns, bank[1:])) for bank in self.banks}, self.debts)
 
     def to_matrix(self) -> Any:
-        """The claims as a numpy matrix of int64, banks by banks: what the bank of the row owes the bank of the column."""
+        """The claims as a numpy matrix of int64, banks by banks: what the bank of the row owes the bank of the
+        column."""
         return self._checked.to_matrix()
 
     def write(self, banks: File, debts: File) -> None:
@@ -187,18 +190,20 @@ class Network:
 
     # The tasks
 
-    def check(self) -> Check:
+    def check(self, timeout: Optional[float] = None) -> Check:
         """Reads the network and gives it back as the program understands it, with all claims and all cash together.
 
         >>> Network({"A": 7, "B": 1}, {("A", "B"): 10}).check().total
         CheckTotals(banks=2, debts=1, owed=10, cash=8)
         """
-        return self._ask(Check, "check")
+        return self._ask(Check, "check", timeout=timeout)
 
-    def clear(self, workers: int = 4, sweeps: int = 1, journal: bool = False) -> Clearing:
-        """The least payments that clear, by this many workers (1 to 64), each of which goes so often over its banks in a
-        round; with the journal of the run, where it is asked for. The payments depend on neither number; which lawful
-        journal is made does.
+    def clear(
+        self, workers: int = 4, sweeps: int = 1, journal: bool = False, timeout: Optional[float] = None
+    ) -> Clearing:
+        """The least payments that clear, by this many workers (1 to 64), each of which goes so often over its banks in
+        a round; with the journal of the run, where it is asked for. The payments depend on neither number; which
+        lawful journal is made does.
 
         >>> net = Network({"A": 7, "B": 1, "C": 0}, {("A", "B"): 10, ("B", "C"): 9})
         >>> done = net.clear(workers=1, journal=True)
@@ -208,24 +213,26 @@ class Network:
         Raise(stamp=1, debtor='A', creditor='B', class_=1, to=7)
         """
         show = ["--show", "both"] if journal else []
-        return self._ask(Clearing, "clear", *effort(workers, sweeps), *show)
+        return self._ask(Clearing, "clear", *effort(workers, sweeps), *show, timeout=timeout)
 
-    def central(self) -> Clearing:
+    def central(self, timeout: Optional[float] = None) -> Clearing:
         """The same payments, computed on one thread."""
-        return self._ask(Clearing, "central")
+        return self._ask(Clearing, "central", timeout=timeout)
 
-    def defaults(self, workers: int = 4, sweeps: int = 1) -> Defaults:
+    def defaults(self, workers: int = 4, sweeps: int = 1, timeout: Optional[float] = None) -> Defaults:
         """How each bank stands after clearing, who defaults, and whether it is its own doing.
 
         >>> net = Network({"A": 7, "B": 1, "C": 0}, {("A", "B"): 10, ("B", "C"): 9})
         >>> [(bank.bank, bank.state) for bank in net.defaults().standings]
         [('A', 'fundamental'), ('B', 'contagion'), ('C', 'sound')]
         """
-        return self._ask(Defaults, "defaults", *effort(workers, sweeps))
+        return self._ask(Defaults, "defaults", *effort(workers, sweeps), timeout=timeout)
 
-    def stress(self, scenarios: ScenariosLike, workers: int = 4, sweeps: int = 1) -> Stress:
-        """What each scenario leaves: `Scenarios`, `Scenario`s, dicts of the shape of the TOML document, or the name of a
-        TOML file. At most 100; `map_stress` takes more.
+    def stress(
+        self, scenarios: ScenariosLike, workers: int = 4, sweeps: int = 1, timeout: Optional[float] = None
+    ) -> Stress:
+        """What each scenario leaves: `Scenarios`, `Scenario`s, dicts of the shape of the TOML document, or the name of
+        a TOML file. At most 100; `map_stress` takes more.
 
         >>> net = Network({"A": 7, "B": 1, "C": 0}, {("A", "B"): 7, ("B", "C"): 8})
         >>> left = net.stress([Scenario("as it is"), Scenario("A loses 1", losses={"A": 1})])
@@ -233,11 +240,12 @@ class Network:
         [[], ['A', 'B']]
         """
         third, known = third_of(scenarios)
-        return self._ask(Stress, "stress", *effort(workers, sweeps), third=third, known=known)
+        return self._ask(Stress, "stress", *effort(workers, sweeps), third=third, known=known, timeout=timeout)
 
-    def outcomes(self, scenarios: ScenariosLike) -> Outcomes:
-        """What each scenario leaves in sums, given as for `stress`: the cash that is left, what is paid and paid outside, what
-        banks keep, and how many default; and in how many scenarios each bank does. At most 100; `map_outcomes` takes more.
+    def outcomes(self, scenarios: ScenariosLike, timeout: Optional[float] = None) -> Outcomes:
+        """What each scenario leaves in sums, given as for `stress`: the cash that is left, what is paid and paid
+        outside, what banks keep, and how many default; and in how many scenarios each bank does. At most 100;
+        `map_outcomes` takes more.
 
         >>> net = Network({"A": 7, "B": 1, "C": 0}, {("A", "B"): 7, ("B", "C"): 8})
         >>> left = net.outcomes([Scenario("as it is"), Scenario("A loses 1", losses={"A": 1})])
@@ -245,11 +253,11 @@ class Network:
         ([0, 2], BankCounts(bank='B', defaults=1, fundamental=0))
         """
         third, known = third_of(scenarios)
-        return self._ask(Outcomes, "outcomes", third=third, known=known)
+        return self._ask(Outcomes, "outcomes", third=third, known=known, timeout=timeout)
 
-    def bounds(self, workers: int = 4, sweeps: int = 1) -> Bounds:
-        """The least and the greatest payments that clear; for each bank the round in which it first falls short on the way
-        down from all debts paid in full (0: never), and whether it is in gridlock.
+    def bounds(self, workers: int = 4, sweeps: int = 1, timeout: Optional[float] = None) -> Bounds:
+        """The least and the greatest payments that clear; for each bank the round in which it first falls short on the
+        way down from all debts paid in full (0: never), and whether it is in gridlock.
 
         >>> ring = Network({"A": 0, "B": 0}, {("A", "B"): 5, ("B", "A"): 5})
         >>> ring.bounds().payments[0]
@@ -257,38 +265,39 @@ class Network:
         >>> ring.bounds().waves[0].gridlock
         True
         """
-        return self._ask(Bounds, "bounds", *effort(workers, sweeps))
+        return self._ask(Bounds, "bounds", *effort(workers, sweeps), timeout=timeout)
 
-    def rescue(self, bank: str, workers: int = 4, sweeps: int = 1) -> Rescue:
+    def rescue(self, bank: str, workers: int = 4, sweeps: int = 1, timeout: Optional[float] = None) -> Rescue:
         """The least cash to add so that a bank pays all it owes, and the payments with it.
 
         >>> Network({"A": 7, "B": 1}, {("A", "B"): 10}).rescue("A").added
         3
         """
         if bank.startswith("-") and bank in self.banks.column("name"):
-            return self._rescue_renamed(bank, workers, sweeps)
-        return self._ask(Rescue, "rescue", "--bank", bank, *effort(workers, sweeps), known=bank)
+            return self._rescue_renamed(bank, workers, sweeps, timeout)
+        return self._ask(Rescue, "rescue", "--bank", bank, *effort(workers, sweeps), known=bank, timeout=timeout)
 
-    def _rescue_renamed(self, bank: str, workers: int, sweeps: int) -> Rescue:
+    def _rescue_renamed(self, bank: str, workers: int, sweeps: int, timeout: Optional[float]) -> Rescue:
         """The command line cannot name a bank that begins with a dash: it has another name for this run."""
         there = set(self.banks.column("name"))
         other = next(name for name in (f"bank {n}" for n in range(len(there) + 1)) if name not in there)
         net = read_check(with_fields(self._checked.text, bank, other))
-        text = with_fields(net.rescue(other, workers, sweeps).text, other, bank)
+        text = with_fields(net.rescue(other, workers, sweeps, timeout).text, other, bank)
         return read_as(text, Rescue).told(text, self)
 
-    def costs(self, keep: int) -> Costs:
+    def costs(self, keep: int, timeout: Optional[float] = None) -> Costs:
         """The payments and standings where an estate in default is worth only `keep` thousandths, 0 to 1,000.
 
         >>> left = Network({"A": 7, "B": 1}, {("A", "B"): 10}).costs(500)
         >>> left.standings[0].lost, left.payments[0].paid
         (4, 3)
         """
-        return self._ask(Costs, "costs", "--keep", keep)
+        return self._ask(Costs, "costs", "--keep", keep, timeout=timeout)
 
-    def cost_bounds(self, keep: int) -> CostBounds:
-        """The least and the greatest payments that clear where an estate in default is worth only `keep` thousandths, 0 to
-        1,000, and what each bank loses and keeps, and its state, at both. The greatest are those of Rogers and Veraart (2013).
+    def cost_bounds(self, keep: int, timeout: Optional[float] = None) -> CostBounds:
+        """The least and the greatest payments that clear where an estate in default is worth only `keep` thousandths,
+        0 to 1,000, and what each bank loses and keeps, and its state, at both. The greatest are those of Rogers and
+        Veraart (2013).
 
         >>> ring = Network({"A": 30, "B": 30}, {("A", "B"): 100, ("B", "A"): 100}, rule="order")
         >>> both = ring.cost_bounds(500)
@@ -297,19 +306,19 @@ class Network:
         >>> both.standings[0].state_at_least, both.standings[0].state_at_greatest
         ('contagion', 'sound')
         """
-        return self._ask(CostBounds, "cost-bounds", "--keep", keep)
+        return self._ask(CostBounds, "cost-bounds", "--keep", keep, timeout=timeout)
 
-    def breaking(self) -> Breaking:
-        """For each bank the least cut of all cash, 0 to 1,000 per mille, at which it is not sound, and its state then; 1,001 and
-        `sound` where there is none.
+    def breaking(self, timeout: Optional[float] = None) -> Breaking:
+        """For each bank the least cut of all cash, 0 to 1,000 per mille, at which it is not sound, and its state then;
+        1,001 and `sound` where there is none.
 
         >>> net = Network({"A": 7, "B": 1, "C": 0}, {("A", "B"): 7, ("B", "C"): 8})
         >>> [tuple(one) for one in net.breaking().cuts]
         [('A', 143, 'fundamental'), ('B', 143, 'contagion'), ('C', 1001, 'sound')]
         """
-        return self._ask(Breaking, "breaking")
+        return self._ask(Breaking, "breaking", timeout=timeout)
 
-    def impact(self) -> Impact:
+    def impact(self, timeout: Optional[float] = None) -> Impact:
         """For each bank what the loss of all its cash costs itself and others, and which banks fall by it.
 
         >>> done = Network({"A": 7, "B": 1, "C": 0}, {("A", "B"): 7, ("B", "C"): 8}).impact()
@@ -318,18 +327,18 @@ class Network:
         >>> [pair.of for pair in done.pairs if pair.falls and pair.bank == "A"]
         ['A', 'B']
         """
-        return self._ask(Impact, "impact")
+        return self._ask(Impact, "impact", timeout=timeout)
 
-    def rescues(self) -> Rescues:
+    def rescues(self, timeout: Optional[float] = None) -> Rescues:
         """For each bank in default the least cash to add so that it pays all it owes, and whom that saves besides.
 
         >>> done = Network({"A": 7, "B": 1, "C": 0}, {("A", "B"): 10, ("B", "C"): 9}).rescues()
         >>> [tuple(one) for one in done.banks], [tuple(one) for one in done.saved]
         ([('A', 3, 1, 1, 0), ('B', 1, 1, 0, 1)], [('A', 'B')])
         """
-        return self._ask(Rescues, "rescues")
+        return self._ask(Rescues, "rescues", timeout=timeout)
 
-    def compress(self) -> Compression:
+    def compress(self, timeout: Optional[float] = None) -> Compression:
         """The debts that are left when cycles of debts of one class are cancelled.
 
         >>> ring = Network({"A": 0, "B": 0}, {("A", "B"): 5, ("B", "A"): 3})
@@ -337,10 +346,11 @@ class Network:
         >>> left.cancelled, left.debts.column("claim")
         (6, [2, 0])
         """
-        return self._ask(Compression, "compress")
+        return self._ask(Compression, "compress", timeout=timeout)
 
-    def replay(self, journal: JournalLike) -> Verdict:
-        """Judges a journal (a `Journal`, its raises, or the name of a file) and gives the payments that a lawful one makes.
+    def replay(self, journal: JournalLike, timeout: Optional[float] = None) -> Verdict:
+        """Judges a journal (a `Journal`, its raises, or the name of a file) and gives the payments that a lawful one
+        makes.
 
         >>> net = Network({"A": 7, "B": 1}, {("A", "B"): 10})
         >>> net.replay(net.clear(journal=True).journal).lawful
@@ -350,13 +360,9 @@ class Network:
         ('unlawful', 7, Raise(stamp=1, debtor='A', creditor='B', class_=1, to=8))
         """
         data = read_file(journal, None) if is_file(journal) else journal_bytes(journal)
-        verdict = self._ask(Verdict, "replay", third=("journal", "csv", data))
-        if verdict.entry is None:
-            return verdict
-        fields = dict(zip(words_of(Raise), fields_at(data, verdict.entry, passing=True) or ()))
-        numbers = {name: int(fields[name]) for name in ("stamp", "class", "to")}
-        told = Raise(numbers["stamp"], fields["debtor"], fields["creditor"], numbers["class"], numbers["to"])
-        object.__setattr__(verdict, "record", told)
+        verdict = self._ask(Verdict, "replay", third=("journal", data), timeout=timeout)
+        if verdict.entry is not None:
+            object.__setattr__(verdict, "record", raise_of(data, verdict.entry))
         return verdict
 
     # How the program is asked
@@ -365,6 +371,11 @@ class Network:
         """What goes to another process: the two files."""
         return {"_banks": self._banks, "_debts": self._debts}
 
+    @cached_property
+    def _asked(self) -> Asked:
+        """What the two files say, for a comparison with what an answer repeats of it. The program has taken them."""
+        return Asked(self._banks, self._debts)
+
     def _ask(
         self,
         kind: Type[T],
@@ -372,51 +383,51 @@ class Network:
         *words: object,
         third: Optional[Third] = None,
         known: object = None,
+        timeout: Optional[float] = None,
     ) -> T:
-        """Runs a task on the files, and reads its text."""
-        with self._words(task, words, third) as line:
-            done = run(line)
+        """Runs a task on the files, and reads its text, which must be an answer on them."""
+        with handed_over(self._files(third)) as (files, numbers):
+            done = run(line_of(task, files, words), numbers, timeout)
         if done.status not in (0, 7):
             raise self._fault(done, [task, *map(str, words)], third, known)
-        return read_as(text_of(done), kind).told(text_of(done), self)
+        result = read_as(text_of(done), kind)
+        self._asked.check(result, known)
+        return result.told(text_of(done), self)
 
     @contextlib.contextmanager
-    def _stream(self, task: str, *words: object, third: Third, known: object = None) -> Iterator[IO[bytes]]:
+    def _stream(
+        self, task: str, *words: object, third: Third, known: object = None, timeout: Optional[float] = None
+    ) -> Iterator[IO[bytes]]:
         """Runs a task on the files. Its text is read as it comes; that the run failed is said where all is read."""
-        with self._words(task, words, third) as line, started(line) as (stream, end):
-            try:
-                yield stream
-            except TextError:
-                stream.read()
-                if end()[0] == 0:
-                    raise
-            status, message = end()
+        with handed_over(self._files(third)) as (files, numbers):
+            with started(line_of(task, files, words), numbers, timeout) as (stream, end):
+                try:
+                    yield stream
+                except TextError:
+                    while stream.read(1 << 20):
+                        pass
+                    if end()[0] == 0:
+                        raise
+                status, message = end()
         if status != 0:
             raise self._fault(Done(status, b"", message), [task, *map(str, words)], third, known)
 
-    @contextlib.contextmanager
-    def _words(self, task: str, words: Tuple[object, ...], third: Optional[Third]) -> Iterator[List[Union[str, bytes]]]:
-        """The command line of a task, whose files stand in a folder as long as it runs."""
-        with tempfile.TemporaryDirectory(prefix="clearing-") as name:
-            folder = pathlib.Path(name)
-            line: List[Union[str, bytes]] = [task]
-            for option, ending, data in self._files(third):
-                path = folder / f"{option}.{ending}"
-                path.write_bytes(data)
-                line += [f"--{option}", os.fsencode(path)]
-            line += [word if isinstance(word, bytes) else str(word) for word in words]
-            if any("\0" in word for word in line if isinstance(word, str)):
-                raise TableError("words", 0, "", words, "a word has a character NUL")
-            yield line
-
     def _files(self, third: Optional[Third]) -> List[Third]:
         """The files of a run."""
-        return [("banks", "csv", self._banks), ("debts", "csv", self._debts), *([third] if third else [])]
+        return [("banks", self._banks), ("debts", self._debts), *([third] if third else [])]
 
     def _fault(self, done: Done, words: List[str], third: Optional[Third], known: object) -> Exception:
         """The exception for a run that failed, with the record that it is about."""
-        files = {option: data for option, _, data in self._files(third)}
-        return with_record(fault_of(done, words), files, known)
+        return with_record(fault_of(done, words), dict(self._files(third)), known)
+
+
+def line_of(task: str, files: Sequence[str], words: Iterable[object]) -> List[Union[str, bytes]]:
+    """The command line of a task on some files."""
+    line: List[Union[str, bytes]] = [task, *files]
+    line += [word if isinstance(word, bytes) else str(word) for word in words]
+    if any("\0" in word for word in line if isinstance(word, str)):
+        raise TableError("words", 0, "", tuple(words), "a word has a character NUL")
+    return line
 
 
 def read_as(text: str, kind: Type[T]) -> T:
@@ -479,7 +490,7 @@ def third_of(scenarios: ScenariosLike) -> Tuple[Third, Optional[Scenarios]]:
 
 def as_third(scenarios: Union[Scenarios, bytes]) -> Third:
     """Scenarios, or a file of them as it is, as a file of a run."""
-    return "scenarios", "toml", scenarios if isinstance(scenarios, bytes) else toml_bytes(scenarios)
+    return "scenarios", scenarios if isinstance(scenarios, bytes) else toml_bytes(scenarios)
 
 
 def toml_bytes(scenarios: Scenarios) -> bytes:
@@ -504,8 +515,8 @@ def with_record(fault: Exception, files: Mapping[str, bytes], known: object) -> 
     """A fault with the record that it is about."""
     if isinstance(fault, RefusedError):
         record: object = None
-        if fault.file in ("banks", "debts", "journal") and fault.number != 14:
-            record = fields_at(files[fault.file], fault.row)
+        if fault.file in ("banks", "debts", "journal") and fault.file in files and fault.number != 14:
+            record = record_at(files[fault.file], fault.row)
         elif fault.file == "scenarios" and isinstance(known, Scenarios) and 0 < fault.row <= len(known):
             record = known[fault.row - 1]
         elif fault.file == "words":
@@ -514,36 +525,36 @@ def with_record(fault: Exception, files: Mapping[str, bytes], known: object) -> 
     return fault
 
 
-def fields_at(data: bytes, row: int, passing: bool = False) -> Optional[Tuple[str, ...]]:
-    """The fields of a record of a file, without blanks at their ends; a line without a byte is no record. `passing` counts
-    no record of empty fields."""
-    text = data.decode("utf-8-sig", "replace")
-    try:
-        at = -1
-        for record in csv.reader(io.StringIO(text, newline="")):
-            if record and (any(field.strip(" \t") for field in record) or not passing):
-                at += 1
-                if at == row:
-                    return tuple(field.strip(" \t") for field in record)
-    except csv.Error:
-        pass
-    return None
+def raise_of(journal: bytes, entry: int) -> Raise:
+    """The raise of a number, from 1, of a journal file."""
+    fields = record_at(journal, entry, passing=True)
+    if fields is None or len(fields) != len(words_of(Raise)):
+        raise TextError(0, f"the program names raise {entry}, which the journal does not have")
+    stamp, debtor, creditor, class_, to = fields
+    if not all(field.isascii() and field.isdigit() and len(field) <= 20 for field in (stamp, class_, to)):
+        raise TextError(0, f"the program names raise {entry}, whose fields are no numbers")
+    return Raise(int(stamp), debtor, creditor, int(class_), int(to))
 
 
 # Without a network of one's own
 
 
-def generate(seed: int, size: int, tries: int, workers: int = 4, sweeps: int = 1) -> Generated:
+def generate(
+    seed: int, size: int, tries: int, workers: int = 4, sweeps: int = 1, timeout: Optional[float] = None
+) -> Generated:
     """The sums of a network made from a number: `size` banks (1 to 1,000), `tries` at a debt (0 to 20,000).
 
     >>> generate(seed=1, size=5, tries=9).total.defaults
     1
     """
     words = ["gen", "--seed", seed, "--size", size, "--tries", tries, *effort(workers, sweeps)]
-    done = run([str(word) for word in words])
+    done = run([str(word) for word in words], timeout=timeout)
     if done.status:
         raise fault_of(done, [str(word) for word in words])
-    return read_as(text_of(done), Generated)
+    made = read_as(text_of(done), Generated)
+    if made.total.banks != size or made.total.debts > tries:
+        raise TextError(0, "the program printed an answer on another network than it was asked for")
+    return made
 
 
 def read(text: Union[str, "os.PathLike[str]"]) -> Result:

@@ -69,8 +69,8 @@ class CostStanding(NamedTuple):
 
 
 class CostBound(NamedTuple):
-    """A bank by the least and by the greatest payments with costs of default: what of its estate is lost, what it keeps, and
-    its state, at each."""
+    """A bank by the least and by the greatest payments with costs of default: what of its estate is lost, what it
+    keeps, and its state, at each."""
 
     bank: str
     lost_at_least: int
@@ -82,8 +82,8 @@ class CostBound(NamedTuple):
 
 
 class BreakingCut(NamedTuple):
-    """The least cut of all cash, 0 to 1,000 per mille, at which a bank is not sound, and its state then; 1,001 and `sound`
-    where there is none."""
+    """The least cut of all cash, 0 to 1,000 per mille, at which a bank is not sound, and its state then; 1,001 and
+    `sound` where there is none."""
 
     bank: str
     cut: int
@@ -92,8 +92,8 @@ class BreakingCut(NamedTuple):
 
 class Ruin(NamedTuple):
     """What the loss of all cash of a bank costs: its cash, what it then keeps less itself, what all others keep less
-    together, and how many others that were sound are so no more. What a bank keeps is its equity and what it pays outside;
-    own and others come to the cash."""
+    together, and how many others that were sound are so no more. What a bank keeps is its equity and what it pays
+    outside; own and others come to the cash."""
 
     bank: str
     cash: int
@@ -103,8 +103,8 @@ class Ruin(NamedTuple):
 
 
 class Harm(NamedTuple):
-    """What a bank (`of`) keeps less where another, or the same one, loses all its cash, and whether it was sound and is so no
-    more."""
+    """What a bank (`of`) keeps less where another, or the same one, loses all its cash, and whether it was sound and
+    is so no more."""
 
     bank: str
     of: str
@@ -113,8 +113,8 @@ class Harm(NamedTuple):
 
 
 class Saving(NamedTuple):
-    """A bank in default: the least cash to add so that it pays all it owes, what it still lacks with a unit less, and with
-    that sum the number of other banks that are saved too, and of those that are in default still."""
+    """A bank in default: the least cash to add so that it pays all it owes, what it still lacks with a unit less, and
+    with that sum the number of other banks that are saved too, and of those that are in default still."""
 
     bank: str
     added: int
@@ -190,7 +190,8 @@ class CostTotals(NamedTuple):
 
 
 class ScenarioPayment(NamedTuple):
-    """A payment in a scenario. The number tells apart two scenarios of one name: it counts them from 1 in file order."""
+    """A payment in a scenario. The number tells apart two scenarios of one name: it counts them from 1 in file
+    order."""
 
     number: int
     scenario: str
@@ -230,8 +231,8 @@ class ScenarioTotals(NamedTuple):
 
 
 class ScenarioSums(NamedTuple):
-    """A scenario in sums: all cash that it leaves before clearing, what is paid and paid outside, what banks keep, how many
-    default, and how many of these by their own fundamentals. Cash is what is paid outside and kept."""
+    """A scenario in sums: all cash that it leaves before clearing, what is paid and paid outside, what banks keep, how
+    many default, and how many of these by their own fundamentals. Cash is what is paid outside and kept."""
 
     scenario: str
     cash: int

@@ -59,8 +59,8 @@ class Result:
     """The network that was asked; None where the result is read from a text alone."""
 
     def tables(self) -> Dict[str, Table[Any]]:
-        """The tables by name, none of them with a line of sums. `totals` has these, and what the text says once, such as
-        `rounds`: one record, and for `stress` one for each scenario."""
+        """The tables by name, none of them with a line of sums. `totals` has these, and what the text says once, such
+        as `rounds`: one record, and for `stress` one for each scenario."""
         fields = {name: getattr(self, name) for name in getattr(self, "__dataclass_fields__")}
         found: Dict[str, Table[Any]] = {name: value for name, value in fields.items() if isinstance(value, Table)}
         total = getattr(self, "total", None)
@@ -101,8 +101,8 @@ class Flows(Result):
         return list(dict.fromkeys(name for pair in pairs for name in pair))
 
     def to_networkx(self) -> Any:
-        """A networkx `MultiDiGraph`: a node for each bank, with its record, and an edge for each debt from its debtor to
-        its creditor, with the class as its key and `class`, `claim` and the other amounts as attributes."""
+        """A networkx `MultiDiGraph`: a node for each bank, with its record, and an edge for each debt from its debtor
+        to its creditor, with the class as its key and `class`, `claim` and the other amounts as attributes."""
         nodes: Dict[str, Dict[str, Any]] = {name: {} for name in self.names()}
         tables = [self.network.banks] if self.network is not None else []
         standings = self.standings_of_banks()
@@ -334,7 +334,8 @@ class Generated(Result):
 
 @dataclass(frozen=True)
 class Bounds(Flows):
-    """`bounds`: the least and the greatest payments that clear, and for each bank when it falls short on the way down."""
+    """`bounds`: the least and the greatest payments that clear, and for each bank when it falls short on the way
+    down."""
 
     payments: Table[Bound]
     waves: Table[Wave]
@@ -358,7 +359,8 @@ class Rescue(Flows):
 
 @dataclass(frozen=True)
 class Compression(Flows):
-    """`compress`: the debts that are left, the ranks that show that no cycle of a class is left, and what was cancelled."""
+    """`compress`: the debts that are left, the ranks that show that no cycle of a class is left, and what was
+    cancelled."""
 
     debts: Table[Debt]
     ranks: Table[Rank]
@@ -384,8 +386,8 @@ class Costs(Standings, Flows):
 
 @dataclass(frozen=True)
 class CostBounds(Flows):
-    """`cost-bounds`: the least and the greatest payments that clear where an estate in default is worth only a part, and how
-    each bank stands at both."""
+    """`cost-bounds`: the least and the greatest payments that clear where an estate in default is worth only a part,
+    and how each bank stands at both."""
 
     payments: Table[Bound]
     standings: Table[CostBound]
@@ -400,15 +402,15 @@ class Breaking(Result):
 
 @dataclass(frozen=True)
 class Impact(Result):
-    """`impact`: for each bank what the loss of all its cash costs, and for each two banks of which the second loses by it, or
-    falls, how much and whether."""
+    """`impact`: for each bank what the loss of all its cash costs, and for each two banks of which the second loses by
+    it, or falls, how much and whether."""
 
     banks: Table[Ruin]
     pairs: Table[Harm]
 
     def to_networkx(self) -> Any:
-        """A networkx `DiGraph`: a node for each bank, with its record, and an edge for each pair from the bank that loses its
-        cash to the one that keeps less, with `lost` and `falls`. An edge may lead from a bank to itself."""
+        """A networkx `DiGraph`: a node for each bank, with its record, and an edge for each pair from the bank that
+        loses its cash to the one that keeps less, with `lost` and `falls`. An edge may lead from a bank to itself."""
         graph = package("networkx", "to_networkx").DiGraph()
         for record in self.banks:
             graph.add_node(record.bank, **dict(zip(self.banks.columns[1:], record[1:])))
@@ -421,8 +423,8 @@ class Impact(Result):
         return rows_of(self.banks.column("bank"), self.pairs, "lost")
 
     def to_matrix(self) -> Any:
-        """A numpy matrix of int64, banks by banks in file order: what the bank of the column keeps less where the bank of the
-        row loses all its cash. Each row comes to that cash."""
+        """A numpy matrix of int64, banks by banks in file order: what the bank of the column keeps less where the bank
+        of the row loses all its cash. Each row comes to that cash."""
         return matrix_of(self.to_lists())
 
 

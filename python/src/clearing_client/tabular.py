@@ -1,8 +1,8 @@
 """Tables of banks and debts, as people have them, made into the files of the program.
 
-What the program itself judges is left to it: a rule that is none, a name with a comma, a negative number, a bank
-named twice. Refused here is what a file cannot say or would change in silence: a number that is not whole, a name with blanks at
-its ends, an empty cell, a column that is missing or unknown.
+What the program itself judges is left to it: a rule that is none, a name with a comma, a negative number, a bank named
+twice. Refused here is what a file cannot say or would change in silence: a number that is not whole, a name with
+blanks at its ends, an empty cell, a column that is missing or unknown.
 """
 from __future__ import annotations
 
@@ -206,8 +206,8 @@ def need(found: Mapping[str, Any], kind: str, columns: Sequence[str]) -> None:
 
 
 def tables_of_graph(graph: Any) -> Tuple[List[Dict[str, Any]], List[Dict[str, Any]]]:
-    """The banks and the debts of a networkx graph: nodes with `cash`, and `rule` and `outside` where they have them; edges
-    from debtor to creditor with `claim`, and `class` where they have it. Other attributes are passed over."""
+    """The banks and the debts of a networkx graph: nodes with `cash`, and `rule` and `outside` where they have them;
+    edges from debtor to creditor with `claim`, and `class` where they have it. Other attributes are passed over."""
     if not graph.is_directed():
         raise TableError("graph", 0, "", graph, "its edges have no direction, from debtor to creditor")
     banks = [{"name": name, **chosen(attributes, BANK_COLUMNS[1:])} for name, attributes in graph.nodes(data=True)]

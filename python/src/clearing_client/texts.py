@@ -1,13 +1,15 @@
 """Reads the texts that the program prints: one parser, for this package and for the tools of the repository.
 
 A text is read whole and strictly: what the program would not print is a `TextError` with its line. A byte order mark
-at the start and CR LF as line ends are passed over, since editors and spreadsheets put them there. The last line must have
-its end, as a text without it was cut short and its last number may be too.
+at the start and CR LF as line ends are passed over, since editors and spreadsheets put them there. The last line must
+have its end, as a text without it was cut short and its last number may be too.
 """
 from __future__ import annotations
 
 import sys
-from typing import Any, Callable, Dict, Iterable, Iterator, List, Optional, Sequence, Tuple, Type, TypeVar, get_type_hints
+from typing import (
+    Any, Callable, Dict, Iterable, Iterator, List, Optional, Sequence, Tuple, Type, TypeVar, get_type_hints,
+)
 
 from .errors import TextError
 from .format import STATES
@@ -183,7 +185,8 @@ class Lines:
             raise self.fail("the end of the text")
 
     def table(self, record: Type[R], last: int = 0, without: str = "", until: Sequence[str] = ("",)) -> Table[R]:
-        """A header and the lines below it, as far as a line that ends them or the end; the last few of them are left."""
+        """A header and the lines below it, as far as a line that ends them or the end; the last few of them are
+        left."""
         self.take(header_of(record, without))
         start = self.at
         stop = next((at for at in range(start, len(self.lines)) if self.lines[at] in until), len(self.lines))
@@ -244,7 +247,9 @@ def read_outcome(lines: Lines, number: int) -> Outcome:
     return Outcome(number, name, payments, left.standings, left.total)
 
 
-def read_two(kind: Callable[[Table[Any], Table[Any]], Result], first: Type[Any], second: Type[Any]) -> Callable[[Lines], Result]:
+def read_two(
+    kind: Callable[[Table[Any], Table[Any]], Result], first: Type[Any], second: Type[Any]
+) -> Callable[[Lines], Result]:
     """What reads a result of two tables of these records, with an empty line between."""
 
     def read(lines: Lines) -> Result:
@@ -256,13 +261,17 @@ def read_two(kind: Callable[[Table[Any], Table[Any]], Result], first: Type[Any],
 
 
 def read_rescues(lines: Lines) -> Rescues:
-    """What saves each bank in default, and whom that saves besides, of whom there are as many as the first table says."""
+    """What saves each bank in default, and whom that saves besides, of whom there are as many as the first table
+    says."""
     banks = lines.table(Saving)
     lines.take("")
     saved = lines.table(Saved)
-    told = [name for name, count in zip(banks.column("bank"), banks.column("also_saved")) for _ in range(count)]
+    counts = banks.column("also_saved")
+    if sum(counts) != len(saved):
+        raise TextError(0, f"{len(saved)} pairs in place of those that the first table counts, {sum(counts)} in all")
+    told = [name for name, count in zip(banks.column("bank"), counts) for _ in range(count)]
     if saved.column("bank") != told:
-        raise TextError(0, f"{len(saved)} pairs in place of those that the first table counts, {len(told)} in all")
+        raise TextError(0, "the pairs are not those of the banks of the first table, in their order")
     return Rescues(banks, saved)
 
 
@@ -352,8 +361,8 @@ WORDS: Dict[str, Callable[[Lines], Result]] = {
 
 
 def parse(text: str) -> Result:
-    """The result that a text of the program says. What kind it is, the first line tells. No text at all is refused: a run
-    that failed leaves it, or `stress` without a scenario.
+    """The result that a text of the program says. What kind it is, the first line tells. No text at all is refused: a
+    run that failed leaves it, or `stress` without a scenario.
 
     >>> parse("debtor,creditor,class,claim,paid\\nA,B,1,10,7\\n").payments[0].paid
     7

@@ -18,9 +18,8 @@ class Parser(argparse.ArgumentParser):
 def parser_of(doc: Optional[str], **more: Any) -> Parser:
     """A parser of words whose help is a text: its first paragraph before the words, the rest behind them."""
     summary, _, rest = (doc or "").partition("\n\n")
-    return Parser(
-        description=summary, epilog=rest, formatter_class=argparse.RawDescriptionHelpFormatter, allow_abbrev=False, **more
-    )
+    layout = argparse.RawDescriptionHelpFormatter
+    return Parser(description=summary, epilog=rest, formatter_class=layout, allow_abbrev=False, **more)
 
 
 def parser_with(doc: Optional[str]) -> argparse.ArgumentParser:
@@ -62,7 +61,8 @@ def parse_most(parser: argparse.ArgumentParser, what: str, most: int) -> argpars
 
 
 def keep_inputs(inputs: Sequence[Optional[str]], outputs: Sequence[Optional[str]]) -> None:
-    """Fails where an output is one of the inputs, or another output. Who may not read the inputs may not read the outputs."""
+    """Fails where an output is one of the inputs, or another output. Who may not read the inputs may not read the
+    outputs."""
     files.READ.extend(name for name in inputs if name is not None)
     taken = [name for name in inputs if name is not None]
     for name in outputs:

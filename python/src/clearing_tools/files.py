@@ -1,26 +1,30 @@
-"""How the tools read and write files: texts as editors and spreadsheets leave them; no input is written over, and all files are
-written or none."""
+"""How the tools read and write files: texts as editors and spreadsheets leave them; no input is written over, and all
+files are written or none.
+
+A file is written by the descriptor of its folder, which is reached step by step: no step is a link of another user,
+and what another user puts in the place of a step later changes nothing.
+"""
 import contextlib
 import csv
 import errno
 import io
 import os
-import pathlib
 import re
+import secrets
 import shutil
 import stat
 import sys
-import tempfile
 from typing import IO, Any, Iterable, Iterator, List, Mapping, Optional, Sequence, Tuple, Union
 
 from .runner import Failed
 
 Content = Union[str, bytes, IO[bytes]]
+Contents = Union[Mapping[Any, Content], Iterable[Tuple[Any, Content]]]
 
 
 def text_of(name: Any) -> str:
-    """The text of a file, without the byte order mark and with the line ends LF that editors and spreadsheets change. Fails where it
-    cannot be read, or is not UTF-8."""
+    """The text of a file, without the byte order mark and with the line ends LF that editors and spreadsheets change.
+    Fails where it cannot be read, or is not UTF-8."""
     try:
         return bytes_of(name).decode("utf-8-sig").replace("\r\n", "\n")
     except (OSError, ValueError) as fault:
@@ -55,9 +59,11 @@ def csv_text(records: Iterable[Iterable[Any]]) -> str:
     return "".join(",".join(map(str, record)) + "\n" for record in records)
 
 
-def put(content: Union[str, bytes], output: Any = None, inputs: Sequence[Any] = (), status: int = 1, folders: bool = True) -> None:
-    """Writes a text, or bytes, to a file whole or not at all, and never over an input; or to standard output where there is no name.
-    Fails with this status."""
+def put(
+    content: Union[str, bytes], output: Any = None, inputs: Sequence[Any] = (), status: int = 1, folders: bool = True
+) -> None:
+    """Writes a text, or bytes, to a file whole or not at all, and never over an input; or to standard output where
+    there is no name. Fails with this status."""
     if output is not None:
         try:
             write_all({output: content}, inputs, folders)
@@ -71,29 +77,29 @@ def put(content: Union[str, bytes], output: Any = None, inputs: Sequence[Any] = 
         raise Failed(f"cannot write the output: {fault.strerror}", status) from fault
 
 
-def write_all(texts: Union[Mapping[Any, Content], Iterable[Tuple[Any, Content]]], inputs: Sequence[Any] = (), folders: bool = True) -> None:
-    """Writes a text, bytes, or what a file that is open has, to each of some files, given by a dict or by pairs; their folders
-    are made where they are not there, unless `folders` is false.
+def write_all(texts: Contents, inputs: Sequence[Any] = (), folders: bool = True) -> None:
+    """Writes a text, bytes, or what a file that is open has, to each of some files, given by a dict or by pairs; their
+    folders are made where they are not there, unless `folders` is false.
 
-    Fails at two names for one file, a file that is one of the inputs (by any name or link), a folder, a file that may not
-    be written, and a link or a pipe of another user. A file of one's own keeps its mode, without setuid; a new one is for nobody
-    to read who may not read all inputs. It is written beside its place and moved there when all are written, so that a
-    fault leaves each file as it was. A stream, such as /dev/stdout, is written before anything is moved. A link of one's own
-    or the system's is followed."""
+    Fails at two names for one file, a file that is one of the inputs (by any name or link), a folder, a file that may
+    not be written, and a link or a pipe of another user. A file of one's own keeps its mode, without setuid; a new one
+    is for nobody to read who may not read all inputs. It is written beside its place and moved there when all are
+    written, so that a fault leaves each file as it was. A stream, such as /dev/stdout, is written before anything is
+    moved. A link of one's own or the system's is followed."""
     pairs = texts.items() if isinstance(texts, Mapping) else texts
     contents = [(os.fspath(name), text.encode() if isinstance(text, str) else text) for name, text in pairs]
     check_apart([name for name, _ in contents], [os.fspath(name) for name in inputs if name is not None])
-    with contextlib.ExitStack() as undo:
-        mode = mode_of_new(inputs)
-        ready = [Ready(name, text, undo, mode, folders) for name, text in contents if not is_stream(name)]
+    with contextlib.ExitStack() as closing, contextlib.ExitStack() as undo:
+        mode = 0o666 & ~mask_of(inputs)
+        ready = [Ready(name, text, undo, closing, mode, folders) for name, text in contents if not is_stream(name)]
         for name, text in contents:
             if is_stream(name):
                 write_stream(name, text)
         for file in ready:
             file.move(undo)
         undo.pop_all()
-    for file in ready:
-        file.forget()
+        for file in ready:
+            file.forget()
 
 
 def check_apart(names: Sequence[str], inputs: Sequence[str] = ()) -> None:
@@ -140,61 +146,169 @@ def is_others(about: os.stat_result) -> bool:
     return about.st_uid not in (0, os.geteuid())
 
 
+# The way to a file.
+
+MOST_LINKS = 40
+NEW = os.O_WRONLY | os.O_CREAT | os.O_EXCL | os.O_CLOEXEC
+STEP = os.O_PATH | os.O_DIRECTORY | os.O_NOFOLLOW | os.O_CLOEXEC
+
+
+class Way:
+    """The way to a file, step by step: `folder` is the descriptor of the folder that it stands in, and `last` its name
+    there, which is that of no link. Folders that are not there are made where `undo` is given, which removes them
+    again."""
+
+    def __init__(self, name: str, undo: Optional[contextlib.ExitStack] = None) -> None:
+        self.name, self.undo = name, undo
+        self.links = 0
+        # The folders that were gone through, the last of which is here, and the names that are left.
+        self.steps = [os.open("/" if os.path.isabs(name) else ".", STEP)]
+        self.left = [part for part in name.split("/")[::-1] if part not in ("", ".")]
+        self.last = "."
+        try:
+            self.go()
+        except BaseException:
+            self.close()
+            raise
+
+    @property
+    def folder(self) -> int:
+        """The descriptor of the folder in which the file stands."""
+        return self.steps[-1]
+
+    def close(self) -> None:
+        """Lets go of all folders."""
+        while self.steps:
+            os.close(self.steps.pop())
+
+    def go(self) -> None:
+        """Goes as far as the last name."""
+        while self.left:
+            part = self.left.pop()
+            if part == "..":
+                self.up()
+            elif not self.follow(part):
+                if not self.left:
+                    self.last = part
+                else:
+                    self.enter(part)
+
+    def up(self) -> None:
+        """Goes back a step; above the first, to the folder that it stands in."""
+        above = os.open("..", STEP, dir_fd=self.folder) if len(self.steps) == 1 else None
+        os.close(self.steps.pop())
+        if above is not None:
+            self.steps.append(above)
+
+    def follow(self, part: str) -> bool:
+        """Whether a name is that of a link, whose target is then what is left to go. The link is looked at and read by
+        one descriptor."""
+        try:
+            number = os.open(part, os.O_PATH | os.O_NOFOLLOW | os.O_CLOEXEC, dir_fd=self.folder)
+        except OSError:
+            return False
+        try:
+            about = os.fstat(number)
+            if not stat.S_ISLNK(about.st_mode):
+                return False
+            self.links += 1
+            if is_others(about) or self.links > MOST_LINKS:
+                raise Failed(f"cannot write {self.name}: {part} is a link of another user")
+            target = os.readlink("", dir_fd=number)
+        finally:
+            os.close(number)
+        if target.startswith("/"):
+            self.close()
+            self.steps.append(os.open("/", STEP))
+        self.left += [each for each in target.split("/")[::-1] if each not in ("", ".")]
+        return True
+
+    def enter(self, part: str) -> None:
+        """Goes into a folder, which is made where it is not there."""
+        try:
+            number = os.open(part, STEP, dir_fd=self.folder)
+        except FileNotFoundError:
+            if self.undo is None:
+                raise
+            os.mkdir(part, dir_fd=self.folder)
+            above = os.dup(self.folder)
+            self.undo.callback(remove_folder, part, above)
+            number = os.open(part, STEP, dir_fd=self.folder)
+        self.steps.append(number)
+
+    def about(self) -> Optional[os.stat_result]:
+        """What stands at the end of the way, if anything."""
+        try:
+            return os.stat(self.last, dir_fd=self.folder, follow_symlinks=False)
+        except FileNotFoundError:
+            return None
+
+
 def check_own(name: str) -> None:
-    """Fails at a link of another user on the way to a file, and at what is neither a file nor a stream, or a pipe of another user."""
+    """Fails at a link of another user on the way to a file, and at what is neither a file nor a stream, or a pipe of
+    another user."""
     if DESCRIPTOR.fullmatch(os.path.abspath(name)):
         return
-    here, left, links = "/", os.path.join(os.getcwd(), name).split("/")[::-1], 0
-    while left:
-        part = left.pop()
-        if part in ("", "."):
-            continue
-        place = os.path.dirname(here) if part == ".." else os.path.join(here, part)
-        with contextlib.suppress(OSError):
-            about = os.lstat(place)
-            if stat.S_ISLNK(about.st_mode):
-                links += 1
-                if is_others(about) or links > 40:
-                    raise Failed(f"cannot write {name}: {place} is a link of another user")
-                target = os.readlink(place)
-                here, left = "/" if target.startswith("/") else here, left + target.split("/")[::-1]
-                continue
-        here = place
-    with contextlib.suppress(OSError):
-        about = os.stat(name)
-        if stat.S_ISFIFO(about.st_mode) and is_others(about):
-            raise Failed(f"cannot write {name}: it is a pipe of another user")
-        if stat.S_ISBLK(about.st_mode) or stat.S_ISSOCK(about.st_mode):
-            raise Failed(f"cannot write {name}: it is no file")
+    try:
+        with contextlib.closing(Way(name)) as way:
+            about = way.about()
+    except (OSError, ValueError):
+        # It is told where it is to be written.
+        return
+    if about is not None:
+        check_kind(name, about)
+
+
+def check_kind(name: str, about: os.stat_result) -> None:
+    """Fails at what is neither a file nor a stream, or a pipe of another user."""
+    if stat.S_ISFIFO(about.st_mode) and is_others(about):
+        raise Failed(f"cannot write {name}: it is a pipe of another user")
+    if stat.S_ISBLK(about.st_mode) or stat.S_ISSOCK(about.st_mode):
+        raise Failed(f"cannot write {name}: it is no file")
 
 
 READ: List[str] = []
 """Inputs of the tool beside those that are named with a file."""
 
 
-def mode_of_new(inputs: Sequence[Any] = ()) -> int:
-    """The mode of a new file that is made of some inputs: who may not read one of them may not read it."""
+def mask_of(inputs: Iterable[Any] = ()) -> int:
+    """What a new file that is made of some inputs is not to be allowed: what this user's mask says, and for whom one
+    of them is not to be read."""
     mask = os.umask(0)
     os.umask(mask)
-    mode = 0o666 & ~mask
     for name in (*inputs, *READ):
-        with contextlib.suppress(OSError, TypeError):
+        with contextlib.suppress(OSError, TypeError, ValueError):
             about = os.stat(name)
             if stat.S_ISREG(about.st_mode):
-                for group in (0o070, 0o007):
-                    mode &= ~(0 if about.st_mode & group & 0o044 else group)
-    return mode
+                mask |= sum(group for group in (0o070, 0o007) if not about.st_mode & group & 0o044)
+    return mask
 
 
 def write_stream(name: str, content: Union[bytes, IO[bytes]]) -> None:
-    """Writes to a stream or a device. One that is open is written as it is, so that what others write to it stands behind."""
+    """Writes to a stream or a device. One that is open is written as it is, so that what others write to it stands
+    behind."""
     with told(name):
         for stream in (sys.stdout, sys.stderr):
             if stream is not None:
                 stream.flush()
         number = descriptor_of(name)
-        with open(name, "ab") if number is None else open(number, "wb", closefd=False) as file:
+        with opened_stream(name) if number is None else open(number, "wb", closefd=False) as file:
             put_into(file, content)
+
+
+def opened_stream(name: str) -> IO[bytes]:
+    """A pipe or a device, opened by the descriptor of its folder; what stands there by then is no file of another
+    kind."""
+    if DESCRIPTOR.fullmatch(os.path.abspath(name)):
+        return open(name, "ab")
+    with contextlib.closing(Way(name)) as way:
+        number = os.open(way.last, os.O_WRONLY | os.O_APPEND | os.O_NOFOLLOW | os.O_NOCTTY, dir_fd=way.folder)
+    file = open(number, "wb")
+    about = os.fstat(number)
+    if not (stat.S_ISCHR(about.st_mode) or stat.S_ISFIFO(about.st_mode) and not is_others(about)):
+        file.close()
+        raise OSError(errno.EINVAL, "it is no stream any more")
+    return file
 
 
 def put_into(file: IO[bytes], content: Union[bytes, IO[bytes]]) -> None:
@@ -221,81 +335,89 @@ def told(name: str) -> Iterator[None]:
     """A fault of the system becomes a message with the name of the file."""
     try:
         yield
-    except OSError as error:
-        raise Failed(f"cannot write {name}: {error.strerror or error}") from error
+    except (OSError, ValueError) as error:
+        raise Failed(f"cannot write {name}: {getattr(error, 'strerror', None) or error}") from error
 
 
-def remove(path: Any) -> None:
-    """Removes a file where it is there."""
+def remove(name: str, folder: int) -> None:
+    """Removes a file of a folder where it is there."""
     with contextlib.suppress(OSError):
-        os.unlink(path)
+        os.unlink(name, dir_fd=folder)
+
+
+def remove_folder(name: str, above: int) -> None:
+    """Removes a folder where it is there and empty, and lets go of the one above it."""
+    with contextlib.suppress(OSError):
+        os.rmdir(name, dir_fd=above)
+    os.close(above)
 
 
 class Ready:
     """A file that is written beside its place, and not moved there yet."""
 
     def __init__(
-        self, name: str, text: Union[bytes, IO[bytes]], undo: contextlib.ExitStack, mode: int, folders: bool = True
+        self,
+        name: str,
+        content: Union[bytes, IO[bytes]],
+        undo: contextlib.ExitStack,
+        closing: contextlib.ExitStack,
+        mode: int,
+        folders: bool = True,
     ) -> None:
-        self.name, self.place = name, pathlib.Path(os.path.realpath(name))
+        self.name = name
+        self.part = f".part-{secrets.token_hex(8)}"
         self.kept: Optional[str] = None
         with told(name):
-            if self.place.exists() and not os.access(self.place, os.W_OK):
-                raise PermissionError(13, "Permission denied")
-            if folders:
-                make_folder(self.place.parent, undo)
-            handle, self.part = tempfile.mkstemp(prefix=".part-", dir=self.place.parent)
-            undo.callback(remove, self.part)
-            with open(handle, "wb") as file:
-                put_into(file, text)
-                os.fchmod(handle, self.mode(mode))
+            self.way = closing.enter_context(contextlib.closing(Way(name, undo if folders else None)))
+            about = self.way.about()
+            if about is not None:
+                check_kind(name, about)
+                if not os.access(self.way.last, os.W_OK, dir_fd=self.way.folder):
+                    raise PermissionError(13, "Permission denied")
+            number = os.open(self.part, NEW, 0o600, dir_fd=self.way.folder)
+            undo.callback(remove, self.part, self.way.folder)
+            with open(number, "wb") as file:
+                put_into(file, content)
+                os.fchmod(number, self.mode(about, mode))
 
-    def mode(self, new: int) -> int:
+    def mode(self, about: Optional[os.stat_result], new: int) -> int:
         """The mode of the file of one's own that stands there, without setuid, or that of a new one."""
-        with contextlib.suppress(FileNotFoundError):
-            about = self.place.stat()
-            if about.st_uid == os.geteuid():
-                return stat.S_IMODE(about.st_mode) & 0o777
-        return new
+        is_own = about is not None and about.st_uid == os.geteuid()
+        return stat.S_IMODE(about.st_mode) & 0o777 if about is not None and is_own else new
+
+    def replace(self, old: str, new: str) -> None:
+        """Gives a file of the folder another name there."""
+        os.replace(old, new, src_dir_fd=self.way.folder, dst_dir_fd=self.way.folder)
 
     def move(self, undo: contextlib.ExitStack) -> None:
         """Moves the file into its place. What stood there comes back where a later step fails."""
         with told(self.name):
-            if self.place.exists():
-                self.kept = f"{self.part}-kept"
-                undo.callback(remove, self.kept)
-                try:
-                    os.link(self.place, self.kept, follow_symlinks=False)
-                except FileExistsError:
-                    raise
-                except OSError:
-                    with open(self.place, "rb") as old, open(self.kept, "xb") as copy:
-                        shutil.copyfileobj(old, copy)
-                        os.fchmod(copy.fileno(), stat.S_IMODE(os.fstat(old.fileno()).st_mode))
-                os.replace(self.part, self.place)
-                undo.callback(os.replace, self.kept, self.place)
-            else:
-                os.replace(self.part, self.place)
-                undo.callback(remove, self.place)
+            if self.way.about() is None:
+                self.replace(self.part, self.way.last)
+                undo.callback(remove, self.way.last, self.way.folder)
+                return
+            self.kept = f"{self.part}-kept"
+            undo.callback(remove, self.kept, self.way.folder)
+            self.keep(self.kept)
+            self.replace(self.part, self.way.last)
+            undo.callback(self.replace, self.kept, self.way.last)
+
+    def keep(self, name: str) -> None:
+        """Has what stands there under another name too."""
+        folder = self.way.folder
+        try:
+            os.link(self.way.last, name, src_dir_fd=folder, dst_dir_fd=folder, follow_symlinks=False)
+        except FileExistsError:
+            raise
+        except OSError:
+            old = os.open(self.way.last, os.O_RDONLY | os.O_NOFOLLOW | os.O_NONBLOCK, dir_fd=folder)
+            with open(old, "rb") as before:
+                new = os.open(name, NEW, 0o600, dir_fd=folder)
+                with open(new, "wb") as copy:
+                    shutil.copyfileobj(before, copy)
+                    os.fchmod(new, stat.S_IMODE(os.fstat(old).st_mode))
 
     def forget(self) -> None:
         """Removes what stood there before."""
         if self.kept:
-            remove(self.kept)
-
-
-def make_folder(folder: pathlib.Path, undo: contextlib.ExitStack) -> None:
-    """Makes a folder, and those above it that are not there; they go again where a later step fails."""
-    missing = []
-    while not folder.exists():
-        missing.append(folder)
-        folder = folder.parent
-    for path in reversed(missing):
-        path.mkdir()
-        undo.callback(remove_folder, path)
-
-
-def remove_folder(path: pathlib.Path) -> None:
-    """Removes a folder where it is there and empty."""
-    with contextlib.suppress(OSError):
-        path.rmdir()
+            remove(self.kept, self.way.folder)

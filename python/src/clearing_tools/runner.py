@@ -1,10 +1,11 @@
 """How a tool runs: its exception with a status, the program and its runs side by side, what it says, and its end.
 
-The program is that of the environment variable CLEARING, else the one of the repository or the installation that the package stands
-in, else `clearing` on the path, whose absolute entries alone are looked at. It runs once for each processor at a time, each run by one worker. On a terminal a line on standard
-error says how many runs are done. At an interrupt all runs are ended at once, and the tool ends with 130.
+The program is that of the environment variable CLEARING, else the one of the repository or the installation that the
+package stands in, else `clearing` on the path, whose absolute entries alone are looked at. It runs once for each
+processor at a time, each run by one worker. On a terminal a line on standard error says how many runs are done. At an
+interrupt all runs are ended at once, and the tool ends with 130.
 
-It imports the standard library alone, so that evidence is checked by `evidence/` and this file.
+It imports the standard library alone, so that evidence is checked by `evidence/`, `files.py` and this file.
 """
 import contextlib
 import functools
@@ -13,6 +14,7 @@ import os
 import pathlib
 import queue
 import re
+import resource
 import shutil
 import signal
 import subprocess
@@ -20,12 +22,13 @@ import sys
 import tempfile
 import threading
 import time
-from typing import Any, Callable, Iterable, Iterator, List, Optional, Sequence, Set, Tuple, TypeVar
+from typing import Any, Callable, Iterable, Iterator, List, NamedTuple, Optional, Sequence, Set, Tuple, TypeVar
 
 PACKAGES, ROOT = (pathlib.Path(__file__).resolve().parents[above] for above in (1, 3))
 """The repository, or what stands for it where the package is installed."""
 STANDS = PACKAGES == ROOT / "python" / "src"
-"""Whether the packages stand in a repository, or in an installation: elsewhere nothing that is in ROOT is run or asked."""
+"""Whether the packages stand in a repository, or in an installation: elsewhere nothing that is in ROOT is run or
+asked."""
 
 
 T = TypeVar("T")
@@ -45,18 +48,76 @@ def on_path(name: str) -> Optional[str]:
     return shutil.which(name, path=os.pathsep.join(filter(os.path.isabs, os.get_exec_path())))
 
 
+def said_by(*words: str, folder: Any = None, seconds: float = 30) -> Optional[str]:
+    """What a command of the system prints, without blanks at its ends, or nothing where it is not there or fails."""
+    found = on_path(words[0])
+    if found is None:
+        return None
+    try:
+        done = subprocess.run(
+            [found, *words[1:]], cwd=folder, stdin=subprocess.DEVNULL, capture_output=True, timeout=seconds
+        )
+        return done.stdout.decode().strip() if done.returncode == 0 else None
+    except (OSError, ValueError, subprocess.TimeoutExpired):
+        return None
+
+
+BUILD = "--build"
+WAYS = (
+    "to have the program install the wheel of a release: pip install FILE.whl",
+    f"or build it in the repository: ./clearing, or this command with {BUILD}; it proves first, for 15 to 30 minutes",
+)
+"""What to do where there is no program."""
+MAY_BUILD: List[bool] = []
+"""Has something where the command line said that the program may be built."""
+
+
+@functools.lru_cache(maxsize=None)
+def built(script: str) -> str:
+    """The repository's script, once its program is built. That takes long, so it is built where that was said on the
+    command line or at the terminal alone; else this fails with 8. Installed, it is the program itself, which knows
+    nothing of that."""
+    environment = {**os.environ, "CLEARING_BUILD": "never"}
+    done = subprocess.run([script], env=environment, stdin=subprocess.DEVNULL, capture_output=True)
+    if done.returncode != 8:
+        return script
+    why = done.stderr.decode("utf-8", "replace").strip().removeprefix("clearing: ")
+    if not (MAY_BUILD or says_yes(why)):
+        raise Failed(why, 8, WAYS)
+    example = ROOT / "examples/chain"
+    words = [script, "check", "--banks", str(example / "banks.csv"), "--debts", str(example / "debts.csv")]
+    # How far it is the script says itself.
+    if subprocess.run(words, stdin=subprocess.DEVNULL, stdout=subprocess.DEVNULL).returncode:
+        raise Failed("the program cannot be built", 8)
+    return script
+
+
+def says_yes(why: str) -> bool:
+    """Whether somebody at the terminal wants the program built."""
+    if not (sys.stdin and sys.stdin.isatty() and sys.stderr and sys.stderr.isatty()):
+        return False
+    say(why)
+    question = "build it now? It proves first, for 15 to 30 minutes [y/N] "
+    print(f"{tool_name()}: {question}", end="", file=sys.stderr, flush=True)
+    return sys.stdin.readline().strip().lower() in ("y", "yes")
+
+
 def program() -> str:
     """The program: an absolute name, and never that of one without a proof."""
     named = os.environ.get("CLEARING") or "clearing"
-    beside = ROOT / "clearing"
+    beside, packed = ROOT / "clearing", PACKAGES / "clearing_client/bin/clearing"
     if os.sep in named:
         found: Optional[str] = os.path.abspath(named)
+    elif not os.environ.get("CLEARING") and os.access(packed, os.X_OK):
+        # The one that came in the wheel.
+        found = str(packed)
     elif not os.environ.get("CLEARING") and STANDS and beside.is_file():
-        found = str(beside)
+        found = built(str(beside))
     else:
         found = on_path(named)
     if found is None:
-        raise Failed(f"cannot run {named}: it is on no absolute entry of the path; CLEARING names the program")
+        why = "it is on no absolute entry of the path; CLEARING names the program"
+        raise Failed(f"cannot run {named}: {why}", 8, WAYS)
     if os.path.basename(os.path.realpath(found)) == "first-look":
         raise Failed(f"{named} is a first look, which is not proved; name the proved program by CLEARING", 2)
     return found
@@ -88,25 +149,59 @@ def ends_at_once() -> None:
         signal.signal(signal.SIGINT, stop)
 
 
-class Asking:
-    """Runs of the program, side by side."""
+class Limits(NamedTuple):
+    """What a run may take: seconds of a processor, and bytes of memory, where that has a limit."""
 
-    def __init__(self) -> None:
+    seconds: int
+    memory: int = resource.RLIM_INFINITY
+
+    def put_on(self, process: int = 0) -> None:
+        """Limits a process that has begun, or this one; a lower limit that it may not pass stays."""
+        for what, most in ((resource.RLIMIT_AS, self.memory), (resource.RLIMIT_CPU, self.seconds)):
+            # One that has ended needs none.
+            with contextlib.suppress(OSError):
+                _, hard = resource.prlimit(process, what)
+                resource.prlimit(process, what, (most if hard == resource.RLIM_INFINITY else min(most, hard), hard))
+
+
+@contextlib.contextmanager
+def limited_memory(most: int) -> Iterator[None]:
+    """Has this process, and what it starts, take no more than so many bytes of memory."""
+    soft, hard = resource.getrlimit(resource.RLIMIT_AS)
+    known = [each for each in (most, soft, hard) if each != resource.RLIM_INFINITY]
+    resource.setrlimit(resource.RLIMIT_AS, (min(known), hard))
+    try:
+        yield
+    finally:
+        resource.setrlimit(resource.RLIMIT_AS, (soft, hard))
+
+
+class Asking:
+    """Runs of the program, side by side, each within limits where there are some."""
+
+    def __init__(self, limits: Optional[Limits] = None) -> None:
         self.running: Set["subprocess.Popen[bytes]"] = set()
-        self.lock, self.stopped = threading.Lock(), False
+        self.lock, self.stopped, self.limits = threading.Lock(), False, limits
 
     def run(self, command: Sequence[str], folder: Any = None) -> Tuple[int, bytes, bytes]:
         """The status, output and messages of a command, as bytes."""
-        with self.lock:
+        return self.run_on(None, command, folder)
+
+    def run_on(self, given: Any, command: Sequence[str], folder: Any = None) -> Tuple[int, bytes, bytes]:
+        """The same of a command whose standard input is a file."""
+        with self.lock, contextlib.ExitStack() as opened:
             if self.stopped:
                 raise KeyboardInterrupt
             try:
+                stdin = opened.enter_context(open(os.devnull if given is None else given, "rb"))
                 child = subprocess.Popen(
-                    command, cwd=folder, stdin=subprocess.DEVNULL, stdout=subprocess.PIPE, stderr=subprocess.PIPE
+                    command, cwd=folder, stdin=stdin, stdout=subprocess.PIPE, stderr=subprocess.PIPE
                 )
             except (OSError, ValueError) as fault:
                 raise Failed(f"cannot run {command[0]}: {fault}") from fault
             self.running.add(child)
+            if self.limits is not None:
+                self.limits.put_on(child.pid)
         try:
             output, messages = self.wait_for(child)
         except BaseException:
@@ -145,8 +240,8 @@ class Asking:
                 child.kill()
 
     def all(self, work: Callable[[T], R], given: Iterable[T], what: str) -> List[R]:
-        """What the work gives for each item, in their order, as many at a time as there are processors. At a fault all runs are
-        ended, and no work goes on behind it, so that the folder in which it writes can be removed."""
+        """What the work gives for each item, in their order, as many at a time as there are processors. At a fault all
+        runs are ended, and no work goes on behind it, so that the folder in which it writes can be removed."""
         items = list(given)
         found: List[Any] = [None] * len(items)
         left: "queue.SimpleQueue[int]" = queue.SimpleQueue()
@@ -199,7 +294,8 @@ class Progress:
     def tell(self) -> None:
         """Shows how far the runs are."""
         if self.shown:
-            print(f"\r\033[K{tool_name()}: {self.what} {self.done} of {self.count}", end="", file=sys.stderr, flush=True)
+            line = f"\r\033[K{tool_name()}: {self.what} {self.done} of {self.count}"
+            print(line, end="", file=sys.stderr, flush=True)
 
     def one_more(self) -> None:
         """Counts a run that is done."""
@@ -221,11 +317,12 @@ def groups_of(items: Iterable[T], most: int = 100) -> List[List[T]]:
 
 # What is said to people.
 
-# Signs that are not seen, or that turn the letters beside them: controls, marks of direction, joiners, blanks of another width, fillers
-# and selectors of a form, and codes that are no characters. Each is the first and last code of a range.
+# Signs that are not seen, or that turn the letters beside them: controls, marks of direction, joiners, blanks of
+# another width, fillers and selectors of a form, and codes that are no characters. Each is the first and last code of
+# a range.
 HIDDEN = (
-    "0-9 B-1F 7F-A0 AD 34F 61C 115F-1160 1680 17B4-17B5 180B-180F 2000-200F 2028-202F 205F-206F 2800 3000 3164 FDD0-FDEF FE00-FE0F FEFF"
-    " FFA0 FFF0-FFFB FFFE-FFFF 13430-1343F 1BCA0-1BCA3 1D173-1D17A E0000-E0FFF "
+    "0-9 B-1F 7F-A0 AD 34F 61C 115F-1160 1680 17B4-17B5 180B-180F 2000-200F 2028-202F 205F-206F 2800 3000 3164"
+    " FDD0-FDEF FE00-FE0F FEFF FFA0 FFF0-FFFB FFFE-FFFF 13430-1343F 1BCA0-1BCA3 1D173-1D17A E0000-E0FFF "
     + " ".join(f"{plane:X}FFFE-{plane:X}FFFF" for plane in range(1, 17))
 )
 
@@ -240,8 +337,8 @@ UNSEEN = re.compile(f"[{signs_of(HIDDEN)}]|(?<= ) |<(?=U\\+[0-9A-F]{{4,6}}>)")
 
 
 def shown(text: str) -> str:
-    """A text as it can be read: a sign that is not seen, or that turns the order of letters, stands as its code, such as <U+202E>, and
-    so does a blank behind a blank. Two texts that differ are shown differently."""
+    """A text as it can be read: a sign that is not seen, or that turns the order of letters, stands as its code, such
+    as <U+202E>, and so does a blank behind a blank. Two texts that differ are shown differently."""
     return UNSEEN.sub(lambda found: f"<U+{ord(found[0]):04X}>", text)
 
 
@@ -285,8 +382,9 @@ def tool_name() -> str:
 
 
 def command(named: Optional[str] = None) -> Callable[[Callable[[], Optional[int]]], Callable[[], None]]:
-    """Makes the command of a tool: it does its work, tells what it cannot do, and ends with the status. The tool speaks of itself by
-    the name of its file, or by another that is given here, unless it was installed under a name of its own."""
+    """Makes the command of a tool: it does its work, tells what it cannot do, and ends with the status. The tool
+    speaks of itself by the name of its file, or by another that is given here, unless it was installed under a name of
+    its own."""
 
     def make(work: Callable[[], Optional[int]]) -> Callable[[], None]:
         @functools.wraps(work)
@@ -295,6 +393,9 @@ def command(named: Optional[str] = None) -> Callable[[Callable[[], Optional[int]
             NAME = pathlib.Path(sys.argv[0]).name
             if named and (NAME.endswith(".py") or NAME == "-c"):
                 NAME = named
+            if BUILD in sys.argv[1:]:
+                sys.argv.remove(BUILD)
+                MAY_BUILD.append(True)
             try:
                 with_streams()
                 ends_at_once()
@@ -330,8 +431,8 @@ def status_of(work: Callable[[], Optional[int]]) -> int:
 
 
 def with_streams() -> None:
-    """Has the three standard streams where one is closed, so that no file takes its number. What is written to standard output is a
-    fault then."""
+    """Has the three standard streams where one is closed, so that no file takes its number. What is written to
+    standard output is a fault then."""
     for number, way in ((0, os.O_RDONLY), (1, os.O_RDONLY), (2, os.O_WRONLY)):
         try:
             os.fstat(number)

@@ -1,5 +1,5 @@
-"""What the tools read: the program's texts, by the one parser, which is `clearing_client.texts`, and the files of a network as
-records. The banks and debts of a text, and what follows from them. Amounts are whole units of account."""
+"""What the tools read: the program's texts, by the one parser, which is `clearing_client.texts`, and the files of a
+network as records. The banks and debts of a text, and what follows from them. Amounts are whole units of account."""
 import csv
 import io
 from typing import Any, Collection, Dict, Iterator, List, Mapping, NamedTuple, Optional, Sequence, Set, Tuple
@@ -65,8 +65,8 @@ def lines_in(name: Any) -> Iterator[str]:
 
 
 def parsed(name: Any, text: str) -> Result:
-    """The result that a text of the program says, which was read from a file. A text without the end of its last line was cut short,
-    and is refused."""
+    """The result that a text of the program says, which was read from a file. A text without the end of its last line
+    was cut short, and is refused."""
     try:
         return texts.parse(text)
     except TextError as fault:
@@ -103,7 +103,9 @@ def read_banks(name: Any, outside: Optional[Mapping[str, int]] = None) -> List[B
     return banks_of(name, read_standings(name), 2, outside)
 
 
-def table_of(name: Any, header: str, lines: Sequence[str], first: int, outside: Optional[Mapping[str, int]] = None) -> List[Bank]:
+def table_of(
+    name: Any, header: str, lines: Sequence[str], first: int, outside: Optional[Mapping[str, int]] = None
+) -> List[Bank]:
     """The banks of the lines of a table of defaults, the first of which has that number in the file."""
     try:
         standings = texts.records_of(Standing, lines, first, "" if header == texts.STANDINGS_2 else "outside_paid")
@@ -112,7 +114,9 @@ def table_of(name: Any, header: str, lines: Sequence[str], first: int, outside: 
     return banks_of(name, standings, first, outside)
 
 
-def banks_of(name: Any, standings: Table[Standing], first: int, outside: Optional[Mapping[str, int]] = None) -> List[Bank]:
+def banks_of(
+    name: Any, standings: Table[Standing], first: int, outside: Optional[Mapping[str, int]] = None
+) -> List[Bank]:
     """Standings as banks, which know what they owe outside as far as that is to be known."""
     banks = []
     for at, bank in enumerate(standings, first):
@@ -122,7 +126,8 @@ def banks_of(name: Any, standings: Table[Standing], first: int, outside: Optiona
             if bank.bank not in outside:
                 raise Failed(f"{name}: line {at}: the banks file has no bank {bank.bank!r}")
             due = outside[bank.bank]
-        banks.append(Bank(bank.bank, bank.estate, due, bank.outside_paid, bank.paid, bank.owed, bank.equity, bank.state))
+        paid = bank.outside_paid, bank.paid
+        banks.append(Bank(bank.bank, bank.estate, due, *paid, bank.owed, bank.equity, bank.state))
     return banks
 
 
@@ -150,7 +155,8 @@ def read_stress(name: Any) -> Tuple[Outcome, ...]:
 def records_in(name: Any, *headers: str) -> Tuple[List[str], List[Tuple[int, List[str]]]]:
     """The header of a file of a network, one of those, and its records, each with its row: the header is row 0."""
     try:
-        records = [[field.strip(" \t") for field in record] for record in csv.reader(io.StringIO(text_of(name), newline=""))]
+        reader = csv.reader(io.StringIO(text_of(name), newline=""))
+        records = [[field.strip(" \t") for field in record] for record in reader]
     except csv.Error as fault:
         raise Failed(f"{name}: {fault}") from fault
     records = [record for record in records if record]
@@ -171,13 +177,16 @@ def number(name: Any, row: int, text: str) -> int:
 
 
 def read_accounts(name: Any) -> Tuple[List[str], Dict[str, Dict[str, Any]]]:
-    """The columns of a banks file behind the names, `outside` in version 2 alone, and what each bank has in them, by its name."""
+    """The columns of a banks file behind the names, `outside` in version 2 alone, and what each bank has in them, by
+    its name."""
     header, rows = records_in(name, texts.BANKS_1, texts.BANKS_2)
     accounts: Dict[str, Dict[str, Any]] = {}
     for row, (bank, *fields) in rows:
         if bank in accounts:
             raise Failed(f"{name} row {row}: a second bank of the name {bank!r}")
-        accounts[bank] = {word: field if word == "rule" else number(name, row, field) for word, field in zip(header[1:], fields)}
+        accounts[bank] = {
+            word: field if word == "rule" else number(name, row, field) for word, field in zip(header[1:], fields)
+        }
     return header[1:], accounts
 
 

@@ -4,39 +4,46 @@ In:   --banks FILE --debts FILE    the network (docs/FORMATS.md)
       --journal FILE               what `clearing clear --show journal` prints, or a journal that anybody made
       --payments FILE              what `clearing clear` prints
       --defaults FILE              what `clearing defaults` prints
-Out:  a line for each thing looked at: `49 raises lawful`, `nobody can pay more`, `payments same`, `defaults same`, and what was
-      not checked. Where something is wrong the line says where, and the lines that would follow from it are left out.
+Out:  a line for each thing looked at: `49 raises lawful`, `nobody can pay more`, `payments same`, `defaults same`, and
+      what was not checked. Where something is wrong the line says where, and the lines that would follow from it are
+      left out.
 
-Ends with 0 where all holds; 1 where payments or defaults are not those of the journal; 2 where the words are not understood; 3 where
-a file cannot be read; 4 where a file is not of its format (its first fault is named as `clearing` names it); 5 where the output
-cannot be written; 7 where the journal is not lawful, or somebody can still pay; 130 at an interrupt.
+Ends with 0 where all holds; 1 where payments or defaults are not those of the journal; 2 where the words are not
+understood; 3 where a file cannot be read; 4 where a file is not of its format (its first fault is named as `clearing`
+names it); 5 where the output cannot be written; 7 where the journal is not lawful, or somebody can still pay; 130 at
+an interrupt.
 
-It shares no code with the program or with other tools. What follows is all that it stands on. All numbers are whole units.
+It shares no code with the program or with other tools. What follows is all that it stands on. All numbers are whole
+units.
 
-  Network. Banks, each with a name, cash, a rule, and what it owes outside; and debts, each with a debtor, a creditor, a class
-  of 1 to 9 and a claim. Payments say of each debt how much of its claim is paid.
+  Network. Banks, each with a name, cash, a rule, and what it owes outside; and debts, each with a debtor, a creditor,
+  a class of 1 to 9 and a claim. Payments say of each debt how much of its claim is paid.
 
-  Dividing. A bank divides its cash and what it has received, less what it owes outside; nothing where that is more. The classes 1
-  to 9 come in turn: each gets what is left, and at most its claims. Within a class units are given out one by one. A debt that
-  has all its claim is out. Of the others the next unit goes to the earliest, in file order, that none goes before. A debt of
-  claim c that has k units goes before one of claim d that has m units, by the bank's rule,
+  Dividing. A bank divides its cash and what it has received, less what it owes outside; nothing where that is more.
+  The classes 1 to 9 come in turn: each gets what is left, and at most its claims. Within a class units are given out
+  one by one. A debt that has all its claim is out. Of the others the next unit goes to the earliest, in file order,
+  that none goes before. A debt of claim c that has k units goes before one of claim d that has m units, by the bank's
+  rule,
 
       order  never                  jefferson  where c (m + 1) > d (k + 1)
       equal  where k < m            webster    where c (2 m + 1) > d (2 k + 1)
       losses where c - k > d - m    adams      where c m > d k
 
-  Clearing. Payments clear where every bank pays on each of its debts exactly what it gets so, from what these payments bring it.
-  Of all payments that clear there are the least: no others that clear pay less on any debt. They are what is asked for.
+  Clearing. Payments clear where every bank pays on each of its debts exactly what it gets so, from what these payments
+  bring it. Of all payments that clear there are the least: no others that clear pay less on any debt. They are what is
+  asked for.
 
-  Journal. Raises, one after another, from nothing paid. A raise of a debt to an amount is lawful where its stamp is not below that of
-  the raise before, and the amount is above what is paid on the debt, and at most what the debt gets when its debtor divides what it
-  has by then. Lawful raises never pass the least payments that clear. So where they end in payments that clear, where nobody
-  can pay more, these are the least, whoever made the journal and in whatever order. That is a law, proved in this repository:
-  raise_journal::laws::lawful_journals_pay_the_least (and clear_core::laws::standing_journal_stays_below_least).
+  Journal. Raises, one after another, from nothing paid. A raise of a debt to an amount is lawful where its stamp is
+  not below that of the raise before, and the amount is above what is paid on the debt, and at most what the debt gets
+  when its debtor divides what it has by then. Lawful raises never pass the least payments that clear. So where they
+  end in payments that clear, where nobody can pay more, these are the least, whoever made the journal and in whatever
+  order. That is a law, proved in this repository: raise_journal::laws::lawful_journals_pay_the_least (and
+  clear_core::laws::standing_journal_stays_below_least).
 
-  Standing. A bank's estate is its cash and what it received. Of it the bank pays outside what it owes there, as far as it goes; it
-  pays its debts; its equity is the rest. It is sound where it pays all that it owes. If not it is in default by its own
-  fundamentals where its cash and all claims on others are less than all that it owes, and else by contagion.
+  Standing. A bank's estate is its cash and what it received. Of it the bank pays outside what it owes there, as far as
+  it goes; it pays its debts; its equity is the rest. It is sound where it pays all that it owes. If not it is in
+  default by its own fundamentals where its cash and all claims on others are less than all that it owes, and else by
+  contagion.
 """
 import argparse
 import heapq
@@ -46,16 +53,52 @@ import math
 import os
 import re
 import sys
-from collections import namedtuple
+from typing import (
+    Callable, Dict, Iterable, Iterator, List, Mapping, NamedTuple, NoReturn, Optional, Sequence, Set, Tuple, Union,
+)
 
-Bank = namedtuple("Bank", "name cash rule outside")
-Debt = namedtuple("Debt", "debtor creditor rank claim")  # debtor and creditor by their place among the banks
-Network = namedtuple("Network", "banks debts")
-Verdict = namedtuple("Verdict", "kind numbers paid")  # of a journal: lawful, falls, unlawful or unfinished
+
+class Bank(NamedTuple):
+    """A bank: its name, cash and rule, and what it owes outside, in units."""
+
+    name: bytes
+    cash: int
+    rule: str
+    outside: int
+
+
+class Debt(NamedTuple):
+    """A debt: its debtor and creditor by their place among the banks, its class, and its claim in units."""
+
+    debtor: int
+    creditor: int
+    rank: int
+    claim: int
+
+
+class Network(NamedTuple):
+    """Banks, and the debts between them, in file order."""
+
+    banks: List[Bank]
+    debts: List[Debt]
+
+
+class Verdict(NamedTuple):
+    """The verdict on a journal: lawful, falls, unlawful or unfinished, with its numbers and what is paid on each
+    debt."""
+
+    kind: str
+    numbers: Tuple[int, ...]
+    paid: List[int]
+
+
+Raise = Tuple[int, int, int]
+"""A stamp, the place of a debt, and the amount that it is raised to."""
+Fields = List[bytes]
 
 KINDS = {
-    "header": 1, "fields": 2, "name": 3, "number": 4, "rule": 5, "limit": 6, "double bank": 7, "unknown bank": 8, "self debt": 9,
-    "class": 10, "double debt": 11, "too many": 12, "total": 13, "file size": 14, "unknown debt": 15,
+    "header": 1, "fields": 2, "name": 3, "number": 4, "rule": 5, "limit": 6, "double bank": 7, "unknown bank": 8,
+    "self debt": 9, "class": 10, "double debt": 11, "too many": 12, "total": 13, "file size": 14, "unknown debt": 15,
 }
 BANKS, BANKS_2 = b"name,cash,rule".split(b","), b"name,cash,rule,outside".split(b",")
 DEBTS, JOURNAL = b"debtor,creditor,class,claim".split(b","), b"stamp,debtor,creditor,class,to".split(b",")
@@ -63,7 +106,7 @@ SIZES = {"banks": 8_388_608, "debts": 8_388_608, "journal": 1_600_000_000}
 MOST_TABLE = 8_388_608  # no payments or defaults are longer
 
 
-def shown(text):
+def shown(text: Union[str, bytes]) -> str:
     """A text for one line of a terminal: what is not seen there, or would change how it is seen, stands as its code."""
     text = os.fsdecode(text)
     return "".join(c if c.isprintable() else f"<U+{ord(c):04X}>" for c in text)
@@ -72,14 +115,15 @@ def shown(text):
 class Parser(argparse.ArgumentParser):
     """A parser whose messages can be read, whatever the words are that it does not understand."""
 
-    def error(self, message):
+    def error(self, message: str) -> NoReturn:
+        """Tells the fault and ends with 2."""
         super().error(shown(message))
 
 
 class Refused(Exception):
     """The first fault of a file, as the program names it."""
 
-    def __init__(self, file, row, kind):
+    def __init__(self, file: str, row: int, kind: str) -> None:
         super().__init__(f"{file} row {row}: {kind} ({KINDS[kind]})")
 
 
@@ -92,19 +136,31 @@ QUOTES = re.compile(rb'"+')
 MOST_FIELDS = 6
 
 
-def quoted(data, at):
-    """The field that begins with a quote at a place, and the place behind it. Between quotes two quotes are one; what follows the closing
-    quote belongs to the field."""
+def quoted(data: bytes, at: int) -> Tuple[bytes, int]:
+    """The field that begins with a quote at a place, and the place behind it. Between quotes two quotes are one; what
+    follows the closing quote belongs to the field."""
     found = QUOTES.match(data, at)
     # An odd number of quotes at the start opens the field and leaves pairs; an even one closes it again.
-    if len(found[0]) % 2:
+    if found is not None and len(found[0]) % 2:
         found = next((each for each in QUOTES.finditer(data, found.end()) if len(each[0]) % 2), None)
     close = found.end() - 1 if found else len(data)
-    rest = PLAIN.match(data, close + 1)
-    return data[at + 1 : close].replace(b'""', b'"') + rest[0], rest.end()
+    rest, behind = plain(data, close + 1)
+    return data[at + 1 : close].replace(b'""', b'"') + rest, behind
 
 
-def records(data):
+def plain(data: bytes, at: int) -> Tuple[bytes, int]:
+    """What stands from a place up to a comma or the end of a line, and the place behind it."""
+    found = PLAIN.match(data, at)
+    return (found[0], found.end()) if found else (b"", at)
+
+
+def behind_line_ends(data: bytes, at: int) -> int:
+    """The place behind the ends of lines that stand at a place."""
+    found = LINE_ENDS.match(data, at)
+    return found.end() if found else at
+
+
+def records(data: bytes) -> Iterator[Fields]:
     """The records of a file: lists of fields without the spaces and tabs at their ends. A line with no byte is none."""
     data = data.removeprefix(b"\xef\xbb\xbf")
     if b'"' not in data:
@@ -115,15 +171,11 @@ def records(data):
                     fields[-1] = fields[-1].strip(b" \t,")
                 yield fields
         return
-    at = LINE_ENDS.match(data).end()
+    at = behind_line_ends(data, 0)
     while at < len(data):
         fields = []
         while True:
-            if data[at : at + 1] == b'"':
-                field, at = quoted(data, at)
-            else:
-                found = PLAIN.match(data, at)
-                field, at = found[0], found.end()
+            field, at = quoted(data, at) if data[at : at + 1] == b'"' else plain(data, at)
             field = field.strip(b" \t")
             if len(fields) <= MOST_FIELDS:
                 fields.append(field)
@@ -133,14 +185,14 @@ def records(data):
                 break
             at += 1
         yield fields
-        at = LINE_ENDS.match(data, at).end()
+        at = behind_line_ends(data, at)
 
 
-def rows(file, data, *headers):
+def rows(file: str, data: bytes, *headers: Fields) -> Iterator[Tuple[int, Fields]]:
     """First the header, then each record that has a field with a byte, with its row."""
     found = records(data)
     header = next(found, None)
-    if header not in headers:
+    if header is None or header not in headers:
         raise Refused(file, 0, "header")
     yield 0, header
     for row, fields in enumerate(found, 1):
@@ -148,12 +200,14 @@ def rows(file, data, *headers):
             yield row, fields
 
 
-def must(holds, file, row, kind):
+def must(holds: bool, file: str, row: int, kind: str) -> None:
+    """Refuses a record of which something does not hold."""
     if not holds:
         raise Refused(file, row, kind)
 
 
-def is_name(field):
+def is_name(field: bytes) -> bool:
+    """Whether a field is a name."""
     try:
         text = field.decode()
     except UnicodeDecodeError:
@@ -161,28 +215,33 @@ def is_name(field):
     return 1 <= len(field) <= 64 and not any(c in ',"' or c < " " or "\x7f" <= c <= "\x9f" for c in text)
 
 
-def number(field, most, file, row):
+def number(field: bytes, most: int, file: str, row: int) -> int:
+    """The number of a field, up to a limit."""
     must(field.isdigit() and len(field) <= 20, file, row, "number")
     found = int(field)
     must(found <= most, file, row, "limit")
     return found
 
 
-def bank_of(field, places, file, row):
+def bank_of(field: bytes, places: Mapping[bytes, int], file: str, row: int) -> int:
+    """The place of the bank that a field names."""
     must(is_name(field), file, row, "name")
     must(field in places, file, row, "unknown bank")
     return places[field]
 
 
-def rank_of(field, file, row):
+def rank_of(field: bytes, file: str, row: int) -> int:
+    """The class that a field says."""
     must(len(field) == 1 and field in b"123456789", file, row, "class")
     return int(field)
 
 
-def read_banks(data):
+def read_banks(data: bytes) -> List[Bank]:
+    """The banks of a banks file, of either version."""
     found = rows("banks", data, BANKS, BANKS_2)
     width = len(next(found)[1])
-    banks, names = [], set()
+    banks: List[Bank] = []
+    names: Set[bytes] = set()
     for row, fields in found:
         at = "banks", row
         must(len(banks) < 1000, *at, "too many")
@@ -197,11 +256,14 @@ def read_banks(data):
     return banks
 
 
-def read_debts(data, banks):
+def read_debts(data: bytes, banks: Sequence[Bank]) -> List[Debt]:
+    """The debts of a debts file."""
     found = rows("debts", data, DEBTS)
     next(found)
     places = {bank.name: place for place, bank in enumerate(banks)}
-    debts, seen, owed = [], set(), 0
+    debts: List[Debt] = []
+    seen: Set[Tuple[int, int, int]] = set()
+    owed = 0
     for row, fields in found:
         at = "debts", row
         must(len(debts) < 20_000, *at, "too many")
@@ -219,25 +281,28 @@ def read_debts(data, banks):
     return debts
 
 
-def check_sizes(files):
+def check_sizes(files: Mapping[str, bytes]) -> None:
     """The sizes of all files come before their contents."""
     for file, size in SIZES.items():
         must(len(files.get(file, b"")) <= size, file, 0, "file size")
 
 
-def read_network(banks_data, debts_data):
+def read_network(banks_data: bytes, debts_data: bytes) -> Network:
+    """The network of the two files."""
     check_sizes({"banks": banks_data, "debts": debts_data})
     banks = read_banks(banks_data)
     return Network(banks, read_debts(debts_data, banks))
 
 
 class Journal:
-    """The raises of a journal file, (stamp, debt, to) each. At their end `rounds` is the number of its last line, or None."""
+    """The raises of a journal file, (stamp, debt, to) each. At their end `rounds` is the number of its last line, or
+    None."""
 
-    def __init__(self, data, network):
-        self.data, self.network, self.rounds = data, network, None
+    def __init__(self, data: bytes, network: Network) -> None:
+        self.data, self.network = data, network
+        self.rounds: Optional[int] = None
 
-    def __iter__(self):
+    def __iter__(self) -> Iterator[Raise]:
         banks = self.network.banks
         places = {bank.name: place for place, bank in enumerate(banks)}
         debts = {
@@ -246,10 +311,12 @@ class Journal:
         }
         found = rows("journal", self.data, JOURNAL)
         next(found)
-        held, count = next(found, None), 0
+        held: Optional[Tuple[int, Fields]] = next(found, None)
+        count = 0
         while held is not None:
             (row, fields), held = held, next(found, None)
-            if held is None and len(fields) == 2 and fields[0] == b"rounds" and fields[1].isdigit() and len(fields[1]) <= 20:
+            is_end = held is None and len(fields) == 2 and fields[0] == b"rounds"
+            if is_end and fields[1].isdigit() and len(fields[1]) <= 20:
                 self.rounds = int(fields[1])
                 return
             must(count < 10_000_000, "journal", row, "too many")
@@ -267,10 +334,11 @@ class Journal:
 
 # Dividing.
 
-# For each unit of a claim c but the first k, up to the last, a key: the unit with the smallest is given out next, of those with the
-# same key that of the earliest debt. A debt that has k units goes before another exactly where the key of its next unit is smaller. Two
-# fractions of claims up to 10^6 that differ do so by at least 10^-12, so that 10^12 times each, rounded down, differ in the same way.
-KEYS = {
+# For each unit of a claim c but the first k, up to the last, a key: the unit with the smallest is given out next, of
+# those with the same key that of the earliest debt. A debt that has k units goes before another exactly where the key
+# of its next unit is smaller. Two fractions of claims up to 10^6 that differ do so by at least 10^-12, so that 10^12
+# times each, rounded down, differ in the same way.
+KEYS: Dict[str, Callable[[int, int], Iterable[int]]] = {
     "order": lambda c, k: itertools.repeat(0, c - k),
     "equal": lambda c, k: range(k, c),
     "losses": lambda c, k: range(k - c, 0),
@@ -283,17 +351,17 @@ KEYS = {
 class Division:
     """What the debts of a bank get, by their place among all debts, as it gives out more and more units.
 
-    What is meant is that all units go out one by one, and so they do without `leaps`. With them, of many units most go out at once: a
-    class that can be paid in full is, and of the next one all units with a key below some bound, as they come before the others. The
-    last ones go out one by one. Both ways give the same."""
+    What is meant is that all units go out one by one, and so they do without `leaps`. With them, of many units most go
+    out at once: a class that can be paid in full is, and of the next one all units with a key below some bound, as
+    they come before the others. The last ones go out one by one. Both ways give the same."""
 
-    def __init__(self, rule, debts, leaps=True):
+    def __init__(self, rule: str, debts: Sequence[Tuple[int, Debt]], leaps: bool = True) -> None:
         self.rule, self.debts, self.units = rule, debts, 0
-        self.many = 5 * len(debts) if leaps else math.inf
+        self.many: float = 5 * len(debts) if leaps else math.inf
         self.given = {x: 0 for x, _ in debts}
         self.turns = self.one_by_one()
 
-    def one_by_one(self):
+    def one_by_one(self) -> Iterator[Tuple[int, int]]:
         """The debts that get the next units, in turn, from what is given on; each with the key of its unit."""
         return itertools.chain.from_iterable(
             heapq.merge(
@@ -306,7 +374,7 @@ class Division:
             for rank in sorted({debt.rank for _, debt in self.debts})
         )
 
-    def up_to(self, units):
+    def up_to(self, units: int) -> None:
         """Gives out what is missing up to so many units in all."""
         if units - self.units > self.many:
             self.leap(units)
@@ -315,11 +383,14 @@ class Division:
             given[x] += 1
         self.units = max(self.units, units)
 
-    def leap(self, units):
+    def leap(self, units: int) -> None:
         """Gives out at once what surely goes out before so many units have."""
-        parts, given, left = {}, {}, units
+        parts: Dict[Tuple[int, int], Dict[int, int]] = {}
+        given: Dict[int, int] = {}
+        left = units
         for x, debt in self.debts:
-            # By the rule `order` a debt gets all before a later one of its class gets a unit, as if it were a class of its own.
+            # By the rule `order` a debt gets all before a later one of its class gets a unit, as if it were a class of
+            # its own.
             parts.setdefault((debt.rank, x if self.rule == "order" else 0), {})[x] = debt.claim
         for _, part in sorted(parts.items()):
             claims = list(part.values())
@@ -334,11 +405,12 @@ class Division:
             self.units, self.turns = units - left, self.one_by_one()
 
 
-# Of each claim of a class the number of units with a key below a bound. The bound is such that these are at most so many units in all,
-# which are at least one and fewer than all claims.
+# Of each claim of a class the number of units with a key below a bound. The bound is such that these are at most so
+# many units in all, which are at least one and fewer than all claims.
 
-def below_equal(claims, units):
-    """At most so many of each claim. The number rises until what is left of the units is not one for each claim that can take it."""
+def below_equal(claims: Sequence[int], units: int) -> List[int]:
+    """At most so many of each claim. The number rises until what is left of the units is not one for each claim that
+    can take it."""
     most = 0
     while True:
         left = units - sum(min(claim, most) for claim in claims)
@@ -348,7 +420,7 @@ def below_equal(claims, units):
         most += step
 
 
-def below_losses(claims, units):
+def below_losses(claims: Sequence[int], units: int) -> List[int]:
     """All but so many of each claim: what is not given out is lost in equal parts."""
     lost = sum(claims) - units
     part = max(below_equal(claims, lost))
@@ -356,18 +428,22 @@ def below_losses(claims, units):
     return [max(0, claim - part) for claim in claims]
 
 
-def below_divisor(first, step):
-    """For a rule whose keys are first, first + step, first + 2 step and so on, each by the claim: in proportion to the claims. A claim
-    has at most (bound c - first) / step + 1 units below the bound, which is chosen so that all of them together come to the units."""
+Below = Callable[[Sequence[int], int], List[int]]
 
-    def below(claims, units):
+
+def below_divisor(first: int, step: int) -> Below:
+    """For a rule whose keys are first, first + step, first + 2 step and so on, each by the claim: in proportion to the
+    claims. A claim has at most (bound c - first) / step + 1 units below the bound, which is chosen so that all of them
+    together come to the units."""
+
+    def below(claims: Sequence[int], units: int) -> List[int]:
         bound = max(0, (step * (units - len(claims)) + first * len(claims)) * 10**12 // sum(claims))
         return [max(0, ((bound * claim - 1) // 10**12 - first) // step + 1) for claim in claims]
 
     return below
 
 
-BELOW = {
+BELOW: Dict[str, Below] = {
     "equal": below_equal,
     "losses": below_losses,
     "jefferson": below_divisor(1, 1),
@@ -376,8 +452,9 @@ BELOW = {
 }
 
 
-def divisions(network, leaps=True):
-    rows_of = [[] for _ in network.banks]
+def divisions(network: Network, leaps: bool = True) -> List[Division]:
+    """The division of each bank, of nothing yet."""
+    rows_of: List[List[Tuple[int, Debt]]] = [[] for _ in network.banks]
     for x, debt in enumerate(network.debts):
         rows_of[debt.debtor].append((x, debt))
     return [Division(bank.rule, row, leaps) for bank, row in zip(network.banks, rows_of)]
@@ -385,15 +462,15 @@ def divisions(network, leaps=True):
 
 # The journal.
 
-def follow(network, raises, leaps=True):
-    """The verdict on raises. As they are lawful, no bank has less as they go on, and its division goes on with them; where a bank has
-    what it had, its division is what it was."""
+def follow(network: Network, raises: Iterable[Raise], leaps: bool = True) -> Verdict:
+    """The verdict on raises. As they are lawful, no bank has less as they go on, and its division goes on with them;
+    where a bank has what it had, its division is what it was."""
     banks, debts = network
     dividing = divisions(network, leaps)
     units, paid, last, count = [bank.cash - bank.outside for bank in banks], [0] * len(debts), 0, 0
     raises = iter(raises)
 
-    def wrong(kind, *numbers):
+    def wrong(kind: str, *numbers: int) -> Verdict:
         for _ in raises:  # a fault of the file comes before the verdict, wherever it stands
             pass
         return Verdict(kind, numbers, paid)
@@ -421,11 +498,13 @@ def follow(network, raises, leaps=True):
 
 # Texts.
 
-def line(*fields):
+def line(*fields: Union[bytes, str, int]) -> bytes:
+    """Fields as a line."""
     return b",".join(field if isinstance(field, bytes) else str(field).encode() for field in fields) + b"\n"
 
 
-def payments_text(network, paid):
+def payments_text(network: Network, paid: Sequence[int]) -> bytes:
+    """What `clearing clear` prints of payments."""
     text = [line(b"debtor", b"creditor", b"class", b"claim", b"paid")]
     for debt, units in zip(network.debts, paid):
         names = (network.banks[place].name for place in (debt.debtor, debt.creditor))
@@ -433,7 +512,7 @@ def payments_text(network, paid):
     return b"".join(text)
 
 
-def standings(network, paid):
+def standings(network: Network, paid: Sequence[int]) -> Iterator[Tuple[List[int], str]]:
     """For each bank its estate, what it pays outside, pays, owes and keeps, and its state."""
     banks, debts = network
     received, pays, owes, claims = ([0] * len(banks) for _ in range(4))
@@ -452,31 +531,35 @@ def standings(network, paid):
         yield [estate, outside, pays[i], owes[i], estate - outside - pays[i]], state
 
 
-def defaults_text(network, paid):
-    shown = any(bank.outside for bank in network.banks)
-    pick = (lambda numbers: numbers) if shown else (lambda numbers: numbers[:1] + numbers[2:])
-    text = [line(b"bank", *pick([b"estate", b"outside_paid", b"paid", b"owed", b"equity"]), b"state")]
+def defaults_text(network: Network, paid: Sequence[int]) -> bytes:
+    """What `clearing defaults` prints of payments."""
+    # What is paid outside is a column where somebody owes something there.
+    columns = [0, 1, 2, 3, 4] if any(bank.outside for bank in network.banks) else [0, 2, 3, 4]
+    names = ("estate", "outside_paid", "paid", "owed", "equity")
+    text = [line("bank", *(names[column] for column in columns), "state")]
     totals, defaults = [0] * 5, 0
     for bank, (numbers, state) in zip(network.banks, standings(network, paid)):
-        text.append(line(bank.name, *pick(numbers), state))
+        text.append(line(bank.name, *(numbers[column] for column in columns), state))
         totals = [a + b for a, b in zip(totals, numbers)]
         defaults += state != "sound"
-    text.append(line(b"total", *pick(totals), defaults))
+    text.append(line("total", *(totals[column] for column in columns), defaults))
     text.append(line(b"cash", sum(bank.cash for bank in network.banks)))
     return b"".join(text)
 
 
-def difference(name, given, made):
+def difference(name: str, given: bytes, made: bytes) -> str:
     """`payments same`, or the first line in which a given text is not the one that was made."""
     if given == made:
         return f"{name} same"
     there, here = given.split(b"\n"), made.split(b"\n")
     at = next((at for at, (a, b) in enumerate(zip(there, here)) if a != b), min(len(there), len(here)))
-    show = lambda lines: repr(lines[at][:200].decode("utf-8", "replace")) if at < len(lines) else "nothing"
-    return f"{name} differ: line {at + 1} is {show(there)}, and by the journal {show(here)}"
+    is_there, is_here = (
+        repr(lines[at][:200].decode("utf-8", "replace")) if at < len(lines) else "nothing" for lines in (there, here)
+    )
+    return f"{name} differ: line {at + 1} is {is_there}, and by the journal {is_here}"
 
 
-def told(network, verdict):
+def told(network: Network, verdict: Verdict) -> List[str]:
     """The verdict in words, a line for each."""
     kind, numbers, _ = verdict
     if kind == "lawful":
@@ -490,7 +573,7 @@ def told(network, verdict):
     return [f"{names[0]} can pay more: {names[1]}, class {network.debts[x].rank}, has {paid} and is to get {units}"]
 
 
-def judge(files):
+def judge(files: Mapping[str, bytes]) -> Tuple[List[str], int]:
     """What is told of the contents of these files, by their options, and the status."""
     try:
         check_sizes(files)
@@ -512,7 +595,7 @@ def judge(files):
     return lines, status
 
 
-def content_of(option, name):
+def content_of(option: str, name: str) -> bytes:
     """The bytes of a file, some more than the limit of a longer one."""
     content = io.BytesIO()
     with open(name, "rb") as file:
@@ -521,7 +604,7 @@ def content_of(option, name):
     return content.getvalue()
 
 
-def with_streams():
+def with_streams() -> None:
     """Has the three standard streams where one is closed: what is written to standard output is then a fault."""
     for number, way in ((0, os.O_RDONLY), (1, os.O_RDONLY), (2, os.O_WRONLY)):
         try:
@@ -532,7 +615,8 @@ def with_streams():
     sys.stderr = sys.stderr or open(2, "w", closefd=False)
 
 
-def main():
+def main() -> int:
+    """Does what the words of the command line ask for: the status."""
     summary, _, rest = __doc__.partition("\n\n")
     parser = Parser(
         description=summary, epilog=rest, formatter_class=argparse.RawDescriptionHelpFormatter, allow_abbrev=False
@@ -563,7 +647,7 @@ def main():
     return status
 
 
-def run():
+def run() -> None:
     """The command, which ends with the status."""
     with_streams()
     try:

@@ -1,17 +1,25 @@
-"""The limits of a scenarios file that are looked at before it is parsed, as a parser may need gigabytes for a few thousand dots.
+"""The limits of a scenarios file that are looked at before it is parsed, as a parser may need gigabytes for a few
+thousand dots.
 
-The program reads values that are at most 80 deep in one another, under keys of at most 80 parts. A file of scenarios has two kinds of
-tables, `[[scenario]]` and `[[scenario.loss]]`, and no other point but in a text. One with thousands of others is of another shape, whatever
-else is wrong with it."""
+The program reads values that are at most 80 deep in one another, under keys of at most 80 parts. A file of scenarios
+has two kinds of tables, `[[scenario]]` and `[[scenario.loss]]`, and no other point but in a text. One with thousands
+of others is of another shape, whatever else is wrong with it.
+"""
 import re
+from typing import Optional
 
 MOST_DEEP, MOST_OTHERS = 80, 10_000
 SIGN = re.compile(r"""["'#\[\]{}.=,\n]""")
-ENDS = {'"': re.compile(r'\\.|["\n]', re.DOTALL), "'": re.compile(r"['\n]"), '"""': re.compile(r'\\.|"""', re.DOTALL), "'''": re.compile("'''")}
+ENDS = {
+    '"': re.compile(r'\\.|["\n]', re.DOTALL),
+    "'": re.compile(r"['\n]"),
+    '"""': re.compile(r'\\.|"""', re.DOTALL),
+    "'''": re.compile("'''"),
+}
 QUOTES_AND_BLANKS = str.maketrans("", "", "\"' \t")
 
 
-def end_of_text(document, at):
+def end_of_text(document: str, at: int) -> int:
     """The place behind the text between quotes that begins at a place."""
     quote = document[at : at + 3] if document[at : at + 3] in ENDS else document[at]
     at += len(quote)
@@ -25,10 +33,10 @@ def end_of_text(document, at):
     return len(document)
 
 
-def fault_of(document):
+def fault_of(document: str) -> Optional[str]:
     """The kind of the fault of a document that is beyond these limits, `toml` or `shape`, else None."""
     at = line = deep = parts = others = 0
-    header = None
+    header: Optional[int] = None
     while found := SIGN.search(document, at):
         sign, at = found[0], found.end()
         if sign == "#":
@@ -41,7 +49,8 @@ def fault_of(document):
         elif sign == "[" and not deep and header is None and not document[line : found.start()].strip(" \t"):
             header, parts = found.start(), 0
         elif sign == "]" and header is not None:
-            others += document[header:at].translate(QUOTES_AND_BLANKS) not in ("[[scenario]", "[[scenario.loss]") and 1 + parts
+            if document[header:at].translate(QUOTES_AND_BLANKS) not in ("[[scenario]", "[[scenario.loss]"):
+                others += 1 + parts
             header, at = None, at + (document[at : at + 1] == "]")
         elif header is None:
             deep = max(0, deep + (sign in "[{") - (sign in "]}"))

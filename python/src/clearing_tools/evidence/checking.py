@@ -1,257 +1,351 @@
 """Checks a folder of evidence: what `evidence.sh check` does.
 
-Each file of the folder is read once, and all that follows is told of a copy that nobody else can write. The inputs are read first: they say
-which files belong to the folder, and only these are copied. A folder that is another at the end is not the one that was checked, and is
-refused."""
+Each file of the folder is read once, and all that follows is told of a copy that nobody else can write. The inputs are
+read first: they say which files belong to the folder and how long each may be, and only these are read and copied. A
+folder that is another at the end is not the one that was checked, and is refused.
+"""
+import argparse
 import contextlib
 import os
 import pathlib
 import shutil
 import sys
+from typing import Dict, Iterable, Iterator, List, NamedTuple, Optional, Sequence, Set, Tuple
 
 from .. import runner
 from ..runner import ROOT, Failed
 from . import audit, shock, source
 from .parts import (
-    BANKS, BUILT, CHANGES, FILE, JOURNAL, PROGRAM, README, SUMS, TABLES, TEXTS, UNREAD, VERSIONS, checksum_of, commands_of, commands_text, most_of,
-    names_of, parts_of, program_sum, read_inputs, read_rescue, rescue_holds, stress_of, sums_text, words_of,
+    BANKS, BUILT, CHANGES, FILE, JOURNAL, PROGRAM, README, SUMS, TABLES, TEXTS, UNREAD, VERSIONS, CommandOf, NoRoom,
+    Part, checksum_of, commands_of, commands_text, is_stress, most_of, most_of_journal, names_of, opened_in, parts_of,
+    program_sum, read_inputs, read_rescue, rescue_holds, sums_listed, sums_text, words_of,
 )
 
 # No folder of these commands has as many names.
 MOST_NAMES = 1000
 # What says which files belong to a folder, and what each has.
-FIRST = {*TEXTS, "inputs/banks.csv", "inputs/debts.csv", "inputs/scenarios.toml", "rescue/rescue.csv", "source/command.tsv"}
+FIRST = {
+    *TEXTS, "inputs/banks.csv", "inputs/debts.csv", "inputs/scenarios.toml", "rescue/rescue.csv", "source/command.tsv",
+}
+# How many bytes of memory the check takes itself; and what a run of audit.py, and one of the program, may take.
+MEMORY = 4 << 30
+LIMITS, PROGRAM_LIMITS = runner.Limits(seconds=3600, memory=8 << 30), runner.Limits(seconds=3600)
 
 
-def names_in(folder):
-    """What is in a folder: each name from it, with a `/` behind that of a folder, and how deep a folder of these commands is."""
-    found, waiting = [], [""]
-    while waiting:
-        below = waiting.pop()
-        with os.scandir(os.path.join(folder, below)) as entries:
-            for entry in entries:
-                is_folder = entry.is_dir(follow_symlinks=False)
-                found.append(below + entry.name + ("/" if is_folder else ""))
-                if is_folder and not below:
-                    waiting.append(entry.name + "/")
-                if len(found) > MOST_NAMES:
-                    raise Failed(f"the folder has more than {MOST_NAMES} names, and none of these commands has so many", UNREAD)
-    return found
+class Inputs(NamedTuple):
+    """What the inputs of a folder say: the network, the scenarios, what is printed of a rescue, and what these
+    commands make of them."""
+
+    network: audit.Network
+    scenarios: Sequence[shock.Scenario]
+    rescue: Optional[bytes]
+    parts: List[Part]
+    commands: List[CommandOf]
 
 
-class Checking:
-    """A folder under check: what is told of it, and what fails."""
+class Folder:
+    """A folder of evidence as it was read: the names that are in it, the checksums of the files that belong to it, why
+    some could not be read, and a copy of the others."""
 
-    def __init__(self, folder, copy):
-        self.given, self.folder, self.failed = folder, pathlib.Path(copy), set()
-        self.asking = runner.Asking()
-        self.rescue = self.fault = None
-
-    def tell(self, line, failing=None):
-        """A line, whose text is that of the tool or was made to be shown."""
-        if failing is not None:
-            self.failed.add(failing)
-        sys.stdout.buffer.write((line + "\n").encode("utf-8", "backslashreplace"))
-        sys.stdout.flush()
-
-    def copy(self):
-        """Reads the folder: the names that are in it, the checksums of the files that may belong to it, and a copy of those that do."""
+    def __init__(self, given: str, copy: str) -> None:
+        self.given, self.copy = given, pathlib.Path(copy)
+        self.sums: Dict[str, str] = {}
+        self.unread: Dict[str, str] = {}
+        self.most: Dict[str, int] = {}
         try:
-            self.there = names_in(self.given)
+            self.number = os.open(given, os.O_RDONLY | os.O_DIRECTORY)
+            self.names = names_in(self.number)
         except OSError as fault:
-            raise Failed(f"{audit.shown(self.given)} cannot be read: {fault.strerror}", UNREAD) from fault
-        self.read_sums, self.unread = {}, {}
-        named = [name for name in self.there if FILE.fullmatch(name)]
-        for name in FIRST.intersection(named):
-            self.take(name, True)
-        try:
-            self.read_inputs()
-            files = self.files()
-        except Failed as fault:
-            # It is told when the inputs are looked at. No file belongs to inputs that are none.
-            self.fault, files = fault, set()
-        rest = [name for name in named if name not in FIRST]
-        self.check_room(files.intersection(rest))
-        for name in rest:
-            self.take(name, name in files)
-        for name, why in sorted(self.unread.items()):
-            self.tell(f"{name}: {why}", UNREAD)
+            raise Failed(f"{audit.shown(given)} cannot be read: {fault.strerror}", UNREAD) from fault
 
-    def take(self, name, is_copied):
-        """Reads a file for its checksum, and copies it where that is said."""
-        path = self.folder / name
-        if is_copied:
+    def close(self) -> None:
+        """Lets go of the folder."""
+        os.close(self.number)
+
+    def has(self, name: str) -> bool:
+        """Whether a file is there, or a folder, whose name ends with a `/`."""
+        return name in self.names
+
+    def take(self, name: str, most: int) -> None:
+        """Reads a file as far as its limit, for its checksum, and copies it."""
+        path = self.copy / name
+        try:
             path.parent.mkdir(exist_ok=True)
-        try:
-            with open(path, "wb") if is_copied else contextlib.nullcontext() as copy:
-                self.read_sums[name] = checksum_of(os.path.join(self.given, name), copy)
+            copy = open(path, "wb", buffering=0)
         except OSError as fault:
-            path.unlink(missing_ok=True)
-            self.unread[name] = fault.strerror
+            raise NoRoom(fault.strerror) from fault
+        self.most[name] = most
+        with copy:
+            try:
+                self.sums[name] = checksum_of(opened_in(self.number, name), most, copy)
+            except OSError as fault:
+                self.unread[name] = fault.strerror or str(fault)
+                path.unlink()
 
-    def check_room(self, names):
-        """Fails where a copy of these files would take more than half of the room that there is."""
-        size, room = 0, shutil.disk_usage(self.folder).free // 2
-        for name in names:
-            with contextlib.suppress(OSError):
-                size += min(os.lstat(os.path.join(self.given, name)).st_size, most_of(name))
-        if size > room:
-            raise Failed(f"a copy of {audit.shown(self.given)} takes {size:,} bytes, and in temporary folders there is room for {room:,}", UNREAD)
-
-    def stayed(self):
-        """Whether the folder is at the end what was read of it."""
+    def size(self, name: str) -> int:
+        """How many bytes a file has, 0 where that is not to be known."""
         try:
-            there = names_in(self.given)
-            changed = [name for name, known in self.read_sums.items() if checksum_of(os.path.join(self.given, name)) != known]
-        except (OSError, Failed):
-            there, changed = None, []
-        if changed or there is None or sorted(there) != sorted(self.there):
-            self.tell(f"{changed[0] if changed else 'the folder'}: changed while it was checked", SUMS)
+            number = opened_in(self.number, name)
+        except OSError:
+            return 0
+        size = os.fstat(number).st_size
+        os.close(number)
+        return size
 
-    def must_be_there(self, name):
+    def must_be_there(self, name: str) -> pathlib.Path:
         """What is no plain file within the folder is none."""
-        if name not in self.read_sums:
+        if name not in self.sums:
             raise Failed(f"{name} is not there", UNREAD)
-        return self.folder / name
+        return self.copy / name
 
-    def read(self, name):
+    def read(self, name: str) -> bytes:
         """The content of a file of the folder."""
         try:
             return self.must_be_there(name).read_bytes()
         except OSError as fault:
             raise Failed(f"{name} cannot be read: {fault.strerror}", UNREAD) from fault
 
-    def has(self, name):
-        return name in self.there
+    def changed(self) -> Optional[str]:
+        """What of the folder is not now as it was read, if anything."""
+        try:
+            for name, known in self.sums.items():
+                if checksum_of(opened_in(self.number, name), self.most[name]) != known:
+                    return name
+            return None if sorted(names_in(self.number)) == sorted(self.names) else "the folder"
+        except (OSError, Failed):
+            return "the folder"
+
+
+def names_in(folder: int) -> List[str]:
+    """What is in a folder: each name from it, with a `/` behind that of a folder, and how deep a folder of these
+    commands is."""
+    found = entries_in(folder)
+    for below in [name for name in found if name.endswith("/")]:
+        number = os.open(below[:-1], os.O_RDONLY | os.O_DIRECTORY | os.O_NOFOLLOW, dir_fd=folder)
+        try:
+            found += [below + name for name in entries_in(number)]
+        finally:
+            os.close(number)
+        check_count(found)
+    return found
+
+
+def entries_in(folder: int) -> List[str]:
+    """What stands in a folder, which is given by its descriptor, with a `/` behind the name of a folder."""
+    found: List[str] = []
+    with os.scandir(folder) as entries:
+        for entry in entries:
+            found.append(entry.name + ("/" if entry.is_dir(follow_symlinks=False) else ""))
+            check_count(found)
+    return found
+
+
+def check_count(names: Sequence[object]) -> None:
+    """Fails at more names than a folder of these commands has."""
+    if len(names) > MOST_NAMES:
+        raise Failed(f"the folder has more than {MOST_NAMES} names, and none of these commands has so many", UNREAD)
+
+
+def inputs_of(folder: Folder) -> Inputs:
+    """What the inputs of a folder say."""
+    scenarios_data = folder.read("inputs/scenarios.toml") if folder.has("inputs/scenarios.toml") else None
+    rescue = folder.read("rescue/rescue.csv") if folder.has("rescue/") else None
+    try:
+        banks, debts = folder.read("inputs/banks.csv"), folder.read("inputs/debts.csv")
+        network, scenarios = read_inputs(banks, debts, scenarios_data)
+    except audit.Refused as fault:
+        raise Failed(f"inputs: {fault}", UNREAD) from fault
+    except shock.Failed as fault:
+        raise Failed(f"inputs: {fault}", fault.status if fault.status == 2 else UNREAD) from fault
+    parts = parts_of(network.banks, scenarios, rescue)
+    rescued = read_rescue(rescue)[0].decode() if rescue is not None else None
+    return Inputs(network, scenarios, rescue, parts, commands_of(parts, scenarios_data is not None, rescued))
+
+
+def files_of(folder: Folder, inputs: Inputs) -> Set[str]:
+    """The names of the files that these commands make of these inputs."""
+    files = names_of(inputs.parts, inputs.commands, folder.has("inputs/scenarios.toml"))
+    if folder.has(CHANGES):
+        files.add(CHANGES)
+    if folder.has("source/"):
+        files |= {"source/command.tsv", "source/summary.csv", *source.names_of(folder.read("source/command.tsv"))}
+    return files
+
+
+def most_in(name: str, network: audit.Network) -> int:
+    """How many bytes a file of a folder with this network has at most."""
+    return most_of_journal(network) if name.endswith("/journal.csv") else most_of(name)
+
+
+class Checking:
+    """A folder under check: what was read of it, what is told of it, and what fails."""
+
+    def __init__(self, given: str, copy: str) -> None:
+        self.folder = Folder(given, copy)
+        self.failed: Set[int] = set()
+        self.asking, self.program_asking = runner.Asking(LIMITS), runner.Asking(PROGRAM_LIMITS)
+        self.fault: Optional[Failed] = None
+        # No file belongs to inputs that are none.
+        self.files: Set[str] = set()
+        named = [name for name in self.folder.names if FILE.fullmatch(name)]
+        for name in FIRST.intersection(named):
+            self.folder.take(name, most_of(name))
+        try:
+            self.known = inputs_of(self.folder)
+            self.files = files_of(self.folder, self.known)
+        except Failed as fault:
+            # It is told when the inputs are looked at.
+            self.fault = fault
+            return
+        most = {name: most_in(name, self.known.network) for name in self.files.intersection(named) - FIRST}
+        self.check_room(most)
+        for name in sorted(most):
+            self.folder.take(name, most[name])
+
+    def check_room(self, most: Dict[str, int]) -> None:
+        """Fails where a copy of these files would take more than half of the room that there is."""
+        size = sum(min(self.folder.size(name), most[name]) for name in most)
+        room = shutil.disk_usage(self.folder.copy).free // 2
+        if size > room:
+            given = audit.shown(self.folder.given)
+            raise NoRoom(f"a copy of {given} takes {size:,} bytes, and there is room for {room:,}")
+
+    def tell(self, line: str, failing: Optional[int] = None) -> None:
+        """A line, in which whatever stands in the folder is shown as it can be read."""
+        if failing is not None:
+            self.failed.add(failing)
+        sys.stdout.buffer.write((audit.shown(line) + "\n").encode("utf-8", "backslashreplace"))
+        sys.stdout.flush()
+
+    def look(self) -> None:
+        """Looks at all but what the program here says, in turn, and tells of each."""
+        for name, why in sorted(self.folder.unread.items()):
+            self.tell(f"{name}: {why}", UNREAD)
+        self.sums()
+        if self.fault is not None:
+            raise self.fault
+        self.names()
+        self.texts()
+        self.source_holds()
+        self.banks_hold()
+        self.audit()
+
+    def look_again(self) -> int:
+        """Asks the program, where there is one, and tells what was checked and what was not: the status."""
+        here = self.program()
+        if here is not None:
+            self.replay()
+        self.end(here)
+        return min(self.failed, default=0)
 
     # Checksums and names.
 
-    def sums(self):
+    def sums(self) -> None:
         """The checksums, in the form in which `make` writes them."""
-        listed = {}
-        for line in self.read("SHA256SUMS").decode("utf-8", "surrogateescape").removesuffix("\n").split("\n"):
-            sum_of, _, name = line.partition("  ")
-            if not name or name in listed or len(sum_of) != 64:
-                raise Failed("SHA256SUMS is not a list of checksums", UNREAD)
-            listed[name] = sum_of
-        there = {name for name in self.there if not name.endswith("/")} - {"SHA256SUMS"}
-        same = [name for name in listed if name in there and self.read_sums.get(name) == listed[name]]
+        text = self.folder.read("SHA256SUMS")
+        listed = sums_listed(text)
+        there = {name for name in self.folder.names if not name.endswith("/")} - {"SHA256SUMS"}
+        same = {name for name in listed if name in there and self.folder.sums.get(name) == listed[name]}
         all_same = len(same) == len(listed) and there == set(listed)
         self.tell(f"checksums: {len(same)} of {len(listed)}", None if all_same else SUMS)
-        for name in sorted(set(listed) - set(same)):
-            self.tell(f"checksums: {audit.shown(name)} {'differs' if name in there else 'is not there'}")
+        for name in sorted(set(listed) - same):
+            how = "differs" if name in self.folder.sums else "is not read" if name in there else "is not there"
+            self.tell(f"checksums: {name} {how}")
         for name in sorted(there - set(listed)):
-            self.tell(f"checksums: {audit.shown(name)} is not listed")
-        if self.read("SHA256SUMS") != sums_text(listed):
+            self.tell(f"checksums: {name} is not listed")
+        if text != sums_text(listed):
             self.tell("SHA256SUMS: not as these commands write it", UNREAD)
 
-    def files(self):
-        """The names of the files that these commands make of these inputs."""
-        files = names_of(self.parts, self.commands, self.has("inputs/scenarios.toml"))
-        if self.has(CHANGES):
-            files.add(CHANGES)
-        if self.has("source/"):
-            files |= {"source/command.tsv", "source/summary.csv", *source.names_of(self.read("source/command.tsv"))}
-        return files
-
-    def names(self):
+    def names(self) -> None:
         """Whether the folder has the files that these commands make of these inputs, and nothing else."""
-        files = self.files()
-        for name in sorted(files):
-            self.must_be_there(name)
-        for name in sorted(set(self.there) - files - {os.path.dirname(file) + "/" for file in files}):
-            self.tell(f"{audit.shown(name)}: none of these commands makes it here", UNREAD)
+        for name in sorted(self.files):
+            self.folder.must_be_there(name)
+        for name in sorted(set(self.folder.names) - self.files - {os.path.dirname(file) + "/" for file in self.files}):
+            self.tell(f"{name}: none of these commands makes it here", UNREAD)
 
-    def texts(self):
+    def texts(self) -> None:
         """The texts that say the same in each folder, or have a form."""
-        if self.read("commands.tsv") != commands_text(self.commands):
+        if self.folder.read("commands.tsv") != commands_text(self.known.commands):
             self.tell("commands.tsv: not the commands that make these files", UNREAD)
-        if self.read("README.txt") != README.encode():
+        if self.folder.read("README.txt") != README.encode():
             self.tell("README.txt: not the text of these tools", UNREAD)
-        if not VERSIONS.fullmatch(self.read("versions.txt")):
+        if not VERSIONS.fullmatch(self.folder.read("versions.txt")):
             self.tell("versions.txt: not of its form", UNREAD)
 
     # The networks.
 
-    def inputs(self):
-        """Tells of inputs that are none."""
-        if self.fault is not None:
-            raise self.fault
-
-    def read_inputs(self):
-        """The network, the scenarios and the rescue, and what these commands make of them."""
-        scenarios = self.read("inputs/scenarios.toml") if self.has("inputs/scenarios.toml") else None
-        self.rescue = self.read("rescue/rescue.csv") if self.has("rescue/") else None
-        try:
-            self.network, self.scenarios = read_inputs(self.read("inputs/banks.csv"), self.read("inputs/debts.csv"), scenarios)
-        except audit.Refused as fault:
-            raise Failed(f"inputs: {fault}", UNREAD) from fault
-        except shock.Failed as fault:
-            raise Failed(f"inputs: {fault}", fault.status if fault.status == 2 else UNREAD) from fault
-        self.parts = parts_of(self.network.banks, self.scenarios, self.rescue)
-        rescued = read_rescue(self.rescue)[0].decode() if self.rescue is not None else None
-        self.commands = commands_of(self.parts, scenarios is not None, rescued)
-
-    def source_holds(self):
+    def source_holds(self) -> None:
         """The two files are what the command makes of the sheets, where these are there."""
-        if not self.has("source/"):
+        if not self.folder.has("source/"):
             return
-        text = self.read("source/command.tsv")
+        text = self.folder.read("source/command.tsv")
         try:
-            made = source.made_of(text, lambda name: self.read(f"source/{name}"))
+            made = source.made_of(text, lambda name: self.folder.read(f"source/{name}"))
         except Failed as fault:
-            self.tell(f"source: {audit.shown(str(fault).split(chr(10))[0])}", SUMS if fault.status == UNREAD else BANKS)
+            self.tell(f"source: {str(fault).partition(chr(10))[0]}", BANKS if fault.status == 4 else UNREAD)
             return
         for name in source.MADE:
             place = f"source/{name}" if name == "summary.csv" else f"inputs/{name}"
-            same = self.read(place) == made[name]
+            same = self.folder.read(place) == made[name]
             self.tell(f"source: {place} {'same' if same else 'differs'}", None if same else BANKS)
 
-    def banks_hold(self):
-        for part in self.parts:
+    def banks_hold(self) -> None:
+        """The banks files are what the scenarios leave, or have the sum that saves."""
+        for part in self.known.parts:
             if part.banks is not None:
-                same = self.read(f"{part.folder}/banks.csv") == part.banks
+                same = self.folder.read(f"{part.folder}/banks.csv") == part.banks
                 self.tell(f"{part.label}: banks {'same' if same else 'differ'}", None if same else BANKS)
 
-    def files_words(self, part):
+    def files_words(self, part: Part) -> List[str]:
         """The files of a network, as words of the tool and of the program."""
         words = words_of(part)
-        return [words[0], self.name(words[1]), words[2], self.name(words[3]), "--journal", self.name(f"{part.folder}/journal.csv")]
+        journal = self.name(f"{part.folder}/journal.csv")
+        return [words[0], self.name(words[1]), words[2], self.name(words[3]), "--journal", journal]
 
-    def name(self, name):
+    def name(self, name: str) -> str:
         """The name of a file as a word that no tool takes for an option."""
-        return os.path.abspath(self.folder / name)
+        return os.path.abspath(self.folder.copy / name)
 
-    def audited(self, part):
+    def audited(self, part: Part) -> Tuple[int, List[str], str]:
+        """What audit.py says of the journal and the tables of a network."""
         words = self.files_words(part)
-        tables = [word for name in ("payments", "defaults") for word in (f"--{name}", self.name(f"{part.folder}/{name}.csv"))]
-        status, output, messages = self.asking.run([sys.executable, "-I", audit.__file__, *words, *tables])
+        for table in ("payments", "defaults"):
+            words += [f"--{table}", self.name(f"{part.folder}/{table}.csv")]
+        status, output, messages = self.asking.run([sys.executable, "-I", audit.__file__, *words])
         return status, output.decode("utf-8", "replace").splitlines(), messages.decode("utf-8", "replace").strip()
 
-    def audit(self):
-        """Each journal by tools/audit.py."""
-        for part, (status, lines, messages) in zip(self.parts, self.asking.all(self.audited, self.parts, "journal")):
-            if status in (0, 1):
+    def audit(self) -> None:
+        """Each journal by tools/audit.py, the rescue and the stress."""
+        parts = self.known.parts
+        for part, (status, lines, messages) in zip(parts, self.asking.all(self.audited, parts, "journal")):
+            if status in (0, 1) and lines:
                 verdict = "lawful," + lines[0].split()[0]
                 self.tell(f"{part.label}: " + "; ".join([verdict, *lines[2:4]]), None if status == 0 else TABLES)
             else:
-                self.tell(f"{part.label}: {(lines or messages.splitlines() or ['audit.py failed'])[0]}", JOURNAL)
-        if self.rescue is not None:
-            try:
-                holds = rescue_holds(self.network, self.rescue, self.parts, self.read)
-            except (ValueError, IndexError):
-                holds = False
-            bank, added, _, _ = read_rescue(self.rescue)
-            said = "sound with it, and not with a unit less" if added else "sound as it is"
-            self.tell(f"rescue of {bank.decode()} with {added}: {said if holds else 'not what the tables say'}", None if holds else TABLES)
-        if self.has("inputs/scenarios.toml"):
-            same = self.read("stress.csv") == stress_of(self.scenarios, self.parts, self.read)
+                told = lines or messages.splitlines() or [f"audit.py ended with {status}"]
+                self.tell(f"{part.label}: {told[0]}", JOURNAL)
+        if self.known.rescue is not None:
+            self.rescue_holds(self.known.rescue)
+        if self.folder.has("inputs/scenarios.toml"):
+            with open(self.folder.must_be_there("stress.csv"), "rb") as stress:
+                same = is_stress(stress, self.known.scenarios, parts, self.folder.read)
             self.tell(f"stress.csv: {'same' if same else 'differs'}", None if same else TABLES)
+
+    def rescue_holds(self, rescue: bytes) -> None:
+        """Whether the bank is sound with the sum, and not with a unit less."""
+        try:
+            holds = rescue_holds(self.known.network, rescue, self.folder.read)
+        except (ValueError, IndexError):
+            holds = False
+        bank, added, _, _ = read_rescue(rescue)
+        said = "sound with it, and not with a unit less" if added else "sound as it is"
+        told = said if holds else "not what the tables say"
+        self.tell(f"rescue of {bank.decode()} with {added}: {told}", None if holds else TABLES)
 
     # The program.
 
-    def program(self):
-        """Replays and runs again by the program, where there is one. Nothing is built."""
+    def program(self) -> Optional[str]:
+        """The checksum of the program by which all is replayed and run again, where there is one. Nothing is built."""
         if not os.environ.get("CLEARING"):
             # Beside installed tools stands the program itself, and in the repository the script that may build it.
             here = BUILT if (ROOT / "crates").is_dir() else ROOT / "clearing"
@@ -260,84 +354,98 @@ class Checking:
             os.environ["CLEARING"] = str(here)
         return program_sum()
 
-    def replayed(self, part):
-        return self.asking.run([runner.program(), "replay", *self.files_words(part)])
+    def replayed(self, part: Part) -> Tuple[int, bytes, bytes]:
+        """What the program says of a journal."""
+        return self.program_asking.run([runner.program(), "replay", *self.files_words(part)])
 
-    def rerun(self, command):
-        return self.asking.run([runner.program(), *command[1]], self.folder)
+    def is_same_again(self, command: CommandOf) -> bool:
+        """Whether the program prints for a command what the folder has."""
+        status, output, _ = self.program_asking.run([runner.program(), *command[1]], self.folder.copy)
+        return status == 0 and output == self.folder.read(command[0])
 
-    def replay(self):
-        for part, (status, output, messages) in zip(self.parts, self.asking.all(self.replayed, self.parts, "replay")):
+    def replay(self) -> None:
+        """Replays the journals by the program, and runs each command again."""
+        parts, commands = self.known.parts, self.known.commands
+        for part, (status, output, messages) in zip(parts, self.program_asking.all(self.replayed, parts, "replay")):
             verdict, _, payments = output.partition(b"\n\n")
-            same = status == 0 and payments == self.read(f"{part.folder}/payments.csv")
-            said = audit.shown((verdict if status in (0, 7) else messages).decode("utf-8", "replace").strip())
+            same = status == 0 and payments == self.folder.read(f"{part.folder}/payments.csv")
+            said = (verdict if status in (0, 7) else messages).decode("utf-8", "replace").strip()
             tail = f"; payments {'same' if same else 'differ'}" if status == 0 else ""
             self.tell(f"{part.label}, replayed by the program: {said}{tail}", None if same else PROGRAM)
-        differ = []
-        for (file, _), (status, output, _) in zip(self.commands, self.asking.all(self.rerun, self.commands, "run")):
-            if status != 0 or output != self.read(file):
-                differ.append(file)
-        self.tell(f"commands run again: {len(self.commands) - len(differ)} of {len(self.commands)} the same", PROGRAM if differ else None)
+        again = self.program_asking.all(self.is_same_again, commands, "run")
+        differ = [file for (file, _), is_same in zip(commands, again) if not is_same]
+        count = f"{len(commands) - len(differ)} of {len(commands)} the same"
+        self.tell(f"commands run again: {count}", PROGRAM if differ else None)
         for file in differ:
             self.tell(f"commands run again: {file} differs")
 
-    def end(self, here):
+    def end(self, here: Optional[str]) -> None:
         """What was checked and what was not."""
-        self.stayed()
+        changed = self.folder.changed()
+        if changed is not None:
+            self.tell(f"{changed}: changed while it was checked", SUMS)
         for failing, words in self.looked_at(here):
             self.tell(f"{'not so' if failing in self.failed else 'checked'}: {words}")
         for words in self.not_looked_at(here):
             self.tell(f"not checked: {words}")
 
-    def looked_at(self, here):
+    def looked_at(self, here: Optional[str]) -> Iterator[Tuple[int, str]]:
         """What holds unless something failed: of what was looked at alone."""
         yield UNREAD, "the folder has the files of these commands and no others; commands.tsv and README.txt are theirs"
         yield SUMS, "the files are those that SHA256SUMS lists"
-        shocked = "each banks file is what its scenario leaves"
-        saved = "each banks file is what its scenario leaves, or has the sum that saves" if self.scenarios else "each banks file has the sum that saves"
-        if self.has("source/"):
+        has_rescue = self.known.rescue is not None
+        left = ["is what its scenario leaves"] if self.known.scenarios or not has_rescue else []
+        if self.folder.has("source/"):
             yield BANKS, "the two files are what the command in source/ makes of the sheets"
-        if len(self.parts) > 1:
-            yield BANKS, saved if self.rescue is not None else shocked
-        yield JOURNAL, ("each journal is lawful, and at its end nobody can pay more: so it ends in the least payments that clear"
-                        " (raise_journal::laws::lawful_journals_pay_the_least)")
-        tables = ["payments", "defaults", *(["rescue"] if self.rescue is not None else []), *(["stress"] if self.has("stress.csv") else [])]
+        if len(self.known.parts) > 1:
+            yield BANKS, "each banks file " + ", or ".join([*left, *(["has the sum that saves"] if has_rescue else [])])
+        yield JOURNAL, (
+            "each journal is lawful, and at its end nobody can pay more: so it ends in the least payments that clear"
+            " (raise_journal::laws::lawful_journals_pay_the_least)"
+        )
+        stress = ["stress"] if self.folder.has("stress.csv") else []
+        tables = ["payments", "defaults", *(["rescue"] if has_rescue else []), *stress]
         yield TABLES, f"{', '.join(tables[:-1])} and {tables[-1]} are those of the journals"
         if here is not None:
             yield PROGRAM, "the program here replays the journals, and prints the same again"
 
-    def not_looked_at(self, here):
+    def not_looked_at(self, here: Optional[str]) -> Iterator[str]:
         """What no check of a folder can say, with the files that nothing is computed of."""
-        made = {"inputs/banks.csv", "inputs/debts.csv", "source/command.tsv", "source/summary.csv"} if self.has("source/") else set()
-        inputs = ", ".join(audit.shown(name) for name in sorted(self.read_sums) if name.startswith(("inputs/", "source/")) and name not in made)
-        yield (f"that the {'sheets and inputs' if made else 'inputs'} are true ({inputs}), and that SHA256SUMS is the one that was handed over: it has the checksum "
-               + self.read_sums["SHA256SUMS"])
-        named = next((line.split(" ", 1)[1] for line in self.read("versions.txt").decode("utf-8", "replace").splitlines()
-                      if line.startswith("program ")), "")
-        same = "" if here is None else f"; the program here has {'the checksum that it names' if here == named else 'another checksum than it names'}"
-        yield f"that versions.txt is true{same}"
+        made = {"inputs/banks.csv", "inputs/debts.csv", "source/command.tsv", "source/summary.csv"}
+        from_sheets = self.folder.has("source/")
+        inputs = ", ".join(given_names(self.folder.sums, made if from_sheets else set()))
+        what = "sheets and inputs" if from_sheets else "inputs"
+        yield (
+            f"that the {what} are true ({inputs}), and that SHA256SUMS is the one that was handed over: it has the"
+            f" checksum {self.folder.sums['SHA256SUMS']}"
+        )
+        lines = self.folder.read("versions.txt").decode("utf-8", "replace").splitlines()
+        named = next((line.split(" ", 1)[1] for line in lines if line.startswith("program ")), "")
+        which = "the checksum that it names" if here == named else "another checksum than it names"
+        yield f"that versions.txt is true{'' if here is None else f'; the program here has {which}'}"
         yield "the numbers of rounds, and who made the journals and when"
         yield "the proofs (`rt ci` in the repository checks them)"
         if here is None:
             yield "the same by the program: none is built here"
 
 
-def check(asked):
+def given_names(names: Iterable[str], made: Set[str]) -> List[str]:
+    """The names of the files that somebody gave, and no command made."""
+    return [name for name in sorted(names) if name.startswith(("inputs/", "source/")) and name not in made]
+
+
+def check(asked: argparse.Namespace) -> int:
     """Checks the folder that was asked for: the status."""
     if not os.path.isdir(asked.folder):
         raise Failed(f"{audit.shown(asked.folder)} is no folder", UNREAD)
-    with runner.work_folder() as copy:
-        checking = Checking(asked.folder, copy)
-        checking.copy()
-        checking.sums()
-        checking.inputs()
-        checking.names()
-        checking.texts()
-        checking.source_holds()
-        checking.banks_hold()
-        checking.audit()
-        here = checking.program()
-        if here is not None:
-            checking.replay()
-        checking.end(here)
-    return min(checking.failed, default=0)
+    try:
+        with runner.work_folder() as copy:
+            with runner.limited_memory(MEMORY):
+                checking = Checking(asked.folder, copy)
+            with contextlib.closing(checking.folder):
+                with runner.limited_memory(MEMORY):
+                    checking.look()
+                # The program has its own limits.
+                return checking.look_again()
+    except NoRoom as fault:
+        raise Failed(f"no copy can be made in the folder of temporary files: {fault}", 1) from fault

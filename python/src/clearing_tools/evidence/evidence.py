@@ -4,87 +4,89 @@
     tools/evidence.sh make FOLDER --source COMMAND [--scenarios FILE] [--bank NAME] [--changes FILE]
     tools/evidence.sh check FOLDER
 
-In:   for `make` the two files, a file of scenarios and the name of a bank, as `clearing` takes them; for `check` the folder
-Out:  for `make` the folder, and a line with the checksum of its checksums; for `check` a line for each thing looked at
+In:   for `make` the two files, a file of scenarios and the name of a bank, as `clearing` takes them; for `check` the
+folder Out:  for `make` the folder, and a line with the checksum of its checksums; for `check` a line for each thing
+looked at
 
-`make` writes a new folder, whole or not at all: the inputs as they were (inputs/); for the network as it is (as-is/), and for each
-scenario (scenario-1/ ...) with the banks file that it leaves, a journal, the payments and the defaults; with --bank the rescue
-of that bank, the network with the sum that saves it (rescue/) and with a unit less (unit-less/), and the same of each; stress.csv
-with what `clearing stress` prints, which is compared with all that; commands.tsv with the words and the status of each run;
-versions.txt; and SHA256SUMS over all files. With --source in place of the two files, source/ has the sheets of that command of
-from_matrix.py, from_list.py or from_totals.py (without where it writes), the command and the summary, and the two files are what it
-makes. --changes keeps a text that says what was changed before, as inputs/changes.txt, of which nothing is computed. One worker makes each journal, so that the same program makes the same bytes again.
+`make` writes a new folder, whole or not at all: the inputs as they were (inputs/); for the network as it is (as-is/),
+and for each scenario (scenario-1/ ...) with the banks file that it leaves, a journal, the payments and the defaults;
+with --bank the rescue of that bank, the network with the sum that saves it (rescue/) and with a unit less
+(unit-less/), and the same of each; stress.csv with what `clearing stress` prints, which is compared with all that;
+commands.tsv with the words and the status of each run; versions.txt; and SHA256SUMS over all files. With --source in
+place of the two files, source/ has the sheets of that command of from_matrix.py, from_list.py or from_totals.py
+(without where it writes), the command and the summary, and the two files are what it makes. --changes keeps a text
+that says what was changed before, as inputs/changes.txt, of which nothing is computed. One worker makes each journal,
+so that the same program makes the same bytes again.
 
-`check` asks for the folder, Python and nothing else. It reads each file once, into a copy of its own. The folder must have exactly the
-files that `make` writes for its inputs, and nothing else. It compares the checksums, commands.tsv and README.txt, makes the banks file of
-each scenario and of the rescue anew, and the two files where their sheets are there, and follows each journal by tools/audit.py, which shares no code with the program. Where a built
-program is at hand (CLEARING, or that of the repository) it replays the journals too, and runs each command again. It prints a line for
-each, and at the end what was checked and what was not.
+`check` asks for the folder, Python and nothing else. It reads each file once, into a copy of its own. The folder must
+have exactly the files that `make` writes for its inputs, and nothing else. It compares the checksums, commands.tsv and
+README.txt, makes the banks file of each scenario and of the rescue anew, and the two files where their sheets are
+there, and follows each journal by tools/audit.py, which shares no code with the program. Where a built program is at
+hand (CLEARING, or that of the repository) it replays the journals too, and runs each command again. It prints a line
+for each, and at the end what was checked and what was not.
 
-Ends with 0 where all is well. `make` ends with 1 where the program fails, or where two of its answers do not agree; 2 where the words are not understood or FOLDER is
-there already; 3 where a file cannot be read; 4 where a file is refused; 5 where FOLDER cannot be written.
-`check` ends with the first of these that does not hold: 3 the folder can be read, and has what belongs to it
-and nothing else; 4
-the checksums; 5 the banks files; 6 the journals; 7 the payments and defaults; 8 what the program here prints. Both end with 2 where the words
-are not understood and with 130 at an interrupt.
+Ends with 0 where all is well. `make` ends with 1 where the program fails, or where two of its answers do not agree; 2
+where the words are not understood or FOLDER is there already; 3 where a file cannot be read; 4 where a file is
+refused; 5 where FOLDER cannot be written. `check` ends with the first of these that does not hold: 3 the folder can be
+read, and has what belongs to it and nothing else; 4 the checksums; 5 the banks files; 6 the journals; 7 the payments
+and defaults; 8 what the program here prints. Both end with 2 where the words are not understood and with 130 at an
+interrupt.
 """
 import argparse
+import contextlib
 import os
 import pathlib
 import platform
+import secrets
 import shutil
-import subprocess
 import sys
-import tempfile
+from typing import Iterator, List, Optional
 
-from .. import runner
+from .. import files, runner
 from ..runner import ROOT, Failed
 from . import audit, shock, source
 from .checking import check
 from .parts import (
-    CHANGES, README, checksum, commands_of, commands_text, contents, parts_of, program_sum, read_inputs, rescue_holds, stress_of, sums_text,
+    CHANGES, README, checksum, commands_of, commands_text, contents, parts_of, program_sum, read_inputs, rescue_holds,
+    stress_of, sums_text,
 )
 
 # Making.
 
 
-def first_line(command):
+def said_here(*words: str) -> Optional[str]:
     """The first line of what a command prints in the repository, none where it fails."""
-    try:
-        done = subprocess.run([runner.on_path(command[0]) or "/none", *command[1:]], stdin=subprocess.DEVNULL, stdout=subprocess.PIPE, stderr=subprocess.DEVNULL, cwd=ROOT)
-    except OSError:
-        return None
-    lines = done.stdout.decode("utf-8", "replace").splitlines()
-    return (lines[0] if lines else "") if done.returncode == 0 else None
+    text = runner.said_by(*words, folder=ROOT)
+    return None if text is None else text.partition("\n")[0]
 
 
-def commit_of():
-    """The commit of the repository that the tools are in, none where they are in none, and whether its files were changed since. A
-    file that it does not have counts below crates/ alone, where a build would take it up."""
+def commit_of() -> Optional[str]:
+    """The commit of the repository that the tools are in, none where they are in none, and whether its files were
+    changed since. A file that it does not have counts below crates/ alone, where a build would take it up."""
     if not runner.STANDS:
         return None
-    top = first_line(["git", "rev-parse", "--show-toplevel"])
-    commit = first_line(["git", "rev-parse", "HEAD"])
+    top = said_here("git", "rev-parse", "--show-toplevel")
+    commit = said_here("git", "rev-parse", "HEAD")
     if commit is None or not runner.same_file(top, ROOT):
         return None
-    changed = first_line(["git", "status", "--porcelain", "--untracked-files=no"])
-    added = first_line(["git", "ls-files", "--others", "--exclude-standard", "--", "crates"])
+    changed = said_here("git", "status", "--porcelain", "--untracked-files=no")
+    added = said_here("git", "ls-files", "--others", "--exclude-standard", "--", "crates")
     return commit + (", with changes that are not committed" if changed or added else "")
 
 
-def versions():
+def versions() -> bytes:
+    """What versions.txt says."""
     lines = [
         f"repository {commit_of() or 'none: the tools are not in a repository'}",
         f"program {program_sum()}",
-        f"toolchain {first_line(['rt', 'version']) or 'none: rt is not on the path'}",
+        f"toolchain {said_here('rt', 'version') or 'none: rt is not on the path'}",
         f"python {platform.python_version()}",
     ]
     return "".join(line + "\n" for line in lines).encode()
 
 
-def make_in(folder, asked):
-    """Fills a folder."""
-    asking = runner.Asking()
+def put_inputs(folder: pathlib.Path, asked: argparse.Namespace) -> None:
+    """Puts the inputs into a folder."""
     if asked.source is not None:
         source.keep(folder, asked.source, put)
     for name in ("banks", "debts", "scenarios"):
@@ -93,7 +95,16 @@ def make_in(folder, asked):
             put(folder, f"inputs/{name}.{ending}", contents(vars(asked)[name]))
     if asked.changes is not None:
         put(folder, CHANGES, contents(asked.changes))
-    read = lambda name: (folder / name).read_bytes()
+
+
+def make_in(folder: pathlib.Path, asked: argparse.Namespace) -> str:
+    """Fills a folder, and says what was made."""
+    asking = runner.Asking()
+    put_inputs(folder, asked)
+
+    def read(name: str) -> bytes:
+        return (folder / name).read_bytes()
+
     inputs = ["--banks", "inputs/banks.csv", "--debts", "inputs/debts.csv"]
     # The program's own refusal comes first.
     asking.answer(["check", *inputs], folder)
@@ -110,69 +121,92 @@ def make_in(folder, asked):
     answers = asking.all(lambda command: asking.answer(command[1], folder), commands, "run")
     for (file, _), answer in zip(commands, answers):
         put(folder, file, answer)
+    apart = "is not what `clear` and `defaults` print"
     if asked.scenarios is not None and read("stress.csv") != stress_of(scenarios, parts, read):
-        raise Failed("what `clearing stress` prints is not what `clear` and `defaults` print of the banks that each scenario leaves")
-    if rescue is not None and not rescue_holds(network, rescue, parts, read):
-        raise Failed("what `clearing rescue` prints is not what `clear` and `defaults` print with the sum and with a unit less")
+        raise Failed(f"what `clearing stress` prints {apart} of the banks that each scenario leaves")
+    if rescue is not None and not rescue_holds(network, rescue, read):
+        raise Failed(f"what `clearing rescue` prints {apart} with the sum and with a unit less")
     put(folder, "commands.tsv", commands_text(commands))
     put(folder, "versions.txt", versions())
     put(folder, "README.txt", README.encode())
     names = files_of(folder)
     sums = sums_text({name: checksum(read(name)) for name in names})
     put(folder, "SHA256SUMS", sums)
-    return f"{len(parts)} network{'' if len(parts) == 1 else 's'}, {len(names)} files; SHA256SUMS itself has the checksum {checksum(sums)}"
+    count = f"{len(parts)} network{'' if len(parts) == 1 else 's'}, {len(names)} files"
+    return f"{count}; SHA256SUMS itself has the checksum {checksum(sums)}"
 
 
-def put(folder, name, content):
+def put(folder: pathlib.Path, name: str, content: bytes) -> None:
+    """Puts a file into a folder."""
     path = folder / name
     path.parent.mkdir(exist_ok=True)
     path.write_bytes(content)
 
 
-def files_of(folder):
+def files_of(folder: pathlib.Path) -> List[str]:
     """The names of all that is in a folder but folders, from that folder."""
     found = []
-    for place, folders, files in os.walk(folder):
+    for place, folders, names in os.walk(folder):
         links = [name for name in folders if os.path.islink(os.path.join(place, name))]
-        found += [os.path.relpath(os.path.join(place, name), folder).replace(os.sep, "/") for name in files + links]
+        found += [os.path.relpath(os.path.join(place, name), folder).replace(os.sep, "/") for name in names + links]
     return found
 
 
-def make(asked):
-    target = os.path.abspath(asked.folder)
-    if os.path.lexists(target):
+@contextlib.contextmanager
+def new_folder(way: files.Way, mode: int) -> Iterator[pathlib.Path]:
+    """A folder of one's own beside the place at the end of a way, which is moved there in the end, or goes again. It
+    is named by its descriptor, so that whoever can change the folder above cannot have another written to."""
+    part = f".part-{secrets.token_hex(8)}"
+    os.mkdir(part, 0o700, dir_fd=way.folder)
+    number = os.open(part, os.O_RDONLY | os.O_DIRECTORY | os.O_NOFOLLOW, dir_fd=way.folder)
+    here = pathlib.Path(f"/proc/self/fd/{number}")
+    try:
+        if os.fstat(number).st_uid != os.geteuid():
+            raise PermissionError(1, "another user put a folder in the place of the new one")
+        yield here
+        os.fchmod(number, mode)
+        if way.about() is not None:
+            raise FileExistsError(17, "it is there already")
+        os.rename(part, way.last, src_dir_fd=way.folder, dst_dir_fd=way.folder)
+    except BaseException:
+        for name in os.listdir(number):
+            shutil.rmtree(here / name) if os.path.isdir(here / name) else os.unlink(here / name)
+        with contextlib.suppress(OSError):
+            os.rmdir(part, dir_fd=way.folder)
+        raise
+    finally:
+        os.close(number)
+
+
+def make(asked: argparse.Namespace) -> int:
+    """Makes a new folder: the status."""
+    if os.path.lexists(asked.folder):
         raise Failed(f"{asked.folder} is there already", 2)
     # Who may not read the inputs may not read the evidence.
-    given = [asked.banks, asked.debts, asked.scenarios, asked.changes, *(source.sheets_of(asked.source) if asked.source is not None else [])]
-    mask = shock.mask_of(name for name in given if name is not None)
+    sheets = source.sheets_of(asked.source) if asked.source is not None else []
+    given = [asked.banks, asked.debts, asked.scenarios, asked.changes, *sheets]
+    mask = files.mask_of(name for name in given if name is not None)
     os.umask(mask)
     try:
-        folder = pathlib.Path(tempfile.mkdtemp(prefix=".part-", dir=os.path.dirname(target)))
-    except OSError as fault:
-        raise Failed(f"cannot write {asked.folder}: {fault.strerror}", 5) from fault
-    try:
-        told = make_in(folder, asked)
-        folder.chmod(0o777 & ~mask)
-        if os.path.lexists(target):
-            raise Failed(f"{asked.folder} is there already", 2)
-        folder.rename(target)
+        with contextlib.closing(files.Way(asked.folder)) as way, new_folder(way, 0o777 & ~mask) as folder:
+            told = make_in(folder, asked)
     except OSError as fault:
         raise Failed(f"cannot write {asked.folder}: {fault.strerror}", 5) from fault
     except audit.Refused as fault:
         raise Failed(str(fault), 4) from fault
     except shock.Failed as fault:
         raise Failed(str(fault), fault.status) from fault
-    finally:
-        shutil.rmtree(folder, ignore_errors=True)
     sys.stdout.buffer.write(f"{audit.shown(asked.folder)}: {told}\n".encode())
+    return 0
 
 
 @runner.command("evidence.sh")
-def main():
+def main() -> int:
+    """The command."""
     summary, _, rest = __doc__.partition("\n\n")
-    parser = audit.Parser(
-        prog=runner.tool_name(), description=summary, epilog=rest, formatter_class=argparse.RawDescriptionHelpFormatter, allow_abbrev=False
-    )
+    layout = argparse.RawDescriptionHelpFormatter
+    name = runner.tool_name()
+    parser = audit.Parser(prog=name, description=summary, epilog=rest, formatter_class=layout, allow_abbrev=False)
     tasks = parser.add_subparsers(dest="task", required=True, metavar="make|check")
     making = tasks.add_parser("make", help="makes a new folder", allow_abbrev=False)
     making.add_argument("folder", metavar="FOLDER", help="the folder to make")

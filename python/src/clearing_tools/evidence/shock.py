@@ -1,34 +1,46 @@
 """Writes the banks file that a scenario leaves.
 
-In:   --banks FILE and --scenarios FILE, as `clearing stress` reads them, and --scenario N, the scenario's number from 1
-Out:  the banks file with what the scenario leaves of each bank's cash, on standard output, or in --output FILE, which must be none of
-      the inputs. It is in the form in which `clearing check` prints it, in version 2 where a bank owes something outside.
+In:   --banks FILE and --scenarios FILE, as `clearing stress` reads them, and --scenario N, the scenario's number from
+1 Out:  the banks file with what the scenario leaves of each bank's cash, on standard output, or in --output FILE,
+which must be
+      none of the inputs. It is in the form in which `clearing check` prints it, in version 2 where a bank owes
+      something outside.
 
-Of a bank's cash c a cut k leaves c less c k / 1000, the quotient rounded down; then its loss is taken away, down to nothing at
-least. `clearing clear` and `clearing defaults` on that file print what `clearing stress` prints of the scenario.
+Of a bank's cash c a cut k leaves c less c k / 1000, the quotient rounded down; then its loss is taken away, down to
+nothing at least. `clearing clear` and `clearing defaults` on that file print what `clearing stress` prints of the
+scenario.
 
-Scenarios are read by Python's module tomllib. Where that knows TOML 1.0 alone, what TOML 1.1 added is refused here, though the program
-reads it: the escape \\x41, and a line break or a last comma within the braces of an inline table.
+Scenarios are read by Python's module tomllib. Where that knows TOML 1.0 alone, what TOML 1.1 added is refused here,
+though the program reads it: the escape \\x41, and a line break or a last comma within the braces of an inline table.
 
-A file with thousands of tables or of points that no scenario has is refused as one of another shape (17), though the program may name an
-earlier fault of it.
+A file with thousands of tables or of points that no scenario has is refused as one of another shape (17), though the
+program may name an earlier fault of it.
 
-It shares no code with the program. Ends with 0; 2 where the words are not understood, there is no scenario of that number, or Python is
-older than 3.11, whose module tomllib is wanted; 3 where a file cannot be read; 4 where a file is refused, with its first fault
-as `clearing` names it; 5 where the output cannot be written; 130 at an interrupt.
+It shares no code with the program. Ends with 0; 2 where the words are not understood, there is no scenario of that
+number, or Python is older than 3.11, whose module tomllib is wanted; 3 where a file cannot be read; 4 where a file is
+refused, with its first fault as `clearing` names it; 5 where the output cannot be written; 130 at an interrupt.
 """
 import argparse
 import os
-import re
 import signal
-import stat
 import sys
-import tempfile
-from collections import namedtuple
+from typing import Any, Dict, List, Mapping, NamedTuple, Optional, Sequence, TypeVar
 
+from .. import files, runner
 from . import audit, bounds
 
-Scenario = namedtuple("Scenario", "name cut losses")  # losses by the bank's place
+
+B = TypeVar("B", bound=Any)
+"""A bank: a record that has cash."""
+
+
+class Scenario(NamedTuple):
+    """What happens to the cash of banks: a cut per mille of all, and then losses, by the bank's place, in units."""
+
+    name: str
+    cut: int
+    losses: Dict[int, int]
+
 
 MAX_BYTES, MAX_SCENARIOS, MAX_CUT, MAX_LOSS = 8_388_608, 100, 1000, 10**12
 
@@ -36,16 +48,17 @@ MAX_BYTES, MAX_SCENARIOS, MAX_CUT, MAX_LOSS = 8_388_608, 100, 1000, 10**12
 class Failed(Exception):
     """Why there is no banks file, and the `status` with which the tool ends."""
 
-    def __init__(self, message, status):
+    def __init__(self, message: str, status: int) -> None:
         super().__init__(message)
         self.status = status
 
 
-def refused(row, kind):
+def refused(row: int, kind: str) -> Failed:
+    """The fault of a file of scenarios, as the program names it."""
     return Failed("scenarios row {}: {} ({})".format(row, kind, {**audit.KINDS, "toml": 16, "shape": 17}[kind]), 4)
 
 
-def document(data):
+def document(data: bytes) -> Dict[str, Any]:
     """The TOML document, all numbers of which are within 64 bits."""
     try:
         import tomllib
@@ -56,10 +69,10 @@ def document(data):
         beyond = bounds.fault_of(text)
         if beyond:
             raise refused(0, beyond)
-        found = tomllib.loads(text)
+        found: Dict[str, Any] = tomllib.loads(text)
     except (UnicodeDecodeError, tomllib.TOMLDecodeError, RecursionError, ValueError) as fault:
         raise refused(0, "toml") from fault
-    waiting = [found]
+    waiting: List[Any] = [found]
     while waiting:
         value = waiting.pop()
         if isinstance(value, dict):
@@ -71,7 +84,7 @@ def document(data):
     return found
 
 
-def has_shape(table, required, optional):
+def has_shape(table: Any, required: Mapping[str, type], optional: Mapping[str, type]) -> bool:
     """Whether a value is a table with these keys alone, each of its type."""
     if not isinstance(table, dict) or not set(required) <= set(table) <= set(required) | set(optional):
         return False
@@ -79,7 +92,8 @@ def has_shape(table, required, optional):
     return all(type(value) is types[key] for key, value in table.items())
 
 
-def scenario_of(row, table, places):
+def scenario_of(row: int, table: Any, places: Mapping[bytes, int]) -> Scenario:
+    """The scenario of a table, with its number in the file."""
     if not has_shape(table, {"name": str}, {"cut": int, "loss": list}):
         raise refused(row, "shape")
     losses = table.get("loss", [])
@@ -90,7 +104,7 @@ def scenario_of(row, table, places):
     cut = table.get("cut", 0)
     if not 0 <= cut <= MAX_CUT:
         raise refused(row, "limit")
-    lost = {}
+    lost: Dict[int, int] = {}
     for loss in losses:
         bank = loss["bank"].encode()
         if bank not in places:
@@ -103,7 +117,8 @@ def scenario_of(row, table, places):
     return Scenario(table["name"], cut, lost)
 
 
-def read_scenarios(data, banks):
+def read_scenarios(data: bytes, banks: Sequence[audit.Bank]) -> List[Scenario]:
+    """The scenarios of a file for these banks."""
     if len(data) > MAX_BYTES:
         raise refused(0, "file size")
     found = document(data)
@@ -119,7 +134,7 @@ def read_scenarios(data, banks):
     return scenarios
 
 
-def left_by(banks, scenario):
+def left_by(banks: Sequence[B], scenario: Scenario) -> List[B]:
     """The banks after a scenario."""
     left = []
     for place, bank in enumerate(banks):
@@ -128,7 +143,7 @@ def left_by(banks, scenario):
     return left
 
 
-def banks_text(banks):
+def banks_text(banks: Sequence[audit.Bank]) -> bytes:
     """The banks file, as it is printed."""
     second = any(bank.outside for bank in banks)
     text = [audit.line(b"name", b"cash", b"rule", *([b"outside"] if second else []))]
@@ -136,7 +151,7 @@ def banks_text(banks):
     return b"".join(text)
 
 
-def contents(name, most=MAX_BYTES):
+def contents(name: str, most: int = MAX_BYTES) -> bytes:
     """The bytes of a file, one more than the limit of a longer one."""
     try:
         with open(name, "rb") as file:
@@ -145,84 +160,17 @@ def contents(name, most=MAX_BYTES):
         raise Failed(f"cannot read {audit.shown(name)}", 3) from fault
 
 
-def mask_of(inputs):
-    """What a new file is not to be allowed: what this user's mask says, and for whom one of the inputs is not to be read."""
-    mask = os.umask(0)
-    os.umask(mask)
-    for name in inputs:
-        try:
-            about = os.stat(name)
-        except (OSError, ValueError):
-            continue
-        if stat.S_ISREG(about.st_mode):
-            mask |= sum(group for group in (0o070, 0o007) if not about.st_mode & group & 0o044)
-    return mask
-
-
-DESCRIPTOR = re.compile(r"/dev/(stdin|stdout|stderr|fd/[0-9]+)|/proc/(self|thread-self|[0-9]+)/fd/[0-9]+")
-
-
-def check_own(name):
-    """Fails at a link or a pipe of another user on the way to a file, and at what is neither a file nor a stream."""
-    here, left, links = "/", os.path.join(os.getcwd(), name).split("/")[::-1], 0
-    while left:
-        part = left.pop()
-        place = os.path.dirname(here) if part == ".." else os.path.join(here, part)
-        about = os.lstat(place) if part not in ("", ".", "..") and os.path.lexists(place) else None
-        if about and (stat.S_ISLNK(about.st_mode) or stat.S_ISFIFO(about.st_mode)) and about.st_uid not in (0, os.geteuid()):
-            raise OSError(1, f"it is a {'link' if stat.S_ISLNK(about.st_mode) else 'pipe'} of another user")
-        if about and (stat.S_ISBLK(about.st_mode) or stat.S_ISSOCK(about.st_mode)):
-            raise OSError(1, "it is no file")
-        if about and stat.S_ISLNK(about.st_mode):
-            links += 1
-            if links > 40:
-                raise OSError(1, "it is a link of many links")
-            target = os.readlink(place)
-            here, left = "/" if target.startswith("/") else here, left + target.split("/")[::-1]
-        elif part not in ("", "."):
-            here = place
-
-
-def write(name, content, inputs=()):
-    """Writes a file whole and in the place of the old one, or as it is to a stream, or to standard output. Who may not read the inputs
-    may not read a new file."""
+def write(name: Optional[str], content: bytes, inputs: Sequence[str] = ()) -> None:
+    """Writes a file whole and in the place of the old one, or as it is to a stream, or to standard output. Who may not
+    read the inputs may not read a new file."""
     try:
-        if name is None:
-            with open(1, "wb", closefd=False) as out:
-                out.write(content)
-            return
-        is_open = DESCRIPTOR.fullmatch(os.path.abspath(name))
-        if not is_open:
-            check_own(name)
-        place = os.path.realpath(name)
-        mode = os.stat(name).st_mode if os.path.exists(name) else stat.S_IFREG
-        if is_open or stat.S_ISCHR(mode) or stat.S_ISFIFO(mode):
-            with open(name, "ab") as out:
-                out.write(content)
-            return
-        if os.path.exists(place) and not os.access(place, os.W_OK):
-            raise PermissionError(13, "Permission denied")
-        replace(place, content, 0o666 & ~mask_of(inputs))
-    except (OSError, ValueError) as fault:
-        raise Failed(f"cannot write {audit.shown(name or 'the output')}: {getattr(fault, 'strerror', fault)}", 5) from fault
+        files.put(content, name, inputs, 5, folders=False)
+    except runner.Failed as fault:
+        raise Failed(audit.shown(str(fault)), fault.status) from fault
 
 
-def replace(place, content, mode):
-    """Puts a file in its place, which keeps the mode of one of one's own that stands there, without setuid."""
-    if os.path.exists(place) and os.stat(place).st_uid == os.geteuid():
-        mode = stat.S_IMODE(os.stat(place).st_mode) & 0o777
-    handle, part = tempfile.mkstemp(prefix=".part-", dir=os.path.dirname(place))
-    try:
-        with open(handle, "wb") as out:
-            out.write(content)
-            os.fchmod(handle, mode)
-        os.replace(part, place)
-    except BaseException:
-        os.unlink(part)
-        raise
-
-
-def main():
+def main() -> None:
+    """Does what the words of the command line ask for."""
     summary, _, rest = __doc__.partition("\n\n")
     parser = audit.Parser(
         description=summary, epilog=rest, formatter_class=argparse.RawDescriptionHelpFormatter, allow_abbrev=False
@@ -233,7 +181,7 @@ def main():
     parser.add_argument("--output", metavar="FILE", help="the file to write, standard output where it is not given")
     asked = parser.parse_args()
     for name in (asked.banks, asked.scenarios):
-        if asked.output is not None and (os.path.realpath(name) == os.path.realpath(asked.output) or is_same(name, asked.output)):
+        if asked.output is not None and files.is_same(name, asked.output):
             raise Failed(f"{audit.shown(asked.output)} would be written over", 2)
     banks_data, scenarios_data = contents(asked.banks), contents(asked.scenarios)
     try:
@@ -243,19 +191,12 @@ def main():
         raise Failed(str(fault), 4) from fault
     scenarios = read_scenarios(scenarios_data, banks)
     if not 1 <= asked.scenario <= len(scenarios):
-        raise Failed(f"{audit.shown(asked.scenarios)} has {len(scenarios)} scenarios, and none of the number {asked.scenario}", 2)
+        has = f"{audit.shown(asked.scenarios)} has {len(scenarios)} scenarios"
+        raise Failed(f"{has}, and none of the number {asked.scenario}", 2)
     write(asked.output, banks_text(left_by(banks, scenarios[asked.scenario - 1])), (asked.banks, asked.scenarios))
 
 
-def is_same(one, other):
-    """Whether two names are those of one file that is there."""
-    try:
-        return os.path.samefile(one, other)
-    except OSError:
-        return False
-
-
-def run():
+def run() -> None:
     """The command, which ends with its status; what it cannot do is told. A request to end is an interrupt."""
     for number in (signal.SIGTERM, signal.SIGHUP):
         if signal.getsignal(number) is signal.SIG_DFL:

@@ -1,35 +1,48 @@
-"""Where a network comes from: the sheets and the command that made its two files, kept in the folder of an evidence, and run anew.
+"""Where a network comes from: the sheets and the command that made its two files, kept in the folder of an evidence,
+and run anew.
 
-source/command.tsv has the tool in its first line, and then a line for each word: `word` and the word, or `file`, what stands before
-the name (such as `rates=`), and the name of a sheet in source/. The tool writes to no place but a folder of its own."""
+source/command.tsv has the tool in its first line, and then a line for each word: `word` and the word, or `file`, what
+stands before the name (nothing, or an option or a column with its sign `=`, such as `--rate=currency=`), and the name
+of a sheet in source/. The tool runs in a folder of its own, confined to it by `confined.py`, with limits of memory and
+time.
+"""
 import os
 import pathlib
 import re
 import shlex
-import shutil
 import subprocess
 import sys
-import tempfile
+from typing import Callable, Dict, List, NamedTuple, Optional, Tuple
 
+from .. import runner
 from ..runner import Failed
-from .parts import MOST_OF_SHEETS
+from . import confined
+from .parts import MOST_OF_COMMAND, MOST_OF_SHEETS
 
-SOURCES = pathlib.Path(__file__).resolve().parents[2]
 TOOLS = {"from_matrix.py": "matrix", "from_list.py": "list", "from_totals.py": "totals"}
 """The tools that make two files of sheets, and their modules."""
 # What makes more than one network.
 MANY = "--samples"
-# What says where to write, and so is not for the command.
-WRITES = ("--banks", "--debts", "--label", "--summary", "--out")
+# What says where to write, or asks for help, and so is not for the command.
+NOT_ITS_OWN = ("--banks", "--debts", "--label", "--summary", "--out", "--help", MANY)
 # What may name a file beside those that are kept.
 OUTSIDE = re.compile(r"(^|=)[/~]|(^|[=/])\.\.(/|$)")
+# What may stand before the name of a sheet: nothing, an option, a column, or both, each with its sign.
+BEFORE = re.compile(r"(--[a-z-]+=)?([^/~=][^/=]*=)?")
 NAME = re.compile(r"[0-9]+-[^/\0\t\n]{1,200}")
 MADE = ("banks.csv", "debts.csv", "summary.csv")
-MOST_SECONDS = 600
+MOST_WORDS, MOST_SECONDS = 1000, 600
 
 
-def parsed(command):
-    """The tool of a command, and its words, each what stands before the name of a file, and that name; or a word, and nothing."""
+class Word(NamedTuple):
+    """A word of a command: the text, or what stands before the name of a sheet, and then that name."""
+
+    text: str
+    sheet: Optional[str] = None
+
+
+def parsed(command: str) -> Tuple[str, List[Word]]:
+    """The tool of a command of the shell, and its words, whose sheets are the files that they name."""
     try:
         tool, *words = shlex.split(command)
     except ValueError as fault:
@@ -39,99 +52,136 @@ def parsed(command):
         raise Failed(f"--source begins with one of {', '.join(TOOLS)}", 2)
     if any(word.split("=")[0] == MANY for word in words):
         raise Failed(f"--source is of one network, and {MANY} makes several", 2)
-    found = []
-    for word in words:
-        before, sign, name = word.rpartition("=")
-        if os.path.isfile(word):
-            found.append(("", word))
-        elif sign and os.path.isfile(name):
-            found.append((before + sign, name))
-        else:
-            found.append((word, None))
-    return tool, found
+    return tool, list(map(word_in, words))
 
 
-def sheets_of(command):
+def word_in(word: str) -> Word:
+    """A word of the shell, with its file apart where it names one."""
+    before, sign, name = word.rpartition("=")
+    if os.path.isfile(word):
+        return Word("", word)
+    return Word(before + sign, name) if sign and os.path.isfile(name) else Word(word)
+
+
+def sheets_of(command: str) -> List[str]:
     """The files that a command names."""
-    return [name for _, name in parsed(command)[1] if name is not None]
+    return [word.sheet for word in parsed(command)[1] if word.sheet is not None]
 
 
-def keep(folder, command, put):
+def keep(folder: pathlib.Path, command: str, put: Callable[[pathlib.Path, str, bytes], None]) -> None:
     """Keeps the sheets and the command of a network in a folder, and makes its two files and the summary."""
     tool, words = parsed(command)
     lines = [tool]
-    for word, name in words:
-        if name is None:
-            lines.append(f"word\t{word}")
+    for word in words:
+        if word.sheet is None:
+            lines.append(f"word\t{word.text}")
             continue
-        kept = f"{len(lines)}-{os.path.basename(name)}"
-        try:
-            with open(name, "rb") as sheet:
-                content = sheet.read(MOST_OF_SHEETS + 1)
-            if len(content) > MOST_OF_SHEETS:
-                raise OSError(0, f"it is longer than {MOST_OF_SHEETS:,} bytes")
-        except OSError as fault:
-            raise Failed(f"cannot read {name}: {fault.strerror}", 3) from fault
-        put(folder, f"source/{kept}", content)
-        lines.append(f"file\t{word}\t{kept}")
-    if any(re.search("[\n\r]", line) or line.count("\t") > 2 for line in lines):
+        kept = f"{len(lines)}-{os.path.basename(word.sheet)}"
+        put(folder, f"source/{kept}", sheet_in(word.sheet))
+        lines.append(f"file\t{word.text}\t{kept}")
+    if any(re.search("[\n\r\0]", line) or line.count("\t") > 2 for line in lines):
         raise Failed("a word of --source has a tab or the end of a line", 2)
     text = "".join(line + "\n" for line in lines).encode()
+    try:
+        words_in(text)
+    except ValueError as fault:
+        raise Failed(f"--source: {fault} cannot be kept", 2) from fault
     put(folder, "source/command.tsv", text)
     made = made_of(text, lambda name: (folder / "source" / name).read_bytes())
     for name in MADE:
         put(folder, f"source/{name}" if name == "summary.csv" else f"inputs/{name}", made[name])
 
 
-def words_in(text):
-    """The tool and the words of a command.tsv, each what stands before the name of a sheet, and that name or nothing. Fails where
-    it is none that may be run: another tool, a word that says where to write, or a file that is not a sheet of the folder."""
+def sheet_in(name: str) -> bytes:
+    """The bytes of a sheet."""
+    try:
+        with open(name, "rb") as sheet:
+            content = sheet.read(MOST_OF_SHEETS + 1)
+        if len(content) > MOST_OF_SHEETS:
+            raise OSError(0, f"it is longer than {MOST_OF_SHEETS:,} bytes")
+        return content
+    except OSError as fault:
+        raise Failed(f"cannot read {name}: {fault.strerror}", 3) from fault
+
+
+def words_in(text: bytes) -> Tuple[str, List[Word]]:
+    """The tool and the words of a command.tsv. Fails where it is none that may be run: another tool, a word that says
+    where to write, a file that is not a sheet of the folder, or more words than a command has."""
+    if len(text) > MOST_OF_COMMAND:
+        raise ValueError(f"of more than {MOST_OF_COMMAND:,} bytes")
     tool, *lines = text.decode("utf-8", "strict").removesuffix("\n").split("\n")
-    words = []
-    for line in lines:
-        kind, *fields = line.split("\t")
-        if kind == "word" and len(fields) == 1:
-            if fields[0].split("=")[0] in (*WRITES, MANY) or OUTSIDE.search(fields[0]):
-                raise ValueError(f"the word {fields[0]!r}")
-            words.append((fields[0], None))
-        elif kind == "file" and len(fields) == 2 and NAME.fullmatch(fields[1]) and fields[0].split("=")[0] not in WRITES:
-            words.append((fields[0], fields[1]))
-        else:
-            raise ValueError(f"the line {line!r}")
     if tool not in TOOLS:
-        raise ValueError(f"the tool {tool!r}")
-    return tool, words
+        raise ValueError(f"the tool {tool[:100]!r}")
+    if len(lines) > MOST_WORDS:
+        raise ValueError(f"of more than {MOST_WORDS:,} words")
+    return tool, list(map(word_of, lines))
 
 
-def names_of(text):
+def word_of(line: str) -> Word:
+    """The word of a line."""
+    kind, *fields = line.split("\t")
+    text = fields[0] if fields else ""
+    if any(is_option(text, option) for option in (*NOT_ITS_OWN, "-h")) or re.search("[\0-\x08\x0a-\x1f\x7f]", line):
+        raise ValueError(f"the word {line[:100]!r}")
+    if kind == "word" and len(fields) == 1 and not OUTSIDE.search(text):
+        return Word(text)
+    if kind == "file" and len(fields) == 2 and BEFORE.fullmatch(text) and NAME.fullmatch(fields[1]):
+        return Word(text, fields[1])
+    raise ValueError(f"the line {line[:100]!r}")
+
+
+def is_option(word: str, option: str) -> bool:
+    """Whether a word is an option, with or without a value; a short one has its value, or others, behind it."""
+    return word.split("=")[0] == option or (len(option) == 2 and word.startswith(option))
+
+
+def known_words(text: bytes) -> Tuple[str, List[Word]]:
+    """The tool and the words of the command of an evidence."""
+    try:
+        return words_in(text)
+    except ValueError as fault:
+        raise Failed(f"source/command.tsv is not a command that is run: {fault}", 3) from fault
+
+
+def names_of(text: bytes) -> List[str]:
     """The sheets of the command of an evidence, by their names in its folder."""
-    try:
-        return [f"source/{name}" for _, name in words_in(text)[1] if name is not None]
-    except (ValueError, UnicodeDecodeError) as fault:
-        raise Failed(f"source/command.tsv is not a command that is run: {fault}", 3) from fault
+    return [f"source/{word.sheet}" for word in known_words(text)[1] if word.sheet is not None]
 
 
-def made_of(text, read):
-    """What the tool makes of the sheets, by the names of `MADE`. Fails where it refuses them."""
-    try:
-        tool, words = words_in(text)
-    except (ValueError, UnicodeDecodeError) as fault:
-        raise Failed(f"source/command.tsv is not a command that is run: {fault}", 3) from fault
-    folder = pathlib.Path(tempfile.mkdtemp())
-    try:
+def made_of(text: bytes, read: Callable[[str], bytes]) -> Dict[str, bytes]:
+    """What the tool makes of the sheets, by the names of `MADE`. Fails with 4 where it refuses them, and with 3 where
+    the command is none that makes the files."""
+    tool, words = known_words(text)
+    with runner.work_folder() as name:
+        folder = pathlib.Path(name)
         (folder / "source").mkdir()
-        for _, name in words:
-            if name is not None:
-                (folder / "source" / name).write_bytes(read(name))
-        line = [word if name is None else f"{word}source/{name}" for word, name in words]
-        out = ["--out", "made"] if tool == "from_totals.py" else ["--banks", "made/banks.csv", "--debts", "made/debts.csv"]
-        script = f"from clearing_tools.imports.{TOOLS[tool]} import main; main()"
-        done = subprocess.run([sys.executable, "-c", script, *line, *out, "--summary", "made/summary.csv"], cwd=folder, stdin=subprocess.DEVNULL, capture_output=True,
-                              timeout=MOST_SECONDS, env={**os.environ, "PYTHONPATH": str(SOURCES)})
-        if done.returncode:
-            raise Failed(done.stderr.decode("utf-8", "replace").strip(), 4 if done.returncode == 1 else 2)
-        return {name: (folder / "made" / name).read_bytes() for name in MADE}
+        for word in words:
+            if word.sheet is not None:
+                (folder / "source" / word.sheet).write_bytes(read(word.sheet))
+        run_tool(tool, list(map(in_folder, words)), folder)
+        try:
+            return {made: (folder / "made" / made).read_bytes() for made in MADE}
+        except OSError as fault:
+            raise Failed("source/command.tsv is not a command that is run: it makes no files", 3) from fault
+
+
+def in_folder(word: Word) -> str:
+    """A word as the tool takes it in its folder."""
+    return word.text if word.sheet is None else f"{word.text}source/{word.sheet}"
+
+
+def run_tool(tool: str, words: List[str], folder: pathlib.Path) -> None:
+    """Runs a tool in a folder, to which it is confined; what it makes stands in made/ there."""
+    files = ["--banks", "made/banks.csv", "--debts", "made/debts.csv"]
+    out = ["--out", "made"] if tool == "from_totals.py" else files
+    command = [sys.executable, "-IB", confined.__file__, TOOLS[tool], *out, "--summary", "made/summary.csv", *words]
+    try:
+        nothing, pipe = subprocess.DEVNULL, subprocess.PIPE
+        done = subprocess.run(command, cwd=folder, stdin=nothing, stdout=nothing, stderr=pipe, timeout=MOST_SECONDS)
     except subprocess.TimeoutExpired as fault:
-        raise Failed(f"{tool} takes longer than {MOST_SECONDS} seconds", 1) from fault
-    finally:
-        shutil.rmtree(folder, ignore_errors=True)
+        raise Failed(f"{tool} takes longer than {MOST_SECONDS} seconds", 4) from fault
+    except (OSError, ValueError) as fault:
+        raise Failed(f"source/command.tsv is not a command that is run: {fault}", 3) from fault
+    if done.returncode:
+        said = done.stderr[:MOST_OF_COMMAND].decode("utf-8", "replace").strip()
+        raise Failed(said or f"{tool} ended with {done.returncode}", 4 if done.returncode == 1 else 2)

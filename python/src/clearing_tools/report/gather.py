@@ -40,11 +40,11 @@ from ..drawing.stress_map import read_stress
 from ..evidence import evidence
 from ..fullnames import add_labels, read_labels
 from ..money import Money, add_money
-from ..runner import Failed, command, work_folder
+from ..runner import Failed, command, said_by, work_folder
 from . import page
 from .costs import costs_of
 from .page import Evidence, Matter, Scenario, Verdict
-from .program import Program, as_given, line_of, said_by, sum_of
+from .program import Program, as_given, line_of, sum_of
 from .rankings import rankings_of
 
 D3 = ["/usr/share/nodejs/d3/dist/d3.min.js", "/usr/share/javascript/d3/d3.min.js"]

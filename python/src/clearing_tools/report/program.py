@@ -2,7 +2,6 @@
 import hashlib
 import os
 import pathlib
-import subprocess
 from collections import namedtuple
 
 from .. import labels, runner, texts
@@ -33,10 +32,7 @@ class Program:
 
     def ask(self, output, *words, given=None, may_end=(0,)):
         """Runs a task on a file for its standard input, where one is given. What it prints is kept in a file, which is named."""
-        command = [self.name, *words]
-        if given:
-            command = ["sh", "-c", 'exec "$@" <"$0"', str(given), *command]
-        status, printed, message = self.asking.run(command)
+        status, printed, message = self.asking.run_on(given, [self.name, *words])
         message, line = message.decode(errors="replace").strip(), line_of(["clearing", *words])
         if status not in may_end:
             raise Failed(f"`{line}` ended with {status}: {message}")
@@ -73,12 +69,3 @@ def sum_of(path):
         while block := file.read(1 << 20):
             digest.update(block)
     return digest.hexdigest()
-
-
-def said_by(*words):
-    """What a command prints, or nothing where it cannot be run."""
-    try:
-        done = subprocess.run(words, stdin=subprocess.DEVNULL, capture_output=True, encoding="utf-8", timeout=30)
-    except (OSError, subprocess.TimeoutExpired, UnicodeDecodeError):
-        return None
-    return done.stdout.strip() if done.returncode == 0 else None

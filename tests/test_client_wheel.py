@@ -1,0 +1,81 @@
+"""The wheel that has the program: installed without a network and without a toolchain it gives the program, all commands and both packages."""
+import os
+import pathlib
+import subprocess
+import sys
+import unittest
+import zipfile
+
+from common import CHAIN, PROGRAM, ROOT, Case, printed
+from test_client_install import OFFLINE, has_venv
+
+sys.path.insert(0, str(ROOT / "python"))
+import build  # noqa: E402
+
+FILES = ["--banks", CHAIN / "banks.csv", "--debts", CHAIN / "debts.csv"]
+
+
+def executable():
+    """The file that is the tested program itself, where that is known."""
+    built = ROOT / "crates/clear_main/out/clear_main"
+    named = pathlib.Path(os.path.realpath(PROGRAM))
+    return built if named == ROOT / "clearing" else named
+
+
+class Wheel(Case):
+    def wheel(self, program):
+        done = subprocess.run([sys.executable, "-IB", str(ROOT / "python/build.py"), str(self.folder), str(program)], capture_output=True, encoding="utf-8")
+        self.assertEqual((done.returncode, done.stderr), (0, ""))
+        return self.folder / done.stdout.strip()
+
+    def test_its_name_says_what_the_program_wants(self):
+        for named, tag in ((b"", "manylinux_2_17"), (b"GLIBC_2.2.5\0GLIBC_2.34\0GLIBC_2.9", "manylinux_2_34"), (b"GLIBC_2.100", "manylinux_2_100")):
+            self.assertEqual(build.tag_of(b"\x7fELF" + named), f"py3-none-{tag}_x86_64")
+        with self.assertRaises(ValueError):
+            build.tag_of(b"#!/bin/sh\n")
+        name = self.wheel(self.file("program", b"\x7fELFGLIBC_2.34"))
+        self.assertEqual(name.name, f"{build.full_name()}-py3-none-manylinux_2_34_x86_64.whl")
+        with zipfile.ZipFile(name) as archive:
+            entry = archive.getinfo(build.PLACE)
+            self.assertEqual((archive.read(entry), oct(entry.external_attr >> 16)), (b"\x7fELFGLIBC_2.34", "0o100755"))
+            told = archive.read(f"{build.full_name()}.dist-info/entry_points.txt").decode()
+            self.assertIn("\nclearing = clearing_client.program:main\n", told)
+            metadata = archive.read(f"{build.full_name()}.dist-info/METADATA").decode()
+            for line in ("Provides-Extra: desk", "Requires-Dist: bottle; extra == 'desk'", "Provides-Extra: all"):
+                self.assertIn(line + "\n", metadata)
+            self.assertIn("Root-Is-Purelib: false\n", archive.read(f"{build.full_name()}.dist-info/WHEEL").decode())
+        # The plain one has neither program nor command, and the same program makes the same bytes.
+        with zipfile.ZipFile(self.folder / build.build_wheel(self.folder)) as archive:
+            self.assertNotIn(build.PLACE, archive.namelist())
+            self.assertNotIn("program:main", archive.read(f"{build.full_name()}.dist-info/entry_points.txt").decode())
+        before = name.read_bytes()
+        self.assertEqual(self.wheel(self.folder / "program").read_bytes(), before)
+
+    @unittest.skipUnless(has_venv(), "without venv (Debian's package python3-venv)")
+    def test_installed_it_gives_the_program_and_all_commands(self):
+        program = executable()
+        if program.read_bytes()[:4] != b"\x7fELF":
+            self.skipTest("the tested program is a script")
+        wheel, place = self.wheel(program), self.folder / "venv"
+        for words in ([sys.executable, "-m", "venv", str(place)], [str(place / "bin/pip"), "install", str(wheel)]):
+            done = subprocess.run(words, env=OFFLINE, capture_output=True, encoding="utf-8")
+            self.assertEqual(done.returncode, 0, done.stdout + done.stderr)
+        environment = {"PATH": "/usr/bin:/bin", "HOME": str(self.folder)}
+        run = lambda *words: subprocess.run([str(word) for word in words], cwd=self.folder, env=environment, stdin=subprocess.DEVNULL, capture_output=True)
+        for words in (["clear", *FILES, "--workers", 1], ["defaults", *FILES, "--workers", 1]):
+            done = run(place / "bin/clearing", *words)
+            self.assertEqual((done.returncode, done.stdout.decode(), done.stderr), (0, printed(*words), b""))
+        done = run(place / "bin/clearing", "--help")
+        self.assertEqual((done.returncode, done.stdout), (2, b""))
+        # The package and the tools find it there, before any other but what CLEARING names.
+        done = run(place / "bin/python3", "-I", "-c", "import clearing_client as cc; from clearing_tools import runner; print(cc.find_program()); print(runner.program())")
+        packed, = place.glob("lib/python3*/site-packages/clearing_client/bin/clearing")
+        self.assertEqual(done.stdout.decode(), f"{packed}\n" * 2, done.stderr)
+        done = run(place / "bin/clearing-breaking", *FILES)
+        self.assertEqual((done.returncode, done.stdout.decode()), (0, printed("breaking", *FILES)), done.stderr)
+        environment["CLEARING"] = "/none/clearing"
+        self.assertNotEqual(run(place / "bin/clearing", "check", *FILES).returncode, 0)
+
+
+if __name__ == "__main__":
+    unittest.main()
