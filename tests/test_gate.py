@@ -5,8 +5,10 @@ import os
 import pathlib
 import re
 import shutil
+import signal
 import subprocess
 import time
+import unittest.mock
 
 from common import ROOT, Case
 
@@ -184,8 +186,8 @@ class Gate(Machine):
         told = [line for line in lines if line.startswith("gate: ")]
         self.assertEqual(len(told), 4, lines)
         self.assertEqual(told[0], "gate: 1 of 2 crates are proved; 0 minutes so far")
-        self.assertEqual(told[2], "gate: 1 of 2 crates are proved; edits of low; 0 minutes so far, about 0 more")
-        self.assertEqual(told[3], "gate: 2 of 2 crates are proved; edits of low; 0 minutes so far, about 0 more")
+        self.assertEqual(told[2], "gate: 1 of 2 crates are proved; edits of low; 0 minutes so far")
+        self.assertEqual(told[3], "gate: 2 of 2 crates are proved; edits of low; 0 minutes so far")
         self.assertIn("logic=proved", lines)
 
     def test_what_is_printed_comes_through_in_every_locale(self):
@@ -193,19 +195,127 @@ class Gate(Machine):
         self.assertEqual(status, 0, lines)
         self.assertIn("one side has `\u03bb x. x \u2261 x`", lines)
 
-    def test_the_estimate_goes_by_the_work_that_is_left(self):
+    def gate(self):
+        """The module of the script, of the small repository."""
         spec = importlib.util.spec_from_file_location("gate", self.root / "tools/dev/gate.py")
         gate = importlib.util.module_from_spec(spec)
         spec.loader.exec_module(gate)
-        work = gate.Work()
-        work.began -= 600
-        self.assertTrue(work.read("rt: low: trying its must-fail edits (1)"))
-        # There are 4,000 bytes of proofs and as many of tests, and two crates with an edit, of which that of the lower is being tried.
-        proofs, half, other = 4000 * (1 + gate.TESTS), (gate.EDIT + 1000 * gate.READ) / 2, gate.EDIT + 3000 * gate.READ
-        self.assertTrue(work.told().endswith(f"10 minutes so far, about {10 * (proofs + half + other) / half:.0f} more"), work.told())
-        for line in ("rt: low is kept: an earlier run on this machine proved the same files over the same libraries", "rt: high proved",
-                     "rt: low: its tests are proved", "rt: high: its tests are proved"):
+        return gate
+
+    def test_the_estimate_goes_by_the_work_that_is_left(self):
+        gate = self.gate()
+        now = time.monotonic()
+        at = unittest.mock.patch.object(gate.time, "monotonic", side_effect=lambda: now)
+        self.addCleanup(at.stop)
+        at.start()
+        with unittest.mock.patch.object(gate.os, "cpu_count", return_value=1):
+            work = gate.Work()
+        self.assertNotIn("more", work.told())
+        now += 600
+        # There are 4,000 bytes of proofs and as many of tests, and two crates with an edit.
+        self.assertTrue(work.read("rt: low proved"))
+        whole, slow = sum(work.takes.values()), gate.RATE * gate.SECONDS
+        left = (whole - 1000) / ((1000 + slow) / (600 + gate.SECONDS)) / 60
+        self.assertEqual(work.told(), f"1 of 2 crates are proved; 10 minutes so far, about {left:.0f} more")
+        for line in ("rt: high proved", "rt: low: its tests are proved", "rt: high: its tests are proved", "rt: low: trying its must-fail edits (1)"):
             self.assertTrue(work.read(line), line)
-        left = 10 * (half + other) / (proofs + half)
+        edits = 2 * gate.EDIT + 4000 * gate.READ
+        left = edits / ((whole - edits + slow) / (600 + gate.SECONDS)) / 60
         self.assertEqual(work.told(), f"2 of 2 crates are proved; edits of low; 10 minutes so far, about {left:.0f} more")
         self.assertFalse(work.read("rt: high NOT PROVED"))
+
+    def test_what_is_kept_takes_no_time(self):
+        work = self.gate().Work()
+        all_of_it = sum(work.takes.values())
+        self.assertTrue(work.read("rt: low is kept: an earlier run on this machine proved the same files over the same libraries"))
+        self.assertLess(sum(work.takes.values()), all_of_it)
+        self.assertEqual(max(work.way(step) for step in work.takes), work.takes["high", "tests"] + work.takes["high", "edits"])
+
+    def test_the_estimate_is_no_less_than_the_longest_way(self):
+        """A chain of crates, of which each waits for the one before, beside many jobs: told within a third, from the second minute on."""
+        gate = self.gate()
+        names = [f"c{number}" for number in range(12)]
+        (self.root / "crates.txt").write_text("".join(f"{name}: {' '.join(names[max(0, place - 1):place])}\n" for place, name in enumerate(names)))
+        for name in names:
+            (self.root / "crates" / name / "src").mkdir(parents=True)
+            (self.root / "crates" / name / "src/lib.rt").write_text(" " * 60 * gate.RATE)
+        # A machine of just the speed that is taken for slow, and one of half that speed: a minute a crate, or two.
+        for minutes in (1, 2):
+            now = time.monotonic()
+            with unittest.mock.patch.object(gate.time, "monotonic", side_effect=lambda: now), \
+                    unittest.mock.patch.object(gate.os, "cpu_count", return_value=4):
+                work = gate.Work()
+                for done, name in enumerate(names[:-1], 1):
+                    now += minutes * 60
+                    work.read(f"rt: {name} proved")
+                    left = (12 - done) * minutes
+                    self.assertGreater(work.minutes_left(), left * 2 / 3, (minutes, done))
+                    self.assertLess(work.minutes_left(), left * 4 / 3, (minutes, done))
+                    # In the midst of a step what is done of it is no more told as left.
+                    now += 30 * minutes
+                    self.assertLess(work.minutes_left(), left * 4 / 3 - minutes / 3, (minutes, done))
+                    now -= 30 * minutes
+
+    def test_more_than_five_edits_are_refused_before_anything_is_begun(self):
+        for number in range(5):
+            (self.root / f"crates/low/must-fail/more{number}.edit").write_text("")
+        status, lines = self.ran(".ci/run")
+        self.assertEqual((status, self.called), (1, []))
+        self.assertEqual(lines, ["gate: low has 6 edits in must-fail/, of 5: the others belong in edits/, which tools/dev/edits.py tries"])
+
+    def test_no_crate_of_the_repository_has_more_than_five(self):
+        for folder in sorted((ROOT / "crates").glob("*/must-fail")):
+            self.assertLessEqual(len(list(folder.glob("*.edit"))), 5, folder)
+
+    def test_times_are_told_by_crate_and_phase(self):
+        # A toolchain whose checks take a second and more of a processor, one of them for an edit.
+        (self.root / "crates/low/src/lib.rt").write_text("#[test]\nfn one() {}\n")
+        (self.root / "crates/low/must-fail/one.edit").write_text("file: src/lib.rt\nold: one\nnew: two\n")
+        check = self.file("commands/check", "#!/usr/bin/env python3\nimport sys, time\nwhile time.process_time() < float(sys.argv[1]): pass\ntime.sleep(2.2)\n")
+        check.chmod(0o755)
+        room = self.folder / "rt-edits-1/low"
+        (room / "src").mkdir(parents=True)
+        (room / "src/lib.rt").write_text("#[test]\nfn two() {}\n")
+        self.file("commands/rt", f"""#!/bin/sh
+(cd crates/low && {check} 0.3 --crate-name low)
+(cd crates/low && {check} 0.3 --crate-name low --test)
+(cd {room} && {check} 2.4 --crate-name low)
+""").chmod(0o755)
+        status, lines = self.ran("tools/dev/gate.py", "--dear-fails", "sh", "-c", f"cd {self.root} && rt")
+        self.assertEqual(status, 1, lines)
+        self.assertRegex("\n".join(lines), r"gate: low +0\.0 +0\.0 +0\.[01] +0\.[01]  one 2 s\ngate: all +0\.0 +0\.0 +0\.[01] +0\.[01]\n")
+        self.assertRegex(lines[-1], r"^gate: low/one took 2 s of a processor, [0-9.]+ times the cheapest check: plant it anew$")
+
+    def test_nothing_goes_on_where_it_is_ended(self):
+        # A toolchain that begins work of its own: one that answers no request to end, and one that has left its parent.
+        self.file("commands/rt", """#!/bin/sh
+echo "rt $*" >>"$CALLS"
+setsid sh -c 'trap "" TERM INT HUP; while :; do /bin/sleep 0.2; done' marked-work &
+(setsid /bin/sleep 97531 &)
+/bin/sleep 97531
+""").chmod(0o755)
+        for number in (signal.SIGTERM, signal.SIGINT, signal.SIGHUP):
+            self.calls.write_text("")
+            environment = {"PATH": f"{self.folder}/commands:{os.environ['PATH']}", "CALLS": str(self.calls)}
+            going = subprocess.Popen([str(self.root / ".ci/run")], env=environment, stdin=subprocess.DEVNULL, stdout=subprocess.DEVNULL,
+                                     stderr=subprocess.DEVNULL, start_new_session=True)
+            self.addCleanup(going.wait)
+            deadline = time.monotonic() + 60
+            while (not self.calls.read_text() or len(self.going()) < 3) and time.monotonic() < deadline:
+                time.sleep(0.1)
+            self.assertGreaterEqual(len(self.going()), 3)
+            going.send_signal(number)
+            self.assertEqual(going.wait(timeout=60), 128 + number)
+            self.assertEqual(self.going(), [], signal.Signals(number).name)
+
+    def going(self):
+        """The work of the toolchain that goes on: processes by their words, in the folder of the test."""
+        found = []
+        for path in pathlib.Path("/proc").glob("[0-9]*"):
+            try:
+                words = (path / "cmdline").read_bytes().split(b"\0")
+                if os.readlink(path / "cwd") == str(self.root) and (b"97531" in words or b"marked-work" in words):
+                    found.append(int(path.name))
+            except OSError:
+                pass
+        return found

@@ -251,8 +251,14 @@ class Launcher(Case):
         self.assertFalse(self.is_running())
 
     def test_an_interrupt_ends_the_build(self):
+        for number in (signal.SIGTERM, signal.SIGINT, signal.SIGHUP):
+            with self.subTest(signal=signal.Signals(number).name):
+                self.times.write_text("")
+                self.interrupted(number)
+
+    def interrupted(self, number):
         going = self.going()
-        going.send_signal(signal.SIGTERM)
+        going.send_signal(number)
         message = going.communicate(timeout=20)[1]
         self.assertEqual(going.returncode, 8, message)
         self.assertIn("the build was interrupted", message)
