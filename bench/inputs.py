@@ -117,6 +117,18 @@ def leak(claim):
     return banks, [(f"K{i}", f"K{(i + 1) % 10}", 1, claim) for i in range(10)]
 
 
+def hub(claim, cash=1):
+    """A bank that owes 999 others in nine classes and is owed back. With one unit of cash a unit goes to and fro in each round."""
+    debts = [(*ends, rank, claim) for rank in range(1, 10) for i in range(1, 1000) for ends in (("hub", f"edge {i}"), (f"edge {i}", "hub"))]
+    return [("hub", cash, "order"), *((f"edge {i}", 0, "order") for i in range(1, 1000))], debts
+
+
+def beside_leak(banks, claim):
+    """Two banks between which one unit goes to and fro, and banks with cash that owe nothing."""
+    pair = [("to", 1, "order"), ("fro", 0, "order")]
+    return pair + [(f"idle {i}", 1, "order") for i in range(banks)], [("to", "fro", 1, claim), ("fro", "to", 1, claim)]
+
+
 def linked(owed):
     """1,000 banks that each owe the next few in one class, without any cash: one cycle, or many long ones."""
     banks = [(f"bank {i}", 0, "order") for i in range(1000)]
@@ -168,6 +180,9 @@ NETWORKS = {
     "chain": partial(chain, 1000),
     "one-debtor": one_debtor,
     "leak": partial(leak, 90000),
+    "hub": partial(hub, 11),
+    "hub-with-cash": partial(hub, 11, 98901),
+    "beside-leak": partial(beside_leak, 40, 100000),
 }
 # Debts files as long as a file may be, all of one piece.
 FULL = {"full-empty-lines": "\n", "full-blank-records": " \n", "full-commas": ",", "full-comma-records": ",\n"}

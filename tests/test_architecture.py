@@ -33,8 +33,8 @@ class Picture(unittest.TestCase):
         crates = architecture.stands_on()
         tests = [crate for crate in crates if crate.endswith("_tests")]
         self.assertIn(f"over {len(crates) - len(tests) - 2} library crates", text, "all but those of tests, clear_main and net_samples")
-        self.assertEqual(len(tests), 6)
-        self.assertIn("Tests stand in six crates of their own", text)
+        self.assertEqual(len(tests), 4)
+        self.assertIn("Tests stand in four crates of their own", text)
 
     def test_its_figures_are_constants_of_the_code(self):
         text = " ".join((ROOT / "docs/ARCHITECTURE.md").read_text(encoding="utf-8").split())

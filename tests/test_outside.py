@@ -8,7 +8,7 @@ import subprocess
 import threading
 import unittest
 
-from common import PROGRAM, Case
+from common import PROGRAM, TWELVE, Case, files_of
 
 BANKS = "name,cash,rule\nA,7,order\nB,1,order\nC,0,order\n"
 DEBTS = "debtor,creditor,class,claim\nA,B,1,10\nB,C,1,9\n"
@@ -125,6 +125,25 @@ class Outside(Case):
         calls = [re.sub(r"^[0-9]+ +", "", line) for line in log.read_text().splitlines()] if log.exists() else []
         return done.returncode, [re.sub(r" = .*", "", call) for call in calls if not call.startswith(("execve(", "+++"))]
 
+    def test_a_text_is_written_in_no_more_writes_than_it_has_lines(self) -> None:
+        files, largest = files_of(TWELVE), ["gen", "--seed", 1, "--size", 1000, "--tries", 20000]
+        runs = [[words[0], *files, *words[5:]] for words, _ in self.tasks() if words[0] not in ("rescue", "replay")]
+        for words in [*runs, ["clear", *files, "--show", "journal"], largest]:
+            with self.subTest(words=[str(word) for word in words]):
+                written = self.writes_of(*words)
+                self.assertLessEqual(len(written), b"".join(written).count(b"\n"))
+
+    @staticmethod
+    def writes_of(*words: object) -> list[bytes]:
+        """What a run that ends well writes, write by write, of which one of more than 4,096 bytes counts as several."""
+        front, end = os.pipe2(os.O_DIRECT)
+        with subprocess.Popen([PROGRAM, *map(str, words)], stdin=subprocess.DEVNULL, stdout=end) as process:
+            os.close(end)
+            written = list(iter(lambda: os.read(front, 65_536), b""))
+        os.close(front)
+        assert process.returncode == 0, words
+        return written
+
     def test_a_run_opens_its_files_and_nothing_else(self):
         if not shutil.which("strace"):
             self.skipTest("strace is not on the path")
@@ -141,6 +160,24 @@ class Outside(Case):
                 self.assertEqual([call[1] for call in opened], [str(path) for path in paths])
                 # To be read alone, and never made or cut.
                 self.assertTrue(all({"O_RDONLY"} <= set(call[2].split("|")) <= {"O_RDONLY", "O_NOCTTY", "O_CLOEXEC"} for call in opened), calls)
+
+    def test_nothing_more_is_opened_after_a_file_that_stops_a_run(self):
+        if not shutil.which("strace") or self.traced()[0] != 2:
+            self.skipTest("strace is not on the path, or may trace no program here")
+        long, bad, missing = self.file("long", b"\n" * 8_388_609), self.file("bad", "bad"), self.file("missing")
+        for words, paths in self.tasks():
+            for number, path in enumerate(paths):
+                for wrong in (missing, long, bad):
+                    # A journal may be longer than is tried here.
+                    if wrong == long and path == self.thirds["replay"][1]:
+                        continue
+                    with self.subTest(task=words[0], file=path.name, wrong=wrong.name):
+                        status, calls = self.traced(*(wrong if word == path else word for word in words))
+                        self.assertEqual(status, 3 if wrong == missing else 4)
+                        opened = [call for call in calls if f'"{self.folder}/' in call]
+                        # What a file has in it is looked at once all are there.
+                        wanted = [*paths[:number], wrong, *([] if wrong != bad else paths[number + 1:])]
+                        self.assertEqual([re.search(r'"(.*?)"', call)[1] for call in opened], [str(path) for path in wanted])
 
 
 if __name__ == "__main__":

@@ -1,6 +1,7 @@
 """Each refusal of the program, by file, kind and row, as docs/FORMATS.md gives it: the status, the whole message, and no output.
 Each fault of a record stands in an early row and in late ones, and behind few good records and many, since a row's number and what
 stands before it must change nothing else."""
+import concurrent.futures
 import re
 import subprocess
 import unittest
@@ -20,6 +21,14 @@ FEW_BANKS = ["A,7,order", "B,1,equal", f"{'n' * 64},3,adams", f"{'😀' * 16},3,
 FEW_DEBTS = ["A,B,1,10", f"{'n' * 64},A,9,5"]
 MANY_BANKS = [*FEW_BANKS, *(f"G{i},{i},webster" for i in range(16))]
 MANY_DEBTS = [*FEW_DEBTS, *(f"G{i},G{(i + c) % 16},{c},{i}" for c in range(1, 8) for i in range(16))][:100]
+
+# A thousand good records of each file.
+GOOD = {
+    "banks": [bank.encode() for bank in [*FEW_BANKS, *(f"G{i},{i},webster" for i in range(996))]],
+    "debts": [*(debt.encode() for debt in FEW_DEBTS),
+              *(f"G{i % 16},G{(i + 1 + i // 16 % 15) % 16},{1 + i // 240},{i % 50}".encode() for i in range(998))],
+    "journal": [b"1,A,B,1,1"] * 1000,
+}
 
 NAMES = {"name": ["x" * 65, "é" * 33, "😀" * 17, "x" * 300, b"\xff", b"x" * 64 + b"\xc3", "a\x07", '"a,b"', '"a""b"'],
          "unknown bank": ["Z", "a", "x" * 63, "y" * 64, "é" * 32, "😁" * 16]}
@@ -98,6 +107,9 @@ def scenario_faults():
         one('"a"', "[[scenario.loss]]\namount = 1"), one('"a"', loss("A", 1), "more = 1"), one('"a"', loss("A", '"1"')), one('"a"', loss("A", "1.0")),
         one('"a"', "[scenario.loss]"), one('"a"', loss("A", 1), loss("B", 1), "[[scenario.loss]]\nbank = 1\namount = 1"), one('""', "x = 1"),
     ]
+    # Keys with dots, and a loss of three keys; another shape is told before the values in it.
+    shapes += ["[[scenario]]\nname.first = 'a'\n", one('""', "cut = 0.5"), one('""', "[scenario.loss]"),
+               one('""', 'loss = [{ bank = "X", amount = 1, a = 1 }]'), one('""', 'loss = [{ bank = "X", amount = 1.0 }]')]
     yield from (("shape", text) for text in shapes)
     yield from (("name", one(f'"{name}"')) for name in ["", "x" * 65, "x" * 100, "é" * 33, "😀" * 17, "x" * 5_000, "a,b", "a\\u0007", 'a\\"b'])
     yield from (("limit", one('"a"', f"cut = {cut}")) for cut in [1001, -1, 2**63 - 1])
@@ -106,7 +118,7 @@ def scenario_faults():
         yield from (("limit", one('"a"', *before, loss("A", amount))) for amount in [-1, 10**12 + 1, 2**63 - 1])
     yield from (("double bank", one('"a"', *losses)) for losses in
                 [[loss("A", 1)] * 2, [loss("A", 1), loss("B", 1), loss("A", -1)], [loss("n" * 64, 1)] * 3, [loss("B", 10**12), loss("B", 0)]])
-    yield from [("name", one('""', "cut = 1001")), ("limit", one('"a"', "cut = 1001", loss("Z", -1))), ("unknown bank", one('"a"', loss("Z", -1)))]
+    yield from [("name", one('"a\\tb"', "cut = -1")), ("name", one('""', "cut = 1001")), ("limit", one('"a"', "cut = 1001", loss("Z", -1))), ("unknown bank", one('"a"', loss("Z", -1)))]
 
 
 def documents():
@@ -115,7 +127,9 @@ def documents():
         yield from [("toml", text), ("toml", "# " + "x" * 100 + "\n" + text), ("toml", "# " + "x" * 200_000 + "\n" + text)]
     for text in [b"\xff", b'[[scenario]]\nname = "\xc3"', b"# \xe2\x82"]:
         yield from [("toml", text), ("toml", b"# " + b"x" * 100 + b"\n" + text), ("toml", b"# " + b"x" * 200_000 + b"\n" + text)]
-    for text in ["a = 1", "scenario = 1", "[scenario]", "scenarios = []", one('"a"') + "[x]", one('"a"') * 20 + "[other]", 'scenario = "' + "x" * 200_000 + '"']:
+    for text in ["scenario = []\nscenario = []", 'scenario = "a" "b"']:
+        yield "toml", text
+    for text in ["scenario.name = 'a'", "[scenario]\nname = 'a'", "a = 1", "scenario = 1", "[scenario]", "scenarios = []", one('"a"') + "[x]", one('"a"') * 20 + "[other]", 'scenario = "' + "x" * 200_000 + '"']:
         yield "shape", text
 
 
@@ -186,6 +200,36 @@ class Refusals(Case):
         with self.subTest(late="above 2,000,000"):
             self.fault("journal", HEADERS["journal"] + "\n" + ",\n" * 2_100_000 + "x\n", 2_100_001, "fields")
 
+    def test_faults_behind_any_number_of_good_rows(self) -> None:
+        """In each file behind 0 to 999 good rows, the faults of its records by turns."""
+        faults = {"banks": list(bank_faults(False)), "debts": list(debt_faults()), "journal": list(raise_faults())}
+        needs = {"banks": len(FEW_BANKS), "debts": len(FEW_DEBTS), "journal": 0}
+        cases = []
+        for count in range(1000):
+            for file, found in faults.items():
+                # Of the faults that speak of no row above them the first stands behind fewer.
+                kind, record = found[count % len(found) if count >= needs[file] else 0]
+                cases.append((file, count, kind, record))
+        with concurrent.futures.ThreadPoolExecutor(4) as pool:
+            for case, told in zip(cases, pool.map(lambda case: self.told_behind(case[0], case[1], case[3]), cases)):
+                file, count, kind, _ = case
+                with self.subTest(file=file, count=count, kind=kind):
+                    self.assertEqual(told, (4, f"clearing: {file} row {count + 1}: {kind} ({NUMBERS[kind]})\n", ""))
+
+    def told_behind(self, file: str, count: int, record: str | bytes) -> tuple[int, str, str]:
+        """What a run comes to that finds this record in a file behind so many good rows."""
+        rows = {"banks": GOOD["banks"][:max(count, 20)], "debts": GOOD["debts"][:count if file == "debts" else 2]}
+        if file == "journal":
+            rows[file] = GOOD[file][:count]
+        rows[file] = [*rows[file][:count], joined(record)]
+        words = ["replay" if file == "journal" else "clear"]
+        for name, lines in rows.items():
+            path = self.file(f"{name}-{file}-{count}", b"\n".join([HEADERS[name].encode(), *lines]))
+            words += [f"--{name}", str(path)]
+        done = subprocess.run([PROGRAM, *words], stdin=subprocess.DEVNULL, capture_output=True, encoding="utf-8",
+                              errors="replace")
+        return done.returncode, done.stderr, done.stdout
+
     def test_headers(self):
         for file, header in HEADERS.items():
             for text in header_faults(header):
@@ -207,7 +251,10 @@ class Refusals(Case):
             for kind, text in documents():
                 with self.subTest(kind=kind, text=str(text)[:60], many=many):
                     self.fault("scenarios", text, 0, kind)
+        with self.subTest("a list in a list"):
+            self.fault("scenarios", "scenario = [[]]", 1, "shape")
         with self.subTest("too many"):
+            self.fault("scenarios", one('"a"') * 100 + "[[scenario]]\n", 101, "too many")
             self.fault("scenarios", one('"a"') * 101, 101, "too many")
             self.fault("scenarios", one('"a"') * 100 + one('""'), 101, "too many")
 
@@ -294,6 +341,11 @@ class Refusals(Case):
         lists += [[task, *banks, *debts, f"--keep={value}"] for task in ("costs", "cost-bounds") for value in (1001, -1, "", "x", "9" * 20)]
         lists += [["clear", *banks, *debts, f"--show={value}"] for value in ("", "x", "Both", "x" * 300)]
         lists += [["clear", "--banks", name, *debts] for name in ("", "-b", "-")] + [["rescue", *banks, *debts, "--bank", name] for name in ("", "-A")]
+        # A value that is no value, options with one dash, another name for a task, a task that takes no such option.
+        lists += [["clear", *banks, *debts, ""], ["clear", "--banks", *debts], ["clear", "--banks", "--", "b", *debts], ["clear", "-banks", "b", *debts],
+                  ["clear", *banks, "--debts="], ["clear", *banks, "--debts", "-"], ["clear", *banks, *debts, "--workers", " 1"], ["-V"],
+                  ["clear", "--banks=a", "--debts=d", "--banks=b"], ["clear", *banks, *debts, "--threads=2"], ["cost_bounds", *banks, *debts, "--keep=5"],
+                  ["rescue", *banks, *debts, "--bank=a,b"], ["gen", "--seed=1", "--size=0", "--tries=0"]]
         # Words that are no text.
         lists += [[b"\xff"], ["clear", *banks, "--debts", b"\xff"], ["clear", *banks, *debts, b"\xc3"], [b"x" * 100 + b"\xff", *["x"] * 20]]
         for words in lists:

@@ -1,6 +1,7 @@
 """How many threads the workers of a run have, and the scenarios of a stress test, on networks with debts: counted from outside, by a
 library that is loaded before the program and counts each start of a thread."""
 import os
+import pathlib
 import subprocess
 import unittest
 
@@ -57,8 +58,16 @@ class Threads(Case):
                     # There are seven such rounds or more, on 19,911 debts.
                     self.assertGreaterEqual(started, 4 * (workers - 1))
 
+    def test_each_worker_has_a_thread_on_networks_of_any_size(self) -> None:
+        for banks in (2, 7, 31, 60, 100, 200, 400, 699, 1000):
+            files = self.owing_in_pairs(banks, 1)
+            for workers in (2, 3, 8):
+                with self.subTest(banks=banks, workers=workers):
+                    # No later round has visits enough for threads.
+                    self.assertEqual(self.started("clear", *files, "--workers", workers), workers - 1)
+
     def test_four_scenarios_at_once(self):
-        for count, wanted in ((1, 0), (2, 1), (3, 2), (4, 3), (64, 3)):
+        for count, wanted in ((1, 0), (2, 1), (3, 2), (4, 3), (64, 3), (65, 3), (100, 3)):
             text = "".join(f'[[scenario]]\nname = "{number}"\ncut = {number}\n' for number in range(count))
             for task, *more in (["stress", "--workers", 4], ["outcomes"]):
                 with self.subTest(task=task, count=count):
@@ -69,6 +78,18 @@ class Threads(Case):
         for task in ("breaking", "impact", "rescues"):
             with self.subTest(task=task):
                 self.assertEqual(self.started(task, *files_of(TWELVE)), 3)
+
+    def test_four_shares_of_many_banks_at_once(self) -> None:
+        for task, banks, pairs in (("impact", 66, 33), ("impact", 1000, 1), ("rescues", 200, 100)):
+            with self.subTest(task=task, banks=banks):
+                self.assertEqual(self.started(task, *self.owing_in_pairs(banks, pairs)), 3)
+
+    def owing_in_pairs(self, banks: int, pairs: int) -> list[str | pathlib.Path]:
+        """The files of so many banks without cash, of which the first of each of some pairs owes the second a unit."""
+        names = "".join(f"N{bank},0,order\n" for bank in range(banks))
+        debts = "".join(f"N{2 * pair},N{2 * pair + 1},1,1\n" for pair in range(pairs))
+        return ["--banks", self.file("banks.csv", f"name,cash,rule\n{names}"),
+                "--debts", self.file("debts.csv", f"debtor,creditor,class,claim\n{debts}")]
 
     @staticmethod
     def a_bank():

@@ -19,7 +19,7 @@ ROOT = pathlib.Path(__file__).resolve().parents[2]
 
 # From the top: what the layer is for, its crates, and what it takes from the layers below.
 LAYERS = [
-    ("Tests", ["top_tests", "text_tests", "task_tests", "run_tests", "low_tests", "law_tests", "net_samples"],
+    ("Tests", ["top_tests", "run_tests", "call_tests", "law_tests", "net_samples"],
      "public calls"),
     ("The program", ["clear_main", "clear_top", "clr_host"],
      "texts, and the record of the run"),

@@ -5,6 +5,7 @@ use Rattle.pay_words.specs.declared.view.Shown.{Shown}
 use Rattle.pay_words.specs.Views.{OwesNoRing, took}
 use Rattle.bank_worker.specs.declared.visit.Visit.{Visit}
 use Rattle.bank_worker.specs.Raises.{AreRaisedStill}
+use Rattle.bank_worker.specs.Sweeps.{AreSweeps}
 use Rattle.bank_worker.specs.Views.{Crew, desk_at, desks_held, paid_by_all}
 use Rattle.bank_worker.specs.Visits.{AddsRaises, AreAtRest, IsAllCalm, IsAllVisits, IsSameCrew, MayRest}
 use Rattle.bank_worker.specs.Visits.{TellsRaises, WhenMem, WhenRaised}
@@ -40,10 +41,11 @@ pub record IsRounded (n : ℕ) (old new : Crew) : Type 0 where
   pub gone : HasGone n old new
   pub at_rest : AreAtRest new.seat.shows new.desks
 
--- as many visits as bells were taken, at most so many sweeps over the desks
+-- as many visits as bells were taken, in at most so many sweeps over the desks, each in file order
 pub record VisitsByBells (sweeps : ℕ) (old new : Crew) : Type 0 where
   pub by_bells : new.visits + old.seat.shows.taken ≡ old.visits + new.seat.shows.taken
   pub at_most : new.visits ≤ old.visits + sweeps * length old.desks
+  pub in_sweeps : AreSweeps sweeps old new
 
 -- a worker that has just taken the bell of one of its desks, for a visit that found no memory
 abbrev pub with_a_visit_refused : Crew → ℕ → Crew

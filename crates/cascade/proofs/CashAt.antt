@@ -1,46 +1,29 @@
 -- What another cash at one bank changes, and what it leaves.
-use Rattle.std.proofs.Common.{◌≡◌, ℕ, zero, suc, ◌+◌, ◌<◌, ◌≤◌, List, [], ◌∷◌, length, get_or, slice_get, sum_by, Some, refl, sym, ap, ◌∙◌, arith}
+use Rattle.std.proofs.Common.{◌≡◌, ℕ, zero, suc, ◌+◌, ◌<◌, ◌≤◌, List, [], ◌∷◌, length, slice_get, sum_by, Some, refl, ap, ◌∙◌, arith}
 use Rattle.std.specs.Option.{option_map_or}
-use Rattle.std.proofs.lemmas.List.{length-map}
 use Rattle.std.proofs.lemmas.List.Sums.{sum_by-cons}
 use Rattle.clr_net.specs.declared.bank.Bank.{Bank}
-use Rattle.clr_net.specs.declared.rule.RuleKind.TheVariants as kind
-use Rattle.clr_net.specs.Net.{Net, changed_at, of_cash, with_cash, cash_of, outside_of, rule_of, all_cash}
-use Rattle.cascade.specs.MoreCash.{HasMoreCash}
-use Rattle.clr_net.proofs.ChangedAt.{map-changed_at}
-use Rattle.cascade.proofs.PayingOut.{banks_at, with_banks}
-
--- the cash of the bank j of a list
-abbrev cash_in : List Bank → ℕ → ℕ
-cash_in banks j = option_map_or (λ b. b.cash) (slice_get banks j) 0
+use Rattle.clr_net.specs.Net.{Net, changed_at, of_cash, with_cash, cash_of, outside_of, all_cash}
+use Rattle.cascade.specs.MoreCash.{HasMoreCash, IsOfOtherCash}
+use Rattle.cascade.proofs.OtherCash.{alike_set, alike_with_more, as_many_alike, cash_in, kept_at}
+use Rattle.cascade.proofs.PayingOut.{with_banks}
 
 -- the banks with another cash at the bank i
 abbrev pub cash_at : List Bank → ℕ → ℕ → List Bank
 cash_at banks i c = changed_at (of_cash c) banks i
 
--- what g reads of a bank stays, where g does not read the cash
-unseen : {X : Type 0} (g : Bank → X) (d : X) (c : ℕ) → ((b : Bank) → g (of_cash c b) ≡ g b)
-    → (banks : List Bank) (i j : ℕ)
-    → option_map_or g (slice_get (cash_at banks i c) j) d ≡ option_map_or g (slice_get banks j) d
-unseen g d c h banks i j =
-    sym (banks_at g (cash_at banks i c) j d)
-    ∙ ap (λ xs. get_or xs j d) (map-changed_at g (of_cash c) h banks i)
-    ∙ banks_at g banks j d
+-- the network is of other cash then
+alike_with_cash : (net : Net) (i c : ℕ) → IsOfOtherCash net (with_cash net i c)
+alike_with_cash net i c = alike_set net net i c (refl, refl)
 
--- so the rules stay
-rule_stays : (net : Net) (i c j : ℕ) → rule_of (with_cash net i c) j ≡ rule_of net j
-rule_stays net i c j = unseen (λ b. b.rule) kind.Order c (λ b. refl) net.banks i j
-
--- and what is owed outside
+-- so what is owed outside stays
 pub outside_stays : (net : Net) (i c j : ℕ) → outside_of (with_cash net i c) j ≡ outside_of net j
-outside_stays net i c j = unseen (λ b. b.outside) 0 c (λ b. refl) net.banks i j
+outside_stays net i c j =
+    kept_at (λ b. b.outside) 0 (λ b. refl) net (with_cash net i c) j (alike_with_cash net i c)
 
--- there are as many banks as before
+-- and there are as many banks as before
 pub length-with_cash : (net : Net) (i c : ℕ) → length (with_cash net i c).banks ≡ length net.banks
-length-with_cash net i c =
-    sym (length-map (cash_at net.banks i c) (of_cash 0))
-    ∙ ap length (map-changed_at (of_cash 0) (of_cash c) (λ b. refl) net.banks i)
-    ∙ length-map net.banks (of_cash 0)
+length-with_cash net i c = as_many_alike net (with_cash net i c) (alike_with_cash net i c)
 
 -- a bank that is read has the cash of its number
 pub cash_read : (net : Net) (i : ℕ) (b : Bank) → slice_get net.banks i ≡ Some b
@@ -82,13 +65,9 @@ cash_in_mono (b ∷ banks) (suc i) c d (suc j) l = cash_in_mono banks i c d j l
 -- so one network has more cash than the other
 pub has_more_cash : (net : Net) (i c d : ℕ) → c ≤ d
     → HasMoreCash (with_cash net i c) (with_cash net i d)
-has_more_cash net i c d l = record {
-  banks = length-with_cash net i d ∙ sym (length-with_cash net i c);
-  rules = λ j. rule_stays net i d j ∙ sym (rule_stays net i c j);
-  outside = λ j. outside_stays net i d j ∙ sym (outside_stays net i c j);
-  cash = λ j. cash_in_mono net.banks i c d j l;
-  debts = refl;
-}
+has_more_cash net i c d l =
+    alike_with_more net (with_cash net i c) (with_cash net i d) (alike_with_cash net i c)
+    (alike_with_cash net i d) (λ j. cash_in_mono net.banks i c d j l)
 
 -- the cash that a bank has, given to it, changes nothing
 cash_kept : (banks : List Bank) (i c : ℕ) → c ≡ cash_in banks i → cash_at banks i c ≡ banks

@@ -5,5 +5,7 @@ pub mod PayingOut
 pub mod Healths
 pub mod Equities
 pub mod MoreCash
+pub mod GoingOn
+pub mod OtherCash
 pub mod CashAt
 pub mod Ruin

@@ -1,10 +1,15 @@
 -- Networks that differ in cash alone, and what more of it does.
-use Rattle.std.specs.Prelude.{◌≡◌, ℕ, ◌≤◌, Bool, length}
+use Rattle.std.specs.Prelude.{◌≡◌, ℕ, ◌<◌, ◌≤◌, Bool, length, map, slice_index}
 use Rattle.clr_net.specs.Amounts.{IsAtMost}
-use Rattle.clr_net.specs.Net.{Net, cash_of, outside_of, rule_of}
-use Rattle.clear_core.specs.Clearing.{estate, least}
+use Rattle.clr_net.specs.Net.{Net, cash_of, debtor_of, of_cash, outside_of, rule_of}
+use Rattle.clear_core.specs.Clearing.{IsOnWayBy, estate, least, pay_by, spend}
 use Rattle.cascade.specs.declared.standing.Health.TheVariants as health
 use Rattle.cascade.specs.Standings.{health_of, is_sound, kept}
+
+-- another network has the same banks but for their cash, in the same places, and the same debts
+abbrev pub IsOfOtherCash : Net → Net → Type 0
+IsOfOtherCash net other =
+    (map (of_cash 0) other.banks ≡ map (of_cash 0) net.banks) × (other.debts ≡ net.debts)
 
 -- another network has the same debts, and as many banks, of the same rules and outside claims, of
 -- which none has less cash
@@ -30,3 +35,11 @@ pub record NobodyLoses (net more : Net) : Type 0 where
   pub estates : (i : ℕ) → estate net (least net) i ≤ estate more (least more) i
   pub keeps : (i : ℕ) → kept net (least net) i ≤ kept more (least more) i
   pub sound : (i : ℕ) → IsSoundAtLeast net i → IsSoundAtLeast more i
+
+-- a clearing of the second network goes on from the least payments of the first: they are on the
+-- way, and a bank of the same cash in both would pay on its debts just what it has paid
+pub record GoesOn (net more : Net) : Type 0 where
+  pub way : IsOnWayBy more (spend more) (least net)
+  pub quiet : (i : ℕ) → cash_of net i ≡ cash_of more i
+      → (x : ℕ) → x < length more.debts → debtor_of more x ≡ i
+      → slice_index (least net) x ≡ slice_index (pay_by more (spend more) (least net)) x

@@ -1,6 +1,6 @@
 //! The laws of standings, for any network within the limits. A law has nothing to run; its
 //! `ensures` is proved.
-ghost use Rattle.cascade.specs.MoreCash.{HasMoreCash, NobodyLoses};
+ghost use Rattle.cascade.specs.MoreCash.{GoesOn, HasMoreCash, NobodyLoses};
 ghost use Rattle.cascade.specs.Ruin.{CostsItsCash};
 ghost use Rattle.cascade.specs.Standings.{AddsUp, PaysOut, due, equity, health_of, outside_paid, worth};
 ghost use Rattle.cascade.specs.declared.standing.Health.TheVariants as health;
@@ -47,6 +47,13 @@ pub fn equities_do_not_depend_on_the_payments()
 /// least payments no debt is paid less, no bank has less or keeps less, and the sound stay sound.
 pub fn more_cash_hurts_nobody()
     ensures { (net more : Net) → IsNetwork net → HasMoreCash net more → NobodyLoses net more }
+{}
+
+/// A clearing goes on where banks have more cash: the least payments without it are at most those
+/// with it, and at most what all banks pay by them; and only banks that have more may pay more at
+/// first.
+pub fn clearing_goes_on_with_more_cash()
+    ensures { (net more : Net) → HasMoreCash net more → GoesOn net more }
 {}
 
 /// Where a bank loses all its cash, no debt is paid more under the least payments, no bank has more

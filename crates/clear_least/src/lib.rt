@@ -2,11 +2,11 @@
 //!
 //! By repetition, from nothing paid: in each round all banks pay at once what their rules give from
 //! their cash and from what the last round brought them, less what they owe outside the network,
-//! until a round changes nothing (Eisenberg and Noe 2001). That is [`central`]. A round goes once
-//! over all columns, for what each bank receives, and once over all rows, for what each pays. So the
-//! whole costs the number of rounds times the number of debts and the division of each bank's
-//! estate. Each round but the last pays more units than the one before it, and none pays more than
-//! are owed.
+//! until a round changes nothing (Tarski 1955: the least fixed point). That is [`central`]. A round
+//! goes once over all columns, for what each bank receives, and once over all rows, for what each
+//! pays. So the whole costs the number of rounds times the number of debts and the division of each
+//! bank's estate. Each round but the last pays more units than the one before it, and none pays
+//! more than are owed.
 //!
 //! By sweeps, from payments that are known to be on the way: a bank pays anew only where a payment
 //! to it has risen since it last paid. That is [`least_from`], and [`least_by`] where banks divide

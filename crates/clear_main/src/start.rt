@@ -5,7 +5,7 @@ ghost use Rattle.clear_top.specs.Sources.{HasNoFiles};
 ghost use Rattle.clear_top.specs.Status.{code_of};
 ghost use Rattle.clear_top.specs.declared.status.Status.{Status};
 ghost use Rattle.clear_words.specs.Job.{job_of};
-ghost use Rattle.std.specs.Prelude.{◌≡◌, ◌⊎◌, ◌↔◌, IfOk, None, map};
+ghost use Rattle.std.specs.Prelude.{◌≡◌, ◌≢◌, ◌⊎◌, ◌↔◌, IfOk, None, map};
 ghost use Rattle.std.specs.Process.{exit_status};
 
 use clear_top::{Ended, Status, run, tell};
@@ -57,6 +57,8 @@ pub fn start<R: Threads + Sync + AllocGlobal, F: Shelf, O: Sink, E: Sink>(
     ensures files { F.files files.new ≡ F.files files.old }
     ensures unasked { HasNoFiles (job_of (words_of args.now)) → files.new ≡ files.old }
     ensures untouched { WritesNothing result.ended.status → out.new ≡ out.old }
+    ensures no_fault { O.counts_faults_alone → result.ended.status ≢ Status.WriteFault
+        → O.faults out.new ≡ O.faults out.old }
     ensures quiet { result.ended.status ≡ Status.Done → err.new ≡ err.old }
 {
     let alloc = rt.alloc();

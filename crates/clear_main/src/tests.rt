@@ -1,60 +1,10 @@
-ghost use Rattle.std.specs.Prelude.{◌<◌, ◌^◌};
-
 use super::*;
-use clr_edge::{FetchFault, MemShelf, MemSink, Shelf, Sink, SinkFault};
+use clr_edge::{MemShelf, MemSink};
 use std::alloc::{AllocError, Global};
-use std::fs;
 use std::io::{Eprint, ErrorKind};
 use std::process::{ExitCode, Termination};
-use std::rt::Files;
 use std::test::Fail;
 use std::thread::Threads;
-
-// 10 bytes
-const BANK: &[u8] = b"A,7,order\n";
-
-// Whether a fetch up to a limit gives these bytes.
-fn gives<R: Files>(
-    alloc: Global,
-    shelf: &mut DirShelf<'_, R>,
-    limit: u64,
-    wanted: &[u8],
-) -> Result<bool, FetchFault>
-    requires { limit < 2 ^ 32 }
-{
-    let bytes = shelf.fetch(alloc, "fetched.csv", limit)?;
-    Ok(bytes.as_slice() == wanted)
-}
-
-#[test]
-fn a_file_of_the_folder_is_fetched_up_to_one_byte_past_the_limit(
-    rt: HostRuntime,
-) -> Result<(), Fail> {
-    let mut shelf = DirShelf::new(&rt);
-    fs::write(&rt, "fetched.csv", BANK)?;
-    let whole = gives(rt.alloc(), &mut shelf, 10, BANK);
-    let front = gives(rt.alloc(), &mut shelf, 4, b"A,7,o");
-    fs::remove_file(&rt, "fetched.csv")?;
-    let gone = gives(rt.alloc(), &mut shelf, 10, BANK);
-    assert_eq!(rt;
-        (whole?, front?, gone),
-        (true, true, Err(FetchFault::Failed))
-    );
-    Ok(())
-}
-
-// What a stream with this room answers to two pieces.
-fn put_twice(room: &mut [u8]) -> [Result<usize, SinkFault>; 2] {
-    let mut sink = StdSink::new(room);
-    [sink.put(b"A,B,1,10"), sink.put(b",10")]
-}
-
-#[test]
-fn a_stream_takes_a_part_of_a_piece_and_fails_where_it_takes_nothing(rt: HostRuntime) {
-    let mut room = [0; 5];
-    let told = put_twice(&mut room);
-    assert_eq!(rt; (told, room), ([Ok(5), Err(SinkFault)], *b"A,B,1"));
-}
 
 // Whether a refusal for this cause ends with this code and writes this message.
 fn refuses<R: Eprint>(

@@ -3,6 +3,7 @@ ghost use Rattle.cascade.specs.Standings.{standings};
 ghost use Rattle.clear_core.specs.Clearing.{least};
 ghost use Rattle.clear_report.specs.Impact.{hurt_lines, impact_line, impact_text};
 ghost use Rattle.clear_many.specs.Texts.{text_of};
+ghost use Rattle.impact.specs.Halves.{IsDescentOf};
 ghost use Rattle.std.specs.Prelude.{◌≡◌, IfOk, length};
 
 use crate::stand::{is_network, least_stand};
@@ -10,7 +11,7 @@ use crate::tables::laid_below;
 use cascade::Standing;
 use clear_report::{Piece, impact_begun, impact_piece};
 use clr_net::{BankId, Mem, Network};
-use impact::impact_of;
+use impact::Descent;
 use shares::{Made, Piecework, THREADS, in_shares};
 use std::alloc::Global;
 use std::thread::Threads;
@@ -18,7 +19,9 @@ use std::thread::Threads;
 /// The text of what the ruin of each bank takes from each bank, in pieces. `Mem` for want of memory
 /// alone.
 ///
-/// Costs a clearing from nothing paid for each bank. Each thread has one copy of the network.
+/// Costs a clearing for each bank, which goes on from one without the cash of twice as many, and a
+/// walk over the debts. Each thread has one copy of the network, and a list over the debts for each
+/// halving of the banks.
 pub fn tell_impact<R: Threads + Sync>(
     rt: &R,
     alloc: Global,
@@ -38,7 +41,8 @@ pub fn tell_impact<R: Threads + Sync>(
     laid_below(alloc, begun, pieces)
 }
 
-// The ruins of all banks of a network, which stand so before. The desk is a copy of the network.
+// The ruins of all banks of a network, which stand so before. The desk is a descent
+// through halves of its banks.
 #[derive(Drop)]
 struct Ruins<'a> {
     alloc: Global,
@@ -46,7 +50,7 @@ struct Ruins<'a> {
     before: &'a [Standing],
 }
 
-impl<'a> Piecework<Piece, Network> for Ruins<'a> {
+impl<'a> Piecework<Piece, Descent> for Ruins<'a> {
     ghost can = { λ w. w.before.now ≡ standings w.net.now (least w.net.now) };
 
     ghost size = { λ w. length w.net.now.banks };
@@ -54,22 +58,22 @@ impl<'a> Piecework<Piece, Network> for Ruins<'a> {
     ghost is_piece = { λ w j p. (p.upper.items ≡ impact_line w.net.now j)
         × (p.lower.items ≡ hurt_lines w.net.now j) };
 
-    ghost has_done = { λ w low high copy. copy ≡ w.net.now };
+    ghost has_done = { λ w low high descent. IsDescentOf w.net.now descent };
 
-    fn desk(&self) -> Result<Network, Mem> {
-        self.net.copy(self.alloc)
+    fn desk(&self) -> Result<Descent, Mem> {
+        Descent::of(self.alloc, self.net)
     }
 
-    fn piece(&self, desk: Network, place: usize) -> Result<(Piece, Network), Mem> {
+    fn piece(&self, desk: Descent, place: usize) -> Result<(Piece, Descent), Mem> {
         is_network(self.net);
-        let mut copy = desk;
+        let mut descent = desk;
         let bank = BankId(place as u32);
-        let impact = impact_of(self.alloc, self.net, &mut copy, self.before, bank)?;
+        let impact = descent.impact_of(self.alloc, self.net, self.before, bank)?;
         let piece = impact_piece(self.alloc, self.net, bank, &impact)?;
-        Ok((piece, copy))
+        Ok((piece, descent))
     }
 
-    fn merged(&self, front: Network, _back: Network) -> Network {
+    fn merged(&self, front: Descent, _back: Descent) -> Descent {
         front
     }
 }

@@ -4,6 +4,7 @@ ghost use Rattle.clear_core.specs.Clearing.{least as least_of};
 ghost use Rattle.clear_report.specs.Savings.{saves_lines, saving_line, savings_text};
 ghost use Rattle.clear_many.specs.Texts.{text_of};
 ghost use Rattle.rescue.specs.Saved.{banks_in_default};
+ghost use Rattle.rescue.specs.Searching.{IsSearchOf};
 ghost use Rattle.std.specs.Prelude.{◌≡◌, ◌<◌, All, IfOk, length, map, slice_index};
 
 use crate::stand::least_stand;
@@ -11,7 +12,7 @@ use crate::tables::laid_below;
 use cascade::Standing;
 use clear_report::{Piece, saving_piece, savings_begun};
 use clr_net::{BankId, Mem, Network};
-use rescue::{banks_in_default, saving_of};
+use rescue::{Search, banks_in_default, saving_of};
 use shares::{Made, Piecework, THREADS, in_shares};
 use std::alloc::Global;
 use std::thread::Threads;
@@ -19,7 +20,8 @@ use std::thread::Threads;
 /// The text of what it takes to save each bank in default, and of whom else that saves, in pieces.
 /// `Mem` for want of memory alone.
 ///
-/// Costs for each bank in default what `saving_of` does.
+/// Costs for each bank in default what `saving_of` does. Each thread has one copy of the
+/// network.
 pub fn tell_rescues<R: Threads + Sync>(
     rt: &R,
     alloc: Global,
@@ -41,12 +43,8 @@ pub fn tell_rescues<R: Threads + Sync>(
     laid_below(alloc, begun, pieces)
 }
 
-// The desk at which banks are saved: nothing stands on it.
-#[derive(Drop)]
-struct BareDesk;
-
 // These banks of a network, each of which is to be saved, with the least payments and how all banks
-// stand under them.
+// stand under them. The desk is what searches for sums keep.
 #[derive(Drop)]
 struct Savings<'a> {
     alloc: Global,
@@ -56,7 +54,7 @@ struct Savings<'a> {
     banks: &'a [BankId],
 }
 
-impl<'a> Piecework<Piece, BareDesk> for Savings<'a> {
+impl<'a> Piecework<Piece, Search> for Savings<'a> {
     ghost can = { λ w. (w.least.now ≡ least_of w.net.now)
         × (w.before.now ≡ standings_of w.net.now (least_of w.net.now))
         × (map (λ b. b.0) w.banks.now ≡ banks_in_default w.net.now)
@@ -68,20 +66,28 @@ impl<'a> Piecework<Piece, BareDesk> for Savings<'a> {
         (p.upper.items ≡ saving_line w.net.now (slice_index (banks_in_default w.net.now) k))
         × (p.lower.items ≡ saves_lines w.net.now (slice_index (banks_in_default w.net.now) k)) };
 
-    ghost has_done = { λ w low high desk. Unit {0} };
+    ghost has_done = { λ w low high search. IsSearchOf w.net.now search };
 
-    fn desk(&self) -> Result<BareDesk, Mem> {
-        Ok(BareDesk)
+    fn desk(&self) -> Result<Search, Mem> {
+        Search::of(self.alloc, self.net)
     }
 
-    fn piece(&self, desk: BareDesk, place: usize) -> Result<(Piece, BareDesk), Mem> {
+    fn piece(&self, desk: Search, place: usize) -> Result<(Piece, Search), Mem> {
+        let mut search = desk;
         let bank = self.banks[place];
-        let saving = saving_of(self.alloc, self.net, self.least, self.before, bank)?;
+        let saving = saving_of(
+            self.alloc,
+            self.net,
+            &mut search,
+            self.least,
+            self.before,
+            bank,
+        )?;
         let piece = saving_piece(self.alloc, self.net, bank, &saving)?;
-        Ok((piece, desk))
+        Ok((piece, search))
     }
 
-    fn merged(&self, front: BareDesk, _back: BareDesk) -> BareDesk {
+    fn merged(&self, front: Search, _back: Search) -> Search {
         front
     }
 }

@@ -1,4 +1,5 @@
 //! Scenarios in sums, a share of them to each thread.
+ghost use Rattle.cascade.specs.MoreCash.{IsOfOtherCash};
 ghost use Rattle.cascade.specs.Standings.{standings as standings_of};
 ghost use Rattle.clear_core.specs.Clearing.{least};
 ghost use Rattle.clear_report.specs.Outcomes.{falls_text as falls_text_of, outcomes_header as header};
@@ -8,7 +9,7 @@ ghost use Rattle.clear_many.specs.Between.{between};
 ghost use Rattle.clear_many.specs.Texts.{text_of};
 ghost use Rattle.std.specs.Prelude.{◌≡◌, ◌++◌, ◌≤◌, All, IfOk, OnOk, length, slice_index_or};
 ghost use Rattle.stress.specs.Outcomes.{AreWithin, added, sums as sums_of, tally as tally_of, tally_of_one};
-ghost use Rattle.stress.specs.Shocks.{IsOfOtherCash, IsScenarioOf};
+ghost use Rattle.stress.specs.Shocks.{IsScenarioOf};
 ghost use Rattle.stress.specs.declared.TheConstants.{MAX_SCENARIOS};
 ghost use Rattle.stress.specs.declared.scenario.Scenario.{Scenario};
 

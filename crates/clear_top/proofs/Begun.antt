@@ -7,7 +7,7 @@ use Rattle.clr_net.specs.declared.debt.Debt.{Debt}
 use Rattle.clr_net.specs.Net.{Net, class_of, claim_of, creditor_of, debt_numbers, debtor_of, name_of, of_cash}
 use Rattle.clear_report.specs.Text.{head_of, heads_of}
 use Rattle.clear_report.specs.Words.{with_commas}
-use Rattle.stress.specs.Shocks.{IsOfOtherCash}
+use Rattle.cascade.specs.MoreCash.{IsOfOtherCash}
 
 -- banks that differ in cash alone have the same names
 same_name : (banks others : List Bank) (i : ℕ) → map (of_cash 0) others ≡ map (of_cash 0) banks

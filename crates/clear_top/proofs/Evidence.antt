@@ -27,13 +27,13 @@ use Rattle.clear_top.specs.Outcome.{Outcome}
 use Rattle.clear_top.specs.declared.source.Source.TheVariants as source
 
 -- two files, the network that they give, and that it is all that was read
-record TwoFiles (r : Read (List ℕ × List ℕ)) (on : Input) : Type 0 where
-  both : List ℕ × List ℕ
-  both_are : r ≡ Some (Ok both)
-  net_is : net_in both ≡ Ok on.net
-  on_is : alone on.net ≡ on
+pub record TwoFiles (r : Read (List ℕ × List ℕ)) (on : Input) : Type 0 where
+  pub both : List ℕ × List ℕ
+  pub both_are : r ≡ Some (Ok both)
+  pub net_is : net_in both ≡ Ok on.net
+  pub on_is : alone on.net ≡ on
 
-two_files : (r : Read (List ℕ × List ℕ)) (on : Input)
+pub two_files : (r : Read (List ℕ × List ℕ)) (on : Input)
     → then_read r (λ both. Some (contents both)) ≡ Some (Ok on) → TwoFiles r on
 two_files None on h = absurd (cc)
 two_files (Some (Err f)) on h = absurd (cc)

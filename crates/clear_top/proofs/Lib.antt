@@ -7,6 +7,7 @@ pub mod Shocked
 pub mod Made
 pub mod Begun
 pub mod Evidence
+pub mod Printed
 pub mod Records
 pub mod Outcomes
 pub mod Generating

@@ -4,6 +4,7 @@ pub mod Reading
 pub mod Outcome
 pub mod Meaning
 pub mod Evidence
+pub mod Printed
 pub mod Ending
 pub mod Visited
 pub mod Message

@@ -8,6 +8,7 @@ ghost use Rattle.clear_top.specs.Ending.{WasPartWritten, WasWritten, WritesText}
 ghost use Rattle.clear_top.specs.Evidence.{IsEvidence};
 ghost use Rattle.clear_top.specs.Evidence.{ReplaysText, ShowsJournal};
 ghost use Rattle.clear_top.specs.Meaning.{Means};
+ghost use Rattle.clear_top.specs.Printed.{PrintsLeast, ShowsPayments};
 ghost use Rattle.clear_top.specs.Reading.{Files, Input, IsReadBack, reading};
 ghost use Rattle.clear_top.specs.Outcome.{Outcome};
 ghost use Rattle.clear_top.specs.Visited.{IsAllByBells};
@@ -107,6 +108,13 @@ pub fn unlawful_journals_are_told_so()
         → RunEnds shelf sink (Some job) e
         → OnFiles shelf.files job (λ told. (e.status ≡ Status.Unlawful v)
         ↔ (IsFoundUnlawful told job v × WritesText e.status)) }
+{}
+
+/// The payments that clearing prints are the least that clear the network of the files. No bank pays
+/// more than its cash and receipts, and these less what is paid come to all opening cash.
+pub fn printed_payments_are_the_least_and_add_up()
+    ensures { (files : Files) (job : Job) (o : Outcome)
+        → ShowsPayments job → Means files job o → PrintsLeast files job o }
 {}
 
 /// The journal that clearing shows, saved as it was written and read with the same two files, is

@@ -3,7 +3,7 @@ ghost use Rattle.clear_top.specs.Ending.{TakesPart, TakesWhole, sink_call};
 ghost use Rattle.raise_journal.specs.Texts.{raise_line};
 ghost use Rattle.raise_journal.specs.declared.TheConstants.{ROOM};
 ghost use Rattle.std.specs.List.{flat_map};
-ghost use Rattle.std.specs.Prelude.{◌<◌, ◌≤◌, All, OnOk, OnErr, length, vec_capacity};
+ghost use Rattle.std.specs.Prelude.{◌≡◌, ◌<◌, ◌≤◌, All, OnOk, OnErr, length, vec_capacity};
 
 use clear_core::Raise;
 use clr_edge::{Sink, SinkFault, put_all};
@@ -29,6 +29,7 @@ pub fn put_raises<S: Sink>(
         (S.written sink.old) (S.written sink.new) (S.faults sink.old) (S.faults sink.new))
         (flat_map (raise_line net.now) raises.now)) }
     ensures faults { S.faults sink.old ≤ S.faults sink.new }
+    ensures well { S.counts_faults_alone → OnOk result (S.faults sink.new ≡ S.faults sink.old) }
 {
     let mut done = 0;
     while done < raises.len() {

@@ -99,6 +99,7 @@ impl Outcome {
             (sink_call
             (S.written sink.old) (S.written sink.new) (S.faults sink.old) (S.faults sink.new))
             self.now.text) }
+        ensures well { S.counts_faults_alone → OnOk result (S.faults sink.new ≡ S.faults sink.old) }
     {
         match &self.sealed {
             Some(recorded) => recorded.put(&self.text, sink, room),
@@ -136,6 +137,7 @@ impl Recorded {
             (sink_call
             (S.written sink.old) (S.written sink.new) (S.faults sink.old) (S.faults sink.new))
             (with_journal self.now.sealed.net self.now.sealed.journal text.now self.now.closing)) }
+        ensures well { S.counts_faults_alone → OnOk result (S.faults sink.new ≡ S.faults sink.old) }
     {
         text.put(sink)?;
         match &self.closing {
@@ -227,6 +229,7 @@ impl Text {
             (S.written sink.old) (S.written sink.new) (S.faults sink.old) (S.faults sink.new))
             self.now) }
         ensures faults { S.faults sink.old ≤ S.faults sink.new }
+        ensures well { S.counts_faults_alone → OnOk result (S.faults sink.new ≡ S.faults sink.old) }
     {
         let pieces = self.pieces.as_slice();
         for piece in pieces {

@@ -1,4 +1,5 @@
 //! Stress scenarios, cleared four at once.
+ghost use Rattle.cascade.specs.MoreCash.{IsOfOtherCash};
 ghost use Rattle.clear_core.specs.Clearing.{least};
 ghost use Rattle.clear_report.specs.Blocks.{scenario_block, stress_text};
 ghost use Rattle.clear_report.specs.Text.{AreHeadsOf, payments_text};
@@ -7,7 +8,7 @@ ghost use Rattle.settle.specs.Drives.{IsPlan};
 ghost use Rattle.settle.specs.Offices.{AreOffices};
 ghost use Rattle.std.specs.Prelude.{◌≡◌, ◌++◌, ◌≤◌, All, IfOk, length, map};
 ghost use Rattle.std.specs.Thread.{IsSync};
-ghost use Rattle.stress.specs.Shocks.{IsOfOtherCash, IsScenarioOf};
+ghost use Rattle.stress.specs.Shocks.{IsScenarioOf};
 
 use crate::clear::Clearer;
 use crate::outcome::{Outcome, Text};

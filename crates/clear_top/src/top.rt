@@ -5,7 +5,7 @@ ghost use Rattle.clear_top.specs.Message.{message, TakesText};
 ghost use Rattle.clear_top.specs.Sources.{HasNoFiles, has_files, source_of};
 ghost use Rattle.clear_top.specs.declared.status.Status.{Status};
 ghost use Rattle.clear_words.specs.Limits.{IsJob};
-ghost use Rattle.std.specs.Prelude.{◌≡◌, false};
+ghost use Rattle.std.specs.Prelude.{◌≡◌, ◌≢◌, false};
 
 use crate::load::load;
 use crate::message::tell;
@@ -25,7 +25,8 @@ use std::thread::Threads;
 /// is: of a shelf that tells its files, and of what the sinks tell that they took. The module
 /// [`crate::laws`] says what follows from it. Want of memory may be answered at any place before
 /// the writing. Where the words ask for no job, or for one without files, the shelf itself is as it
-/// was; so is `out` where nothing is to be written, and `err` where the run is done.
+/// was; so is `out` where nothing is to be written, and `err` where the run is done. Where `out`
+/// counts faults alone, a run that does not end with a write fault met no put that failed.
 pub fn run<R: Threads + Sync, F: Shelf, O: Sink, E: Sink, G: Gate + Sync>(
     rt: &R,
     alloc: Global,
@@ -45,6 +46,8 @@ pub fn run<R: Threads + Sync, F: Shelf, O: Sink, E: Sink, G: Gate + Sync>(
     ensures files { F.files files.new ≡ F.files files.old }
     ensures unasked { HasNoFiles (asked words.now) → files.new ≡ files.old }
     ensures untouched { WritesNothing result.status → out.new ≡ out.old }
+    ensures no_fault { O.counts_faults_alone → result.status ≢ Status.WriteFault
+        → O.faults out.new ≡ O.faults out.old }
     ensures quiet { result.status ≡ Status.Done → err.new ≡ err.old }
 {
     match read_words(alloc, words) {
@@ -92,6 +95,8 @@ fn carry_out<R: Threads + Sync, F: Shelf, O: Sink, G: Gate + Sync>(
     ensures files { F.files files.new ≡ F.files files.old }
     ensures unasked { has_files (source_of job.now.task) ≡ false → files.new ≡ files.old }
     ensures untouched { WritesNothing result.status → out.new ≡ out.old }
+    ensures no_fault { O.counts_faults_alone → result.status ≢ Status.WriteFault
+        → O.faults out.new ≡ O.faults out.old }
 {
     let input = match load(alloc, job, files) {
         Ok(input) => input,

@@ -13,9 +13,10 @@ pub fn a_shelf_in_memory_tells_its_files()
         → ⟦<MemShelf as Shelf>⟧.faults shelf ≡ fault_count shelf }
 {}
 
-/// A sink in memory tells the bytes that it has taken, and counts its faults.
+/// A sink in memory tells the bytes that it has taken, and counts its faults and nothing else.
 pub fn a_sink_in_memory_tells_its_bytes()
     ensures written { (sink : SinkState)
         → ⟦<MemSink as Sink>⟧.written sink ≡ Some sink.bytes }
     ensures faults { (sink : SinkState) → ⟦<MemSink as Sink>⟧.faults sink ≡ sink.faults }
+    ensures alone { ⟦<MemSink as Sink>⟧.counts_faults_alone }
 {}

@@ -4,10 +4,13 @@
 #![tactic(auto)]
 
 mod dir_shelf;
+pub mod laws;
 mod std_sink;
 
 pub use dir_shelf::DirShelf;
 pub use std_sink::StdSink;
 
+#[cfg(test)]
+mod shelf_tests;
 #[cfg(test)]
 mod stream_tests;

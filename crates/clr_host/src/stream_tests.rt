@@ -70,3 +70,16 @@ fn an_interrupted_write_is_tried_again_and_a_failed_one_is_the_last(
     }
     Ok(())
 }
+
+// What a stream with this room answers to two pieces.
+fn put_twice(room: &mut [u8]) -> [Result<usize, SinkFault>; 2] {
+    let mut sink = StdSink::new(room);
+    [sink.put(b"A,B,1,10"), sink.put(b",10")]
+}
+
+#[test]
+fn a_stream_takes_a_part_of_a_piece_and_fails_where_it_takes_nothing(rt: HostRuntime) {
+    let mut room = [0; 5];
+    let told = put_twice(&mut room);
+    assert_eq!(rt; (told, room), ([Ok(5), Err(SinkFault)], *b"A,B,1"));
+}

@@ -1,2 +1,4 @@
 pub mod Others
 pub mod Hurts
+pub mod Ruined
+pub mod GoingOn

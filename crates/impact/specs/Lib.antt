@@ -1,2 +1,4 @@
+pub mod Ruined
 pub mod Impact
+pub mod Halves
 pub mod Cases

@@ -1,15 +1,16 @@
 //! Who would hurt whom: what each bank keeps less, and which banks fall, where one bank loses all
 //! its cash.
 //!
-//! [`impact_of`] clears the network once more without the cash of one bank, and compares how all
-//! banks stand under the least payments (Eisenberg and Noe 2001) before and after. What a ruin
-//! costs all banks together is just the cash that was lost, as the [`laws`] say.
+//! A [`Descent`] clears the network without the cash of many banks, and goes on where half of them
+//! have it again, down to one bank; it compares how all banks stand under the least payments
+//! (Eisenberg and Noe 2001) before and after. What a ruin costs all banks together is just the cash
+//! that was lost, as the [`laws`] say.
 #![tactic(auto)]
 
 mod compare;
+mod halves;
 mod hurt;
 pub mod laws;
-mod ruin;
 
+pub use halves::Descent;
 pub use hurt::{Hurt, Impact};
-pub use ruin::impact_of;

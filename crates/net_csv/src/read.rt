@@ -1,9 +1,13 @@
 ghost use Rattle.clr_net.specs.Limits.{IsNetwork};
 ghost use Rattle.clr_net.specs.Net.{empty_net};
+ghost use Rattle.net_check.specs.Record.{fault_at};
+ghost use Rattle.net_check.specs.declared.TheConstants.{MAX_FILE_BYTES};
 ghost use Rattle.net_check.specs.declared.fault.Fault.{Fault};
+ghost use Rattle.net_check.specs.declared.fault.FaultKind.TheVariants as kind;
+ghost use Rattle.net_check.specs.declared.fault.FileKind.TheVariants as file;
 ghost use Rattle.net_csv.specs.Printing.{banks_text, debts_text};
 ghost use Rattle.net_csv.specs.Reading.{network_of};
-ghost use Rattle.std.specs.Prelude.{◌≡◌, Ok, Err, IfOk, OnOk, IsErrOf};
+ghost use Rattle.std.specs.Prelude.{◌≡◌, ◌<◌, ◌≤◌, length, Ok, Err, IfOk, OnOk, IsErrOf};
 
 use crate::file::{add_banks, add_debts};
 use crate::records::fault;
@@ -14,11 +18,16 @@ use std::alloc::Global;
 /// Reads a network from a banks file, of version 1 or 2, and a debts file.
 ///
 /// `Refused` names the first fault: of the sizes, then of the banks file, then of the debts file,
-/// each record in order. Costs one pass over each file.
+/// each record in order. That a file is past its size is always told, whatever memory there is.
+/// Costs one pass over each file.
 pub fn read_network(alloc: Global, banks: &[u8], debts: &[u8]) -> Result<Network, ReadNet>
     ensures network { IfOk result (λ net. network_of banks.now debts.now ≡ Ok net) }
     ensures refused { (f : Fault) → IsErrOf result (ReadNet.Refused f)
         → network_of banks.now debts.now ≡ Err f }
+    ensures banks_size { MAX_FILE_BYTES < length banks.now
+        → IsErrOf result (ReadNet.Refused (fault_at file.Banks 0 kind.FileSize)) }
+    ensures debts_size { length banks.now ≤ MAX_FILE_BYTES → MAX_FILE_BYTES < length debts.now
+        → IsErrOf result (ReadNet.Refused (fault_at file.Debts 0 kind.FileSize)) }
     ensures lawful { IfOk result IsNetwork }
 
     // What is printed of the network is read as the same network.
@@ -35,6 +44,10 @@ fn read_into(alloc: Global, banks: &[u8], debts: &[u8], net: &mut Network) -> Re
     ensures read { OnOk result (network_of banks.now debts.now ≡ Ok net.new) }
     ensures refused { (f : Fault) → IsErrOf result (ReadNet.Refused f)
         → network_of banks.now debts.now ≡ Err f }
+    ensures banks_size { MAX_FILE_BYTES < length banks.now
+        → IsErrOf result (ReadNet.Refused (fault_at file.Banks 0 kind.FileSize)) }
+    ensures debts_size { length banks.now ≤ MAX_FILE_BYTES → MAX_FILE_BYTES < length debts.now
+        → IsErrOf result (ReadNet.Refused (fault_at file.Debts 0 kind.FileSize)) }
 {
     if banks.len() as u64 > FileKind::Banks.limit() {
         return Err(ReadNet::Refused(fault(FileKind::Banks, 0, FaultKind::FileSize)));

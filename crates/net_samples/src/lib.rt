@@ -1,5 +1,5 @@
 //! Networks for the tests of other crates: small ones, which are the same plain data that worked
-//! cases are about, and two that are large enough for a call that gives up early to be found out.
+//! cases are about, and one that is large enough for a call that gives up early to be found out.
 //!
 //! No program calls this crate.
 #![tactic(auto)]
@@ -15,8 +15,7 @@ use clr_net::{
     Bank, BankId, Debt, MAX_BANKS, MAX_CASH, MAX_CLAIM, MAX_CLASS, MAX_DEBTS, MAX_OUTSIDE,
     MAX_OWED, Mem, Name, Network, RuleKind,
 };
-pub use large::digest;
-pub use made::{chain, ring, twelve_banks, woven};
+pub use made::{chain, ring, woven};
 use std::alloc::Global;
 
 /// Adds a bank that divides by the order rule and owes nothing outside. `Mem` also where it may not

@@ -2,7 +2,7 @@ ghost use Rattle.clr_net.specs.Net.{empty_net};
 ghost use Rattle.clr_net.specs.Samples.{chain as chain_net, ring as ring_net};
 ghost use Rattle.std.specs.Prelude.{◌≡◌, IfOk, OnOk};
 
-use crate::large::{add_twelve, add_woven};
+use crate::large::add_woven;
 use crate::{add_bank, add_debt};
 use clr_net::{Mem, Network};
 use std::alloc::Global;
@@ -21,13 +21,6 @@ pub fn ring(alloc: Global) -> Result<Network, Mem>
     made(alloc, Sample::Ring)
 }
 
-/// The network of the files in `examples/twelve-banks`: all six rules and three classes. Under the
-/// least payments two banks default by their own fundamentals, and two by contagion. `Mem` for want
-/// of memory alone.
-pub fn twelve_banks(alloc: Global) -> Result<Network, Mem> {
-    made(alloc, Sample::Twelve)
-}
-
 /// So many banks, from eight on, that owe round a circle: to the next, to the seventh after it and
 /// to the third before it. Their cash, rules, outside claims, classes and claims go by their
 /// numbers. `Mem` also where there are too few or too many.
@@ -40,7 +33,6 @@ pub fn woven(alloc: Global, banks: u32) -> Result<Network, Mem> {
 enum Sample {
     Chain,
     Ring,
-    Twelve,
     Woven(u32),
 }
 
@@ -63,7 +55,6 @@ fn fill(alloc: Global, net: &mut Network, sample: Sample) -> Result<(), Mem>
     match sample {
         Sample::Chain => add_chain(alloc, net),
         Sample::Ring => add_ring(alloc, net),
-        Sample::Twelve => add_twelve(alloc, net),
         Sample::Woven(banks) => add_woven(alloc, net, banks),
     }
 }

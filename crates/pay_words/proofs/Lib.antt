@@ -23,3 +23,4 @@ pub mod Ends
 pub mod Bells
 pub mod Rung
 pub mod Handing
+pub mod Events

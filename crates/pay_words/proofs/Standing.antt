@@ -28,7 +28,7 @@ module _ (d : Deed) (words : List ℕ) (views : List View) (h : MeetsRule d word
       ∙ read_back (ending (trace x)) (omega (arith, value_fits d.net trace h.lawful x lt h.network))
 
   -- so the values are what the raises paid
-  values_are : values (payments_in d.net words) ≡ paid_in d.net trace
+  pub values_are : values (payments_in d.net words) ≡ paid_in d.net trace
   values_are =
       ap values (tabled_agree unpaid (length d.net.debts) (λ x. payment_of (slice_index words (x + 1))) (λ x. ending (trace x)) stands)
       ∙ map-map (λ (p : Payment). p.value) (λ x. ending (trace x)) (debt_numbers d.net)

@@ -8,4 +8,5 @@ pub mod Belongs
 pub mod Ends
 pub mod Sealed
 pub mod Standing
+pub mod Events
 pub mod Cases

@@ -6,7 +6,8 @@ ghost use Rattle.clr_net.specs.Amounts.{IsAtMost};
 ghost use Rattle.clr_net.specs.Net.{Net, creditor_of, debtor_of};
 ghost use Rattle.pay_words.specs.Belongs.{Belongs};
 ghost use Rattle.pay_words.specs.Ends.{HaveLowStamps, payments_of, values};
-ghost use Rattle.pay_words.specs.Standing.{KeepsStampsLow, StaysBelowLeast};
+ghost use Rattle.pay_words.specs.Events.{AreOfEvents, IsOfEvents};
+ghost use Rattle.pay_words.specs.Standing.{KeepsStampsLow, MayStand, StaysBelowLeast, payments_in};
 ghost use Rattle.pay_words.specs.Traces.{start_of};
 ghost use Rattle.pay_words.specs.Views.{HoldsAll, HoldsAllOf, IsOver, Panel, handed, holds};
 ghost use Rattle.pay_words.specs.Views.{is_marked};
@@ -70,6 +71,19 @@ pub fn empty_past_belongs()
 pub fn no_word_is_above_the_least()
     ensures values { (board : Panel) → StaysBelowLeast board }
     ensures stamps { (board : Panel) → KeepsStampsLow board }
+{}
+
+/// A journal that stands is that of a list of legal events of the process, from which nothing is paid
+/// at first: its raises are theirs, and so are its payments.
+pub fn standing_journal_is_of_legal_events()
+    ensures { (net : Net) (journal : List Raise) → Stands net journal → IsOfEvents net journal }
+{}
+
+/// At each moment between two atomic steps the payment words of a board are the state of the process
+/// after a list of legal events: whatever the seats did, and in whatever order.
+pub fn words_of_a_board_are_a_state_of_the_process()
+    ensures { (board : Panel) (words : List ℕ) → MayStand board words
+        → AreOfEvents board.net (values (payments_in board.net words)) }
 {}
 
 /// Where the master holds all banks, it holds those of each worker.

@@ -1,47 +1,28 @@
 -- A sum that saves a bank: there is a least one, and every greater sum saves it too.
-use Rattle.std.proofs.Common.{◌≡◌, ℕ, ◌+◌, ◌-◌, ◌<◌, ◌≤◌, Option, Some, None, find, min, List, length, sym, ap, ◌∙◌, subst, arith}
+use Rattle.std.proofs.Common.{◌≡◌, ℕ, ◌+◌, ◌-◌, ◌<◌, ◌≤◌, Option, Some, None, find, min, length, sym, ap, ◌∙◌, arith}
 use Rattle.std.specs.List.{range_with_len}
 use Rattle.std.specs.Option.{option_map_or}
 use Rattle.std.proofs.lemmas.Bool.Decides.{nat_tests}
 use Rattle.std.proofs.lemmas.Bool.{true≢false}
-use Rattle.clr_net.specs.Amounts.{IsAtMost}
 use Rattle.clr_net.specs.Limits.{IsNetwork}
 use Rattle.clr_net.specs.Net.{Net, cash_of}
 use Rattle.clr_net.proofs.Ranges.{Found, found}
-use Rattle.clear_core.specs.Clearing.{receipts, estate, spend, pay, least}
+use Rattle.clear_core.specs.Clearing.{receipts, estate, spend, least}
 use Rattle.clear_core.proofs.Least.{least_clears}
-use Rattle.clear_core.proofs.Richer.{least_le_richer}
 use Rattle.cascade.specs.Standings.{due, is_sound, paid_by, owed_by}
-use Rattle.cascade.proofs.Limits.{clearing_over}
 use Rattle.cascade.proofs.Healths.{sound_enough, enough_sound, sound_told}
 use Rattle.rescue.specs.Rescue.{added, health_with, is_saved_by, Saves, IsRescue, rescue, short_of}
 use Rattle.cascade.proofs.CashAt.{cash_at, outside_stays}
 use Rattle.cascade.proofs.MoreCash.{nobody_loses, pays_where_clearing}
-use Rattle.rescue.proofs.MoreCash.{cash_added, more_by_more, richer_by_more}
+use Rattle.rescue.proofs.MoreCash.{cash_added, more_by_more}
 
 -- what the bank has with a units more cash, under the least payments that clear then
 abbrev estate_with : Net → ℕ → ℕ → ℕ
 estate_with net i a = estate (added net i a) (least (added net i a)) i
 
--- payments on all debts, from which rounds rise to the least that clear
-abbrev pub GoOn : Net → List ℕ → Type 0
-GoOn net P = (length P ≡ length net.debts) × IsAtMost P (pay net P) × IsAtMost P (least net)
-
--- the least payments with a smaller sum are on the way to those with a greater one
-pub goes_on : (net : Net) (i a b : ℕ) → a ≤ b → GoOn (added net i b) (least (added net i a))
-goes_on net i a b l =
-    let richer = richer_by_more net i a b l in
-    let less = added net i a in
-    let P = least less in (
-      clearing_over less P (least_clears less),
-      subst (λ (Q : List ℕ). IsAtMost Q (pay (added net i b) P)) (least_clears less)
-          (richer.pays P),
-      least_le_richer less (added net i b) richer,
-    )
-
 module _ (net : Net) (i : ℕ) (network : IsNetwork net) where
   -- whatever the sum, the bank pays all that it divides, up to what it owes
-  pays_with : (a : ℕ) → paid_by (added net i a) (least (added net i a)) i
+  pub pays_with : (a : ℕ) → paid_by (added net i a) (least (added net i a)) i
       ≡ min (spend (added net i a) i (receipts net (least (added net i a)) i)) (owed_by net i)
   pays_with a = pays_where_clearing net network (cash_at net.banks i (cash_of net i + a))
       (least (added net i a)) (least_clears (added net i a)) i

@@ -18,9 +18,7 @@ use Rattle.cascade.proofs.PayingOut.{all_paid, paid_is, sum_by_numbers}
 use Rattle.cascade.proofs.Sums.{sum_by_same}
 use Rattle.rescue.specs.OneUnit.{all_kept, PassesNothingOn, CountsOnce}
 use Rattle.rescue.specs.Rescue.{added}
-use Rattle.rescue.proofs.MoreCash.{cash_added}
-use Rattle.rescue.proofs.LeastSum.{GoOn}
-use Rattle.rescue.proofs.Searching.{least_goes_on}
+use Rattle.rescue.proofs.MoreCash.{GoOn, cash_added, goes_on_with_sum}
 
 module _ (net : Net) (i : ℕ) (network : IsNetwork net) (bank : i < length net.banks) where
   -- the network with the unit, its banks, and the least payments before
@@ -35,7 +33,7 @@ module _ (net : Net) (i : ℕ) (network : IsNetwork net) (bank : i < length net.
 
   -- these are on the way to the least with the unit
   goes_on : GoOn more P
-  goes_on = least_goes_on net i more 1 P refl refl
+  goes_on = goes_on_with_sum net i 1
 
   -- all banks together keep one unit more
   kept_more : all_kept more ≡ all_kept net + 1

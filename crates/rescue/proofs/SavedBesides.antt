@@ -1,5 +1,5 @@
 -- Whom it saves besides, that a bank is given the least sum that saves it.
-use Rattle.std.proofs.Common.{◌≡◌, ℕ, ◌+◌, ◌<◌, ◌==◌, ◌&&◌, not, Bool, true, false, cond, List, [], ◌∷◌, ◌++◌, length, map, filter, count_by, get_or, refl, sym, ap, ◌∙◌, subst, arith}
+use Rattle.std.proofs.Common.{◌≡◌, ℕ, ◌+◌, ◌<◌, ◌==◌, ◌&&◌, not, Bool, true, false, cond, List, [], ◌∷◌, ◌++◌, length, map, filter, count_by, get_or, refl, sym, ap, ◌∙◌, arith}
 use Rattle.std.specs.List.{range_with_len}
 use Rattle.std.proofs.lemmas.List.{map-id}
 use Rattle.std.proofs.lemmas.List.{map-append}
@@ -15,17 +15,14 @@ use Rattle.cascade.specs.Standings.{bank_numbers, is_sound, standing, standings}
 use Rattle.cascade.proofs.CashAt.{length-with_cash}
 use Rattle.cascade.proofs.MoreCash.{nobody_loses_by_cash}
 use Rattle.cascade.proofs.Stands.{as_many_stand, stands_there}
-use Rattle.cascade.specs.MoreCash.{HasMoreCash}
 use Rattle.rescue.specs.Rescue.{added, rescue}
 use Rattle.rescue.specs.Saved.{is_saved_with, left_in_default, rescued}
-use Rattle.rescue.proofs.MoreCash.{added_nothing, more_by_more}
+use Rattle.rescue.proofs.MoreCash.{more_by_some}
 
 -- cash that is added hurts nobody
 pub added_hurts_nobody : (net : Net) (i a : ℕ) → IsNetwork net → NobodyLoses net (added net i a)
 added_hurts_nobody net i a network =
-    nobody_loses_by_cash net (added net i a) network
-    (subst (λ (n : Net). HasMoreCash n (added net i a)) (added_nothing net i)
-    (more_by_more net i 0 a (omega arith)))
+    nobody_loses_by_cash net (added net i a) network (more_by_some net i a)
 
 -- the network has as many banks once the bank i is saved
 pub as_many_rescued : (net : Net) (i : ℕ) → length (rescued net i).banks ≡ length net.banks

@@ -8,20 +8,13 @@ use Rattle.clr_net.specs.Net.{Net, cash_of, with_cash}
 use Rattle.clr_net.proofs.RowsAndColumns.{sum-claims_of_le}
 use Rattle.clear_core.specs.Clearing.{estate, least}
 use Rattle.cascade.specs.Standings.{due}
+use Rattle.rescue.specs.Bound.{bound, missing}
 use Rattle.rescue.specs.Rescue.{DifferInCash, added, lacks, Saves, IsRescue, rescue, short_of}
+use Rattle.rescue.specs.Searching.{IsRangeOf}
+use Rattle.rescue.specs.declared.search.Range.{Range}
 use Rattle.cascade.proofs.CashAt.{cash_read, later_cash_counts, length-with_cash, outside_stays}
-use Rattle.rescue.proofs.MoreCash.{added_nothing}
-use Rattle.rescue.proofs.LeastSum.{GoOn, saves_enough, enough_saves, less_fails, all_due_saves, goes_on, rescue_is, rescue_only, short_above}
-
--- of the sums below `low` none saves the bank, and `high` does. What is known are the least
--- payments with one unit less than `low`, and what the bank lacks then
-pub record IsSearched (net : Net) (i low high : ℕ) (known : List ℕ) (short : ℕ) : Type 0 where
-  pub within : high ≤ due net i - cash_of net i
-  pub order : low ≤ high
-  pub saves : Saves net i high
-  pub fails : (b : ℕ) → b < low → ¬ (Saves net i b)
-  pub known_is : known ≡ least (added net i (low - 1))
-  pub short_is : short ≡ short_of net i low
+use Rattle.rescue.proofs.Bound.{bound_is_below}
+use Rattle.rescue.proofs.LeastSum.{saves_enough, enough_saves, less_fails, all_due_saves, rescue_is, rescue_only, short_above}
 
 module _ (net : Net) (i : ℕ) where
   -- what a bank owes is within the limits together
@@ -53,17 +46,6 @@ module _ (net : Net) (i : ℕ) where
       → due more i - estate more paid i ≡ lacks net i a
   lacks_told more a paid e p = rw (p, e) (omega (arith, outside_stays net i (cash_of net i + a) i))
 
-  -- the least payments with a smaller sum go on with a greater one
-  pub known_goes_on : (more : Net) (a b : ℕ) (known : List ℕ) → known ≡ least (added net i a)
-      → more ≡ added net i b → a ≤ b → GoOn more known
-  known_goes_on more a b known e m l = rw (e, m) (goes_on net i a b l)
-
-  -- and so do those without any
-  pub least_goes_on : (more : Net) (b : ℕ) (known : List ℕ) → known ≡ least net
-      → more ≡ added net i b → GoOn more known
-  least_goes_on more b known e m =
-      known_goes_on more 0 b known (e ∙ ap least (sym (added_nothing net i))) m (omega arith)
-
 -- of the bank b, which is the bank i
 module _ (net : Net) (i : ℕ) (network : IsNetwork net) (b : Bank)
     (at : slice_get net.banks i ≡ Some b) (bank : i < length net.banks) where
@@ -78,61 +60,71 @@ module _ (net : Net) (i : ℕ) (network : IsNetwork net) (b : Bank)
       let cash : b.cash + a ≡ cash_of net i + a = omega (arith, cash_read net i b at) in
       e ∙ differ (b.cash + a) ∙ ap (with_cash net i) cash
 
-  -- the search begins between nothing and what the bank owes above its cash
-  pub search_begins : (high : ℕ) (known : List ℕ) → high ≡ due net i - b.cash → known ≡ least net
-      → IsSearched net i 0 high known 0
-  search_begins high known h e = record {
-    within = omega (arith, cash_read net i b at);
-    order = omega arith;
-    saves = all_due_saves net i network bank high (omega (arith, cash_read net i b at));
-    fails = λ b l. absurd (omega arith);
-    known_is = e ∙ ap least (sym (added_nothing net i));
-    short_is = λ j. 0;
+module _ (net : Net) (i : ℕ) (network : IsNetwork net) where
+  -- a search begins between the bound and what the bank owes above its cash
+  pub begun_at_bound : (r : Range) → i < length net.banks → r.high ≡ missing net i
+      → r.low ≡ bound net i → r.less ≡ least (added net i (r.low - 1))
+      → r.short ≡ short_of net i r.low → r.enough ≡ least (added net i r.high) → IsRangeOf net i r
+  begun_at_bound r bank high low less short enough = record {
+    within = omega (arith, high);
+    order = omega (arith, high, low);
+    saves = all_due_saves net i network bank r.high (omega (arith, high));
+    fails = λ sum l saves.
+        absurd (omega (arith, low, bound_is_below net i sum network bank saves));
+    less = less;
+    short = short;
+    enough = enough;
   }
 
--- a step of the search, to `middle`
-module _ {net : Net} {i low high short : ℕ} {known : List ℕ} (network : IsNetwork net) (middle : ℕ)
-    (s : IsSearched net i low high known short) where
-  -- it saves the bank: no greater sum is sought
-  pub search_lower : low ≤ middle → middle < high → lacks net i middle ≡ 0
-      → IsSearched net i low middle known short
-  search_lower g l none = record {
-    within = omega (arith, s.within);
+  -- a sum of the range is tried, and saves the bank: no greater one is sought
+  pub search_lower : (r : Range) (sum : ℕ) (paid : List ℕ) → IsRangeOf net i r → r.low ≤ sum
+      → sum < r.high → lacks net i sum ≡ 0 → paid ≡ least (added net i sum)
+      → IsRangeOf net i (record r { high = sum; enough = paid })
+  search_lower r sum paid is g l none e = record {
+    within = omega (arith, is.within);
     order = g;
-    saves = enough_saves net i network middle (omega (arith, none));
-    fails = s.fails;
-    known_is = s.known_is;
-    short_is = s.short_is;
+    saves = enough_saves net i network sum (omega (arith, none));
+    fails = is.fails;
+    less = is.less;
+    short = is.short;
+    enough = e;
   }
 
   -- it does not: a greater one is
-  pub search_higher : (lacking : ℕ) (paid : List ℕ) → middle < high → lacking ≡ lacks net i middle
-      → 0 < lacking → paid ≡ least (added net i middle)
-      → IsSearched net i (middle + 1) high paid lacking
-  search_higher lacking paid l is some e =
-      let one_less : middle + 1 - 1 ≡ middle = omega arith in
+  pub search_higher : (r : Range) (sum lacking reach : ℕ) (paid : List ℕ) → IsRangeOf net i r
+      → sum < r.high → lacking ≡ lacks net i sum → 0 < lacking → paid ≡ least (added net i sum)
+      → IsRangeOf net i (record r { low = sum + 1; less = paid; short = lacking; reach = reach })
+  search_higher r sum lacking reach paid is l told some e =
+      let one_less : sum + 1 - 1 ≡ sum = omega arith in
       record {
-        within = s.within;
+        within = is.within;
         order = omega arith;
-        saves = s.saves;
-        fails = λ b m. less_fails net i network middle b (omega arith)
-            (λ saved. absurd (omega (arith, is, some, saves_enough net i network middle saved)));
-        known_is = rw one_less e;
-        short_is = rw one_less (grind (arith, nat_tests, is));
+        saves = is.saves;
+        fails = λ b m. less_fails net i network sum b (omega arith)
+            (λ saved. absurd (omega (arith, told, some, saves_enough net i network sum saved)));
+        less = rw one_less e;
+        short = rw one_less (grind (arith, nat_tests, told));
+        enough = is.enough;
       }
 
-  -- where no sum is left between them, it is found
-  pub search_ends : high ≤ low → IsRescue net i low
-  search_ends g =
-      let same : high ≡ low = omega (arith, s.order) in
-      record { saves = subst (Saves net i) same s.saves; least = s.fails }
+  module _ (r : Range) (is : IsRangeOf net i r) (ends : r.high ≤ r.low) where
+    -- where the range has one sum, that is the least which saves the bank
+    pub search_ends : IsRescue net i r.low
+    search_ends =
+        let same : r.high ≡ r.low = omega (arith, is.order) in
+        record { saves = subst (Saves net i) same is.saves; least = is.fails }
 
-  -- and is the sum of the definition
-  pub found_is : high ≤ low → i < length net.banks → low ≡ rescue net i
-  found_is g bank =
-      rescue_only net i low (rescue net i) (search_ends g) (rescue_is net i network bank).0
+    -- and the sum of the definition
+    pub found_is : i < length net.banks → r.low ≡ rescue net i
+    found_is bank =
+        rescue_only net i r.low (rescue net i) search_ends (rescue_is net i network bank).0
 
-  -- what was lacking at last shows that a unit less does not save the bank
-  pub short_found : high ≤ low → 0 < low → 0 < short
-  short_found g p =
-      omega (arith, s.short_is, short_above net i network low (search_ends g) p)
+    -- what was lacking at last shows that a unit less does not save the bank
+    pub short_found : 0 < r.low → 0 < r.short
+    short_found p = omega (arith, is.short, short_above net i network r.low search_ends p)
+
+    -- the payments with it are known
+    pub paid_found : r.enough ≡ least (added net i r.low)
+    paid_found =
+        let same : r.high ≡ r.low = omega (arith, is.order) in
+        is.enough ∙ ap (λ (a : ℕ). least (added net i a)) same

@@ -10,6 +10,7 @@ ghost use Rattle.clr_net.specs.Limits.{IsNetwork};
 ghost use Rattle.clr_net.specs.Net.{Net, cash_of};
 ghost use Rattle.pay_words.specs.Belongs.{Belongs};
 ghost use Rattle.pay_words.specs.declared.payment.Payment.{Payment};
+ghost use Rattle.rescue.specs.Bound.{bound, missing, received_with};
 ghost use Rattle.rescue.specs.OneUnit.{CountsOnce};
 ghost use Rattle.rescue.specs.Rescue.{IsRescue, Saves, added, rescue};
 ghost use Rattle.std.specs.Prelude.{◌≡◌, ◌-◌, ◌<◌, ◌≤◌, ℕ, List, length};
@@ -60,4 +61,13 @@ pub fn least_sum_is_the_only_one()
 /// payments together rise.
 pub fn unit_counts_once()
     ensures { (net : Net) (i : ℕ) → IsNetwork net → i < length net.banks → CountsOnce net i }
+{}
+
+/// Whatever sum it is given, a bank receives at most what it receives where it has cash enough to pay
+/// all that it owes. So a sum that saves it is at least what it owes above its cash and these
+/// receipts.
+pub fn no_sum_below_the_bound_saves()
+    ensures { (net : Net) (i a : ℕ) → IsNetwork net → i < length net.banks
+        → (received_with net i a ≤ received_with net i (missing net i))
+        × (Saves net i a → bound net i ≤ a) }
 {}

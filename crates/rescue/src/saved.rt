@@ -4,16 +4,14 @@ ghost use Rattle.clear_core.specs.Clearing.{least as least_of};
 ghost use Rattle.clr_net.specs.Limits.{IsNetwork};
 ghost use Rattle.clr_net.specs.Net.{cash_of};
 ghost use Rattle.clr_net.specs.declared.TheConstants.{MAX_BANKS, MAX_CASH};
-ghost use Rattle.rescue.specs.Rescue.{DifferInCash, added as added_net};
-ghost use Rattle.rescue.specs.Rescue.{rescue as rescue_of};
+ghost use Rattle.rescue.specs.Rescue.{added as added_net, rescue as rescue_of};
 ghost use Rattle.rescue.specs.Saved.{IsSavingOf, is_saved_with, rescued};
-ghost use Rattle.std.specs.Prelude.{◌≡◌, ◌&&◌, ◌+◌, ◌-◌, ◌<◌, ◌≤◌, IfOk, OnOk, count_by, length};
-ghost use Rattle.std.specs.Prelude.{not};
+ghost use Rattle.rescue.specs.Searching.{IsSearchAt, IsSearchOf};
+ghost use Rattle.std.specs.Prelude.{◌≡◌, ◌&&◌, ◌+◌, ◌<◌, ◌≤◌, IfOk, count_by, length, not};
 
 use crate::banks::{BankTest, passing};
-use crate::search::{Found, search};
+use crate::search::{Found, Search};
 use cascade::{Health, Standing, defaults};
-use clear_least::least_from;
 use clr_net::{BankId, Mem, Network};
 use std::alloc::Global;
 
@@ -30,40 +28,64 @@ pub struct Saving {
     pub still_short: u32,
 }
 
-/// The least sum that saves a bank, as [`rescue`](crate::rescue) finds it, and how all banks stand
-/// once it is given.
+/// The least sum that saves a bank, as [`rescue`](crate::rescue) finds it, and how all banks
+/// stand once it is given.
 ///
 /// `least` are the least payments that clear the network as it is, a place for each debt, in file
 /// order, in units, and `before` is how each bank stands under them, in file order. `Mem` for want
-/// of memory alone.
+/// of memory alone, after which the search serves as before.
 ///
-/// Costs what [`rescue`](crate::rescue) does, one clearing more, which goes on from the payments of
-/// one unit less, and a walk over the debts.
+/// Costs what [`rescue`](crate::rescue) does, but for the copy of the network, and a walk over the
+/// debts.
 pub fn saving_of(
     alloc: Global,
     net: &Network,
+    search: &mut Search,
     least: &[u64],
     before: &[Standing],
     bank: BankId,
 ) -> Result<Saving, Mem>
     requires bank { bank.0 < length net.now.banks }
+    requires search { IsSearchOf net.now search.old }
     requires least { least.now ≡ least_of net.now }
     requires before { before.now ≡ standings net.now (least_of net.now) }
+    ensures search { IsSearchOf net.now search.new }
     ensures saving { IfOk result (IsSavingOf net.now bank.0) }
-    ensures nobody_loses { OnOk result (NobodyLoses net.now (rescued net.now bank.0)) }
+    ensures nobody_loses { NobodyLoses net.now (rescued net.now bank.0) }
 {
     prove!(bank.0 < net.banks());
-    let found = search(alloc, net, net.copy(alloc)?, bank, least)?;
-    let sum = found.sum;
-    let after = standings_saved(alloc, net, bank, found)?;
+    let saving = saving_at(alloc, net, search, least, before, bank);
+    search.more.set_cash(bank, net.bank(bank).cash);
+    saving
+}
+
+// The same, after which the bank may still have another cash.
+fn saving_at(
+    alloc: Global,
+    net: &Network,
+    search: &mut Search,
+    least: &[u64],
+    before: &[Standing],
+    bank: BankId,
+) -> Result<Saving, Mem>
+    requires network { IsNetwork net.now }
+    requires bank { bank.0 < length net.now.banks }
+    requires search { IsSearchOf net.now search.old }
+    requires least { least.now ≡ least_of net.now }
+    requires before { before.now ≡ standings net.now (least_of net.now) }
+    ensures search { IsSearchAt net.now bank.0 search.new }
+    ensures saving { IfOk result (IsSavingOf net.now bank.0) }
+{
+    let found = search.found(alloc, net, bank, least)?;
+    let after = standings_saved(alloc, net, search, bank, &found)?;
     let saved = SavedWith {
         before,
         after: after.as_slice(),
         bank,
     };
     Ok(Saving {
-        added: sum.added,
-        short: sum.short,
+        added: found.sum.added,
+        short: found.sum.short,
         saves: passing(alloc, net, &saved)?,
         still_short: in_default(after.as_slice()),
     })
@@ -73,26 +95,25 @@ pub fn saving_of(
 fn standings_saved(
     alloc: Global,
     net: &Network,
+    search: &mut Search,
     bank: BankId,
-    found: Found,
+    found: &Found,
 ) -> Result<Vec<Standing>, Mem>
     requires network { IsNetwork net.now }
     requires bank { bank.0 < length net.now.banks }
-    requires added { found.sum.added ≡ rescue_of net.now bank.0 }
-    requires fits { cash_of net.now bank.0 + found.sum.added ≤ MAX_CASH }
-    requires known { found.known ≡ least_of (added_net net.now bank.0 (found.sum.added - 1)) }
-    requires differ { DifferInCash net.now found.more bank.0 }
-    ensures { IfOk result (λ all. all.items
+    requires search { IsSearchAt net.now bank.0 search.old }
+    requires added { found.now.sum.added ≡ rescue_of net.now bank.0 }
+    requires fits { cash_of net.now bank.0 + found.now.sum.added ≤ MAX_CASH }
+    requires paid { found.now.paid
+        ≡ least_of (added_net net.now bank.0 found.now.sum.added) }
+    ensures search { IsSearchAt net.now bank.0 search.new }
+    ensures all { IfOk result (λ all. all.items
         ≡ standings (rescued net.now bank.0) (least_of (rescued net.now bank.0))) }
 {
-    let Found {
-        sum,
-        known,
-        mut more,
-    } = found;
-    more.set_cash(bank, net.bank(bank).cash + sum.added);
-    let paid = least_from(alloc, &more, known.as_slice())?;
-    defaults(alloc, &more, paid.as_slice())
+    search
+        .more
+        .set_cash(bank, net.bank(bank).cash + found.sum.added);
+    defaults(alloc, &search.more, found.paid.as_slice())
 }
 
 // Whether a bank is saved with this one, where all banks stand so before and after.

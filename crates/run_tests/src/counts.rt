@@ -15,8 +15,8 @@ type Counted = (Sample, u32, u32, [u64; 4], [u64; 4]);
 
 // On the long ring there are two visits for each unit and one in the end; by one sweep they are of a
 // round for each, numbered anew, and by sweeps enough all are of the first. Of the 700 banks two are
-// visited a second time. A plain model of visits counts as many on the 30 banks.
-const COUNTED: [Counted; 10] = [
+// visited a second time. A plain model of visits counts as many on the woven networks.
+const COUNTED: [Counted; 11] = [
     (Sample::NoBank, 1, 1, [1, 0, 0, 1], [0, 0, 0, 0]),
     (Sample::Ring, 1, 1, [6, 11, 10, 6], [11, 6, 0, 1]),
     (
@@ -51,6 +51,13 @@ const COUNTED: [Counted; 10] = [
     ),
     (Sample::Woven(30), 1, 1, [5, 83, 127, 5], [83, 4, 0, 1]),
     (Sample::Woven(30), 1, 7, [2, 83, 127, 2], [83, 1, 0, 1]),
+    (
+        Sample::Woven(1000),
+        1,
+        1000,
+        [2, 2526, 3793, 2],
+        [2526, 1, 0, 1],
+    ),
 ];
 
 // What a run on a network comes to in such numbers.

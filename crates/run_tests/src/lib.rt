@@ -11,6 +11,8 @@ mod counts;
 #[cfg(test)]
 mod desks;
 #[cfg(test)]
+mod errors;
+#[cfg(test)]
 mod gates;
 #[cfg(test)]
 mod meetings;

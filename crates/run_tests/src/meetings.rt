@@ -84,7 +84,7 @@ fn all_meet<R: Threads + Clock + Sync + Abort>(
 }
 
 // On networks of two debts, and of three debts a bank.
-const AT_FIRST: [Case; 27] = [
+const AT_FIRST: [Case; 32] = [
     (Run::Settled, Sample::Chain, [2, 1], 0, 2, 2),
     (Run::Settled, Sample::TwoPairs, [2, 1], 0, 2, 2),
     (Run::Settled, Sample::TwoPairs, [3, 1], 0, 3, 3),
@@ -97,6 +97,11 @@ const AT_FIRST: [Case; 27] = [
     (Run::Settled, Sample::Woven(30), [2, 3], 0, 2, 2),
     (Run::Settled, Sample::Woven(30), [3, 3], 0, 3, 3),
     (Run::Settled, Sample::Woven(30), [8, 3], 0, 8, 8),
+    (Run::Settled, Sample::Woven(31), [2, 1], 0, 2, 2),
+    (Run::Settled, Sample::Woven(60), [3, 1], 0, 3, 3),
+    (Run::Settled, Sample::Woven(100), [8, 3], 0, 8, 8),
+    (Run::Settled, Sample::Woven(200), [3, 3], 0, 3, 3),
+    (Run::Settled, Sample::Woven(400), [64, 1], 0, 64, 64),
     (Run::Settled, Sample::Woven(700), [2, 1], 0, 2, 2),
     (Run::Settled, Sample::Woven(700), [3, 1], 0, 3, 3),
     (Run::Settled, Sample::Woven(700), [8, 1], 0, 8, 8),

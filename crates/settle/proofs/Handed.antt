@@ -1,19 +1,17 @@
 -- The master while it hands seats to the workers, and the workers that it makes.
-use Rattle.std.proofs.Common.{◌≡◌, ℕ, zero, suc, ◌+◌, ◌<◌, ◌≤◌, ◌++◌, false, List, [], ◌∷◌, length, inl, inr, refl, sym, ap, ◌∙◌, subst, arith, eqb-true}
+use Rattle.std.proofs.Common.{◌≡◌, ℕ, zero, suc, ◌+◌, ◌<◌, ◌≤◌, false, List, length, inl, inr, refl, sym, ap, ◌∙◌, subst, arith, eqb-true}
 use Rattle.pay_words.specs.Views.{Place}
 use Rattle.std.proofs.lemmas.Bool.{ne_eqb}
 use Rattle.std.specs.Prelude.{◌%◌}
 use Rattle.std.proofs.lemmas.List.Elements.{All-from_get_or}
-use Rattle.std.proofs.lemmas.List.FromFn.{map-range_with_len_more}
 use Rattle.clr_net.specs.Net.{Net}
 use Rattle.bank_desk.specs.Desks.{desk_of, BankView}
 use Rattle.pay_words.specs.declared.view.Shown.{Shown}
-use Rattle.pay_words.specs.Views.{Panel, OwesNoRing, HoldsAll, HoldsAllOf, handed, holds, is_of_worker, without}
+use Rattle.pay_words.specs.Views.{Panel, OwesNoRing, HoldsAll, HoldsAllOf, handed, holds, is_of_worker}
 use Rattle.pay_words.proofs.Handing.{holds_of_all, holds_of_others}
 use Rattle.pay_words.proofs.Tables.{tabled_at, length-tabled}
-use Rattle.bank_worker.specs.Called.{AreCalledOrAtRest, IsAtRest}
+use Rattle.bank_worker.specs.Called.{IsAtRest}
 use Rattle.bank_worker.specs.Views.{Divides, desk_at, desks_held}
-use Rattle.bank_worker.specs.Visits.{IsAllCalm, MayRest}
 use Rattle.bank_worker.proofs.Manned.{desk_is}
 use Rattle.settle.specs.Between.{IsBetween, crew_of, crews, without_first}
 use Rattle.settle.specs.Calls.{AllCalledOrAtRest, AreApart, OthersAreAtRest}

@@ -1,12 +1,11 @@
 -- Workers that make their rounds one after another.
-use Rattle.std.proofs.Common.{◌≡◌, ℕ, ◌+◌, ◌*◌, ◌<◌, ◌≤◌, true≢false, List, [], ◌∷◌, length, get_or, set, take, refl, sym, ◌∙◌, arith, length-set}
+use Rattle.std.proofs.Common.{◌≡◌, ℕ, ◌+◌, ◌<◌, ◌≤◌, true≢false, List, [], ◌∷◌, length, get_or, set, take, sym, ◌∙◌, arith, length-set}
 use Rattle.std.proofs.lemmas.Bool.{false_from_ne_true}
-use Rattle.std.proofs.lemmas.List.{get_or-set_other, get_or_default, length-take, take_all, take_more, take_more_set}
-use Rattle.clr_net.specs.declared.TheConstants.{MAX_OWED}
+use Rattle.std.proofs.lemmas.List.{get_or-set_other, get_or_default, take_more, take_more_set}
 use Rattle.pay_words.specs.Views.{Panel}
 use Rattle.bank_worker.specs.Called.{AreCalledOrAtRest, KeepsOthers}
 use Rattle.bank_worker.specs.Views.{Crew}
-use Rattle.settle.specs.Calls.{AllCalledOrAtRest, AreApart}
+use Rattle.settle.specs.Calls.{AreApart}
 use Rattle.settle.specs.Rounds.{AreReady, AreRounded, IsReady, crew_at, no_crew}
 use Rattle.settle.proofs.Joined.{rounded_append, rounded_one}
 use Rattle.bank_worker.specs.Grows.{MakesRound}

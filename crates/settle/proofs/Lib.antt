@@ -8,6 +8,8 @@ pub mod Driving
 pub mod Shares
 pub mod Finished
 pub mod AllDown
+pub mod Ended
+pub mod AtRest
 pub mod Limits
 pub mod ByHand
 pub mod OtherCash

@@ -1,18 +1,13 @@
 -- Offices of a network that differ from those of another in the cash at their desks alone.
-use Rattle.std.proofs.Common.{◌≡◌, ℕ, ◌-◌, ◌<◌, All, List, [], ◌∷◌, filter, get_or, length, map, refl, sym, ap, ◌∙◌, subst, arith}
-use Rattle.std.specs.List.{range_with_len}
+use Rattle.std.proofs.Common.{◌≡◌, ℕ, ◌-◌, ◌<◌, All, List, [], ◌∷◌, get_or, length, map, refl, sym, ap, ◌∙◌, subst, arith}
 use Rattle.std.proofs.lemmas.List.{get_or_default, get_or-map, length-map}
 use Rattle.clr_net.specs.Limits.{IsNetwork}
 use Rattle.clr_net.specs.Net.{Net, of_cash}
 use Rattle.clr_net.specs.declared.bank.Bank.{Bank}
-use Rattle.clr_net.specs.declared.debt.Debt.{Debt}
-use Rattle.clear_core.specs.Buffers.{HasRoom}
 use Rattle.bank_desk.specs.Desks.{BankView, desk_of, with_cash_in}
 use Rattle.bank_desk.proofs.DesksOf.{desk_of_other_cash}
 use Rattle.pay_words.specs.Views.{is_of_worker}
-use Rattle.bank_worker.specs.BankSets.{AreSetOut}
 use Rattle.bank_worker.specs.Offices.{IsOfficeFor, OfficeView, banks_of_worker}
-use Rattle.bank_worker.specs.Rings.{creditors_of}
 use Rattle.bank_worker.proofs.Filtered.{filter_passes}
 use Rattle.settle.specs.Offices.{AreOffices, AreOfficesButCash, Serves, no_office, office_at, with_cash_of}
 

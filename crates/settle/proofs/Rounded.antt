@@ -9,9 +9,9 @@ use Rattle.clear_core.specs.Clearing.{least}
 use Rattle.clr_net.specs.Amounts.{IsAtMost}
 use Rattle.clr_net.specs.Net.{Net, row, debtor_of, creditor_of}
 use Rattle.clr_net.proofs.Lists.{same_from_sum, sum_rises, sums_agree}
-use Rattle.bank_desk.specs.Desks.{BankView, desk_of}
+use Rattle.bank_desk.specs.Desks.{desk_of}
 use Rattle.pay_words.specs.declared.view.Shown.{Shown}
-use Rattle.pay_words.specs.Views.{Panel, IsOver, handed, holds, is_marked, is_of_worker, tabled}
+use Rattle.pay_words.specs.Views.{Panel, IsOver, handed, holds}
 use Rattle.bank_worker.specs.Views.{Crew, Divides, banks_held, desk_at, desks_held, no_desk, paid_by, paid_by_all}
 use Rattle.bank_worker.proofs.Filtered.{filter_finds, row_finds}
 use Rattle.bank_worker.proofs.Manned.{few_desks}
@@ -23,6 +23,7 @@ use Rattle.settle.specs.Calls.{HaveCalledFrom, OthersAreAtRest}
 use Rattle.settle.specs.Rounds.{AreRounded, MadeRound, crew_at, no_crew, paid_by_crew}
 use Rattle.std.specs.List.{range_with_len}
 use Rattle.bank_worker.proofs.Rooms.{banks_of_seat}
+use Rattle.settle.proofs.Ended.{all_held, made_round as made_by, no_ring_left, none_pending}
 use Rattle.settle.proofs.Shares.{all_shares}
 use Rattle.settle.proofs.Handed.{IsRest, crew_there, first_rest, handed_holds, length-crews, handed_desk}
 
@@ -56,7 +57,7 @@ module _ (board : Panel) (net : Net) (s : Shown) (w sweeps n : ℕ) (news : List
   as_many = rounded.as_many ∙ length-crews w board.table s w
 
   pub made_round : (i : ℕ) → i < w → MadeRound sweeps (crew_of w board.table s i) (crew_at news i)
-  made_round i lt = subst (λ (o : Crew). MadeRound sweeps o (crew_at news i)) (crew_there w board.table s w i lt) (rounded.each i (omega (arith, lt, length-crews w board.table s w)))
+  made_round = made_by net board.table s w sweeps n news some between.net_is rounded
 
   net_of : (i : ℕ) → i < w → (crew_at news i).seat.shows.net ≡ net
   net_of i lt = (made_round i lt).same.seat.net ∙ between.net_is
@@ -119,9 +120,6 @@ module _ (board : Panel) (net : Net) (s : Shown) (w sweeps n : ℕ) (news : List
     pub worker_of : b % w < w
     worker_of = omega arith
 
-    holds_it : holds (crew_at news (b % w)).seat.shows b ≡ true
-    holds_it = rw ((made_round (b % w) worker_of).same.seat.banks) (handed_holds net w (b % w) s b between.net_is lb ∙ eq-eqb (b % w) (b % w) refl)
-
     place : (k : ℕ) × (k < length (crew_at news (b % w)).desks) × (desk_at (crew_at news (b % w)).desks k ≡ desk_of net b)
     place =
         let h = handed w (b % w) s in
@@ -178,17 +176,9 @@ module _ (board : Panel) (net : Net) (s : Shown) (w sweeps n : ℕ) (news : List
       net_is = back'.net_is;
       master = master;
       over = over;
-      holds_all = λ b lb. back'.held b (rw (back'.net_is) at lb) (omega arith) (lw b);
-      no_rings = λ x lx.
-          let li = worker_of (debtor_of net x) (debtor x lx) in
-          let same = net_of (debtor_of net x % w) li in
-          back'.rings x lx (omega arith) (lw (debtor_of net x))
-          ∙ (made_round (debtor_of net x % w) li).rounded.gone.no_rings x (rw same lx) (rw same (holds_it (debtor_of net x) (debtor x lx)));
-      calm = λ x lx.
-          let li = worker_of (creditor_of net x) (creditor x lx) in
-          let same = net_of (creditor_of net x % w) li in
-          back'.pending x lx (omega arith) (lw (creditor_of net x))
-          ∙ (made_round (creditor_of net x % w) li).rounded.gone.calm (creditor_of net x) (rw same (creditor x lx)) (holds_it (creditor_of net x) (creditor x lx)) x (rw same lx) (rw same);
+      holds_all = all_held net board.table s w sweeps n news some between.net_is rounded m t between.network back';
+      no_rings = no_ring_left net board.table s w sweeps n news some between.net_is rounded m t between.network back';
+      calm = none_pending net board.table s w sweeps n news some between.net_is rounded m t between.network back';
       rest = λ b lb. inr (all_divide b lb);
       floor = λ x lx. back'.floor x lx (omega arith) (lw (debtor_of net x)) ∙ sym (paid_is x lx);
     }

@@ -31,9 +31,9 @@ const MANY_VISITS: u64 = 512;
 /// and then those that were rung.
 ///
 /// The run ends after the first round that raised nothing; each round before it raised a unit.
-/// After Ok [`nobody_can_pay_more`](crate::nobody_can_pay_more) may be asked. After `Mem` the master
-/// may hold fewer banks, and the caller drops the board; neither a word of it nor what the master
-/// shows is ever above the least clearing payments.
+/// After Ok nobody can pay more. After `Mem` the master may hold fewer banks, and the caller drops
+/// the board; neither a word of it nor what the master shows is ever above the least clearing
+/// payments.
 #[tactic(auto, using(pay_words::proofs::Standing::stays_below_least))]
 pub fn drive<R: Threads + Sync, G: Gate + Sync>(
     rt: &R,

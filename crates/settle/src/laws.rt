@@ -6,8 +6,8 @@ ghost use Rattle.clr_net.specs.Net.{Net};
 ghost use Rattle.pay_words.specs.Traces.{start_of};
 ghost use Rattle.pay_words.specs.Views.{Panel, opening};
 ghost use Rattle.pay_words.specs.declared.view.Shown.{Shown};
-ghost use Rattle.settle.specs.Bells.{IsIdle};
-ghost use Rattle.settle.specs.Between.{IsBetween, crews};
+ghost use Rattle.settle.specs.Bells.{AreAllDown, IsIdle, NobodyCanPayMore};
+ghost use Rattle.settle.specs.Between.{IsBetween, IsRoundOf, crews};
 ghost use Rattle.settle.specs.ByHand.{after_round};
 ghost use Rattle.settle.specs.Drives.{AreRoundsFrom, IsPlan};
 ghost use Rattle.settle.specs.Made.{AreMadeByBells, IsJournalByBells, workers_of, workers_of_run};
@@ -33,12 +33,6 @@ pub fn boards_stand_between_rounds_after_each()
         → IsBetween net (after_round plan.workers ws s) }
 {}
 
-/// Between two rounds the question on all bells may be asked.
-#[tactic(auto, using(crate::proofs::AllDown::idle_between))]
-pub fn question_on_bells_may_be_asked_between_rounds()
-    ensures { (net : Net) (s : Shown) → IsBetween net s → IsIdle net s }
-{}
-
 /// Whatever rounds were made one after another: all that was raised in them the very workers of these
 /// rounds raised, each of which did nothing but visits to which bells called it.
 pub fn raises_of_rounds_are_made_in_visits_by_bells()
@@ -55,4 +49,32 @@ pub fn raises_of_a_run_are_made_in_visits_by_bells()
         → (run : IsSettled net past plan settled)
         → IsJournalByBells past (workers_of_run run.at_rest.rounds_are)
         (settled.rounds * plan.workers) settled.visits settled.sealed.journal }
+{}
+
+/// At each moment between two atomic steps at which all bells of a board are down, and a seat that
+/// holds all banks is idle, nobody can pay more: the payments are the least that clear. So it is
+/// whoever made the rounds, and whether anyone looks at the bells.
+pub fn nobody_can_pay_more_once_all_bells_are_down()
+    ensures { (board : Panel) (words : List ℕ) (s : Shown) → AreAllDown board words s
+        → IsIdle board.net s → NobodyCanPayMore board.net words s }
+{}
+
+/// So it is once a round in which no visit found want of memory was joined.
+pub fn nobody_can_pay_more_once_a_round_ends_with_all_bells_down()
+    ensures { (board : Panel) (plan : Plan) (units visits : ℕ) (s t : Shown) (words : List ℕ)
+        → IsPlan plan → IsRoundOf board.net plan units visits s t → AreAllDown board words t
+        → NobodyCanPayMore board.net words t }
+{}
+
+/// So it is in a run, before its first round and after each. The next round, if there is one, raises
+/// nothing then, and is the last.
+pub fn a_run_ends_with_the_next_round_once_all_bells_are_down()
+    ensures nobody { (board : Panel) (plan : Plan) (ns : List ℕ) (s : Shown) (words : List ℕ)
+        → IsPlan plan
+        → AreRoundsFrom board.net plan (opening board.net (start_of board.net board.past)) ns s
+        → AreAllDown board words s → NobodyCanPayMore board.net words s }
+    ensures last { (board : Panel) (plan : Plan) (ns : List ℕ) (s t : Shown) (words : List ℕ)
+        (units visits : ℕ) → IsPlan plan
+        → AreRoundsFrom board.net plan (opening board.net (start_of board.net board.past)) ns s
+        → AreAllDown board words s → IsRoundOf board.net plan units visits s t → units ≡ 0 }
 {}

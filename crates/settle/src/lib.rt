@@ -5,7 +5,6 @@
 //! it began, and as it ended.
 #![tactic(auto)]
 
-mod bells;
 mod drives;
 pub mod laws;
 mod plan;
@@ -15,7 +14,6 @@ mod state;
 mod teams;
 mod work;
 
-pub use bells::{nobody_can_pay_more, round_and_ask};
 pub use drives::drive;
 pub use plan::{Driven, Plan};
 pub use run::{Run, Way};

@@ -177,9 +177,9 @@ pub fn calls_two_workers(net: &Network, board: &Board, workers: u32) -> bool
 /// that is not called has seen what is paid to it, and pays its division, before the round and
 /// after it.
 ///
-/// After Ok the master may begin another round, and
-/// [`nobody_can_pay_more`](crate::nobody_can_pay_more) may be asked. After `Mem`, which is want of
-/// memory, the master may hold fewer banks, and the caller drops the board.
+/// After Ok the master may begin another round. While all bells are down then, nobody can pay more
+/// ([`laws`](crate::laws)). After `Mem`, which is want of memory, the master may hold fewer banks,
+/// and the caller drops the board.
 pub fn round<R: Threads + Sync, G: Gate + Sync>(
     run: &Run<'_, R, G>,
     master: &mut PaySeat,

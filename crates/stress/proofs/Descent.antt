@@ -1,15 +1,15 @@
 -- Going down from cut to cut: what is known of each bank, and which banks are to pay anew.
-use Rattle.std.proofs.Common.{◌≡◌, ◌↔◌, ℕ, zero, suc, ◌+◌, ◌<◌, ◌≤◌, ◌==◌, ◌&&◌, not, cond, Bool, true, false, List, [], ◌∷◌, length, get_or, map, max, min, nat_lt, nat_le, sum_by, replicate, Result, Ok, Err, Vec, Global, refl, sym, ap, ◌∙◌, subst, ⊎_elim, arith}
+use Rattle.std.proofs.Common.{◌≡◌, ◌↔◌, ℕ, ◌+◌, ◌<◌, ◌≤◌, ◌==◌, ◌&&◌, not, cond, Bool, false, List, [], ◌∷◌, length, get_or, map, max, min, nat_lt, nat_le, sum_by, replicate, Result, Vec, Global, refl, sym, ap, ◌∙◌, subst, ⊎_elim, arith}
 use Rattle.std.specs.Result.{IfOk}
 use Rattle.std.proofs.lemmas.Bool.Decides.{nat_tests}
-use Rattle.std.proofs.lemmas.Bool.{and_from, and_right, cases_eq, cases_lt, cond-false, cond-true, eq-eqb, eqb-false, false_from_ne_true, le-leb, le-ltb, lt-leb, lt-ltb, ne_eqb}
+use Rattle.std.proofs.lemmas.Bool.{cases_lt, eqb-false}
 use Rattle.std.proofs.lemmas.Result.{IfOk-weaker}
 use Rattle.std.proofs.lemmas.List.{get_or-map, get_or-replicate, length-map, length-replicate}
 use Rattle.std.proofs.lemmas.List.FromFn.{fill_by_all, get_or-map-range_with_len, length-map-range_with_len}
 use Rattle.std.proofs.lemmas.List.Sums.{sum-map}
 use Rattle.clr_net.specs.Limits.{IsNetwork}
 use Rattle.clr_net.specs.Net.{Net, claim_of, place_in_row, row}
-use Rattle.clear_core.specs.Clearing.{IsOnWayBy, least, pay, rounds, spend, zeros}
+use Rattle.clear_core.specs.Clearing.{IsOnWayBy, least, spend, zeros}
 use Rattle.clear_core.specs.Raised.{is_marked}
 use Rattle.clear_core.proofs.Least.{begins_by, least_clears}
 use Rattle.clear_core.proofs.Pay.{pay_by_within, spend_mono}
@@ -19,9 +19,10 @@ use Rattle.cascade.specs.declared.standing.Health.{Health}
 use Rattle.cascade.specs.declared.standing.Health.TheVariants.{Sound}
 use Rattle.cascade.specs.Standings.{bank_numbers, is_sound, paid_by}
 use Rattle.cascade.proofs.Healths.{sound_enough, sound_told}
-use Rattle.cascade.proofs.Limits.{clearing_over, clearing_within}
+use Rattle.cascade.proofs.Limits.{clearing_within}
 use Rattle.cascade.proofs.Sums.{same_terms}
-use Rattle.cascade.proofs.MoreCash.{least_rises, pays_where_clearing, richer_by_cash}
+use Rattle.cascade.proofs.GoingOn.{goes_on}
+use Rattle.cascade.proofs.MoreCash.{pays_where_clearing}
 use Rattle.stress.specs.Breaking.{breaking, breaking_within, health_after, joined, noted}
 use Rattle.stress.specs.Milder.{IsSoundAfter, breaking_cut, cut_alone, left_by}
 use Rattle.stress.specs.Shocks.{shocked_from}
@@ -40,23 +41,10 @@ pub record IsDown (net : Net) (high last : ℕ) (paid : List ℕ) (all : List Br
 module _ (net : Net) (c d : ℕ) (smaller : c ≤ d) where
   -- the payments after a cut are on the way to those after a smaller one
   way_down : IsOnWayBy (left_by net c) (spend (left_by net c)) (least (left_by net d))
-  unfolding pay rounds
   way_down =
-      let harder = left_by net d in
-      let P = least harder in
       let more = milder_leaves_more net (cut_alone c) (cut_alone d)
       (record { cut = smaller; losses = λ i. omega arith }) in
-      let less_banks = shocked_from d [] 0 net.banks in
-      let more_banks = shocked_from c [] 0 net.banks in
-      record {
-        as_many = clearing_over harder P (least_clears harder);
-        rises = λ x. omega (
-          arith,
-          (richer_by_cash net less_banks more_banks more).pays P x,
-          ap (λ (Q : List ℕ). get_or Q x 0) (least_clears harder),
-        );
-        below = least_rises net less_banks more_banks more;
-      }
+      (goes_on (left_by net d) (left_by net c) more).way
 
   -- and a bank that is sound after it has paid all, and pays no more after the smaller
   sound_is_quiet : IsNetwork net → (i : ℕ) → IsSoundAfter net i d

@@ -4,10 +4,11 @@ use Rattle.std.specs.Option.{option_map_or}
 use Rattle.std.proofs.lemmas.List.{length-map}
 use Rattle.clr_net.specs.declared.bank.Bank.{Bank}
 use Rattle.clr_net.specs.declared.rule.RuleKind.TheVariants as kind
-use Rattle.clr_net.specs.Net.{Net, cash_of, of_cash, with_cash}
-use Rattle.clr_net.proofs.ChangedAt.{map-changed_at}
+use Rattle.clr_net.specs.Net.{Net, cash_of, of_cash}
+use Rattle.cascade.specs.MoreCash.{IsOfOtherCash}
+use Rattle.cascade.proofs.OtherCash.{cash_in, same_by_cash}
 use Rattle.cascade.proofs.PayingOut.{banks_at}
-use Rattle.stress.specs.Shocks.{IsOfOtherCash, KeepsAllButCash, after_cut, after_shock, loss_of, shocked, shocked_from}
+use Rattle.stress.specs.Shocks.{KeepsAllButCash, after_cut, after_shock, loss_of, shocked, shocked_from}
 use Rattle.stress.specs.declared.scenario.Loss.{Loss}
 use Rattle.stress.specs.declared.scenario.Scenario.{Scenario}
 
@@ -48,10 +49,6 @@ keeps_all_but_cash net s = record {
   debts = refl;
 }
 
--- the cash of the bank j of a list
-abbrev cash_in : List Bank → ℕ → ℕ
-cash_in banks j = option_map_or (λ b. b.cash) (slice_get banks j) 0
-
 -- what is left of the cash of a bank, of a list that begins with the bank i
 cash_from : (cut : ℕ) (losses : List Loss) (i n k : ℕ) (banks : List Bank) → i + n ≡ k
     → cash_in (shocked_from cut losses i banks) n ≡ after_cut cut (cash_in banks n) - loss_of losses k
@@ -71,34 +68,10 @@ pub leaves_cash : (net : Net) (s : Scenario) (i : ℕ)
     → cash_of (shocked net s) i ≡ after_cut s.cut (cash_of net i) - loss_of s.losses i
 leaves_cash net s = shocked_cash net s.cut s.losses
 
--- a network after a shock is of other cash, and so it is with another cash at a bank
+-- a network after a shock is of other cash
 pub alike_after : (net : Net) (cut : ℕ) (losses : List Loss)
     → IsOfOtherCash net (after_shock cut losses net)
 alike_after net cut losses = (unseen (of_cash 0) (λ c b. refl) cut 0 losses net.banks, refl)
-
-pub alike_set : (net other : Net) (i c : ℕ) → IsOfOtherCash net other
-    → IsOfOtherCash net (with_cash other i c)
-alike_set net other i c alike =
-    (map-changed_at (of_cash 0) (of_cash c) (λ b. refl) other.banks i ∙ alike.0, alike.1)
-
--- it has as many banks
-pub as_many_alike : (net other : Net) → IsOfOtherCash net other
-    → length other.banks ≡ length net.banks
-as_many_alike net other alike =
-    sym (length-map other.banks (of_cash 0)) ∙ ap length alike.0 ∙ length-map net.banks (of_cash 0)
-
--- banks that differ in cash alone, and have the same, are the same
-same_banks : (xs ys : List Bank) → map (of_cash 0) xs ≡ map (of_cash 0) ys
-    → ((i : ℕ) → i < length ys → cash_in xs i ≡ cash_in ys i) → xs ≡ ys
-same_banks [] [] alike same = refl
-same_banks [] (y ∷ ys) alike same = absurd (cc)
-same_banks (x ∷ xs) [] alike same = absurd (cc)
-same_banks (x ∷ xs) (y ∷ ys) alike same =
-    let first : of_cash 0 x ≡ of_cash 0 y = cc in
-    let later : map (of_cash 0) xs ≡ map (of_cash 0) ys = cc in
-    let cash : x.cash ≡ y.cash = same 0 (omega arith) in
-    let rest : xs ≡ ys = same_banks xs ys later (λ i l. same (suc i) (omega arith)) in
-    λ at. of_cash (cash at) (first at) ∷ rest at
 
 -- so a network of other cash whose banks have what a shock leaves is the one that it leaves
 pub is_shocked : (net other : Net) (cut : ℕ) (losses : List Loss) → IsOfOtherCash net other
@@ -106,8 +79,5 @@ pub is_shocked : (net other : Net) (cut : ℕ) (losses : List Loss) → IsOfOthe
     → cash_of other i ≡ after_cut cut (cash_of net i) - loss_of losses i)
     → other ≡ after_shock cut losses net
 is_shocked net other cut losses alike same =
-    let left = after_shock cut losses net in
-    let banks = same_banks other.banks left.banks (alike.0 ∙ sym (alike_after net cut losses).0)
-    (λ i l. same i (omega (arith, length-shocked_from cut 0 losses net.banks))
-    ∙ sym (shocked_cash net cut losses i)) in
-    λ at. record { banks = banks at; debts = alike.1 at }
+    same_by_cash net other (after_shock cut losses net) alike (alike_after net cut losses)
+    (λ i l. same i l ∙ sym (shocked_cash net cut losses i))

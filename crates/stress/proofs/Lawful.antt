@@ -1,5 +1,5 @@
 -- The scenarios that are read are scenarios of the network.
-use Rattle.std.proofs.Common.{◌≡◌, ◌≢◌, ℕ, zero, suc, ◌+◌, ◌<◌, ◌≤◌, not, nat_le, nat_lt, false, ℤ, pos, negsuc, List, [], ◌∷◌, ◌++◌, length, length-append, codes, position, Some, Result, Ok, Err, Vec, Global, true≢false, sym, ◌∙◌, subst, arith, eq-eqb}
+use Rattle.std.proofs.Common.{◌≡◌, ◌≢◌, ℕ, zero, suc, ◌+◌, ◌<◌, ◌≤◌, nat_le, nat_lt, false, ℤ, pos, negsuc, List, [], ◌∷◌, ◌++◌, length, length-append, codes, Some, Result, Ok, Err, Vec, Global, true≢false, sym, ◌∙◌, subst, arith, eq-eqb}
 use Rattle.std.specs.List.{All, AllPairs, list_any}
 use Rattle.std.specs.Option.{ok_or}
 use Rattle.std.specs.Result.{IfOk}
@@ -10,16 +10,13 @@ use Rattle.std.proofs.lemmas.List.Quantifiers.{all_pairs_push}
 use Rattle.toml.specs.Data.{Data, Items, no_items, item, Members, get_member}
 use Rattle.clr_net.proofs.BankNames.{named_there}
 use Rattle.clr_net.specs.Name.{is_name}
-use Rattle.clr_net.specs.Net.{Net, has_name}
+use Rattle.clr_net.specs.Net.{Net}
 use Rattle.net_check.proofs.Passed.{and_then-ok, fault_unless-ok, in_row-ok, ok_or-ok}
-use Rattle.net_check.specs.Checks.{and_then, fault_unless}
-use Rattle.net_check.specs.declared.fault.Fault.{Fault}
-use Rattle.net_check.specs.declared.fault.FaultKind.{FaultKind}
 use Rattle.net_check.specs.declared.fault.FaultKind.TheVariants as fault
 use Rattle.net_check.specs.declared.fault.FileKind.TheVariants as file
 use Rattle.net_check.specs.declared.fault.ReadNet.{ReadNet}
 use Rattle.stress.specs.Reading.{loss_in, read_losses, named_cut, scenario_in, scenario_in_row, next_scenario, read_all, scenarios_in, fault_in}
-use Rattle.stress.specs.Shape.{Parts, as_loss, as_parts, array_or_none, has_only, up_to}
+use Rattle.stress.specs.Shape.{as_loss, as_parts, array_or_none, has_only, up_to}
 use Rattle.stress.specs.Shocks.{IsScenarioOf, HasLossesInLimit, is_of_bank}
 use Rattle.stress.specs.declared.TheConstants.{MAX_CUT, MAX_LOSS, MAX_SCENARIOS}
 use Rattle.stress.specs.declared.scenario.Loss.{Loss}

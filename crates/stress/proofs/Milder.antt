@@ -13,7 +13,7 @@ use Rattle.cascade.specs.Standings.{health_of, is_sound}
 use Rattle.cascade.proofs.Healths.{sound_told}
 use Rattle.cascade.proofs.MoreCash.{nobody_loses}
 use Rattle.stress.specs.Milder.{IsMilder, cut_alone, left_by, IsSoundAfter, IsBreakingCut, is_broken_by, breaking_cut}
-use Rattle.stress.specs.Shocks.{after_cut, shocked, shocked_from}
+use Rattle.stress.specs.Shocks.{shocked, shocked_from}
 use Rattle.stress.specs.declared.TheConstants.{MAX_CUT}
 use Rattle.stress.specs.declared.scenario.Scenario.{Scenario}
 use Rattle.stress.proofs.Kept.{keeps_all_but_cash, leaves_cash}

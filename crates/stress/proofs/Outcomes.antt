@@ -1,26 +1,24 @@
 -- Scenarios in sums: their tallies add up, and no unit of them is made or lost.
-use Rattle.std.proofs.Common.{◌≡◌, ℕ, ◌+◌, ◌<◌, ◌≤◌, cond, List, [], ◌∷◌, ◌++◌, length, get_or, map, sum, sum_by, replicate, refl, sym, ap, ◌∙◌, arith}
+use Rattle.std.proofs.Common.{◌≡◌, ℕ, ◌+◌, ◌≤◌, cond, List, [], ◌∷◌, ◌++◌, length, get_or, map, sum, sum_by, replicate, refl, sym, ap, ◌∙◌, arith}
 use Rattle.std.specs.List.{count_by, range_with_len}
 use mathlib.Core.List.{map-map}
 use Rattle.std.proofs.lemmas.List.Folds.{fold-map}
 use Rattle.std.proofs.lemmas.List.{get_or-replicate, length-replicate}
 use Rattle.std.proofs.lemmas.List.Elements.{All-map}
-use Rattle.std.proofs.lemmas.List.FromFn.{fill_by_all, get_or-map-range_with_len, length-map-range_with_len}
-use Rattle.std.proofs.lemmas.List.Sums.{count_by-le-length, sum-map, sum_by-append, sum_by-cons}
+use Rattle.std.proofs.lemmas.List.FromFn.{fill_by_all, length-map-range_with_len}
+use Rattle.std.proofs.lemmas.List.Sums.{count_by-le-length, sum_by-append}
 use Rattle.clr_net.specs.Limits.{IsNetwork}
-use Rattle.clr_net.specs.Net.{Net, all_cash, debt_numbers, units_owed}
+use Rattle.clr_net.specs.Net.{Net, all_cash, units_owed}
 use Rattle.clear_core.specs.Clearing.{Clears, least}
-use Rattle.clear_core.proofs.Least.{least_clears}
 use Rattle.clear_core.proofs.Pay.{sum-pay_le}
 use Rattle.cascade.specs.declared.standing.Health.TheVariants.{Sound}
 use Rattle.cascade.specs.declared.standing.Standing.{Standing}
 use Rattle.cascade.specs.Standings.{bank_numbers, equity, is_default, outside_paid, standing, standings}
 use Rattle.cascade.proofs.Limits.{clearing_over}
-use Rattle.cascade.proofs.MoreCash.{all_kept_is}
 use Rattle.cascade.proofs.PayingOut.{adds_up, all_paid, sum_by_numbers}
 use Rattle.cascade.proofs.Sums.{sum_by-add}
-use Rattle.stress.specs.Outcomes.{AreWithin, added, both, falls, health_in, is_fundamental, once, outcome, sums, tally, tally_of_one}
-use Rattle.stress.specs.Shocks.{shocked, shocked_from}
+use Rattle.stress.specs.Outcomes.{AreWithin, added, both, falls, health_in, is_fundamental, once, tally, tally_of_one}
+use Rattle.stress.specs.Shocks.{shocked}
 use Rattle.stress.specs.declared.scenario.Scenario.{Scenario}
 use Rattle.stress.specs.declared.sums.Outcome.{Outcome}
 use Rattle.stress.specs.declared.tally.Falls.{Falls}

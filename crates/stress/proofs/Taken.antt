@@ -1,7 +1,7 @@
 -- A network after a cut and the first losses: what one loss more takes.
 use Rattle.std.proofs.Common.{◌≡◌, ◌≢◌, ℕ, ◌+◌, ◌-◌, ◌<◌, ◌≤◌, ◌==◌, true, false, cond, List, [], ◌∷◌, ◌++◌, length, take, get_or, slice_get, Some, true≢false, refl, sym, ap, ◌∙◌, ⊎_elim, arith, eq-eqb}
 use Rattle.std.specs.List.{All, AllPairs, list_any}
-use Rattle.std.proofs.lemmas.Bool.{cases_Bool, cases_eq, cond-true, ne_eqb}
+use Rattle.std.proofs.lemmas.Bool.{cases_Bool, cond-true, ne_eqb}
 use Rattle.std.proofs.lemmas.List.{append-nil, get_or-take, length-take-le, take_more}
 use Rattle.std.proofs.lemmas.List.Elements.{All-from_get_or, All-same}
 use Rattle.std.proofs.lemmas.List.Folds.{list_any_none}
@@ -10,9 +10,10 @@ use Rattle.clr_net.specs.declared.bank.Bank.{Bank}
 use Rattle.clr_net.specs.Limits.{IsNetwork}
 use Rattle.clr_net.specs.Net.{Net, cash_of, with_cash}
 use Rattle.cascade.proofs.CashAt.{cash_is_set, cash_read, cash_stays}
-use Rattle.stress.specs.Shocks.{after_cut, after_shock, is_of_bank, loss_of}
+use Rattle.stress.specs.Shocks.{after_shock, is_of_bank, loss_of}
 use Rattle.stress.specs.declared.scenario.Loss.{Loss}
-use Rattle.stress.proofs.Kept.{alike_after, alike_set, is_shocked, length-shocked_from, shocked_cash}
+use Rattle.cascade.proofs.OtherCash.{alike_set}
+use Rattle.stress.proofs.Kept.{alike_after, is_shocked, length-shocked_from, shocked_cash}
 
 -- losses of which none is of a bank do not count for it
 loss_of-skip : (losses rest : List Loss) (i : ℕ) → list_any (is_of_bank i) losses ≡ false

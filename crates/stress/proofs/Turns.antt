@@ -1,14 +1,12 @@
 -- The reading of values one after another, turn by turn.
-use Rattle.std.proofs.Common.{◌≡◌, ℕ, ◌+◌, ◌<◌, ◌≤◌, nat_lt, true, false, codes, List, [], ◌∷◌, ◌++◌, length, Some, None, Ok, Err, refl, ap, arith}
+use Rattle.std.proofs.Common.{◌≡◌, ℕ, ◌+◌, ◌<◌, ◌≤◌, List, [], ◌∷◌, ◌++◌, length, Ok, Err, refl, ap}
 use Rattle.std.proofs.lemmas.Bool.{le-ltb, lt-ltb}
 use Rattle.net_check.specs.Checks.{and_then}
 use Rattle.net_check.specs.declared.fault.Fault.{Fault}
-use Rattle.net_check.specs.declared.fault.FaultKind.{FaultKind}
 use Rattle.net_check.specs.declared.fault.FaultKind.TheVariants as fault
 use Rattle.clr_net.specs.Net.{Net}
-use Rattle.toml.specs.Data.{Data, Items, no_items, item, Members, get_member}
-use Rattle.stress.specs.Reading.{loss_in, read_losses, next_scenario, read_all, fault_in, scenario_in_row, scenarios_in}
-use Rattle.stress.specs.Shape.{has_only, array_or_none}
+use Rattle.toml.specs.Data.{Data, Items, no_items, item}
+use Rattle.stress.specs.Reading.{loss_in, read_losses, next_scenario, read_all, fault_in, scenario_in_row}
 use Rattle.stress.specs.declared.TheConstants.{MAX_SCENARIOS}
 use Rattle.stress.specs.declared.scenario.Loss.{Loss}
 use Rattle.stress.specs.declared.scenario.Scenario.{Scenario}

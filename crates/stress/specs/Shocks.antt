@@ -1,6 +1,6 @@
 -- The network that a scenario leaves, and which scenarios may be given to a network.
 use Rattle.std.specs.Prelude.{◌≡◌, ◌≢◌, ℕ, suc, ◌-◌, ◌*◌, ◌/◌, ◌<◌, ◌≤◌, ◌==◌, Bool, cond}
-use Rattle.std.specs.Prelude.{List, [], ◌∷◌, length, map}
+use Rattle.std.specs.Prelude.{List, [], ◌∷◌, length}
 use Rattle.std.specs.List.{All, AllPairs}
 use Rattle.clr_net.specs.Net.{Net, of_cash, name_of, rule_of, outside_of}
 use Rattle.clr_net.specs.declared.bank.Bank.{Bank}
@@ -39,11 +39,6 @@ after_shock cut losses net = record net { banks = shocked_from cut losses 0 net.
 -- the network that a scenario leaves
 abbrev pub shocked : Net → Scenario → Net
 shocked net s = after_shock s.cut s.losses net
-
--- another network has the same banks but for their cash, in the same places, and the same debts
-abbrev pub IsOfOtherCash : Net → Net → Type 0
-IsOfOtherCash net other =
-    (map (of_cash 0) other.banks ≡ map (of_cash 0) net.banks) × (other.debts ≡ net.debts)
 
 -- a scenario that may be given to a network: its cut is in its limit, and its losses are of banks
 -- of the network, each at most once

@@ -1,6 +1,10 @@
+ghost use Rattle.net_check.specs.Record.{fault_at};
+ghost use Rattle.net_check.specs.declared.TheConstants.{MAX_FILE_BYTES};
 ghost use Rattle.net_check.specs.declared.fault.Fault.{Fault};
 ghost use Rattle.net_check.specs.declared.fault.FaultKind.{FaultKind};
-ghost use Rattle.std.specs.Prelude.{◌≡◌, ◌≤◌, [], Ok, Err, IfOk, IsErrOf, length};
+ghost use Rattle.net_check.specs.declared.fault.FaultKind.TheVariants as kind;
+ghost use Rattle.net_check.specs.declared.fault.FileKind.TheVariants as file;
+ghost use Rattle.std.specs.Prelude.{◌≡◌, ◌<◌, ◌≤◌, [], Ok, Err, IfOk, IsErrOf, length};
 ghost use Rattle.std.specs.List.{All};
 ghost use Rattle.stress.specs.Reading.{fault_in, head_in, loss_in, named_cut};
 ghost use Rattle.stress.specs.Reading.{read_all as read_all_of, read_losses as read_losses_of};
@@ -29,6 +33,8 @@ pub fn read_scenarios(alloc: Global, net: &Network, bytes: &[u8]) -> Result<Vec<
     ensures read { IfOk result (λ all. scenarios_of net.now bytes.now ≡ Ok all.items) }
     ensures refused { (f : Fault) → IsErrOf result (ReadNet.Refused f)
         → scenarios_of net.now bytes.now ≡ Err f }
+    ensures size { MAX_FILE_BYTES < length bytes.now
+        → IsErrOf result (ReadNet.Refused (fault_at file.Scenarios 0 kind.FileSize)) }
     ensures lawful { IfOk result (λ all. All (IsScenarioOf net.now) all.items) }
     ensures in_limit { IfOk result (λ all. All HasLossesInLimit all.items) }
     ensures few { IfOk result (λ all. length all.items ≤ MAX_SCENARIOS) }

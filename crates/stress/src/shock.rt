@@ -1,7 +1,8 @@
+ghost use Rattle.cascade.specs.MoreCash.{IsOfOtherCash};
 ghost use Rattle.clr_net.specs.Limits.{IsNetwork};
 ghost use Rattle.clr_net.specs.declared.TheConstants.{MAX_CASH};
 ghost use Rattle.std.specs.Prelude.{◌≡◌, ◌≤◌, ◌-◌, [], IfOk};
-ghost use Rattle.stress.specs.Shocks.{IsOfOtherCash, IsScenarioOf, KeepsAllButCash};
+ghost use Rattle.stress.specs.Shocks.{IsScenarioOf, KeepsAllButCash};
 ghost use Rattle.stress.specs.Shocks.{after_cut as cash_after_cut, after_shock, shocked as shocked_net};
 ghost use Rattle.stress.specs.declared.TheConstants.{MAX_CUT};
 

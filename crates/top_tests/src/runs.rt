@@ -1,8 +1,6 @@
-mod fetches;
 mod fifteen_banks;
 mod hostile;
 mod many;
-mod networks;
 mod records;
 mod sinks;
 mod steered;
@@ -234,8 +232,15 @@ fn all_refused<R: Threads + Sync + Abort>(
     Ok(())
 }
 
-const PAYMENTS: [Done<'static>; 11] = [
+const PAYMENTS: [Done<'static>; 12] = [
     (CLEAR, CHAIN_BANKS, CHAIN_DEBTS, CHAIN_TEXT),
+    // A quoted field is what stands between the quotes.
+    (
+        CLEAR,
+        "name,cash,rule\n\"A\",7,order\nB,1,order\nC,0,order\n",
+        CHAIN_DEBTS,
+        CHAIN_TEXT,
+    ),
     // One unit goes round until both debts are paid.
     (
         CLEAR,
@@ -306,7 +311,7 @@ fn payments_of_small_networks(rt: HostRuntime) -> Result<(), Fail> {
     all_done(&rt, rt.alloc(), &PAYMENTS)
 }
 
-const FAULTS: [Refused<'static>; 15] = [
+const FAULTS: [Refused<'static>; 18] = [
     (
         "name,cash,rule\nA,1000000000000,order\nB,0,order\n",
         "debtor,creditor,class,claim\nA,B,1,1000001\n",
@@ -378,6 +383,21 @@ const FAULTS: [Refused<'static>; 15] = [
         CHAIN_BANKS,
         "debtor,creditor,class,claim\nA,B,0,x\n",
         "clearing: debts row 1: class (10)\n",
+    ),
+    (
+        "name,cash,rule\n\"A,B\",7,order\n",
+        CHAIN_DEBTS,
+        "clearing: banks row 1: name (3)\n",
+    ),
+    (
+        "name,cash,rule\nA,99999999999999999999,order\n",
+        CHAIN_DEBTS,
+        "clearing: banks row 1: limit (6)\n",
+    ),
+    (
+        "name,cash,rule\nA,999999999999999999999,order\n",
+        CHAIN_DEBTS,
+        "clearing: banks row 1: number (4)\n",
     ),
 ];
 

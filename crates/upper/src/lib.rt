@@ -3,8 +3,9 @@
 //!
 //! More than one list of payments may clear: banks that owe each other in a circle and have nothing
 //! clear by paying nothing, and may clear by paying all. [`upper`] comes from above. It begins with
-//! all debts paid in full, and in each round all banks pay at once what their rules then give
-//! (Eisenberg and Noe 2001), until a round changes nothing. A bank's *wave* is the first round,
+//! all debts paid in full, and in each round all banks pay at once what their rules then give,
+//! until a round changes nothing. So it ends at the greatest payments, as the fictitious default
+//! algorithm does (Eisenberg and Noe 2001), by other rounds. A bank's *wave* is the first round,
 //! counted from 1, that it enters with less than all that it owes. [`greatest_by`] makes the same
 //! rounds where banks divide something else than all that they have, as a `Spending` of
 //! `clear_least` says.

@@ -1,9 +1,8 @@
-//! Faults at every fetch and at every put, files that are cut off anywhere, and hostile fields and
-//! journals.
+//! Faults at every fetch and at every put, and hostile journals.
 
 use super::{
-    CHAIN_BANKS, CHAIN_BOTH, CHAIN_DEBTS, CHAIN_TEXT, CLEAR, CLEAR_BOTH, REPLAY, Refused, STRESS,
-    all_refused, check, ends, runs_on, same, shelf, tells,
+    CHAIN_BANKS, CHAIN_BOTH, CHAIN_DEBTS, CHAIN_TEXT, CLEAR, CLEAR_BOTH, REPLAY, STRESS, check,
+    ends, runs_on, same, shelf, tells,
 };
 use clr_edge::{MemShelf, MemSink, OpenGate};
 use std::alloc::Global;
@@ -124,81 +123,6 @@ fn every_fetch_may_fail(rt: HostRuntime) -> Result<(), Fail> {
         fetches_each(&rt, rt.alloc(), line, no_third, *found)?;
     }
     Ok(())
-}
-
-// From and to how many bytes of the chain's debts file a run ends so: its code, what it writes, and
-// what it tells.
-const CUTS: [(usize, usize, (u8, &str, &str)); 9] = [
-    (0, 26, (4, "", "clearing: debts row 0: header (1)\n")),
-    (27, 28, (0, "debtor,creditor,class,claim,paid\n", "")),
-    (29, 33, (4, "", "clearing: debts row 1: fields (2)\n")),
-    (34, 34, (4, "", "clearing: debts row 1: number (4)\n")),
-    (
-        35,
-        35,
-        (0, "debtor,creditor,class,claim,paid\nA,B,1,1,1\n", ""),
-    ),
-    (
-        36,
-        37,
-        (0, "debtor,creditor,class,claim,paid\nA,B,1,10,7\n", ""),
-    ),
-    (38, 42, (4, "", "clearing: debts row 2: fields (2)\n")),
-    (43, 43, (4, "", "clearing: debts row 2: number (4)\n")),
-    (44, 45, (0, CHAIN_TEXT, "")),
-];
-
-// Runs a line on the chain, of whose debts file so many bytes are there.
-fn is_cut<R: Threads + Sync + Abort>(
-    rt: &R,
-    alloc: Global,
-    bytes: usize,
-    ending: (u8, &str, &str),
-) -> Result<(), Fail> {
-    let debts = CHAIN_DEBTS.get(..bytes).unwrap_or(CHAIN_DEBTS);
-    check(rt, alloc, CLEAR, [CHAIN_BANKS, debts, ""], ending)
-}
-
-#[test]
-fn a_debts_file_cut_anywhere(rt: HostRuntime) -> Result<(), Fail> {
-    for (from, to, ending) in &CUTS {
-        for bytes in *from..*to + 1 {
-            is_cut(&rt, rt.alloc(), bytes, *ending)?;
-        }
-    }
-    Ok(())
-}
-
-const FIELDS: [Refused<'static>; 3] = [
-    (
-        "name,cash,rule\n\"A,B\",7,order\n",
-        CHAIN_DEBTS,
-        "clearing: banks row 1: name (3)\n",
-    ),
-    (
-        "name,cash,rule\nA,99999999999999999999,order\n",
-        CHAIN_DEBTS,
-        "clearing: banks row 1: limit (6)\n",
-    ),
-    (
-        "name,cash,rule\nA,999999999999999999999,order\n",
-        CHAIN_DEBTS,
-        "clearing: banks row 1: number (4)\n",
-    ),
-];
-
-#[test]
-fn hostile_fields(rt: HostRuntime) -> Result<(), Fail> {
-    all_refused(&rt, rt.alloc(), &FIELDS)?;
-    // A quoted field is what stands between the quotes.
-    let quoted = "name,cash,rule\n\"A\",7,order\nB,1,order\nC,0,order\n";
-    check(
-        &rt,
-        rt.alloc(),
-        CLEAR,
-        [quoted, CHAIN_DEBTS, ""],
-        (0, CHAIN_TEXT, ""),
-    )
 }
 
 // Journals on the chain, and what is told of them.

@@ -1,7 +1,7 @@
 //! The tasks that tell of many banks, cuts or scenarios at once: the text that each writes, byte for
 //! byte. Fifteen banks and eleven scenarios are more than a share of one thread.
 
-use super::tasks::{NO_DEBTS, THREE_SCENARIOS};
+use super::tasks::{NO_DEBTS, RING_BANKS, RING_DEBTS, THREE_SCENARIOS};
 use super::{
     CHAIN_BANKS, CHAIN_DEBTS, CHAIN_OUTSIDE, Done, TWO_BANKS, all_done, check, fifteen_banks,
     twelve_banks,
@@ -121,7 +121,7 @@ fn who_would_hurt_whom(rt: HostRuntime) -> Result<(), Fail> {
     all_done(&rt, rt.alloc(), &RUINED)
 }
 
-const SAVED: [Done<'static>; 6] = [
+const SAVED: [Done<'static>; 7] = [
     (
         RESCUES,
         CHAIN_BANKS,
@@ -159,6 +159,12 @@ const SAVED: [Done<'static>; 6] = [
         RESCUES,
         TWO_BANKS,
         NO_DEBTS,
+        "bank,added,short,also_saved,still_short\n\nbank,saves\n",
+    ),
+    (
+        RESCUES,
+        RING_BANKS,
+        RING_DEBTS,
         "bank,added,short,also_saved,still_short\n\nbank,saves\n",
     ),
 ];

@@ -30,6 +30,7 @@ loop-done-preserved g c =
           (rw (← c.as_slice.ensures.value ∙ c.print_raises.ensures.lines)
           (whole_then_whole _ _ _ c.loop-done.invariant.written c.in_ok-put_all.ensures.written));
       no_fall = omega (arith, c.loop-done.invariant.no_fall, c.put_all.ensures.faults);
+      well = λ alone. c.in_ok-put_all.ensures.well alone ∙ c.loop-done.invariant.well alone;
     }
 
 pub returns-in_err-put_all-clause-part : goal.returns-in_err-put_all-clause-part

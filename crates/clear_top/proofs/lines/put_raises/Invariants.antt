@@ -1,4 +1,4 @@
-use Rattle.std.proofs.Common.{◌-◌, ◌≤◌, length, take, vec_capacity}
+use Rattle.std.proofs.Common.{◌≡◌, ◌-◌, ◌≤◌, length, take, vec_capacity}
 use Rattle.std.specs.List.{flat_map}
 use Rattle.raise_journal.specs.Texts.{raise_line}
 use Rattle.raise_journal.specs.declared.TheConstants.{ROOM}
@@ -15,6 +15,7 @@ invariant-loop-done g l =
       written : TakesWhole (sink_call (sink.written l.fn.sink) (sink.written l.sink) (sink.faults l.fn.sink) (sink.faults l.sink))
           (flat_map (raise_line l.net) (take l.done l.raises));
       no_fall : sink.faults l.fn.sink ≤ sink.faults l.sink;
+      well : sink.counts_faults_alone → sink.faults l.sink ≡ sink.faults l.fn.sink;
     }
 
 abbrev pub decreases-loop-done : goal.decreases-loop-done

@@ -3,7 +3,7 @@ use Rattle.clear_core.specs.Clearing.{least}
 use Rattle.clear_report.specs.Blocks.{scenario_block}
 use Rattle.clear_report.specs.Text.{AreHeadsOf, payments_text}
 use Rattle.settle.specs.Offices.{AreOffices}
-use Rattle.stress.specs.Shocks.{IsOfOtherCash}
+use Rattle.cascade.specs.MoreCash.{IsOfOtherCash}
 use Rattle.clear_top.specs.Meaning.{defaults_report}
 use Rattle.clear_top.proofs.Begun.{heads_kept}
 use Rattle.clear_top.proofs.scenarios.block.Goals as goal

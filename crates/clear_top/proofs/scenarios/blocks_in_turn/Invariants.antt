@@ -1,6 +1,6 @@
 use Rattle.std.proofs.Common.{◌≡◌, map, take}
 use Rattle.settle.specs.Offices.{AreOffices}
-use Rattle.stress.specs.Shocks.{IsOfOtherCash}
+use Rattle.cascade.specs.MoreCash.{IsOfOtherCash}
 use Rattle.clear_top.specs.Meaning.{block_of}
 use Rattle.clear_top.proofs.scenarios.blocks_in_turn.Given as goal
 

@@ -38,3 +38,10 @@ returns-in-Ok-put-clause-untouched g c = λ nothing.
 pub returns-clause-untouched : goal.returns-clause-untouched
 returns-clause-untouched g c = λ nothing.
     absurd (subst (λ (e : Ended). WritesNothing e.status) c.end-in-Err-put.ensures nothing)
+
+pub returns-in-Ok-put-clause-no_fault : goal.returns-in-Ok-put-clause-no_fault
+returns-in-Ok-put-clause-no_fault g c = λ alone other. c.in-Ok-put.ensures.well alone
+
+pub returns-clause-no_fault : goal.returns-clause-no_fault
+returns-clause-no_fault g c = λ alone other.
+    absurd (other (ap (λ (e : Ended). e.status) c.end-in-Err-put.ensures))

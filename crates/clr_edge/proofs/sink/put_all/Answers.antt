@@ -16,4 +16,5 @@ loop-done-preserved g c =
           ∙ (λ i. with_bytes (before.written i) (take n (rest i)))
           ∙ with_bytes-front (g.S.Sink.written c.args.sink.now) c.args.bytes.now c.loop-done.done n;
       no_fall = omega (arith, before.no_fall, put.faults);
+      well = λ alone. put.well alone ∙ before.well alone;
     }

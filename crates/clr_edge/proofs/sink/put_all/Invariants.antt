@@ -10,6 +10,7 @@ invariant-loop-done g l =
       within : l.done ≤ length l.bytes;
       written : sink.written l.sink ≡ with_bytes (sink.written l.fn.sink) (take l.done l.bytes);
       no_fall : sink.faults l.fn.sink ≤ sink.faults l.sink;
+      well : sink.counts_faults_alone → sink.faults l.sink ≡ sink.faults l.fn.sink;
     }
 
 abbrev pub decreases-loop-done : goal.decreases-loop-done

@@ -1,26 +1,34 @@
-use Rattle.std.proofs.Common.{ap, ◌∙◌, arith}
-use Rattle.rescue.specs.Rescue.{rescue, short_of}
-use Rattle.rescue.proofs.SavedBesides.{added_hurts_nobody, as_many_after, counted_after}
+use Rattle.std.proofs.Common.{sym, ◌∙◌, arith}
+use Rattle.cascade.proofs.CashAt.{cash_read, own_cash}
+use Rattle.rescue.specs.Rescue.{rescue}
+use Rattle.rescue.proofs.SavedBesides.{added_hurts_nobody}
+use Rattle.rescue.proofs.Searching.{as_many_banks}
 use Rattle.rescue.proofs.saved.saving_of.Goals as goal
 
-pub in_default-requires : goal.in_default-requires
-in_default-requires c =
-    let as_many = as_many_after c.args.net.now c.args.bank.0 c.as_slice-2.result.now
-    (c.as_slice-2.ensures.value ∙ c.in_ok-after.ensures) in
-    omega (arith, c.banks.ensures.network.banks_in_limit)
+pub set_cash-requires-clause-bank : goal.set_cash-requires-clause-bank
+set_cash-requires-clause-bank c =
+    let as_many = as_many_banks c.args.net.now c.args.bank.0 c.saving_at-saving.new.search.more
+    c.saving_at-saving.ensures.search.differ in
+    omega (arith, c.requires.bank, as_many)
 
-pub returns-clause-saving : goal.returns-clause-saving
-returns-clause-saving c =
+pub set_cash-requires-clause-cash : goal.set_cash-requires-clause-cash
+set_cash-requires-clause-cash c =
+    omega (
+      arith,
+      (c.banks.ensures.network.each_bank c.args.bank.0 c.requires.bank).cash_in_limit,
+      cash_read c.args.net.now c.args.bank.0 c.bank.result.now c.bank.ensures,
+    )
+
+pub returns-clause-search : goal.returns-clause-search
+returns-clause-search c =
     let net = c.args.net.now in
     let i = c.args.bank.0 in
+    let at = c.saving_at-saving.ensures.search in
+    let own = sym (cash_read net i c.bank.result.now c.bank.ensures) in
     record {
-      added = c.in_ok-found.ensures.added;
-      short = c.in_ok-found.ensures.short ∙ ap (short_of net i) c.in_ok-found.ensures.added;
-      saves = c.in_ok-passing.ensures.banks;
-      known = c.in_ok-passing.ensures.known;
-      still_short = c.in_default.ensures
-          ∙ counted_after net i c.as_slice-2.result.now
-          (c.as_slice-2.ensures.value ∙ c.in_ok-after.ensures);
+      copy = c.set_cash.ensures ∙ at.differ c.bank.result.now.cash ∙ own_cash net i _ own;
+      for_each_bank = at.for_each_bank;
+      room = at.room;
     }
 
 pub returns-clause-nobody_loses : goal.returns-clause-nobody_loses

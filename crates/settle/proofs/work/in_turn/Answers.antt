@@ -1,4 +1,4 @@
-use Rattle.std.proofs.Common.{get_or, arith, refl, ◌≤◌, length}
+use Rattle.std.proofs.Common.{get_or, arith, refl}
 use Rattle.settle.proofs.InTurn.{turn_more, turn_of, turn_ready}
 use Rattle.settle.proofs.work.in_turn.Goals as goal
 use Rattle.std.proofs.lemmas.List.{length-take, take_all}

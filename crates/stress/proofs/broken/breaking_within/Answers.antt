@@ -1,11 +1,11 @@
-use Rattle.std.proofs.Common.{◌≡◌, ℕ, ◌+◌, ◌-◌, ◌==◌, List, [], length, map, replicate, refl, sym, ap, ◌∙◌, subst, arith}
+use Rattle.std.proofs.Common.{◌≡◌, ℕ, ◌+◌, ◌-◌, ◌==◌, List, [], length, map, replicate, sym, ap, ◌∙◌, subst, arith}
 use Rattle.std.proofs.lemmas.List.{length-replicate}
 use Rattle.cascade.specs.declared.standing.Health.TheVariants.{Sound}
 use Rattle.clr_net.specs.Net.{Net, of_cash}
 use Rattle.clear_core.specs.Buffers.{HasRoom}
 use Rattle.clear_core.specs.Clearing.{Clears, least}
 use Rattle.clear_core.proofs.Least.{least_clears}
-use Rattle.stress.specs.Shocks.{IsOfOtherCash}
+use Rattle.cascade.specs.MoreCash.{IsOfOtherCash}
 use Rattle.stress.specs.declared.broken.Broken.{Broken}
 use Rattle.stress.proofs.Descent.{IsDown, as_many_known, none_tried, one_down, swept_down}
 use Rattle.stress.proofs.Kept.{alike_after, length-shocked_from}

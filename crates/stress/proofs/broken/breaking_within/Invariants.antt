@@ -1,6 +1,6 @@
 use Rattle.std.proofs.Common.{◌≡◌, ◌-◌, length}
 use Rattle.clear_core.specs.Buffers.{HasRoom}
-use Rattle.stress.specs.Shocks.{IsOfOtherCash}
+use Rattle.cascade.specs.MoreCash.{IsOfOtherCash}
 use Rattle.stress.proofs.Descent.{IsDown}
 use Rattle.stress.proofs.broken.breaking_within.Given as goal
 

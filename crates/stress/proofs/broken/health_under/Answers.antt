@@ -1,7 +1,4 @@
-use Rattle.std.proofs.Common.{◌≡◌, refl, sym, arith}
-use Rattle.cascade.specs.declared.standing.Health.{Health}
-use Rattle.cascade.specs.declared.standing.Health.TheVariants.{Sound, Fundamental, Contagion}
-use Rattle.cascade.proofs.Healths.{below_fundamental, enough_sound, fundamental_below, sound_enough}
+use Rattle.std.proofs.Common.{arith}
 use Rattle.std.proofs.lemmas.Bool.Decides.{nat_tests}
 use Rattle.cascade.proofs.Limits.{clearing_in_limit, clearing_over, estate_le_worth}
 use Rattle.cascade.proofs.PayingOut.{paid_is}

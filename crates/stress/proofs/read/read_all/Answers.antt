@@ -1,8 +1,6 @@
-use Rattle.std.proofs.Common.{◌≡◌, ◌∷◌, [], ◌++◌, ◌+◌, ◌<◌, ◌≤◌, length, drop, sym, ap, ◌∙◌, arith}
+use Rattle.std.proofs.Common.{◌≡◌, ◌∷◌, [], ◌++◌, ◌<◌, ◌≤◌, length, sym, ap, ◌∙◌, arith}
 use Rattle.std.proofs.lemmas.List.{length_push}
 use Rattle.std.proofs.lemmas.Result.{err_from_is_err_and}
-use Rattle.toml.specs.View.{view, items_view}
-use Rattle.stress.specs.Reading.{read_all}
 use Rattle.stress.specs.declared.TheConstants.{MAX_SCENARIOS}
 use Rattle.stress.proofs.Found.{value_first, no_more}
 use Rattle.stress.proofs.Turns.{scenarios-next, scenarios-end, too_many, next_is}

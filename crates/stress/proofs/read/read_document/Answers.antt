@@ -1,4 +1,4 @@
-use Rattle.std.proofs.Common.{[], codes, sym, ap, ◌∙◌, Ok, Err}
+use Rattle.std.proofs.Common.{codes, sym, ap, ◌∙◌, Ok, Err}
 use Rattle.toml.proofs.Views.{table_get}
 use Rattle.stress.specs.Reading.{read_all}
 use Rattle.stress.proofs.read.read_document.Goals as goal

@@ -1,7 +1,5 @@
-use Rattle.std.proofs.Common.{◌≡◌, ◌+◌, drop, sym, ap, ◌∙◌, Err}
+use Rattle.std.proofs.Common.{◌≡◌, sym, ap, ◌∙◌, Err}
 use Rattle.clr_net.proofs.Copies.{ok_told}
-use Rattle.toml.specs.View.{view, items_view}
-use Rattle.stress.specs.Reading.{read_losses}
 use Rattle.stress.proofs.Found.{value_first, no_more}
 use Rattle.stress.proofs.Turns.{losses-next, losses-end}
 use Rattle.stress.proofs.read.read_losses.Goals as goal

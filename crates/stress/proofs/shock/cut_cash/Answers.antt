@@ -1,7 +1,8 @@
 use Rattle.std.proofs.Common.{[], sym, ap, ◌∙◌, below_more, arith}
 use Rattle.cascade.proofs.CashAt.{cash_is_set, cash_read, cash_stays}
 use Rattle.stress.specs.Shocks.{after_cut}
-use Rattle.stress.proofs.Kept.{alike_set, as_many_alike, is_shocked}
+use Rattle.cascade.proofs.OtherCash.{alike_set, as_many_alike}
+use Rattle.stress.proofs.Kept.{is_shocked}
 use Rattle.stress.proofs.shock.cut_cash.Goals as goal
 
 pub after_cut-requires-clause-cash : goal.after_cut-requires-clause-cash

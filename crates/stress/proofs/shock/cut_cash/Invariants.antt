@@ -1,6 +1,7 @@
 use Rattle.std.proofs.Common.{◌≡◌, ℕ, ◌<◌}
 use Rattle.clr_net.specs.Net.{cash_of}
-use Rattle.stress.specs.Shocks.{IsOfOtherCash, after_cut}
+use Rattle.cascade.specs.MoreCash.{IsOfOtherCash}
+use Rattle.stress.specs.Shocks.{after_cut}
 use Rattle.stress.proofs.shock.cut_cash.Given as goal
 
 abbrev pub invariant-loop-number : goal.invariant-loop-number

@@ -1,6 +1,7 @@
-use Rattle.std.proofs.Common.{◌≡◌, length, ap, ◌∙◌, sym, subst, arith}
+use Rattle.std.proofs.Common.{length, ap, ◌∙◌, sym, subst, arith}
 use Rattle.std.proofs.lemmas.List.{take_all}
-use Rattle.stress.specs.Shocks.{IsOfOtherCash, after_shock}
+use Rattle.cascade.specs.MoreCash.{IsOfOtherCash}
+use Rattle.stress.specs.Shocks.{after_shock}
 use Rattle.stress.specs.declared.scenario.Loss.{Loss}
 use Rattle.stress.proofs.Kept.{alike_after}
 use Rattle.stress.proofs.Taken.{in_limit, next_there, one_loss_taken}

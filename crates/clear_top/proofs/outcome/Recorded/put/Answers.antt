@@ -1,5 +1,5 @@
 -- The text, the lines of the journal and the line that closes it, one after another.
-use Rattle.std.proofs.Common.{arith}
+use Rattle.std.proofs.Common.{◌∙◌, arith}
 use Rattle.std.proofs.lemmas.Result.{on_ok_weaker, on_err_weaker}
 use Rattle.clear_top.proofs.Pieces.{on_err, part_in_front, whole_then_part, whole_then_whole}
 use Rattle.clear_top.proofs.outcome.Recorded.put.Goals as goal
@@ -27,3 +27,9 @@ returns-in_ok-put_raises-in-Some-clause-part g c =
     (whole_then_whole _ _ _ c.in_ok-put.ensures.written c.in_ok-put_raises-in-Some.ensures.written)
     (omega (arith, c.put.ensures.faults, c.put_raises.ensures.faults)) last)
     c.put-in-Some.ensures.part)))
+
+pub returns-in_ok-put_raises-in-Some-clause-well : goal.returns-in_ok-put_raises-in-Some-clause-well
+returns-in_ok-put_raises-in-Some-clause-well g c = λ alone.
+    on_ok_weaker c.put-in-Some.result
+    (λ last. last ∙ (c.in_ok-put_raises-in-Some.ensures.well alone ∙ c.in_ok-put.ensures.well alone))
+    (c.put-in-Some.ensures.well alone)

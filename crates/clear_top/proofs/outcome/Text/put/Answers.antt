@@ -1,5 +1,5 @@
 -- The pieces that were written whole, and of one piece a part.
-use Rattle.std.proofs.Common.{map, ap, ◌∙◌, subst, arith}
+use Rattle.std.proofs.Common.{map, ap, refl, ◌∙◌, subst, arith}
 use Rattle.std.specs.List.{concat}
 use Rattle.std.proofs.lemmas.List.{take_all}
 use Rattle.clr_edge.specs.Sink.{with_bytes, WritesPart}
@@ -7,7 +7,7 @@ use Rattle.clear_top.proofs.Pieces.{on_err, piece_part, piece_taken, risen_since
 use Rattle.clear_top.proofs.outcome.Text.put.Goals as goal
 
 pub loop-piece-init : goal.loop-piece-init
-loop-piece-init g c = record { taken = with_nothing (g.S.Sink.written c.args.sink.now); no_fall = omega arith }
+loop-piece-init g c = record { taken = with_nothing (g.S.Sink.written c.args.sink.now); no_fall = omega arith; well = λ alone. refl }
 
 pub loop-piece-preserved : goal.loop-piece-preserved
 loop-piece-preserved g c =
@@ -17,6 +17,7 @@ loop-piece-preserved g c =
           c.loop-piece.invariant.taken
           (c.in_ok-put_all.ensures.written ∙ ap (with_bytes (g.S.Sink.written c.loop-piece.sink)) (c.as_slice.ensures.value ∙ ap (λ v. v.items) c.piece-item.is));
       no_fall = omega (arith, c.loop-piece.invariant.no_fall, c.put_all.ensures.faults);
+      well = λ alone. c.in_ok-put_all.ensures.well alone ∙ c.loop-piece.invariant.well alone;
     }
 
 pub returns-in_err-put_all-clause-part : goal.returns-in_err-put_all-clause-part

@@ -1,4 +1,4 @@
-use Rattle.std.proofs.Common.{◌≤◌, map, take}
+use Rattle.std.proofs.Common.{◌≡◌, ◌≤◌, map, take}
 use Rattle.std.specs.List.{concat}
 use Rattle.clear_top.specs.Ending.{TakesWhole, sink_call}
 use Rattle.clear_top.proofs.outcome.Text.put.Given as goal
@@ -11,4 +11,5 @@ invariant-loop-piece g l =
       taken : TakesWhole (sink_call (sink.written l.initial.sink) (sink.written l.sink) (sink.faults l.initial.sink) (sink.faults l.sink))
           (concat (map (λ piece. piece.items) (take l.piece-index l.pieces)));
       no_fall : sink.faults l.initial.sink ≤ sink.faults l.sink;
+      well : sink.counts_faults_alone → sink.faults l.sink ≡ sink.faults l.initial.sink;
     }

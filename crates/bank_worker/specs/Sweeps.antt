@@ -1,0 +1,25 @@
+-- In which order a worker visits its banks.
+use Rattle.std.specs.Prelude.{◌≡◌, ℕ, ◌≤◌, ◌++◌, All, List, [], ◌∷◌, flat_map, length}
+use Rattle.pay_words.specs.declared.view.Act.{Act}
+use Rattle.pay_words.specs.declared.view.Act.TheVariants.{Look, Raise as Raised, Ring, Take}
+use Rattle.bank_worker.specs.Rising.{Rises}
+use Rattle.bank_worker.specs.Views.{Crew}
+
+-- the bank whose bell was found up, where it was
+abbrev pub bank_taken : Act → List ℕ
+bank_taken (Look x) = []
+bank_taken (Raised x) = []
+bank_taken (Ring b) = []
+bank_taken (Take b) = b.0 ∷ []
+
+-- the banks whose bells were found up, in this order
+abbrev pub banks_taken : List Act → List ℕ
+banks_taken acts = flat_map bank_taken acts
+
+-- what was done from old to new are at most so many sweeps, one after another. In each of them the
+-- banks whose bells were found up, and so the banks that were visited, stand in file order
+pub record AreSweeps (sweeps : ℕ) (old new : Crew) : Type 0 where
+  pub parts : List (List Act)
+  pub few : length parts ≤ sweeps
+  pub in_file_order : All (λ acts. Rises (banks_taken acts)) parts
+  pub acts : new.seat.shows.acts ≡ old.seat.shows.acts ++ flat_map (λ acts. acts) parts
