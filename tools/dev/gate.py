@@ -5,8 +5,8 @@
 
 Out:  each line of the command as it comes. Where one tells a step of `rt ci`, a line `gate: ...` on standard error, with the minutes so
       far and, from the second minute on, an estimate. At the end the minutes of a processor by crate, for its proofs, its tests and its
-      edits, with the seconds of its dearest edit; and each edit that took more than four and a half times the cheapest check of the run,
-      which is about what a crate with nothing in it takes.
+      edits, with the seconds of its dearest edit; and each edit that took more than four and a half times the cheapest proof of a crate
+      or edit of the run, which is about what a crate with nothing in it takes.
 
 An estimate goes by the bytes of sources that are to be proved and the edits that are to be tried, and by what follows on what: the
 steps that are left are given to as many jobs as there are processors. Times are seen by a look at the processes each second.
@@ -240,12 +240,18 @@ class Watch(threading.Thread):
         return sum(check[3] for check in self.checks.values() if check[:2] == (crate, phase))
 
     def edits(self) -> list[tuple[str, str, float]]:
-        """Each edit that was tried: its crate, its name, and the seconds of a processor."""
-        return [(crate, edit, seconds) for crate, phase, edit, seconds in self.checks.values() if phase == "edits" and edit]
+        """Each edit that was tried: its crate, its name, and the seconds of a processor, of all processes that share the check."""
+        tried: dict[tuple[str, str], float] = {}
+        for crate, phase, edit, seconds in self.checks.values():
+            if phase == "edits" and edit:
+                tried[crate, edit] = tried.get((crate, edit), 0) + seconds
+        return [(*names, seconds) for names, seconds in tried.items()]
 
     def dear(self) -> list[str]:
-        """A line for each edit that takes much longer than the cheapest check does."""
-        cheapest = min((check[3] for check in self.checks.values() if check[3] > 0.2), default=0)
+        """A line for each edit that takes much longer than the cheapest proof of a crate or the cheapest edit does."""
+        crates = {check[0] for check in self.checks.values()}
+        proofs = [seconds for crate in crates if (seconds := self.seconds(crate, "proof")) > 0]
+        cheapest = min(proofs + [seconds for *_, seconds in self.edits() if seconds > 0], default=0)
         return [f"{crate}/{edit} took {seconds:.0f} s of a processor, {seconds / cheapest:.1f} times the cheapest check: plant it anew"
                 for crate, edit, seconds in sorted(self.edits(), key=lambda row: -row[2]) if cheapest and seconds > DEAR * cheapest]
 
