@@ -144,8 +144,10 @@ def not_allowed(skips, listed):
 
 
 def main(words):
-    # Started in the background a shell leaves interrupts ignored, and each program below would ignore them too.
+    # Started in the background a shell leaves interrupts ignored, `nohup` the end of the terminal, and each program below would
+    # ignore them too.
     signal.signal(signal.SIGINT, signal.default_int_handler)
+    signal.signal(signal.SIGHUP, signal.SIG_DFL)
     if words[:1] == ["--here"]:
         return run_here(words[1], words[2])
     options = options_of(words)
