@@ -12,6 +12,7 @@ use Rattle.clear_core.specs.declared.event.Raise.{Raise}
 use Rattle.bank_desk.specs.Desks.{BankView}
 use Rattle.pay_words.specs.declared.view.Act.{Act}
 use Rattle.pay_words.specs.Views.{look_at, raise_of, ring_of, take_of}
+use Rattle.pay_words.specs.declared.payment.Payment.{Payment}
 use Rattle.bank_worker.specs.Raises.{debts_of}
 use Rattle.bank_worker.specs.Rings.{called_by}
 use Rattle.bank_worker.specs.Rising.{Rises}
@@ -26,10 +27,10 @@ takes_nothing f [] none = refl
 takes_nothing f (x ∷ xs) none = flat_map-cons bank_taken (f x) (map f xs) ∙ rw (none x) (takes_nothing f xs none)
 
 -- nor does what follows the take of a visit
-pub visit_takes_nothing : (net : Net) (desk : BankView) (made : List Raise) → banks_taken (acts_of net desk made) ≡ []
-visit_takes_nothing net desk made = simp (
+pub visit_takes_nothing : (net : Net) (desk : BankView) (found : ℕ → Payment) (made : List Raise) → banks_taken (acts_of net desk found made) ≡ []
+visit_takes_nothing net desk found made = simp (
   flat_map-append,
-  takes_nothing look_at desk.debts_in (λ x. refl),
+  takes_nothing (λ x. look_at x (found x)) desk.debts_in (λ x. refl),
   takes_nothing raise_of (debts_of made) (λ x. refl),
   takes_nothing ring_of (called_by net made) (λ b. refl),
 )

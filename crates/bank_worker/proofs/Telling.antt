@@ -8,9 +8,10 @@ use Rattle.clr_net.specs.Net.{Net}
 use Rattle.bank_desk.specs.Desks.{BankView}
 use Rattle.pay_words.specs.declared.view.Act.{Act}
 use Rattle.pay_words.specs.Views.{look_at, raise_of, ring_of, take_of}
+use Rattle.bank_worker.specs.Looks.{last_seen, looks_at}
 use Rattle.bank_worker.specs.Raises.{debts_of}
 use Rattle.bank_worker.specs.Rings.{called_by}
-use Rattle.bank_worker.specs.Told.{AreTold, VisitMade, acts_with_take, is_take, takes_in}
+use Rattle.bank_worker.specs.Told.{AreTold, RaisesWhatItLoaded, VisitMade, acts_with_take, is_take, takes_in}
 use Rattle.bank_worker.specs.Views.{Crew, desk_at}
 use Rattle.bank_worker.specs.Visits.{AreVisitsFrom, IsAllVisits, IsCalledVisit, IsSameCrew, acts_of}
 use Rattle.bank_worker.proofs.Sweeping.{same_crew_then}
@@ -22,6 +23,7 @@ told_none w = record {
   visits = [];
   as_many = omega arith;
   known = λ k d lt. absurd (omega (arith, lt));
+  divide = λ k d lt. absurd (omega (arith, lt));
   acts = sym (append-nil w.seat.shows.acts);
   raises = sym (append-nil w.seat.shows.raises);
   journal = sym (append-nil w.journal);
@@ -31,11 +33,12 @@ told_none w = record {
 told_more : (old cur new : Crew) (place n : ℕ) → IsSameCrew old cur → AreTold old cur → IsCalledVisit place n cur new → AreTold old new
 told_more old cur new place n same h v =
     let notes = v.visited.notes in
-    let last : VisitMade = record { place = place; made = notes.seat.made } in
+    let last : VisitMade = record { place = place; found = last_seen new.seat.shows; made = notes.seat.made } in
     record {
       visits = h.visits ++ last ∷ [];
       as_many = omega (arith, v.counted, h.as_many, length-append h.visits (last ∷ []));
       known = All-push (λ (v : VisitMade). v.place < length old.desks) h.visits last h.known (rw same.desks at v.known);
+      divide = All-push (RaisesWhatItLoaded old.seat.shows.net old.desks) h.visits last h.divide (rw (same.desks, same.seat.net) at notes.seat.raised);
       acts = simp (notes.seat.acts, h.acts, same.seat.net, same.desks, flat_map-append, append-nil, append_assoc);
       raises = simp (notes.seat.grew, h.raises, flat_map-append, append-nil, append_assoc);
       journal = simp (notes.journal, h.journal, flat_map-append, append-nil, append_assoc);
@@ -64,16 +67,16 @@ takes_each : (net : Net) (desks : List BankView) (vs : List VisitMade) → takes
 takes_each net desks [] = refl
 takes_each net desks (v ∷ vs) =
     let desk = desk_at desks v.place in
-    let looks = map look_at desk.debts_in in
+    let looks = looks_at v.found desk.debts_in in
     let raises = map raise_of (debts_of v.made) in
     omega (
       arith,
       ap takes_in (flat_map-cons (acts_with_take net desks) v vs),
       takes_both (acts_with_take net desks v) (flat_map (acts_with_take net desks) vs),
-      sum_by-cons (λ a. cond (is_take a) 1 0) (take_of desk.bank) (acts_of net desk v.made),
+      sum_by-cons (λ a. cond (is_take a) 1 0) (take_of desk.bank) (acts_of net desk v.found v.made),
       takes_both (looks ++ raises) (map ring_of (called_by net v.made)),
       takes_both looks raises,
-      takes_none look_at desk.debts_in (λ x. refl),
+      takes_none (λ x. look_at x (v.found x)) desk.debts_in (λ x. refl),
       takes_none raise_of (debts_of v.made) (λ x. refl),
       takes_none ring_of (called_by net v.made) (λ b. refl),
       takes_each net desks vs,

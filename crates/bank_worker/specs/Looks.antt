@@ -1,6 +1,9 @@
 -- What looks at some debts change of what a seat shows.
-use Rattle.std.specs.Prelude.{◌≡◌, ◌≢◌, ℕ, ◌+◌, ◌<◌, ◌≤◌, ◌++◌, true, false, List, length, map, slice_index, take}
+use Rattle.std.specs.Prelude.{◌≡◌, ◌≢◌, ℕ, ◌+◌, ◌<◌, ◌≤◌, ◌++◌, true, false, List, length, map, slice_index, sum_by, take}
 use Rattle.clr_net.specs.Net.{creditor_of}
+use Rattle.pay_words.specs.declared.payment.Payment.{Payment}
+use Rattle.pay_words.specs.declared.view.Act.{Act}
+use Rattle.pay_words.specs.declared.view.Act.TheVariants.{Look, Raise as Raised, Ring, Take}
 use Rattle.pay_words.specs.declared.view.Shown.{Shown}
 use Rattle.pay_words.specs.Views.{IsOver, holds, is_marked, look_at}
 use Rattle.bank_worker.specs.Rising.{Rises}
@@ -24,7 +27,27 @@ pub record HasSameSight (s t : Shown) (x : ℕ) : Type 0 where
   pub looks : slice_index t.looks x ≡ slice_index s.looks x
   pub pending : is_marked t.pending x ≡ is_marked s.pending x
 
--- the first n of the debts xs were looked at once each, in order, and no other
+-- the payment that the seat last saw on the debt x
+abbrev pub last_seen : Shown → ℕ → Payment
+last_seen s x = record { value = slice_index s.sights x; stamp = slice_index s.sight_stamps x }
+
+-- looks at these debts, in order, each of which found a payment
+abbrev pub looks_at : (ℕ → Payment) → List ℕ → List Act
+looks_at found xs = map (λ x. look_at x (found x)) xs
+
+-- what an act loaded, in units: what a look found, and otherwise nothing
+abbrev pub loaded : Act → ℕ
+loaded (Look x p) = p.value
+loaded (Raised x) = 0
+loaded (Ring b) = 0
+loaded (Take b) = 0
+
+-- what the looks among some acts loaded, in units
+abbrev pub loaded_in : List Act → ℕ
+loaded_in acts = sum_by loaded acts
+
+-- the first n of the debts xs were looked at once each, in order, and no other; what each look found
+-- was last seen
 pub record IsLooked (s t : Shown) (xs : List ℕ) (n : ℕ) : Type 0 where
   pub over : IsOver t
   pub only : t ≡ record s {
@@ -35,6 +58,6 @@ pub record IsLooked (s t : Shown) (xs : List ℕ) (n : ℕ) : Type 0 where
     pending = t.pending;
     acts = t.acts;
   }
-  pub in_order : t.acts ≡ s.acts ++ map look_at (take n xs)
+  pub in_order : t.acts ≡ s.acts ++ looks_at (last_seen t) (take n xs)
   pub each : (k : ℕ) → k < n → IsSeenAt s t (slice_index xs k)
   pub others : (x : ℕ) → ((k : ℕ) → k < n → slice_index xs k ≢ x) → HasSameSight s t x

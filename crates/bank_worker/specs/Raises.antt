@@ -44,6 +44,10 @@ pub record HasSamePay (s t : Shown) (x : ℕ) : Type 0 where
   pub paid : slice_index t.paid x ≡ slice_index s.paid x
   pub stamp : slice_index t.paid_stamps x ≡ slice_index s.paid_stamps x
 
+-- in one of the first n places the debts have that of the raise, and the targets its amount
+abbrev pub IsAmong : List ℕ → List ℕ → ℕ → Raise → Type 0
+IsAmong xs ts n r = (k : ℕ) × (k < n) × (slice_index xs k ≡ r.debt.0) × (slice_index ts k ≡ r.to)
+
 -- the first n of the debts xs were raised to their targets where they were below, and no other;
 -- each raised debt owes a ring
 pub record IsRaised (s t : Shown) (xs ts : List ℕ) (n : ℕ) : Type 0 where
@@ -62,6 +66,7 @@ pub record IsRaised (s t : Shown) (xs ts : List ℕ) (n : ℕ) : Type 0 where
   pub others : (x : ℕ) → ((k : ℕ) → k < n → slice_index xs k ≢ x) → HasSamePay s t x
   pub told : (x : ℕ) → IsRaisedIn made x ⊎ HasSamePay s t x
   pub theirs : All (λ x. (k : ℕ) × (k < n) × (slice_index xs k ≡ x)) (debts_of made)
+  pub targets : All (IsAmong xs ts n) made
   pub in_order : Rises (debts_of made)
   pub owe : All (λ x. is_marked t.owes_ring x ≡ true) (debts_of made)
   pub only_they_owe : (x : ℕ) → is_marked t.owes_ring x ≡ true

@@ -7,7 +7,7 @@ use Rattle.bank_worker.specs.Views.{Crew}
 
 -- the bank whose bell was found up, where it was
 abbrev pub bank_taken : Act → List ℕ
-bank_taken (Look x) = []
+bank_taken (Look x p) = []
 bank_taken (Raised x) = []
 bank_taken (Ring b) = []
 bank_taken (Take b) = b.0 ∷ []

@@ -51,8 +51,10 @@ paid_by s desk = sum_by (slice_index s.paid) desk.debts_out
 abbrev pub paid_by_all : Shown → List BankView → ℕ
 paid_by_all s desks = sum_by (paid_by s) desks
 
--- the bank pays what its rule gives from its cash and from what the seat last saw, less what it
--- owes outside
+-- the bank pays what its rule gives from its cash and so many units, less what it owes outside
+abbrev pub DividesOf : ℕ → Shown → BankView → Type 0
+DividesOf received s desk = map (slice_index s.paid) desk.debts_out ≡ target desk received
+
+-- so it does of what the seat last saw
 abbrev pub Divides : Shown → BankView → Type 0
-Divides s desk = map (slice_index s.paid) desk.debts_out
-    ≡ target desk (sum_by (slice_index s.sights) desk.debts_in)
+Divides s desk = DividesOf (sum_by (slice_index s.sights) desk.debts_in) s desk

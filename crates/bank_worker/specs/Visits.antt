@@ -1,18 +1,19 @@
 -- What a visit and a round do.
-use Rattle.std.specs.Prelude.{◌≡◌, ◌≢◌, ◌⊎◌, ℕ, ◌+◌, ◌<◌, ◌≤◌, ◌++◌, true, false, List, [], ◌∷◌, length, map, slice_index, sum}
+use Rattle.std.specs.Prelude.{◌≡◌, ◌≢◌, ◌⊎◌, ℕ, ◌+◌, ◌<◌, ◌≤◌, ◌++◌, true, false, All, List, [], ◌∷◌, length, map, slice_index, sum}
 use Rattle.clr_net.specs.Net.{Net, creditor_of, debtor_of}
 use Rattle.clear_core.specs.declared.event.Raise.{Raise}
-use Rattle.bank_desk.specs.Desks.{BankView}
+use Rattle.bank_desk.specs.Desks.{BankView, target}
+use Rattle.pay_words.specs.declared.payment.Payment.{Payment}
 use Rattle.pay_words.specs.declared.view.Act.{Act}
 use Rattle.pay_words.specs.declared.view.Shown.{Shown}
-use Rattle.pay_words.specs.Views.{HasSeenFloor, IsCalm, holds, is_marked, look_at, raise_of, ring_of, took}
+use Rattle.pay_words.specs.Views.{HasSeenFloor, IsCalm, holds, is_marked, raise_of, ring_of, took}
 use Rattle.bank_worker.specs.declared.visit.Visit.{Visit}
 use Rattle.bank_worker.specs.declared.visit.Visit.TheVariants.{Raised, Mem}
 use Rattle.bank_worker.specs.Rising.{Rises}
-use Rattle.bank_worker.specs.Looks.{IsSeenAt, HasSameSight}
-use Rattle.bank_worker.specs.Raises.{HasSamePay, IsRaisedIn, debts_of}
+use Rattle.bank_worker.specs.Looks.{IsSeenAt, HasSameSight, last_seen, loaded_in, looks_at}
+use Rattle.bank_worker.specs.Raises.{HasSamePay, IsAmong, IsRaisedIn, debts_of}
 use Rattle.bank_worker.specs.Rings.{called_by}
-use Rattle.bank_worker.specs.Views.{Crew, Divides, desk_at, paid_by}
+use Rattle.bank_worker.specs.Views.{Crew, Divides, DividesOf, desk_at, paid_by}
 
 -- the answer is this number of units
 abbrev pub WhenRaised : Visit → (ℕ → Type 0) → Type 0
@@ -66,21 +67,30 @@ pub record PaysOut (desk : BankView) (n : ℕ) (s t : Shown) : Type 0 where
   pub raises : AddsRaises n s t
   pub told : TellsRaises s t
 
--- what a visit at the desk does that makes these raises: it looks at the debts to the bank, then
--- raises, and then rings the creditors that are paid more, each once
-abbrev pub acts_of : Net → BankView → List Raise → List Act
-acts_of net desk made =
-    map look_at desk.debts_in ++ map raise_of (debts_of made) ++ map ring_of (called_by net made)
+-- what a visit at the desk does that finds these payments and makes these raises: it looks at the
+-- debts to the bank, then raises, and then rings the creditors that are paid more, each once
+abbrev pub acts_of : Net → BankView → (ℕ → Payment) → List Raise → List Act
+acts_of net desk found made = looks_at found desk.debts_in ++ map raise_of (debts_of made)
+    ++ map ring_of (called_by net made)
+
+-- each of these raises is of a debt of the desk's bank, to what the bank's rule gives that debt from
+-- its cash and from so many units, less what it owes outside
+abbrev pub AreRaisedBy : BankView → ℕ → List Raise → Type 0
+AreRaisedBy desk received made =
+    All (IsAmong desk.debts_out (target desk received) (length desk.debts_out)) made
 
 -- the raises that a seat made in a visit at the desk are all of the bank's debts, in file order;
--- and so are all that was done with it
+-- they, the looks before them and the rings after them are all that was done with it. The bank pays
+-- the division of what these very looks loaded and so were its raises; and that was last seen
 pub record AreNoted (desk : BankView) (s t : Shown) : Type 0 where
   pub made : List Raise
   pub grew : t.raises ≡ s.raises ++ made
   pub theirs : (j : ℕ) → j < length made → (slice_index (debts_of made) j < length s.net.debts)
       × (debtor_of s.net (slice_index (debts_of made) j) ≡ desk.bank)
   pub in_file_order : Rises (debts_of made)
-  pub acts : t.acts ≡ s.acts ++ acts_of s.net desk made
+  pub acts : t.acts ≡ s.acts ++ acts_of s.net desk (last_seen t) made
+  pub divides : DividesOf (loaded_in (acts_of s.net desk (last_seen t) made)) t desk
+  pub raised : AreRaisedBy desk (loaded_in (acts_of s.net desk (last_seen t) made)) made
 
 -- and the worker's journal grew by the same raises
 pub record Notes (desk : BankView) (old new : Crew) : Type 0 where

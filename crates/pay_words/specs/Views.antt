@@ -113,10 +113,10 @@ opening net start = record {
   acts = [];
 }
 
--- what is done with a seat: a look at the debt x, a raise of it, a ring of the bell of the bank b,
--- and a take that found it up
-abbrev pub look_at : ℕ → Act
-look_at x = act.Look (record { 0 = x })
+-- what is done with a seat: a look at the debt x that found the payment p, a raise of the debt, a
+-- ring of the bell of the bank b, and a take that found it up
+abbrev pub look_at : ℕ → Payment → Act
+look_at x p = act.Look (record { 0 = x }) p
 
 abbrev pub raise_of : ℕ → Act
 raise_of x = act.Raise (record { 0 = x })
@@ -138,7 +138,7 @@ looked s x p = record s {
   looks = slice_set s.looks x (slice_index s.looks x + 1);
   clock = max s.clock p.stamp;
   pending = slice_set s.pending x false;
-  acts = s.acts ++ look_at x ∷ [];
+  acts = s.acts ++ look_at x p ∷ [];
 }
 
 -- a raise of the debt x, stamped with the clock plus one

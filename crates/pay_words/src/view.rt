@@ -1,13 +1,14 @@
 //! What a seat knows. No value of these types is made: they stand in contracts and in the rule of a
 //! board alone.
+use crate::payment::Payment;
 use clear_core::Raise;
 use clr_net::{BankId, DebtId, Network};
 use std::collections::LinkedList;
 
-/// One thing that was done with the seat of a worker: a look at a debt, a raise of a debt, a ring
-/// of a bank's bell, or a take that found the bell of a bank up.
+/// One thing that was done with the seat of a worker: a look at a debt and the payment that it found
+/// there, a raise of a debt, a ring of a bank's bell, or a take that found the bell of a bank up.
 pub enum Act {
-    Look(DebtId),
+    Look(DebtId, Payment),
     Raise(DebtId),
     Ring(BankId),
     Take(BankId),

@@ -3,6 +3,7 @@ pub mod InTurn
 pub mod Levels
 pub mod Ties
 pub mod Steps
+pub mod Narrowing
 pub mod Above
 pub mod Limits
 pub mod ClassTurns

@@ -4,12 +4,17 @@ ghost use Rattle.clr_net.specs.declared.TheConstants.{MAX_OWED};
 ghost use Rattle.rule_level.specs.Levels.{at_level, level_awards};
 ghost use Rattle.rule_level.specs.declared.TheConstants.{MAX_LEVEL};
 ghost use Rattle.rule_unit.specs.declared.TheConstants.{MAX_CLAIM};
-ghost use Rattle.std.specs.Prelude.{◌≡◌, ◌≢◌, ◌+◌, ◌<◌, ◌≤◌, ℕ, All, length, slice_index, sum};
+ghost use Rattle.std.specs.Prelude.{◌≡◌, ◌≢◌, ◌+◌, ◌-◌, ◌/◌, ◌%◌, ◌<◌, ◌≤◌, ℕ, All, length};
+ghost use Rattle.std.specs.Prelude.{slice_index, sum};
 
 use crate::MAX_LEVEL;
 use crate::level::{award_at, units_at};
 use clr_net::RuleKind;
 use rule_unit::MAX_CLAIM;
+
+// Every ninth look halves what is left of the levels. They are fewer than 2 ^ 41, so that after 41
+// halvings the end is found.
+const MAX_LOOKS: u32 = 9 * 41;
 
 // The greatest claim, or 0.
 fn greatest_claim(claims: &[u64]) -> u64
@@ -104,13 +109,38 @@ fn half_if(half: bool, units: u64) -> u64 {
     if half { units / 2 } else { units }
 }
 
+// The level that is looked at next, of those between two others. Each ninth is the middle.
+fn next_level(
+    look: u32,
+    kind: RuleKind,
+    claims: &[u64],
+    low: u64,
+    high: u64,
+    below: u64,
+    above: u64,
+) -> u64
+    requires limit { All (λ c. c ≤ MAX_CLAIM) claims.now }
+    requires between { low + 1 < high }
+    requires top { high ≤ MAX_LEVEL }
+    ensures between { (low < result) × (result < high) }
+    ensures middle { look % 9 ≡ 8 → result ≡ low + (high - low) / 2 }
+{
+    match look % 9 {
+        6 => step_between(kind, claims, low, high),
+        7 => high - 1,
+        8 => low + (high - low) / 2,
+        _ => level_between(low, high, below, above),
+    }
+}
+
 // The level at which the units for these claims end: at it the debts get no more than these, and at
 // the next no less. `total` is what they claim. Answers too what they get at it.
 //
 // Of nine levels that are looked at, six are as far from the lowest that is left as the units are
 // between what is given there and at the highest, where an end that stays counts half (regula falsi
 // by Illinois); one is where a claim gets a unit more, one is just below the highest, and one halves
-// what is left. Where the debts get just these units at a level, the search ends there.
+// what is left, so that no more than `MAX_LOOKS` are made. Where the debts get just these units at a
+// level, the search ends there.
 pub fn level_for(kind: RuleKind, claims: &[u64], total: u64, units: u64) -> (u64, u64)
     requires has_levels { kind ≢ Order }
     requires limit { All (λ c. c ≤ MAX_CLAIM) claims.now }
@@ -128,15 +158,11 @@ pub fn level_for(kind: RuleKind, claims: &[u64], total: u64, units: u64) -> (u64
     let mut below = first_aim(kind, claims.len(), units);
     let mut above = total - units;
     let mut rose = false;
-    let mut looks: u8 = 0;
-    while low + 1 < high {
-        let middle = match looks % 9 {
-            6 => step_between(kind, claims, low, high),
-            7 => high - 1,
-            8 => low + (high - low) / 2,
-            _ => level_between(low, high, below, above),
-        };
-        looks = looks.wrapping_add(1);
+    for look in 0..MAX_LOOKS {
+        if low + 1 >= high {
+            break;
+        }
+        let middle = next_level(look, kind, claims, low, high, below, above);
         let given = units_at(kind, claims, middle);
         if given <= units {
             low = middle;
