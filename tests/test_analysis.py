@@ -170,7 +170,7 @@ class Analysis(Case):
         return Solver(words[1].read_bytes(), words[3].read_bytes())
 
     def test_the_help_of_impact_says_what_the_program_calls_a_column(self):
-        self.assertIn("`defaults`, which `clearing impact` calls `falls`", self.made("impact.py", "--help"))
+        self.assertIn("`defaults`, which `clearing impact` calls `falls`", " ".join(self.made("impact.py", "--help").split()))
 
     def test_the_independent_computation_is_that_of_the_model(self):
         chance = random.Random(2)
@@ -518,6 +518,37 @@ class Analysis(Case):
             while (left := [number for number in begun.read_text().split() if is_running(number)]) and time.monotonic() - sent < 20:
                 time.sleep(0.05)
             self.assertEqual(left, [])
+
+    def test_an_interrupt_while_a_run_is_begun_leaves_none(self):
+        """By both packages: a signal that comes as soon as the new process is there, before Popen has answered."""
+        program = self.file("program", f'#!/bin/sh\necho $$ >>"{self.folder}/begun"; exec sleep 60\n')
+        program.chmod(0o755)
+        code = """
+import os, signal, subprocess, sys, time
+begin = subprocess.Popen.__init__
+def begins(*given, **more):
+    begin(*given, **more)
+    while not os.path.exists(sys.argv[1]) or not open(sys.argv[1]).read():
+        time.sleep(0.01)
+    os.kill(os.getpid(), getattr(signal, sys.argv[2]))
+    time.sleep(0.05)
+subprocess.Popen.__init__ = begins
+if sys.argv[3] == "tools":
+    from clearing_tools import runner
+    runner.Asking().run([os.environ["CLEARING"]])
+else:
+    import clearing_client as cc
+    cc.Network({"A": 1}, {}).check()
+"""
+        for package in ("tools", "client"):
+            with self.subTest(package=package):
+                begun = self.folder / "begun"
+                begun.unlink(missing_ok=True)
+                environment = {**os.environ, "CLEARING": str(program), "PYTHONPATH": str(ROOT / "python/src")}
+                done = subprocess.run([sys.executable, "-c", code, str(begun), "SIGINT", package], env=environment,
+                                      stdin=subprocess.DEVNULL, capture_output=True, timeout=60)
+                self.assertEqual(done.returncode, -signal.SIGINT, done.stderr.decode())
+                self.assertFalse(is_running(begun.read_text().strip()))
 
     def test_no_work_goes_on_behind_a_fault(self):
         class Fault(BaseException):

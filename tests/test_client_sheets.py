@@ -1,5 +1,5 @@
-"""Sheets as they really come, through the Python package: for each what happens, and that what is made sums to the sheet to the unit
-that is told."""
+"""Sheets as they really come, through the Python package: for each what happens, and that what is made sums to the
+sheet to the unit that is told."""
 import re
 import unittest
 from fractions import Fraction
@@ -47,7 +47,12 @@ def list_in(locale):
 
 def matrix_in(locale):
     sep = LOCALES[locale][1]
-    rows = [sep.join([name, *(written_in(locale, CLAIMS[a, b]) if (a, b) in CLAIMS else "-" for b in range(3)), str(10 * a + 10)]) for a, name in enumerate(NAMES)]
+    rows = [
+        sep.join(
+            [name, *(written_in(locale, CLAIMS[a, b]) if (a, b) in CLAIMS else "-" for b in range(3)), str(10 * a + 10)]
+        )
+        for a, name in enumerate(NAMES)
+    ]
     return sep.join(["", *NAMES, "cash"]) + "\n" + "".join(row + "\n" for row in rows)
 
 
@@ -56,64 +61,245 @@ def locales():
     for locale in LOCALES:
         for encoding, words in [("utf-8", {}), ("utf-8-sig", {}), ("utf-16", {}), ("cp1252", {"encoding": "cp1252"})]:
             table = TABLE.encode("cp1252" if words else "utf-8")
-            yield f"{locale} {encoding} list", "list", list_in(locale).encode(encoding), {**AUTO, **words, "table": table}, SUM
+            yield f"{locale} {encoding} list", "list", list_in(locale).encode(encoding), {
+                **AUTO,
+                **words,
+                "table": table,
+            }, SUM
             if encoding in ("utf-8", "cp1252"):
-                yield f"{locale} {encoding} matrix", "matrix", matrix_in(locale).replace("\n", "\r\n").encode(encoding), {**AUTO, **words}, SUM
+                yield f"{locale} {encoding} matrix", "matrix", matrix_in(locale).replace("\n", "\r\n").encode(
+                    encoding
+                ), {**AUTO, **words}, SUM
 
 
 PIVOT = "Sum of amount,Column Labels,,\nRow Labels,B,C,Grand Total\nA,10,4,14\nB,,5,5\nGrand Total,10,9,19\n"
 PIVOT_BANKS = b"bank,cash\nA,3\nB,4\nC,5\n"
 SQL = (
-    "as_of,lender,borrower,instrument,currency,amount\n2025-12-31 00:00:00,B,A,loan,EUR,10.00\n2025-12-31 00:00:00,B,A,bond,EUR,5.50\n"
-    "2025-12-31 00:00:00,C,B,loan,USD,8.00\n2025-09-30 00:00:00,C,B,loan,USD,6.00\n2025-12-31 00:00:00,B,A,loan,EUR,10.00\n"
+    "as_of,lender,borrower,instrument,currency,amount\n2025-12-31 00:00:00,B,A,loan,EUR,10.00\n"
+    "2025-12-31 00:00:00,B,A,bond,EUR,5.50\n"
+    "2025-12-31 00:00:00,C,B,loan,USD,8.00\n2025-09-30 00:00:00,C,B,loan,USD,6.00\n"
+    "2025-12-31 00:00:00,B,A,loan,EUR,10.00\n"
 )
 SQL_WORDS = {"debtor": "borrower", "creditor": "lender", "table": PIVOT_BANKS, "no_outside": True}
-SQL_RIGHT = {**SQL_WORDS, "sum": True, "where": {"as_of": "2025-12-31 00:00:00"}, "duplicates": "once", "ignore": "instrument",
-             "rate": {"currency": b"currency,rate\nEUR,1\nUSD,0.5\n"}, "unit": "0.5"}
-BIS = "Consolidated positions,,,\nUSD millions,,,\nReporting country,assets,liabilities,cash\nAT,700.5,600,10\nBE,300,400.25,20\nCH,500,600,0\nAll countries,\"1,500.5\",\"1,600.25\",30\n"
+SQL_RIGHT = {
+    **SQL_WORDS,
+    "sum": True,
+    "where": {"as_of": "2025-12-31 00:00:00"},
+    "duplicates": "once",
+    "ignore": "instrument",
+    "rate": {"currency": b"currency,rate\nEUR,1\nUSD,0.5\n"},
+    "unit": "0.5",
+}
+BIS = (
+    'Consolidated positions,,,\nUSD millions,,,\nReporting country,assets,liabilities,cash\nAT,700.5,600,10\n'
+    'BE,300,400.25,20\nCH,500,600,0\nAll countries,"1,500.5","1,600.25",30\n'
+)
 TEXTS = [
-    ("a pivot with its title", "matrix", PIVOT, {"table": PIVOT_BANKS}, "looks like a title above the header, which is row 2, is it? say --skip 1"),
-    ("a pivot with its totals", "matrix", PIVOT, {"table": PIVOT_BANKS, "skip": 1}, "Grand Total is a row of totals: its name says so"),
+    (
+        "a pivot with its title",
+        "matrix",
+        PIVOT,
+        {"table": PIVOT_BANKS},
+        "looks like a title above the header, which is row 2, is it? say --skip 1",
+    ),
+    (
+        "a pivot with its totals",
+        "matrix",
+        PIVOT,
+        {"table": PIVOT_BANKS, "skip": 1},
+        "Grand Total is a row of totals: its name says so",
+    ),
     ("a pivot", "matrix", PIVOT, {"table": PIVOT_BANKS, "skip": 1, "drop": ["Grand Total"]}, 19),
-    ("a pivot whose total is wrong", "matrix", PIVOT.replace("10,9,19", "11,9,19"), {"table": PIVOT_BANKS, "skip": 1, "drop": ["Grand Total"]},
-     "row 5 column B: Grand Total says 11, and the others come to 10"),
-    ("a pivot with a bank that has no row of cash", "matrix", PIVOT, {"table": b"bank,cash\nA,3\nB,4\n", "skip": 1, "drop": ["Grand Total"]}, "column C: no row of this name"),
+    (
+        "a pivot whose total is wrong",
+        "matrix",
+        PIVOT.replace("10,9,19", "11,9,19"),
+        {"table": PIVOT_BANKS, "skip": 1, "drop": ["Grand Total"]},
+        "row 5 column B: Grand Total says 11, and the others come to 10",
+    ),
+    (
+        "a pivot with a bank that has no row of cash",
+        "matrix",
+        PIVOT,
+        {"table": b"bank,cash\nA,3\nB,4\n", "skip": 1, "drop": ["Grand Total"]},
+        "column C: no row of this name",
+    ),
     ("a query with a line twice", "list", SQL, SQL_WORDS, "row 6: the same in every column as a line before"),
-    ("a query over two dates", "list", SQL, {**SQL_WORDS, "sum": True, "duplicates": "once", "ignore": "instrument"},
-     "column as_of: lines of one debt differ here, such as row 4 with '2025-12-31 00:00:00' and row 5 with '2025-09-30 00:00:00'"),
-    ("a query of two instruments", "list", SQL, {**SQL_RIGHT, "ignore": None}, "column instrument: lines of one debt differ here, such as row 2 with 'loan' and row 3 with 'bond'"),
+    (
+        "a query over two dates",
+        "list",
+        SQL,
+        {**SQL_WORDS, "sum": True, "duplicates": "once", "ignore": "instrument"},
+        "column as_of: lines of one debt differ here, such as row 4 with '2025-12-31 00:00:00' and row 5 with "
+        "'2025-09-30 00:00:00'",
+    ),
+    (
+        "a query of two instruments",
+        "list",
+        SQL,
+        {**SQL_RIGHT, "ignore": None},
+        "column instrument: lines of one debt differ here, such as row 2 with 'loan' and row 3 with 'bond'",
+    ),
     ("a query of two currencies", "list", SQL, {**SQL_RIGHT, "rate": None}, "column currency: amounts are in EUR, USD"),
     ("a query", "list", SQL, SQL_RIGHT, Fraction("19.5")),
     ("a query whose double lines are two", "list", SQL, {**SQL_RIGHT, "duplicates": "sum"}, Fraction("29.5")),
-    ("a query with NULL", "list", SQL.replace("8.00", "NULL"), SQL_RIGHT, "row 4 column amount: 'NULL' is not an amount"),
-    ("a query with a date for an amount", "list", SQL.replace("8.00", "2025-01-02"), SQL_RIGHT, "'2025-01-02' is not an amount"),
+    (
+        "a query with NULL",
+        "list",
+        SQL.replace("8.00", "NULL"),
+        SQL_RIGHT,
+        "row 4 column amount: 'NULL' is not an amount",
+    ),
+    (
+        "a query with a date for an amount",
+        "list",
+        SQL.replace("8.00", "2025-01-02"),
+        SQL_RIGHT,
+        "'2025-01-02' is not an amount",
+    ),
     ("a query with an exponent", "list", SQL.replace("8.00", "8E+00"), SQL_RIGHT, Fraction("19.5")),
-    ("a query with an unknown bank", "list", SQL.replace("C,B,loan,USD,8", "X,B,loan,USD,8"), SQL_RIGHT, "has no bank X; add it there, or say --drop X"),
+    (
+        "a query with an unknown bank",
+        "list",
+        SQL.replace("C,B,loan,USD,8", "X,B,loan,USD,8"),
+        SQL_RIGHT,
+        "has no bank X; add it there, or say --leave-out X",
+    ),
     ("a query within groups", "list", SQL, {**SQL_RIGHT, "groups": b"bank,group\nA,G\nB,G\n"}, 4),
-    ("a query of instruments with classes", "list", SQL, {**SQL_RIGHT, "ignore": None, "class_of": {"instrument": b"instrument,class\nloan,1\nbond,2\n"}}, Fraction("19.5")),
-    ("a query with an instrument of no class", "list", SQL, {**SQL_RIGHT, "ignore": None, "class_of": {"instrument": b"instrument,class\nloan,1\n"}}, "has no class for 'bond'"),
+    (
+        "a query of instruments with classes",
+        "list",
+        SQL,
+        {**SQL_RIGHT, "ignore": None, "class_of": {"instrument": b"instrument,class\nloan,1\nbond,2\n"}},
+        Fraction("19.5"),
+    ),
+    (
+        "a query with an instrument of no class",
+        "list",
+        SQL,
+        {**SQL_RIGHT, "ignore": None, "class_of": {"instrument": b"instrument,class\nloan,1\n"}},
+        "has no class for 'bond'",
+    ),
     ("a list below 0", "list", "debtor,creditor,amount\nA,B,-5\n", {"table": PIVOT_BANKS}, "'-5' is below 0"),
-    ("a list with a currency in each cell", "list", "debtor;creditor;amount\nA;B;€ 1.000,50\nB;C;€ 2,5\n", {"table": PIVOT_BANKS, "unit": "0.5"}, 1003),
-    ("a list with two currencies in its cells", "list", "debtor;creditor;amount\nA;B;€ 1.000,50\nB;C;$ 2,5\n", {"table": PIVOT_BANKS}, "of another currency than"),
-    ("a list that could be read in two ways", "list", "debtor;creditor;amount\nA;B;1.234\n", {"table": PIVOT_BANKS}, "1.234: thousands or decimals?"),
-    ("a list rounded to thousands", "list", "debtor,creditor,amount\nA,B,1499\nB,C,501\nC,A,499\n", {"table": PIVOT_BANKS, "unit": "1000", "round": True}, 2499),
-    ("totals under two titles", "totals", BIS, {}, "looks like a title above the header, which is row 3, is it? say --skip 2"),
-    ("totals with a line of all", "totals", BIS, {"skip": 2, "method": "sparse", "unit": "0.25"}, "All countries is a row of totals"),
-    ("totals whose sums differ", "totals", BIS, {"skip": 2, "drop": "All countries", "method": "sparse", "unit": "0.25"}, Fraction("1600.25")),
-    ("totals whose sums may not differ", "totals", BIS, {"skip": 2, "drop": "All countries", "method": "sparse", "unit": "0.25", "no_rest": True}, "assets to 1,500.5: liabilities are 99.75 more"),
-    ("totals of a wrong line of all", "totals", BIS.replace('"1,500.5"', '"1,501.5"'), {"skip": 2, "drop": "All countries", "method": "sparse"}, "All countries says 1,501.5, and the others come to 1,500.5"),
+    (
+        "a list with a currency in each cell",
+        "list",
+        "debtor;creditor;amount\nA;B;€ 1.000,50\nB;C;€ 2,5\n",
+        {"table": PIVOT_BANKS, "unit": "0.5"},
+        1003,
+    ),
+    (
+        "a list with two currencies in its cells",
+        "list",
+        "debtor;creditor;amount\nA;B;€ 1.000,50\nB;C;$ 2,5\n",
+        {"table": PIVOT_BANKS},
+        "of another currency than",
+    ),
+    (
+        "a list that could be read in two ways",
+        "list",
+        "debtor;creditor;amount\nA;B;1.234\n",
+        {"table": PIVOT_BANKS},
+        "1.234: thousands or decimals?",
+    ),
+    (
+        "a list rounded to thousands",
+        "list",
+        "debtor,creditor,amount\nA,B,1499\nB,C,501\nC,A,499\n",
+        {"table": PIVOT_BANKS, "unit": "1000", "round": True},
+        2499,
+    ),
+    (
+        "totals under two titles",
+        "totals",
+        BIS,
+        {},
+        "looks like a title above the header, which is row 3, is it? say --skip 2",
+    ),
+    (
+        "totals with a line of all",
+        "totals",
+        BIS,
+        {"skip": 2, "method": "sparse", "unit": "0.25"},
+        "All countries is a row of totals",
+    ),
+    (
+        "totals whose sums differ",
+        "totals",
+        BIS,
+        {"skip": 2, "drop": "All countries", "method": "sparse", "unit": "0.25"},
+        Fraction("1600.25"),
+    ),
+    (
+        "totals whose sums may not differ",
+        "totals",
+        BIS,
+        {"skip": 2, "drop": "All countries", "method": "sparse", "unit": "0.25", "no_rest": True},
+        "assets to 1,500.5: liabilities are 99.75 more",
+    ),
+    (
+        "totals of a wrong line of all",
+        "totals",
+        BIS.replace('"1,500.5"', '"1,501.5"'),
+        {"skip": 2, "drop": "All countries", "method": "sparse"},
+        "All countries says 1,501.5, and the others come to 1,500.5",
+    ),
 ]
 MATRIX = [["", "A", "B", "C", "cash"], ["A", 0, 6.5, 4, 3], ["B", 2, None, 8, 4], ["C", 3, 1, 0, 5]]
 BOOKS = [
     ("a workbook of one sheet", "matrix", {"S": MATRIX}, {"unit": "0.5"}, Fraction("24.5")),
-    ("a workbook of two sheets", "matrix", {"S": MATRIX, "T": MATRIX}, {"unit": "0.5"}, "has the sheets S, T: which one is meant? say --sheet NAME"),
-    ("a sheet of a workbook", "matrix", {"S": MATRIX, "T": [["x", "y"]]}, {"unit": "0.5", "sheet": "S"}, Fraction("24.5")),
-    ("a workbook with a title", "matrix", {"S": [["Exposures"], [], *MATRIX]}, {}, "sheet S row 1 looks like a title above the header, which is row 3, is it? say --skip 2"),
-    ("a workbook below a title", "matrix", {"S": [["Exposures"], [], *MATRIX]}, {"unit": "0.5", "skip": 2}, Fraction("24.5")),
-    ("a workbook with an error", "matrix", {"S": [*MATRIX[:3], ["C", "#REF!", 1, 0, 5]]}, {"unit": "0.5"}, "sheet S B4 (column A): '#REF!' is the error of a formula"),
-    ("a workbook with numbers as text", "matrix", {"S": [*MATRIX[:3], ["C", "1.003,50", 1, 0, 5]]}, {"unit": "0.5"}, 1025),
-    ("a workbook of a network", "workbook", {"banks": [["name", "cash", "rule"], ["A", 3, "order"], ["B", 4, "equal"]],
-                                             "debts": [["debtor", "creditor", "class", "claim"], ["A", "B", 2, 7], ["B", "A", 1, 2]]}, {}, 9),
+    (
+        "a workbook of two sheets",
+        "matrix",
+        {"S": MATRIX, "T": MATRIX},
+        {"unit": "0.5"},
+        "has the sheets S, T: which one is meant? say --sheet NAME",
+    ),
+    (
+        "a sheet of a workbook",
+        "matrix",
+        {"S": MATRIX, "T": [["x", "y"]]},
+        {"unit": "0.5", "sheet": "S"},
+        Fraction("24.5"),
+    ),
+    (
+        "a workbook with a title",
+        "matrix",
+        {"S": [["Exposures"], [], *MATRIX]},
+        {},
+        "sheet S row 1 looks like a title above the header, which is row 3, is it? say --skip 2",
+    ),
+    (
+        "a workbook below a title",
+        "matrix",
+        {"S": [["Exposures"], [], *MATRIX]},
+        {"unit": "0.5", "skip": 2},
+        Fraction("24.5"),
+    ),
+    (
+        "a workbook with an error",
+        "matrix",
+        {"S": [*MATRIX[:3], ["C", "#REF!", 1, 0, 5]]},
+        {"unit": "0.5"},
+        "sheet S B4 (column A): '#REF!' is the error of a formula",
+    ),
+    (
+        "a workbook with numbers as text",
+        "matrix",
+        {"S": [*MATRIX[:3], ["C", "1.003,50", 1, 0, 5]]},
+        {"unit": "0.5"},
+        1025,
+    ),
+    (
+        "a workbook of a network",
+        "workbook",
+        {
+            "banks": [["name", "cash", "rule"], ["A", 3, "order"], ["B", 4, "equal"]],
+            "debts": [["debtor", "creditor", "class", "claim"], ["A", "B", 2, 7], ["B", "A", 1, 2]],
+        },
+        {},
+        9,
+    ),
 ]
 
 
@@ -123,7 +309,12 @@ class Sheets(Case):
         """The options, with a file in the place of each content."""
         files = iter(range(10))
         as_file = lambda value: self.file(f"o{next(files)}.csv", value) if isinstance(value, bytes) else value
-        return {option: {column: as_file(one) for column, one in value.items()} if isinstance(value, dict) else as_file(value) for option, value in options.items()}
+        return {
+            option: {column: as_file(one) for column, one in value.items()}
+            if isinstance(value, dict)
+            else as_file(value)
+            for option, value in options.items()
+        }
 
     def check(self, name, kind, path, options, want):
         """What happens to a sheet: it is refused with these words, or makes a network whose debts sum to this much."""
@@ -153,6 +344,7 @@ class Sheets(Case):
     @unittest.skipUnless(there("openpyxl"), "without openpyxl")
     def test_workbooks(self):
         import openpyxl
+
         for name, kind, sheets, options, want in BOOKS:
             book = openpyxl.Workbook()
             book.remove(book.active)
@@ -168,10 +360,14 @@ class Sheets(Case):
     @unittest.skipUnless(there("pandas"), "without pandas")
     def test_frames_are_sheets(self):
         import pandas
+
         frame = pandas.DataFrame([[0, 30.445, 3], [2.5, 0, 4]], index=["A", "B"], columns=["A", "B", "cash"])
         net = cc.Network.from_matrix(frame, unit="0.005")
         self.assertEqual(net.debts.column("claim"), [6089, 500])
-        net = cc.Network.from_list(pandas.DataFrame({"debtor": ["A"], "creditor": ["B"], "amount": [7]}), table=pandas.DataFrame({"bank": ["A", "B"], "cash": [1, 2]}))
+        net = cc.Network.from_list(
+            pandas.DataFrame({"debtor": ["A"], "creditor": ["B"], "amount": [7]}),
+            table=pandas.DataFrame({"bank": ["A", "B"], "cash": [1, 2]}),
+        )
         self.assertEqual((net.debts.column("claim"), net.banks.column("cash")), ([7], [1, 2]))
 
     def test_samples_are_networks(self):

@@ -56,6 +56,67 @@ class Source(test_evidence.Evidence):
             self.assertIn("source: inputs/debts.csv differs\n", done.stdout.decode())
             shutil.rmtree(folder)
 
+    CLAIMS = ',"A, Inc.",B,cash,full,country\n"A, Inc.",0,6.5,3,"Alpha, Inc.",DE\nB,2,0,4,,FR\n'
+
+    def case(self, *words):
+        """A case of a matrix, with names that need a code."""
+        self.file("m.csv", self.CLAIMS)
+        said = ["--unit=0.5", "--decimal=.", "--label-column=full", "--country-column=country", "--currency=EUR", "--title=Two banks"]
+        self.told("from_matrix.py", self.folder / "m.csv", *said, "--case", self.folder / "case", *words)
+        return self.folder / "case"
+
+    def test_a_case_is_kept_with_its_names_its_description_and_its_sheets(self):
+        done = evidence("make", self.folder / "evidence", "--case", self.case("--keep-sources"))
+        self.assertEqual((done.returncode, done.stderr), (0, b""))
+        folder = self.folder / "evidence"
+        self.assertEqual({path.name for path in (folder / "inputs").iterdir()}, {"banks.csv", "debts.csv", "labels.csv", "datapackage.json"})
+        self.assertIn('A Inc.,,"Alpha, Inc.",,DE', (folder / "inputs/labels.csv").read_text())
+        done = evidence("check", folder)
+        self.assertEqual((done.returncode, done.stderr), (0, b""))
+        self.assertIn("source: inputs/labels.csv same\n", done.stdout.decode())
+        # Another name than the sheets say, and another than was described.
+        labels = folder / "inputs/labels.csv"
+        labels.write_text(labels.read_text().replace("Alpha", "Omega"))
+        self.sums_anew(folder)
+        done = evidence("check", folder)
+        self.assertEqual(done.returncode, 4)
+        for line in ("inputs/datapackage.json: labels.csv is not the file that was described", "source: inputs/labels.csv differs"):
+            self.assertIn(f"{line}\n", done.stdout.decode())
+
+    def test_a_case_without_its_sheets_or_that_was_changed(self):
+        place = self.case()
+        done = evidence("make", self.folder / "evidence", "--case", place)
+        self.assertEqual((done.returncode, done.stderr), (0, b""))
+        self.assertFalse((self.folder / "evidence/source").exists())
+        self.assertEqual(evidence("check", self.folder / "evidence").returncode, 0)
+        with open(place / "banks.csv", "a") as file:
+            file.write("\n")
+        done = evidence("make", self.folder / "other", "--case", place)
+        self.assertEqual((done.returncode, (self.folder / "other").exists()), (4, False))
+        self.assertIn("banks.csv is not the file that was described", done.stderr.decode())
+        # Once it is described anew, its sheets make another file.
+        shutil.rmtree(place)
+        place = self.case("--keep-sources")
+        (place / "banks.csv").write_text((place / "banks.csv").read_text().replace(",6,", ",7,"))
+        self.made("case.py", "refresh", place)
+        done = evidence("make", self.folder / "other", "--case", place)
+        self.assertEqual(done.returncode, 0)
+        self.assertIn("the sheets of the case do not make its banks.csv any more; they are left out", done.stderr.decode())
+        self.assertFalse((self.folder / "other/source").exists())
+
+    def test_a_command_with_labels_is_kept_as_it_was_run(self):
+        self.file("m.csv", self.CLAIMS)
+        done = self.make("tools/from_matrix.py m.csv --unit 0.5 --decimal . --label names.csv --label-column full --drop country --banks b.csv --debts=d.csv --title x")
+        self.assertEqual((done.returncode, done.stderr), (0, b""))
+        folder = self.folder / "evidence"
+        self.assertNotIn("names.csv", (folder / "source/command.tsv").read_text())
+        self.assertIn('A Inc.,,"Alpha, Inc.",,', (folder / "inputs/labels.csv").read_text())
+        done = evidence("check", folder)
+        self.assertEqual((done.returncode, done.stderr), (0, b""))
+        (folder / "inputs/labels.csv").unlink()
+        self.sums_anew(folder)
+        self.assertIn("source: inputs/labels.csv differs\n", evidence("check", folder).stdout.decode())
+
     def test_files_of_other_sheets_are_found(self):
         self.make(self.given())
         folder = self.folder / "evidence"

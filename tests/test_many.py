@@ -3,6 +3,8 @@ import subprocess
 
 from common import ODD_NAMES, ROOT, Case
 
+import clearing_client
+
 # Prints its words, one a line; fails with the number after `fail`, and counts its runs in a file.
 PROGRAM = """#!/bin/sh
 echo run >>"$COUNTED"
@@ -17,8 +19,9 @@ class Many(Case):
         script.chmod(0o755)
         environment = {**os.environ, "CLEARING": str(script), "COUNTED": str(self.folder / "counted")}
         run = [str(ROOT / "tools/many.sh"), *map(str, words)]
-        return subprocess.run(run, cwd=self.folder, env=environment, stdin=subprocess.DEVNULL, capture_output=True,
-                              encoding="utf-8")
+        return subprocess.run(
+            run, cwd=self.folder, env=environment, stdin=subprocess.DEVNULL, capture_output=True, encoding="utf-8"
+        )
 
     def runs(self):
         return len((self.folder / "counted").read_text().splitlines())
@@ -36,6 +39,34 @@ class Many(Case):
         self.assertEqual(self.many("one", jobs, "out", 3).returncode, 1)
         self.assertEqual((out / "c.failed").read_text(), "status 4\nrefused\n")
         self.assertEqual(sorted(path.name for path in out.iterdir()), ["a.job", "a.out", "b.job", "b.out", "c.failed"])
+
+    def test_a_case_stands_for_its_files(self):
+        place = self.folder / "a case"
+        scenarios = [clearing_client.Scenario("half", cut=500)]
+        clearing_client.Case(clearing_client.Network({"A": 7}, {}), scenarios=scenarios).write(place)
+        jobs = self.file(
+            "jobs.tsv",
+            "a\tdefaults\t--case\ta case\t--workers\t1\nb\tstress\t--case=a case\n"
+            "c\tstress\t--scenarios\tmine.toml\t--banks=b.csv\t--case=a case\nd\tdefaults\t--case=none\n",
+        )
+        done = self.many("run", jobs, "out", 1)
+        self.assertEqual((done.returncode, done.stdout, done.stderr), (0, "4 done, 0 failed\n", ""))
+        banks, debts, years = (f"--{what}=a case/{what}.csv" for what in ("banks", "debts", "scenarios"))
+        years = years.replace(".csv", ".toml")
+        want = {
+            "a": ["defaults", "--workers", "1", banks, debts],
+            "b": ["stress", banks, debts, years],
+            "c": ["stress", "--scenarios", "mine.toml", "--banks=b.csv", debts],
+            "d": ["defaults", "--banks=none/banks.csv", "--debts=none/debts.csv"],
+        }
+        for name, words in want.items():
+            self.assertEqual((self.folder / "out" / f"{name}.out").read_text().splitlines(), words)
+        # What a job depends on is what the files are: one that was changed is told, and its jobs are run again.
+        with open(place / "banks.csv", "a") as file:
+            file.write("B,1,order,0\n")
+        done = self.many("run", jobs, "out", 1)
+        told = "case: a case/banks.csv is not the file that was described\n"
+        self.assertEqual((done.stdout, done.stderr, self.runs()), ("4 done, 0 failed\n", 2 * told, 6))
 
     def test_all_jobs_are_run_side_by_side(self):
         jobs = self.file("jobs.tsv", "".join(f"job-{at}\tgen\t{at}\n" for at in range(30)) + "bad\tfail\t6\n")
@@ -56,7 +87,13 @@ class Many(Case):
 
     def test_a_task_of_an_array_has_as_many_jobs_as_asked_or_needed(self):
         jobs = self.file("jobs.tsv", "".join(f"{at}\tgen\t{at}\n" for at in range(1, 12)))
-        for words, tasks in [(["--each", 4], 3), (["--tasks", 4], 4), (["--tasks", 3, "--each", 2], 3), (["--each", 11], 1), ([], 11)]:
+        for words, tasks in [
+            (["--each", 4], 3),
+            (["--tasks", 4], 4),
+            (["--tasks", 3, "--each", 2], 3),
+            (["--each", 11], 1),
+            ([], 11),
+        ]:
             script = self.many("slurm", jobs, "out", *words).stdout
             self.assertIn(f"#SBATCH --array=1-{tasks}\n", script, words)
             done = []
@@ -87,11 +124,26 @@ class Many(Case):
 
     def test_words_and_jobs_out_of_form_are_refused(self):
         jobs = self.file("jobs.tsv", "a\tgen\n")
-        for words in [[], ["all", jobs, "out"], ["run", jobs], ["one", jobs, "out", 0], ["one", jobs, "out", 2],
-                      ["one", jobs, "out", "x"], ["run", self.folder / "none", "out"], ["run", jobs, ""],
-                      ["run", jobs, "out", "1", "2"], ["slurm", jobs, "out", "1"], ["run", jobs, jobs], ["slurm", jobs, "out", "--each"], ["slurm", jobs, "out", "--each", 0],
-                      ["slurm", jobs, "out", "--tasks", "x"], ["slurm", jobs, "out", "--most", 1], ["one", jobs, "out", 1, 0],
-                      ["one", jobs, "out", 1, "x"], ["one", jobs, "out", 1, 1, 1]]:
+        for words in [
+            [],
+            ["all", jobs, "out"],
+            ["run", jobs],
+            ["one", jobs, "out", 0],
+            ["one", jobs, "out", 2],
+            ["one", jobs, "out", "x"],
+            ["run", self.folder / "none", "out"],
+            ["run", jobs, ""],
+            ["run", jobs, "out", "1", "2"],
+            ["slurm", jobs, "out", "1"],
+            ["run", jobs, jobs],
+            ["slurm", jobs, "out", "--each"],
+            ["slurm", jobs, "out", "--each", 0],
+            ["slurm", jobs, "out", "--tasks", "x"],
+            ["slurm", jobs, "out", "--most", 1],
+            ["one", jobs, "out", 1, 0],
+            ["one", jobs, "out", 1, "x"],
+            ["one", jobs, "out", 1, 1, 1],
+        ]:
             done = self.many(*words)
             self.assertEqual((done.returncode, done.stdout), (2, ""), words)
             self.assertIn("--help says more", done.stderr)
@@ -117,7 +169,12 @@ class Many(Case):
 
     def test_lines_are_read_as_they_come(self):
         want = {"a.out": "gen\n1\n", "b.out": "gen\n2\n"}
-        for text in ("a\tgen\t1\nb\tgen\t2", "a\tgen\t1\r\nb\tgen\t2\r\n", "\ufeffa\tgen\t1\r\n\r\nb\tgen\t2\n\n", "a\tgen\t1\rb\tgen\t2\r"):
+        for text in (
+            "a\tgen\t1\nb\tgen\t2",
+            "a\tgen\t1\r\nb\tgen\t2\r\n",
+            "\ufeffa\tgen\t1\r\n\r\nb\tgen\t2\n\n",
+            "a\tgen\t1\rb\tgen\t2\r",
+        ):
             out = self.folder / f"out{len(list(self.folder.iterdir()))}"
             done = self.many("run", self.file("jobs.tsv", text), out, 2)
             self.assertEqual((done.returncode, done.stdout), (0, "2 done, 0 failed\n"), text)
@@ -145,7 +202,9 @@ class Many(Case):
         jobs = self.file("jobs.tsv", "".join(f"n{at}\trescue\t--bank\t{name}\n" for at, name in enumerate(ODD_NAMES)))
         self.assertEqual(self.many("run", jobs, "the results", 4).stdout, f"{len(ODD_NAMES)} done, 0 failed\n")
         for at, name in enumerate(ODD_NAMES):
-            self.assertEqual((self.folder / f"the results/n{at}.out").read_text(encoding="utf-8"), f"rescue\n--bank\n{name}\n")
+            self.assertEqual(
+                (self.folder / f"the results/n{at}.out").read_text(encoding="utf-8"), f"rescue\n--bank\n{name}\n"
+            )
         self.assertFalse((self.folder / "X").exists())
 
     def test_no_older_result_is_counted_where_a_job_is_killed(self):
@@ -153,8 +212,10 @@ class Many(Case):
         self.assertEqual(self.many("run", self.file("jobs.tsv", jobs.format(1)), "out", 1).stdout, "4 done, 0 failed\n")
         # The program kills the shell that runs it, and then the one above that, too.
         parents = "parent=$(cut -d ' ' -f 4 /proc/$PPID/stat)\n"
-        for number, kill, counts, later in [(2, "kill -9 $PPID", "3 done, 1 failed", "gen\n2\n"),
-                                            (3, "kill -9 $parent $PPID", "1 done, 0 failed, 3 not finished", "gen\n2\n")]:
+        for number, kill, counts, later in [
+            (2, "kill -9 $PPID", "3 done, 1 failed", "gen\n2\n"),
+            (3, "kill -9 $parent $PPID", "1 done, 0 failed, 3 not finished", "gen\n2\n"),
+        ]:
             program = PROGRAM + f'if [ "$1" = kill ]; then {parents}{kill}; fi\n'
             done = self.many("run", self.file("jobs.tsv", jobs.format(number)), "out", 1, program=program)
             self.assertEqual((done.returncode, done.stdout), (1, counts + "\n"), done.stderr)

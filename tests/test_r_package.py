@@ -1,4 +1,4 @@
-"""The package for R: it passes R's own checks, its vignette runs, and its networks are those of the repository."""
+"""The package for R: it passes R's own checks, its vignette runs, and its cases are those of the package for Python."""
 import functools
 import os
 import pathlib
@@ -9,6 +9,9 @@ import tempfile
 import unittest
 
 from common import PROGRAM, ROOT, Case
+
+from clearing_client import Case as BankCase
+from clearing_client import Network
 
 PACKAGE = ROOT / "r"
 
@@ -64,6 +67,37 @@ class Package(Case):
             self.assertEqual(file.read_bytes(), (ROOT / "examples/twelve-banks" / file.name).read_bytes(), file.name)
         version = re.search(r"(?m)^Version: (.*)$", (PACKAGE / "DESCRIPTION").read_text(encoding="utf-8"))
         self.assertEqual(version and version[1], (ROOT / "VERSION").read_text(encoding="utf-8").strip())
+
+    def test_python_reads_the_case_that_r_writes(self):
+        self.r(
+            "net <- bank_network(data.frame(name = c('A', 'B'), cash = c(7, 1)), data.frame(debtor = 'A', creditor = 'B', claim = 10))\n"
+            "labels <- data.frame(bank = 'A', short = 'A', full = 'Alpha, \"S.A.\"', group = '', country = 'DE')\n"
+            "case <- bank_case(net, title = 'Zwei Banken', as_of = '2026-03-31', test = 'solvency', currency = 'EUR', unit = '0.01',\n"
+            "                  labels = labels)\n"
+            "write_case(case, 'case')"
+        )
+        case = BankCase.read(self.folder / "case")
+        self.assertEqual(case.notes, ())
+        self.assertEqual((case.title, str(case.as_of), case.test, case.currency), ("Zwei Banken", "2026-03-31", "solvency", "EUR"))
+        self.assertEqual((str(case.amount(1234)), case.labels["A"].full), ("12.34", 'Alpha, "S.A."'))
+        self.assertEqual(case.network.clear().total, Network({"A": 7, "B": 1}, {("A", "B"): 10}).clear().total)
+
+    def test_r_reads_the_case_that_python_writes_and_keeps_what_it_does_not_know(self):
+        network = Network({"A": 7, "B": 1}, {("A", "B"): 10})
+        case = BankCase(network, title="Über \\ \u0001 \U0001f600", description="Two\nlines.", unit="0.01", currency="EUR",
+                        contributors=[{"title": "Ada"}])
+        case.others["licenses"] = [{"name": "none"}]
+        case.write(self.folder / "python")
+        printed = self.r(
+            "case <- read_case('python')\n"
+            "stopifnot(length(case$notes) == 0)\n"
+            "cat(case$unit, case$currency, case$document$contributors[[1]]$title, clear(case)$payments$paid, '\\n')\n"
+            "write_case(case, 'r')"
+        )
+        self.assertEqual(printed.split(), ["0.01", "EUR", "Ada", "7"])
+        again = BankCase.read(self.folder / "r")
+        self.assertEqual((again.title, again.description, again.author, again.notes), (case.title, case.description, "Ada", ()))
+        self.assertEqual(again.others["licenses"], [{"name": "none"}])
 
 
 if __name__ == "__main__":

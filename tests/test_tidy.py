@@ -33,7 +33,7 @@ class Tidy(Case):
         output.write_bytes(text.encode() if isinstance(text, str) else text)
         named = [pathlib.Path(name) for name in self.made("tidy.py", output, *words).splitlines()]
         self.assertEqual({path for path in named[0].parent.iterdir() if path != output}, set(named))
-        return {path.stem[len("x.y-"):]: path for path in named}
+        return {path.stem[len("x.y-") :]: path for path in named}
 
     def test_tables_are_the_lines_of_the_text_without_sums(self):
         for task in (["clear"], ["central"]):
@@ -53,8 +53,13 @@ class Tidy(Case):
         made = self.tidy(text)
         self.assertEqual(lines_of(made["payments"]) + [""] + lines_of(made["standings"]), text.splitlines()[:-2])
         scenarios = ["--scenarios", self.file("s.toml", SCENARIOS)]
-        for task, *names in (["breaking", "cuts"], ["impact", "banks", "pairs"], ["rescues", "banks", "saved"],
-                             ["cost-bounds", "payments", "standings", "--keep", 900], ["outcomes", "scenarios", "banks", *scenarios]):
+        for task, *names in (
+            ["breaking", "cuts"],
+            ["impact", "banks", "pairs"],
+            ["rescues", "banks", "saved"],
+            ["cost-bounds", "payments", "standings", "--keep", 900],
+            ["outcomes", "scenarios", "banks", *scenarios],
+        ):
             text = self.printed(task, *HUB, *names[1 if task == "breaking" else 2 :])
             made = self.tidy(text)
             self.assertEqual("\n".join(made[name].read_text() for name in made), text, task)
@@ -73,7 +78,9 @@ class Tidy(Case):
         text = self.printed("stress", *HUB, "--scenarios", self.file("s.toml", SCENARIOS))
         made = self.tidy(text)
         standings = table_of(made["standings"])
-        self.assertEqual([(row["number"], row["scenario"]) for row in standings], [("1", " half ")] * 5 + [("2", " half ")] * 5)
+        self.assertEqual(
+            [(row["number"], row["scenario"]) for row in standings], [("1", " half ")] * 5 + [("2", " half ")] * 5
+        )
         totals = table_of(made["totals"])
         # The sums of the table are those that the program printed.
         printed = [line.split(",")[3] for line in text.splitlines() if line.startswith("total,")]
@@ -97,13 +104,17 @@ class Tidy(Case):
         text = self.printed("defaults", *HUB)
         made = self.tidy(text, "--unit", "0.10")
         for row, line in zip(table_of(made["standings"]), text.splitlines()[1:]):
-            self.assertEqual([Decimal(row[name]) * 10 for name in ("estate", "outside_paid", "paid", "owed", "equity")],
-                             [Decimal(field) for field in line.split(",")[1:6]])
+            self.assertEqual(
+                [Decimal(row[name]) * 10 for name in ("estate", "outside_paid", "paid", "owed", "equity")],
+                [Decimal(field) for field in line.split(",")[1:6]],
+            )
             self.assertEqual(row["state"], line.split(",")[6])
         self.assertEqual(table_of(made["totals"])[0]["defaults"], "2")
         text = self.printed("clear", *CHAIN, "--show", "both", "--workers", 1)
-        self.assertEqual(lines_of(self.tidy(text, "--unit", "1000000000000000.000000000000001")["journal"])[1],
-                         "1,A,B,1,7000000000000000.000000000000007")
+        self.assertEqual(
+            lines_of(self.tidy(text, "--unit", "1000000000000000.000000000000001")["journal"])[1],
+            "1,A,B,1,7000000000000000.000000000000007",
+        )
         for unit in ("0", "-1", "nan", "inf", "x", ""):
             self.assertEqual(tool("tidy.py", "x.csv", "--unit", unit).returncode, 2)
 
@@ -111,11 +122,16 @@ class Tidy(Case):
         banks = self.file("b.csv", "name,cash,rule\ntotal,7,order\ncash,1,order\nscenario,0,order\n")
         debts = self.file("d.csv", "debtor,creditor,class,claim\ntotal,cash,1,10\ncash,scenario,1,9\n")
         scenarios = self.file("s.toml", SCENARIOS)
-        texts = [self.printed("defaults", "--banks", banks, "--debts", debts),
-                 self.printed("stress", "--banks", banks, "--debts", debts, "--scenarios", scenarios)]
+        texts = [
+            self.printed("defaults", "--banks", banks, "--debts", debts),
+            self.printed("stress", "--banks", banks, "--debts", debts, "--scenarios", scenarios),
+        ]
         names = ["total", "cash", "scenario"]
         self.assertEqual([row["bank"] for row in table_of(self.tidy(texts[0])["standings"])], names)
-        self.assertEqual([row["bank"] for row in table_of(self.tidy(texts[1], "--folder", self.folder / "o")["standings"])], names * 2)
+        self.assertEqual(
+            [row["bank"] for row in table_of(self.tidy(texts[1], "--folder", self.folder / "o")["standings"])],
+            names * 2,
+        )
 
     def test_texts_that_came_through_a_spreadsheet(self):
         text = self.printed("defaults", *HUB)
@@ -125,17 +141,33 @@ class Tidy(Case):
 
     def test_standard_input_and_a_folder_that_is_made(self):
         banks = self.file("b.csv", "name,cash,rule\nCrédit Loire,7,order\nB,1,order\n")
-        text = self.printed("clear", "--banks", banks, "--debts", self.file("d.csv", "debtor,creditor,class,claim\nCrédit Loire,B,1,9\n"))
+        text = self.printed(
+            "clear",
+            "--banks",
+            banks,
+            "--debts",
+            self.file("d.csv", "debtor,creditor,class,claim\nCrédit Loire,B,1,9\n"),
+        )
         sent = b"\xef\xbb\xbf" + text.replace("\n", "\r\n").encode()
-        done = subprocess.run([sys.executable, ROOT / "tools/tidy.py", "-", "--folder", "a/b"], input=sent,
-                              capture_output=True, cwd=self.folder)
+        done = subprocess.run(
+            [sys.executable, ROOT / "tools/tidy.py", "-", "--folder", "a/b"],
+            input=sent,
+            capture_output=True,
+            cwd=self.folder,
+        )
         self.assertEqual((done.returncode, done.stdout, done.stderr), (0, b"a/b/output-payments.csv\n", b""))
         self.assertEqual((self.folder / "a/b/output-payments.csv").read_text(), text)
 
     def test_what_is_no_text_of_the_program_is_refused_and_nothing_is_written(self):
         text = self.printed("defaults", *HUB)
-        for wrong, message in [("", "there is no text"), ("a,b\n", "begins with a,b"), (text[:-1], "was cut short"),
-                               (text.replace("\ntotal,", "\ntotals,"), "line 7"), (text + "x\n", "line 7"), (text + "\n" + text, "not the end of the text")]:
+        for wrong, message in [
+            ("", "there is no text"),
+            ("a,b\n", "begins with a,b"),
+            (text[:-1], "was cut short"),
+            (text.replace("\ntotal,", "\ntotals,"), "line 7"),
+            (text + "x\n", "line 7"),
+            (text + "\n" + text, "not the end of the text"),
+        ]:
             path = self.file("wrong.csv", wrong)
             self.refused("tidy.py", 1, message, path)
             self.assertEqual(tool("tidy.py", path).stderr.count("\n"), 1)
@@ -184,9 +216,12 @@ class Texts(Case):
     def test_what_they_refuse(self):
         text = self.printed("defaults", *HUB)
         for name, wrong, message in [
-            ("standings", text.replace("sound", "Sound", 1), "line 2: 'Sound'"), ("standings", text.replace("total,", "t,"), "line 7"),
-            ("standings", self.printed("clear", *HUB), "line 1: not the header"), ("payments", text, "line 1: not the header"),
-            ("gridlock", text, "it has no line bank,wave"), ("stress", text, "not what `stress` prints"),
+            ("standings", text.replace("sound", "Sound", 1), "line 2: 'Sound'"),
+            ("standings", text.replace("total,", "t,"), "line 7"),
+            ("standings", self.printed("clear", *HUB), "line 1: not the header"),
+            ("payments", text, "line 1: not the header"),
+            ("gridlock", text, "it has no line bank,wave"),
+            ("stress", text, "not what `stress` prints"),
             ("gridlock", "bank,wave,gridlock,equity\nA,0,maybe,0\n", "line 2: 'maybe'"),
             ("payments", "debtor,creditor,class,claim,paid\nA,B,1,10,x\n", "line 2: 'x' is not a number"),
         ]:

@@ -23,7 +23,7 @@ class Words(Case):
         script.chmod(0o755)
         done = tool("from_totals.py", self.file("t.csv", TABLE), "--out", self.folder / "out", python=str(script))
         self.assertEqual((done.returncode, done.stdout), (2, ""))
-        self.assertRegex(done.stderr, r"from_totals: /.* has no numpy \(Debian's package python3-numpy is for /usr/bin/python3\)")
+        self.assertRegex(done.stderr, r"from_totals: /.* has no numpy \(Debian's package python3-numpy is for /usr/bin/python3 .*FILE\.whl\[all\]'\)")
 
     def test_a_stray_quote_is_refused_with_its_row(self):
         for row, text in [(6, TABLE + 'E,7,7,"1\nF,8,8,2\n'), (3, TABLE.replace("B,", '"B" (Ost),'))]:
@@ -32,24 +32,47 @@ class Words(Case):
 
     def test_a_column_that_is_named_is_there(self):
         table = self.file("t.csv", "bank,assets,liabilities,cash,Deposits,Regel\nA,5,7,1,1,order\nB,7,5,2,0,equal\n")
-        for option, column in [("outside", "Deposit"), ("rule-column", "Rgel"), ("outside", "outside"), ("rule-column", "rule")]:
-            told = f"t.csv row 1: no column {column}; it has assets, liabilities, cash, Deposits, Regel; say --{option} NAME"
+        for option, column in [
+            ("outside", "Deposit"),
+            ("rule-column", "Rgel"),
+            ("outside", "outside"),
+            ("rule-column", "rule"),
+        ]:
+            told = (
+                f"t.csv row 1: no column {column}; it has assets, liabilities, cash, Deposits, Regel; say --{option} "
+                "NAME"
+            )
             self.refused("from_totals.py", 1, told, table, f"--{option}", column, "--out", self.folder / "out")
 
     def test_capitals_in_the_names_of_columns_matter_between_two_of_them_alone(self):
         table = self.file("t.csv", "Bank,ASSETS,Liabilities,Cash,Outside,Rule\nA,5,7,1,1,order\nB,7,5,2,0,equal\n")
         self.told("from_totals.py", table, "--method", "sparse", "--out", self.folder / "out")
-        self.assertEqual((self.folder / "out/banks.csv").read_text(), "name,cash,rule,outside\nA,1,order,1\nB,2,equal,0\n")
-        table = self.file("t.csv", "bank,assets,liabilities,cash,outside,Outside,rule,Rule\nA,5,7,1,1,1,order,equal\nB,7,5,2,0,0,equal,order\n")
+        self.assertEqual(
+            (self.folder / "out/banks.csv").read_text(), "name,cash,rule,outside\nA,1,order,1\nB,2,equal,0\n"
+        )
+        table = self.file(
+            "t.csv",
+            "bank,assets,liabilities,cash,outside,Outside,rule,Rule\nA,5,7,1,1,1,order,equal\n"
+            "B,7,5,2,0,0,equal,order\n",
+        )
         for option, column in [("outside", "Outside"), ("rule-column", "Rule")]:
-            told = f"column {column}: its name is {column.lower()} but for capitals or spaces; say --{option} {column}, or"
+            told = (
+                f"column {column}: its name is {column.lower()} but for capitals or spaces; say --{option} {column}, or"
+            )
             self.refused("from_totals.py", 1, told, table, "--out", self.folder / "other")
 
 
 @needs_modules("numpy")
 class Totals(Case):
     def run_of(self, table, *words):
-        return tool("from_totals.py", self.file("t.csv", table), "--out", self.folder / "out", *words, python=python_with("numpy"))
+        return tool(
+            "from_totals.py",
+            self.file("t.csv", table),
+            "--out",
+            self.folder / "out",
+            *words,
+            python=python_with("numpy"),
+        )
 
     def made_of(self, table, *words):
         done = self.run_of(table, *words)
@@ -72,26 +95,44 @@ class Totals(Case):
     def check_totals(self, debts, table, unit=1):
         for line in table.splitlines()[1:]:
             name, assets, liabilities = line.split(",")[:3]
-            self.assertEqual(sum(claim for (_, creditor), claim in debts.items() if creditor == name), int(assets) // unit, name)
-            self.assertEqual(sum(claim for (debtor, _), claim in debts.items() if debtor == name), int(liabilities) // unit, name)
+            self.assertEqual(
+                sum(claim for (_, creditor), claim in debts.items() if creditor == name), int(assets) // unit, name
+            )
+            self.assertEqual(
+                sum(claim for (debtor, _), claim in debts.items() if debtor == name), int(liabilities) // unit, name
+            )
 
     def test_each_method_keeps_every_total(self):
         for method in ("entropy", "sparse", "sample"):
             told = self.made_of(TABLE, "--method", method)
             self.check_totals(self.debts(), TABLE)
-            made = f"debts made: {len(self.debts())}; 250 in all; 250 units, the largest {max(self.debts().values())}, in {self.folder}/out\n"
+            made = (
+                f"debts made: {len(self.debts())}; 250 in all; 250 units, the largest {max(self.debts().values())}, "
+                f"in {self.folder}/out\n"
+            )
             self.assertTrue(told.endswith(made), told)
-        self.assertEqual((self.folder / "out/banks.csv").read_text(), "name,cash,rule\nA,20,webster\nB,10,webster\nC,30,webster\nD,5,webster\n")
+        self.assertEqual(
+            (self.folder / "out/banks.csv").read_text(),
+            "name,cash,rule\nA,20,webster\nB,10,webster\nC,30,webster\nD,5,webster\n",
+        )
 
     def test_made_up_totals_are_kept_by_each_method(self):
         draw = random.Random(7)
         for at, size in enumerate([3, 2, 4, 7, 30, 4, 3]):
-            claims = {(a, b): draw.choice([0, 0, 1, 5, draw.randrange(1, 20000)]) for a in range(size) for b in range(size) if a != b}
+            claims = {
+                (a, b): draw.choice([0, 0, 1, 5, draw.randrange(1, 20000)])
+                for a in range(size)
+                for b in range(size)
+                if a != b
+            }
             if at % 4 == 0:
                 # Everybody deals with the first alone.
                 claims = {pair: claim for pair, claim in claims.items() if 0 in pair}
             table = "bank,assets,liabilities,cash\n" + "".join(
-                f"N{n},{sum(c for p, c in claims.items() if p[1] == n)},{sum(c for p, c in claims.items() if p[0] == n)},{n}\n" for n in range(size))
+                f"N{n},{sum(c for p, c in claims.items() if p[1] == n)},"
+                f"{sum(c for p, c in claims.items() if p[0] == n)},{n}\n"
+                for n in range(size)
+            )
             words = ["--keep", "N0"] + (["--keep", "N1", "--keep", "N2"] if size < 4 else [])
             for method in ("entropy", "sparse", "sample"):
                 self.made_of(table, "--method", method, "--seed", at, "--steps", 500, *words)
@@ -105,17 +146,33 @@ class Totals(Case):
         self.made_of("bank,assets,liabilities,cash\n" + "".join(f"N{n},1000,1000,{n % 7}\n" for n in range(71)))
         self.assertEqual(set(self.debts().values()), {14, 15})
         # A matrix of maximum entropy is a product off the diagonal: each cross of four has the same ratio.
-        self.made_of("bank,assets,liabilities,cash\n" + "".join(f"{n},{a},{b},1\n" for n, a, b in [
-            ("A", 400000, 300000), ("B", 200000, 500000), ("C", 350000, 100000), ("D", 150000, 250000), ("E", 120000, 70000)]))
+        self.made_of(
+            "bank,assets,liabilities,cash\n"
+            + "".join(
+                f"{n},{a},{b},1\n"
+                for n, a, b in [
+                    ("A", 400000, 300000),
+                    ("B", 200000, 500000),
+                    ("C", 350000, 100000),
+                    ("D", 150000, 250000),
+                    ("E", 120000, 70000),
+                ]
+            )
+        )
         debts = self.debts()
         for a, b, c, d in itertools.permutations("ABCDE", 4):
             self.assertAlmostEqual(debts[a, c] * debts[b, d] / (debts[a, d] * debts[b, c]), 1, 3)
 
     def test_sparse_has_few_claims(self):
         draw = random.Random(3)
-        claims = {(a, b): draw.randrange(1, 900) for a in range(40) for b in range(40) if a != b and draw.random() < 0.2}
+        claims = {
+            (a, b): draw.randrange(1, 900) for a in range(40) for b in range(40) if a != b and draw.random() < 0.2
+        }
         table = "bank,assets,liabilities,cash\n" + "".join(
-            f"N{n},{sum(c for p, c in claims.items() if p[1] == n)},{sum(c for p, c in claims.items() if p[0] == n)},1\n" for n in range(40))
+            f"N{n},{sum(c for p, c in claims.items() if p[1] == n)},{sum(c for p, c in claims.items() if p[0] == n)},"
+            "1\n"
+            for n in range(40)
+        )
         self.made_of(table, "--method", "sparse")
         # No fewer than banks that owe, and no more than a tree of all sides.
         self.assertTrue(40 <= len(self.debts()) <= 79, len(self.debts()))
@@ -135,8 +192,8 @@ class Totals(Case):
             self.assertNotEqual([self.debts(f"out/{n}") for n in range(1, 7)], first)
 
     def check_frequencies(self, owes, owed, rounds, steps):
-        """Compares how often networks come with their weights: each claim is there with the probability 0.3, and of a geometric
-        size with the mean that the totals ask for."""
+        """Compares how often networks come with their weights: each claim is there with the probability 0.3, and of a
+        geometric size with the mean that the totals ask for."""
         size = len(owes)
         cells = [(a, b) for a in range(size) for b in range(size) if a != b]
         mean = max(sum(owes) / (0.3 * len(cells)), 1.0)
@@ -163,7 +220,9 @@ class Totals(Case):
         visit(0, [], owes[:], owed[:])
         start = max(weights, key=weights.get)
         totals = methods.Totals([str(n) for n in range(size)], owes, owed)
-        chain = methods.Chain(totals, 0.3, random.Random(11), {pair: claim for pair, claim in zip(cells, start) if claim})
+        chain = methods.Chain(
+            totals, 0.3, random.Random(11), {pair: claim for pair, claim in zip(cells, start) if claim}
+        )
         counts, whole = dict.fromkeys(weights, 0), sum(weights.values())
         for _ in range(rounds):
             for _ in range(steps):
@@ -194,7 +253,10 @@ class Totals(Case):
             least, most = -min(up), min(down)
             chain = methods.Chain(methods.Totals(list("ABC"), [4, 4, 4], [4, 4, 4]), 0.3, Grid(20_000), {})
             odds = chain.none / chain.there
-            weights = {at: odds ** sum(cell == 0 for cell in [*(cell + at for cell in up), *(cell - at for cell in down)]) for at in range(least, most + 1)}
+            weights = {
+                at: odds ** sum(cell == 0 for cell in [*(cell + at for cell in up), *(cell - at for cell in down)])
+                for at in range(least, most + 1)
+            }
             counts = dict.fromkeys(weights, 0)
             for _ in range(20_000):
                 counts[chain.drawn(least, most, up, down)] += 1
@@ -204,7 +266,9 @@ class Totals(Case):
     def test_entropy_is_rounded_down_or_up(self):
         draw = random.Random(9)
         claims = {(a, b): draw.choice([0, 0, 0, 1, 1, 2, 3]) for a in range(25) for b in range(25) if a != b}
-        owes, owed = ([sum(claim for pair, claim in claims.items() if pair[place] == n) for n in range(25)] for place in (0, 1))
+        owes, owed = (
+            [sum(claim for pair, claim in claims.items() if pair[place] == n) for n in range(25)] for place in (0, 1)
+        )
         real = {pair: float(owes[pair[0]] * owed[pair[1]]) for pair in claims}
         for _ in range(200):
             for place, want in ((0, owes), (1, owed)):
@@ -212,7 +276,9 @@ class Totals(Case):
                 for pair, claim in real.items():
                     have[pair[place]] += claim
                 real = {pair: claim * want[pair[place]] / have[pair[place]] for pair, claim in real.items()}
-        self.made_of("bank,assets,liabilities,cash\n" + "".join(f"{n},{owed[n]},{owes[n]},{n % 3}\n" for n in range(25)))
+        self.made_of(
+            "bank,assets,liabilities,cash\n" + "".join(f"{n},{owed[n]},{owes[n]},{n % 3}\n" for n in range(25))
+        )
         debts = self.debts()
         for (a, b), claim in real.items():
             self.assertLess(abs(debts.get((str(a), str(b)), 0) - claim), 1, (a, b))
@@ -221,9 +287,14 @@ class Totals(Case):
         draw = random.Random(3)
         for banks, steps, rests in ((40, 100_000, True), (40, 1000, False), (300, 20_000, False), (40, 10, False)):
             lines = [f"N{n},{draw.randrange(1, 4000)},{draw.randrange(1, 4000)},1\n" for n in range(banks)]
-            told = self.made_of("bank,assets,liabilities,cash\n" + "".join(lines), "--method", "sample", "--steps", steps)
-            line, = [line for line in told.splitlines() if line.startswith("steps of the chain: ")]
-            self.assertRegex(line, rf"^steps of the chain: {steps:,}; [0-9,]+ claims in the third quarter of them, [0-9,]+ in the last")
+            told = self.made_of(
+                "bank,assets,liabilities,cash\n" + "".join(lines), "--method", "sample", "--steps", steps
+            )
+            (line,) = [line for line in told.splitlines() if line.startswith("steps of the chain: ")]
+            self.assertRegex(
+                line,
+                rf"^steps of the chain: {steps:,}; [0-9,]+ claims in the third quarter of them, [0-9,]+ in the last",
+            )
             self.assertEqual(line.endswith(": it has not come to rest, so say more --steps"), not rests, line)
 
     def test_a_chain_begins_with_about_as_many_claims_as_are_likely(self):
@@ -237,12 +308,18 @@ class Totals(Case):
             self.assertAlmostEqual(len(claims) / (size * (size - 1)), density, delta=density / 3)
             self.assertFalse([pair for pair, claim in claims.items() if pair[0] == pair[1] or claim < 1])
             for place, want in ((0, owes), (1, owed)):
-                self.assertEqual([sum(claim for pair, claim in claims.items() if pair[place] == n) for n in range(size)], want)
+                self.assertEqual(
+                    [sum(claim for pair, claim in claims.items() if pair[place] == n) for n in range(size)], want
+                )
 
     def test_samples_forget_where_the_chain_began(self):
         draw = random.Random(2)
-        claims = {(a, b): draw.randrange(1, 900) for a in range(20) for b in range(20) if a != b and draw.random() < 0.5}
-        owes, owed = ([sum(claim for pair, claim in claims.items() if pair[place] == n) for n in range(20)] for place in (0, 1))
+        claims = {
+            (a, b): draw.randrange(1, 900) for a in range(20) for b in range(20) if a != b and draw.random() < 0.5
+        }
+        owes, owed = (
+            [sum(claim for pair, claim in claims.items() if pair[place] == n) for n in range(20)] for place in (0, 1)
+        )
         table = "bank,assets,liabilities,cash\n" + "".join(f"N{n},{owed[n]},{owes[n]},1\n" for n in range(20))
         for density, steps in ((0.6, 3000), (0.2, 40_000)):
             self.made_of(table, "--method", "sample", "--samples", 5, "--density", density, "--steps", steps)
@@ -254,27 +331,66 @@ class Totals(Case):
         head = "bank,assets,liabilities,cash\n"
         told = "liabilities come to 30 and assets to 40: assets are 10 more; add a bank that stands for"
         self.refuse(told, head + "A,25,10,1\nB,15,20,1\n", "--no-rest")
-        self.refuse("row 2: A owes 20 and is owed 25, together 5 more than all claims, 40: no bank can owe itself", head + "A,25,20,1\nB,10,10,1\nC,5,10,1\n")
-        self.refuse("no column assets; it has claims, debts, cash; say --assets NAME", "bank,claims,debts,cash\nA,1,1,1\n")
-        self.refuse("row 2 column assets: 30.445: thousands or decimals?", head + "A,30.445,1,1\nB,1,30.445,1\n", "--round")
+        self.refuse(
+            "row 2: A owes 20 and is owed 25, together 5 more than all claims, 40: no bank can owe itself",
+            head + "A,25,20,1\nB,10,10,1\nC,5,10,1\n",
+        )
+        self.refuse(
+            "no column assets; it has claims, debts, cash; say --assets NAME", "bank,claims,debts,cash\nA,1,1,1\n"
+        )
+        self.refuse(
+            "row 2 column assets: 30.445: thousands or decimals?", head + "A,30.445,1,1\nB,1,30.445,1\n", "--round"
+        )
         self.refuse("1.5 is not a whole number of units", head + "A,1.5,1,1\nB,1,1.5,1\n")
         self.refuse("row 5: All is a row of totals", head + "A,10,20,1\nB,20,5,1\nC,5,10,7\nAll,35,35,9\n")
         # A line that is a sum but for one number that is near is one of totals, and no bank that doubles all claims.
-        for all_, column, says, others in (("1501,1500,30", "assets", "1,501", "1,500"), ("1500,1450,30", "liabilities", "1,450", "1,500"), ("1500,1500,33", "cash", "33", "30")):
+        for all_, column, says, others in (
+            ("1501,1500,30", "assets", "1,501", "1,500"),
+            ("1500,1450,30", "liabilities", "1,450", "1,500"),
+            ("1500,1500,33", "cash", "33", "30"),
+        ):
             table = f"{head}AT,700,600,10\nBE,300,400,20\nCH,500,500,0\nAll countries,{all_}\n"
-            self.refuse("row 5: All countries is a row of totals: each of its cells is the sum of the others but for what is told below", table)
-            told = f"row 5 column {column}: All countries says {says}, and the others come to {others}: correct the sheet"
+            self.refuse(
+                "row 5: All countries is a row of totals: each of its cells is the sum of the others but for what is "
+                "told below",
+                table,
+            )
+            told = (
+                f"row 5 column {column}: All countries says {says}, and the others come to {others}: correct the sheet"
+            )
             self.refuse(told, table)
             self.refuse(told, table, "--drop", "All countries")
-        self.refuse("all claims come to 40,000,000 units: 30,000,000 more than the most, 10,000,000", head + "A,20000000,20000000,1\nB,20000000,20000000,1\n")
-        self.refuse("a claim of 2,000,000 units, 1,000,000 more than the most", head + "A,2000000,2000000,1\nB,2000000,2000000,1\n")
+        self.refuse(
+            "all claims come to 40,000,000 units: 30,000,000 more than the most, 10,000,000",
+            head + "A,20000000,20000000,1\nB,20000000,20000000,1\n",
+        )
+        self.refuse(
+            "a claim of 2,000,000 units, 1,000,000 more than the most",
+            head + "A,2000000,2000000,1\nB,2000000,2000000,1\n",
+        )
         self.refuse("--samples is for sparse and sample", TABLE, "--samples", 2, status=2)
 
     def test_a_terminal_is_told_how_far_each_method_is(self):
-        for method, told in (("entropy", b"round of the fit 1 of "), ("sparse", b"run 1 of "), ("sample", b"per cent of the steps 1 of 100")):
+        for method, told in (
+            ("entropy", b"round of the fit 1 of "),
+            ("sparse", b"run 1 of "),
+            ("sample", b"per cent of the steps 1 of 100"),
+        ):
             main, other = pty.openpty()
-            words = [self.file("t.csv", TABLE), "--out", self.folder / "out", "--method", method, "--summary", self.folder / "summary.csv"]
-            running = subprocess.Popen([python_with("numpy"), str(ROOT / "tools/from_totals.py"), *map(str, words)], stdout=subprocess.DEVNULL, stderr=other)
+            words = [
+                self.file("t.csv", TABLE),
+                "--out",
+                self.folder / "out",
+                "--method",
+                method,
+                "--summary",
+                self.folder / "summary.csv",
+            ]
+            running = subprocess.Popen(
+                [python_with("numpy"), str(ROOT / "tools/from_totals.py"), *map(str, words)],
+                stdout=subprocess.DEVNULL,
+                stderr=other,
+            )
             os.close(other)
             said = b""
             with contextlib.suppress(OSError):
@@ -296,7 +412,9 @@ class Totals(Case):
         self.assertIn("130,000,075 in all; in units of 50; the largest rounding is 25, and 0 became 0\n", told)
         self.refuse_after("more than the most", table, "--unit", 20, "--round")
         # Rounding takes the two sums apart, and they are brought together.
-        told = self.made_of("bank,assets,liabilities,cash\nA,14,4,0\nB,14,14,0\nC,4,14,0\nD,0,0,10\n", "--unit", 10, "--round")
+        told = self.made_of(
+            "bank,assets,liabilities,cash\nA,14,4,0\nB,14,14,0\nC,4,14,0\nD,0,0,10\n", "--unit", 10, "--round"
+        )
         self.assertIn("32 in all; in units of 10;", told)
         self.assertIn("so that both sums are 3\n", told)
         self.assertEqual(sum(self.debts().values()), 3)
@@ -318,7 +436,9 @@ class Totals(Case):
 
     def test_names_of_every_character_come_through(self):
         for names in (ODD_NAMES, list(all_names(last=0xFFFF))[:200]):
-            names = [name for name in dict.fromkeys(name.strip(" ") for name in names) if name.casefold() not in ("total",)]
+            names = [
+                name for name in dict.fromkeys(name.strip(" ") for name in names) if name.casefold() not in ("total",)
+            ]
             rows = "".join(f"{name},{1 + (at == 0)},{1 + (at == 1)},{at}\n" for at, name in enumerate(names))
             self.made_of("bank,assets,liabilities,cash\n" + rows, "--method", "sparse", "--tries", 1)
             self.assertEqual({name for pair in self.debts() for name in pair}, set(names))
@@ -326,12 +446,21 @@ class Totals(Case):
     def test_sums_that_differ_make_a_bank(self):
         head = "bank,assets,liabilities,cash\n"
         told = self.made_of(head + "A,25,10,1\nB,15,20,1\n")
-        self.assertIn("banks for those who are not in the file: 1; 10 in all; rest of the world owes the others 10, and has as much cash, "
-                      "since liabilities come to 30 and assets to 40\n", told)
-        self.assertEqual((self.folder / "out/banks.csv").read_text(), "name,cash,rule\nA,1,webster\nB,1,webster\nrest of the world,10,webster\n")
+        self.assertIn(
+            "banks for those who are not in the file: 1; 10 in all; rest of the world owes the others 10, and has as "
+            "much cash, "
+            "since liabilities come to 30 and assets to 40\n",
+            told,
+        )
+        self.assertEqual(
+            (self.folder / "out/banks.csv").read_text(),
+            "name,cash,rule\nA,1,webster\nB,1,webster\nrest of the world,10,webster\n",
+        )
         self.assertEqual(sum(claim for (debtor, _), claim in self.debts().items() if debtor == "rest of the world"), 10)
         self.made_of(head + "A,10,25,1\nB,20,15,1\n", "--rest", "Abroad")
-        self.assertEqual((self.folder / "out/banks.csv").read_text(), "name,cash,rule\nA,1,webster\nB,1,webster\nAbroad,0,webster\n")
+        self.assertEqual(
+            (self.folder / "out/banks.csv").read_text(), "name,cash,rule\nA,1,webster\nB,1,webster\nAbroad,0,webster\n"
+        )
         self.assertEqual(sum(claim for (_, creditor), claim in self.debts().items() if creditor == "Abroad"), 10)
 
     def test_known_claims_stay(self):
@@ -341,10 +470,22 @@ class Totals(Case):
             self.assertIn("claims that are known, and stay: 3; 33 in all\n", told)
             debts = self.debts()
             self.check_totals(debts, TABLE)
-            self.assertEqual((debts.get(("A", "B")), debts.get(("C", "A")), debts.get(("D", "C"))), (31, None, 2), method)
+            self.assertEqual(
+                (debts.get(("A", "B")), debts.get(("C", "A")), debts.get(("D", "C"))), (31, None, 2), method
+            )
         shutil.rmtree(self.folder / "out")
-        self.refuse("no network has these totals with the known claims", TABLE, "--known", self.file("known.csv", "debtor,creditor,amount\nA,B,61\n"))
-        self.refuse("known.csv row 2: there is no bank X in the totals", TABLE, "--known", self.file("known.csv", "debtor,creditor,amount\nA,X,6\n"))
+        self.refuse(
+            "no network has these totals with the known claims",
+            TABLE,
+            "--known",
+            self.file("known.csv", "debtor,creditor,amount\nA,B,61\n"),
+        )
+        self.refuse(
+            "known.csv row 2: there is no bank X in the totals",
+            TABLE,
+            "--known",
+            self.file("known.csv", "debtor,creditor,amount\nA,X,6\n"),
+        )
 
     def test_too_many_claims_of_entropy_are_cut_with_their_totals_kept(self):
         many = "bank,assets,liabilities,cash\n" + "".join(f"N{n},{1000 + n},{1000 + n},{n % 7}\n" for n in range(143))
@@ -352,7 +493,11 @@ class Totals(Case):
         debts = self.debts()
         self.check_totals(debts, many)
         self.assertLessEqual(len(debts), 20_000)
-        self.assertRegex(told, "claims left out by --most: 306; [0-9,]+ in all; the largest [0-9]+; the others are fitted to the same totals\n")
+        self.assertRegex(
+            told,
+            "claims left out by --most: 306; [0-9,]+ in all; the largest [0-9]+; the others are fitted to the same "
+            "totals\n",
+        )
         told = self.made_of(TABLE, "--most", 8)
         self.assertLessEqual(len(self.debts()), 8)
         self.check_totals(self.debts(), TABLE)
@@ -360,7 +505,17 @@ class Totals(Case):
     def test_a_seed_makes_the_same_networks_for_good(self):
         # These claims stay as they are in each version and on each machine.
         sparse = {("A", "C"): 60, ("B", "A"): 60, ("B", "D"): 30, ("C", "A"): 40, ("D", "B"): 50, ("D", "C"): 10}
-        sample = {("A", "B"): 20, ("A", "C"): 10, ("A", "D"): 30, ("B", "A"): 42, ("B", "C"): 48, ("C", "A"): 40, ("D", "A"): 18, ("D", "B"): 30, ("D", "C"): 12}
+        sample = {
+            ("A", "B"): 20,
+            ("A", "C"): 10,
+            ("A", "D"): 30,
+            ("B", "A"): 42,
+            ("B", "C"): 48,
+            ("C", "A"): 40,
+            ("D", "A"): 18,
+            ("D", "B"): 30,
+            ("D", "C"): 12,
+        }
         for method, want in [("sparse", sparse), ("sample", sample)]:
             self.made_of(TABLE, "--method", method, "--seed", 5, "--steps", 500, "--density", 0.9)
             self.assertEqual(self.debts(), want)

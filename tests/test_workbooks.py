@@ -16,9 +16,13 @@ MATRIX = [["", "A", "B", "C", "cash"], ["A", 0, 6, 4, 3], ["B", 2, None, 8, 4], 
 
 
 def written(path, sheets, change=""):
-    """Writes a workbook by openpyxl: its sheets by their titles, each a list of rows; then a change in Python of `book`."""
+    """Writes a workbook by openpyxl: its sheets by their titles, each a list of rows; then a change in Python of
+    `book`."""
     script = f"import datetime, openpyxl\nbook = openpyxl.Workbook()\nbook.remove(book.active)\nsheets = {sheets!r}\n"
-    script += "for title, rows in sheets.items():\n    sheet = book.create_sheet(title)\n    for row in rows:\n        sheet.append(row)\n"
+    script += (
+        "for title, rows in sheets.items():\n    sheet = book.create_sheet(title)\n    for row in rows:\n"
+        "        sheet.append(row)\n"
+    )
     subprocess.run([PYTHON, "-c", f"{script}{change}\nbook.save({str(path)!r})"], check=True)
     return path
 
@@ -52,7 +56,11 @@ class Workbooks(Case):
     def test_the_sheet_is_asked_for_where_several_could_be_meant(self):
         rows = [["bank", "cash"], ["A", 3], ["B", 4], ["C", 5]]
         change = "book['Notes'].sheet_state = 'hidden'"
-        book = written(self.folder / "m.xlsx", {"Claims": [row[:4] for row in MATRIX], "Banks": rows, "Empty": [], "Notes": [["x", "y"]]}, change)
+        book = written(
+            self.folder / "m.xlsx",
+            {"Claims": [row[:4] for row in MATRIX], "Banks": rows, "Empty": [], "Notes": [["x", "y"]]},
+            change,
+        )
         self.refuse(f"{book} has the sheets Claims, Banks: which one is meant? say --sheet NAME", book, "--table", book)
         self.refuse("which one is meant? say --table-sheet NAME", book, "--table", book, "--sheet", "Claims")
         self.refuse(f"{book} has no sheet Claim; it has Claims, Banks, Empty, Notes", book, "--sheet", "Claim")
@@ -60,18 +68,29 @@ class Workbooks(Case):
         self.check()
 
     def test_a_number_is_itself_whatever_the_locale(self):
-        rows = [["", "A", "B", "C", "cash"], ["A", 0, 12.345, "1,5", 3], ["B", 30.445, 0, 0.1 + 0.2, 4], ["C", 1e3, 1e-3, 0, 5]]
+        rows = [
+            ["", "A", "B", "C", "cash"],
+            ["A", 0, 12.345, "1,5", 3],
+            ["B", 30.445, 0, 0.1 + 0.2, 4],
+            ["C", 1e3, 1e-3, 0, 5],
+        ]
         change = "book['S']['B3'].number_format = '#.##0,00'"
         self.take(written(self.folder / "m.xlsx", {"S": rows}, change), "--unit", "0.001", "--decimal", ",")
-        self.check("name,cash,rule\nA,3000,webster\nB,4000,webster\nC,5000,webster\n",
-                   "debtor,creditor,class,claim\nA,B,1,12345\nA,C,1,1500\nB,A,1,30445\nB,C,1,300\nC,A,1,1000000\nC,B,1,1\n")
+        self.check(
+            "name,cash,rule\nA,3000,webster\nB,4000,webster\nC,5000,webster\n",
+            "debtor,creditor,class,claim\nA,B,1,12345\nA,C,1,1500\nB,A,1,30445\nB,C,1,300\nC,A,1,1000000\nC,B,1,1\n",
+        )
 
     def test_what_is_no_number_is_refused_with_its_cell(self):
         for value, change, told in [
             (datetime.date(2025, 12, 31), "", "C2 (column B): '2025-12-31' is a date, and no amount"),
             ("#DIV/0!", "", "C2 (column B): '#DIV/0!' is the error of a formula"),
             (True, "", "C2 (column B): 'TRUE' is true or false, and no amount"),
-            (0.5, "book['S']['C2'].number_format = '0%'", "C2 (column B): '0.5' is shown in per cent, and is no amount"),
+            (
+                0.5,
+                "book['S']['C2'].number_format = '0%'",
+                "C2 (column B): '0.5' is shown in per cent, and is no amount",
+            ),
             (-5, "", "C2 (column B): '-5' is below 0"),
             ("six", "", "C2 (column B): 'six' is not an amount"),
         ]:
@@ -86,19 +105,45 @@ class Workbooks(Case):
     def test_two_currencies_of_number_formats_are_refused(self):
         change = "book['S']['C2'].number_format = '[$€-407] #,##0.00'; book['S']['D2'].number_format = '[$$-409]#,##0'"
         book = written(self.folder / "m.xlsx", {"S": MATRIX}, change)
-        self.refuse(f"{book} sheet S D2 (column C): '4' is of another currency than '6': $, not EUR; convert all amounts to one", book)
+        self.refuse(
+            f"{book} sheet S D2 (column C): '4' is of another currency than '6': $, not EUR; convert all amounts to "
+            "one",
+            book,
+        )
 
     def test_a_formula_without_a_value_is_refused_and_one_with_a_value_is_read(self):
         book = written(self.folder / "m.xlsx", {"S": MATRIX}, "book['S']['C2'] = '=2*3'")
-        self.refuse(f"{book} sheet S C2: a formula whose value is not kept (1 in all); open it in a spreadsheet and save it", book)
+        self.refuse(
+            f"{book} sheet S C2: a formula whose value is not kept (1 in all); open it in a spreadsheet and save it",
+            book,
+        )
 
     @needs("soffice")
     def test_what_libreoffice_saves_is_read(self):
-        book = written(self.folder / "m.xlsx", {"S": MATRIX, "Other": [["x", "y"], [1, 2]]}, "book['S']['C2'] = '=2*3'; book['S']['D2'] = '=B3+2'")
+        book = written(
+            self.folder / "m.xlsx",
+            {"S": MATRIX, "Other": [["x", "y"], [1, 2]]},
+            "book['S']['C2'] = '=2*3'; book['S']['D2'] = '=B3+2'",
+        )
         for kind in ("xlsx", "ods"):
             made = self.folder / "made"
-            subprocess.run(["nice", "-n", "10", "soffice", f"-env:UserInstallation=file://{self.folder}/profile", "--headless", "--convert-to", kind, "--outdir", made, book],
-                           check=True, capture_output=True)
+            subprocess.run(
+                [
+                    "nice",
+                    "-n",
+                    "10",
+                    "soffice",
+                    f"-env:UserInstallation=file://{self.folder}/profile",
+                    "--headless",
+                    "--convert-to",
+                    kind,
+                    "--outdir",
+                    made,
+                    book,
+                ],
+                check=True,
+                capture_output=True,
+            )
             with self.subTest(kind=kind):
                 if kind == "ods" and not python_with("odf", "openpyxl"):
                     self.skipTest("no Python here has odf and openpyxl")
@@ -108,41 +153,82 @@ class Workbooks(Case):
     @needs("soffice")
     def test_what_libreoffice_exports_in_each_locale_is_read(self):
         # How each locale shows a number: a format of the workbook, and what then stands in the sheet.
-        shown = {"de": ("[$-407]#,##0.00", "123.456,75"), "fr": ("[$-40C]#,##0.00", "123[\u00a0\u202f]456,75"), "ch": ("[$-807]#,##0.00", "123['\u2019]456.75"),
-                 "us": ("[$-409]#,##0.00", "123,456.75"), "in": ("[$-4009]#,##,##0.00", "1,23,456.75")}
-        rows = [["", "Crédit", "B", "C", "cash"], ["Crédit", 0, 123456.75, 0.5, 1000], ["B", 4321.25, 0, 7, 2000], ["C", 1234.5, 3.75, 0, 12345]]
-        change = "for line in book['S'].iter_rows(min_row=2, min_col=2):\n    for cell in line:\n        cell.number_format = "
-        books = [written(self.folder / f"{locale}.xlsx", {"S": rows}, f"{change}{form!r}") for locale, (form, _) in shown.items()]
+        shown = {
+            "de": ("[$-407]#,##0.00", "123.456,75"),
+            "fr": ("[$-40C]#,##0.00", "123[\u00a0\u202f]456,75"),
+            "ch": ("[$-807]#,##0.00", "123['\u2019]456.75"),
+            "us": ("[$-409]#,##0.00", "123,456.75"),
+            "in": ("[$-4009]#,##,##0.00", "1,23,456.75"),
+        }
+        rows = [
+            ["", "Crédit", "B", "C", "cash"],
+            ["Crédit", 0, 123456.75, 0.5, 1000],
+            ["B", 4321.25, 0, 7, 2000],
+            ["C", 1234.5, 3.75, 0, 12345],
+        ]
+        change = (
+            "for line in book['S'].iter_rows(min_row=2, min_col=2):\n    for cell in line:\n"
+            "        cell.number_format = "
+        )
+        books = [
+            written(self.folder / f"{locale}.xlsx", {"S": rows}, f"{change}{form!r}")
+            for locale, (form, _) in shown.items()
+        ]
         for charset, encoding in ((76, "utf-8"), (65535, "utf-16")):
             made = self.folder / encoding
             how = f"csv:Text - txt - csv (StarCalc):59,34,{charset},1,,0,false,false,true,false"
-            subprocess.run(["nice", "-n", "10", "soffice", f"-env:UserInstallation=file://{self.folder}/profile", "--headless", "--convert-to", how, "--outdir", made, *books],
-                           check=True, capture_output=True)
+            subprocess.run(
+                [
+                    "nice",
+                    "-n",
+                    "10",
+                    "soffice",
+                    f"-env:UserInstallation=file://{self.folder}/profile",
+                    "--headless",
+                    "--convert-to",
+                    how,
+                    "--outdir",
+                    made,
+                    *books,
+                ],
+                check=True,
+                capture_output=True,
+            )
             for locale, (_, want) in shown.items():
                 with self.subTest(locale=locale, encoding=encoding):
                     self.assertRegex((made / f"{locale}.csv").read_text(encoding), want)
                     told = self.take(made / f"{locale}.csv", "--unit", "0.25")
                     self.assertIn("debts made: 6; 129,023.75 in all; in units of 0.25: 516,095\n", told)
-                    self.check("name,cash,rule\nCrédit,4000,webster\nB,8000,webster\nC,49380,webster\n",
-                               "debtor,creditor,class,claim\nCrédit,B,1,493827\nCrédit,C,1,2\nB,Crédit,1,17285\nB,C,1,28\nC,Crédit,1,4938\nC,B,1,15\n")
+                    self.check(
+                        "name,cash,rule\nCrédit,4000,webster\nB,8000,webster\nC,49380,webster\n",
+                        "debtor,creditor,class,claim\nCrédit,B,1,493827\nCrédit,C,1,2\nB,Crédit,1,17285\nB,C,1,28\n"
+                        "C,Crédit,1,4938\nC,B,1,15\n",
+                    )
 
     def test_a_date_that_is_not_looked_at_is_no_fault(self):
-        rows = [["day", "debtor", "creditor", "amount"], [datetime.date(2025, 12, 31), "A", "B", 5], [datetime.date(2025, 9, 30), "A", "B", 7]]
+        rows = [
+            ["day", "debtor", "creditor", "amount"],
+            [datetime.date(2025, 12, 31), "A", "B", 5],
+            [datetime.date(2025, 9, 30), "A", "B", 7],
+        ]
         listed = written(self.folder / "l.xlsx", {"S": rows})
         table = self.file("t.csv", "bank,cash\nA,1\nB,2\n")
         self.take(listed, "--table", table, "--where", "day=2025-12-31", name="from_list.py")
         self.check("name,cash,rule\nA,1,webster\nB,2,webster\n", "debtor,creditor,class,claim\nA,B,1,5\n")
 
     def test_bombs_are_refused(self):
-        from clearing_tools.imports import books
+        from clearing_tools.imports import book_scan
+
         book = self.folder / "m.xlsx"
         written(book, {"S": MATRIX})
         parts = {info.filename: zipfile.ZipFile(book).read(info) for info in zipfile.ZipFile(book).infolist()}
         name = "xl/worksheets/sheet1.xml"
-        deep = b"<x>" * (books.MAX_DEPTH + 1) + b"</x>" * (books.MAX_DEPTH + 1)
+        deep = b"<x>" * (book_scan.MAX_DEPTH + 1) + b"</x>" * (book_scan.MAX_DEPTH + 1)
         laughs = b'<!DOCTYPE x [<!ENTITY a "ha"><!ENTITY b "&a;&a;">]><x>&b;</x>'
         for content, told in [
-            (deep, f"nests deeper than {books.MAX_DEPTH}"), (laughs, "declares a type of document"), (b"<worksheet>", f"its part {name} is no XML"),
+            (deep, f"nests deeper than {book_scan.MAX_DEPTH}"),
+            (laughs, "declares a type of document"),
+            (b"<worksheet>", f"its part {name} is no XML"),
         ]:
             self.made_of(book, {**parts, name: content})
             self.refuse(f"{book}{':' if 'XML' in told else ''} {told}", book)
@@ -150,7 +236,7 @@ class Workbooks(Case):
             for part, content in parts.items():
                 archive.writestr(part, content)
             with archive.open("xl/media/x.bin", "w", force_zip64=True) as file:
-                for _ in range(books.MAX_UNPACKED // (1 << 24) + 1):
+                for _ in range(book_scan.MAX_UNPACKED // (1 << 24) + 1):
                     file.write(bytes(1 << 24))
         self.refuse("would unpack to", book)
         self.made_of(book, parts, whole=False)
@@ -165,8 +251,16 @@ class Workbooks(Case):
         parts = {info.filename: archive.read(info) for info in archive.infolist()}
         late = "".join(f'<row r="{row}"><c r="XFD{row}" s="0"/></row>' for row in range(5, 305))
         for old, new, told in [
-            ("</sheetData>", '<row r="999999999999"><c r="A999999999999"><v>1</v></c></row></sheetData>', "has a row 999999999999 behind row 4; rows rise to 1,048,576"),
-            ("</sheetData>", '<row r="5"><c r="AAAA5"><v>1</v></c></row></sheetData>', "has a cell AAAA5 behind column none; columns rise to XFD"),
+            (
+                "</sheetData>",
+                '<row r="999999999999"><c r="A999999999999"><v>1</v></c></row></sheetData>',
+                "has a row 999999999999 behind row 4; rows rise to 1,048,576",
+            ),
+            (
+                "</sheetData>",
+                '<row r="5"><c r="AAAA5"><v>1</v></c></row></sheetData>',
+                "has a cell AAAA5 behind column none; columns rise to XFD",
+            ),
             ("</sheetData>", f"{late}</sheetData>", "has more than 4,000,000 cells"),
             # What the library would pass over.
             ('<row r="4"', '<row r="2"', "has a row 2 behind row 3"),
@@ -180,12 +274,18 @@ class Workbooks(Case):
     @needs_modules("openpyxl", "odf")
     def test_comments_and_blanks_of_a_cell_are_no_part_of_a_name(self):
         script = (
-            "import sys\nfrom odf import office, opendocument, table, text\nbook = opendocument.OpenDocumentSpreadsheet()\nsheet = table.Table(name='S')\n"
-            "book.spreadsheet.addElement(sheet)\nfor record in ROWS:\n    row = table.TableRow()\n    sheet.addElement(row)\n    for value in record:\n"
-            "        cell = table.TableCell(valuetype='string') if isinstance(value, str) else table.TableCell(valuetype='float', value=value)\n"
-            "        note = office.Annotation()\n        note.addElement(text.P(text='seen by X'))\n        cell.addElement(note)\n"
-            "        line = text.P(text=str(value))\n        line.addElement(text.S(c=BLANKS))\n        cell.addElement(line)\n        row.addElement(cell)\n"
-            "book.save(sys.argv[1])\n")
+            "import sys\nfrom odf import office, opendocument, table, text\n"
+            "book = opendocument.OpenDocumentSpreadsheet()\nsheet = table.Table(name='S')\n"
+            "book.spreadsheet.addElement(sheet)\nfor record in ROWS:\n    row = table.TableRow()\n"
+            "    sheet.addElement(row)\n    for value in record:\n"
+            "        cell = table.TableCell(valuetype='string') if isinstance(value, str) else "
+            "table.TableCell(valuetype='float', value=value)\n"
+            "        note = office.Annotation()\n        note.addElement(text.P(text='seen by X'))\n"
+            "        cell.addElement(note)\n"
+            "        line = text.P(text=str(value))\n        line.addElement(text.S(c=BLANKS))\n"
+            "        cell.addElement(line)\n        row.addElement(cell)\n"
+            "book.save(sys.argv[1])\n"
+        )
         rows = [[value or 0 if at else value for at, value in enumerate(row)] if row[0] else row for row in MATRIX]
         python, book = python_with("openpyxl", "odf"), self.folder / "m.ods"
         for blanks, told in ((3, None), (2_000_000_000, f"{book} has more than 10,000,000 blanks")):
@@ -209,7 +309,10 @@ class Workbooks(Case):
         script.chmod(0o755)
         done = tool("from_matrix.py", book, *self.files, python=str(script))
         self.assertEqual((done.returncode, done.stdout), (2, ""))
-        self.assertRegex(done.stderr, rf"has no openpyxl, which reads {re.escape(str(book))} \(Debian's package python3-openpyxl is for")
+        self.assertRegex(
+            done.stderr,
+            rf"has no openpyxl, which reads {re.escape(str(book))} \(Debian's package python3-openpyxl is for",
+        )
 
 
 @needs_modules("openpyxl")
@@ -219,9 +322,15 @@ class Made(Case):
     HUB = ["--banks", ROOT / "examples/hub/banks.csv", "--debts", ROOT / "examples/hub/debts.csv"]
 
     def sheets(self, path):
-        """The sheets of a workbook by their titles: what stands in the pane that is frozen, and the rows, each cell its kind and value."""
-        script = "import json, openpyxl, sys\nbook = openpyxl.load_workbook(sys.argv[1])\nprint(json.dumps({sheet.title: "
-        script += "[sheet.freeze_panes, [[[cell.data_type, str(cell.value)] for cell in row] for row in sheet.rows]] for sheet in book}))\n"
+        """The sheets of a workbook by their titles: what stands in the pane that is frozen, and the rows, each cell its
+        kind and value."""
+        script = (
+            "import json, openpyxl, sys\nbook = openpyxl.load_workbook(sys.argv[1])\nprint(json.dumps({sheet.title: "
+        )
+        script += (
+            "[sheet.freeze_panes, [[[cell.data_type, str(cell.value)] for cell in row] for row in sheet.rows]] for "
+            "sheet in book}))\n"
+        )
         return json.loads(subprocess.run([PYTHON, "-c", script, path], check=True, capture_output=True).stdout)
 
     def test_tidy_tables_are_sheets_of_one_workbook(self):
@@ -233,7 +342,10 @@ class Made(Case):
         self.assertEqual([f"{self.folder}/d-{title}.csv" for title in sheets], made)
         for path, (frozen, rows) in zip(made, sheets.values()):
             lines = pathlib.Path(path).read_text(encoding="utf-8").splitlines()
-            self.assertEqual(([[cell[1].replace("None", "") for cell in row] for row in rows], frozen), ([line.split(",") for line in lines], "A2"))
+            self.assertEqual(
+                ([[cell[1].replace("None", "") for cell in row] for row in rows], frozen),
+                ([line.split(",") for line in lines], "A2"),
+            )
         # Amounts are numbers, names and states texts; the same tables make the same bytes.
         self.assertEqual([cell[0] for cell in sheets["standings"][1][1]], ["s", "n", "n", "n", "n", "n", "s"])
         first = book.read_bytes()
@@ -245,15 +357,23 @@ class Made(Case):
 
     def test_names_that_look_like_formulas_are_text(self):
         names = ["=1+1", "@SUM(A1)", "+1", "-2", "1e3", "007", "A\u202eB"]
-        banks = self.file("b.csv", "name,cash,rule\n" + "".join(f"{name},{at},order\n" for at, name in enumerate(names)))
-        debts = self.file("e.csv", "debtor,creditor,class,claim\n" + "".join(f"{a},{b},1,3\n" for a, b in zip(names, names[1:])))
-        text, book = self.file("p.csv", self.printed("clear", "--banks", banks, "--debts", debts)), self.folder / "p.xlsx"
+        banks = self.file(
+            "b.csv", "name,cash,rule\n" + "".join(f"{name},{at},order\n" for at, name in enumerate(names))
+        )
+        debts = self.file(
+            "e.csv", "debtor,creditor,class,claim\n" + "".join(f"{a},{b},1,3\n" for a, b in zip(names, names[1:]))
+        )
+        text, book = (
+            self.file("p.csv", self.printed("clear", "--banks", banks, "--debts", debts)),
+            self.folder / "p.xlsx",
+        )
         self.assertEqual(tool("tidy.py", text, "--out", book, python=PYTHON).returncode, 0)
         self.assertEqual([row[0] for row in self.sheets(book)["payments"][1][1:]], [["s", name] for name in names[:-1]])
 
     def test_analyses_write_a_workbook_by_its_ending(self):
         for words, sheets in [
-            (["breaking.py", *self.HUB, "--output"], ["table"]), (["rescues.py", *self.HUB, "--output"], ["table"]),
+            (["breaking.py", *self.HUB, "--output"], ["table"]),
+            (["rescues.py", *self.HUB, "--output"], ["table"]),
             (["impact.py", *self.HUB, "--ranking"], ["table"]),
         ]:
             book = self.folder / "a.xlsx"
@@ -262,7 +382,11 @@ class Made(Case):
             plain = tool(*words[:-1]).stdout.splitlines()
             made = self.sheets(book)
             self.assertEqual(list(made), sheets)
-            self.assertEqual([[cell[1].replace("None", "") for cell in row] for row in made["table"][1]], [line.split(",") for line in plain], words[0])
+            self.assertEqual(
+                [[cell[1].replace("None", "") for cell in row] for row in made["table"][1]],
+                [line.split(",") for line in plain],
+                words[0],
+            )
             self.assertIn("n", {cell[0] for cell in made["table"][1][1][1:]})
 
     def test_a_matrix_of_a_workbook_is_read_back(self):
@@ -272,7 +396,9 @@ class Made(Case):
             self.assertEqual((done.returncode, done.stdout, done.stderr), (0, "", ""))
             self.assertIn("n", {cell[0] for cell in self.sheets(book)["matrix"][1][1][1:]})
             self.told("from_matrix.py", book, *files, *unit, python=PYTHON)
-            self.assertEqual(self.printed("check", *files).splitlines()[:4], self.printed("check", *self.HUB).splitlines()[:4])
+            self.assertEqual(
+                self.printed("check", *files).splitlines()[:4], self.printed("check", *self.HUB).splitlines()[:4]
+            )
 
     def test_without_openpyxl_nothing_is_written(self):
         script = self.file("python", f'#!/bin/sh\nexec "{sys.executable}" -S "$@"\n')

@@ -12,7 +12,8 @@
 # In:   JOBS, a file with a line for each job: its name, then the words of the program, with a tab between any two. Names differ, and
 #       are made of letters, digits, `.`, `_` and `-`. Lines end with LF or CR LF; a line without a byte is no job. Names of files in it
 #       are from the folder that the command is run in. The environment variable CLEARING names the program, the repository's where it is
-#       not set.
+#       not set. The words `--case FOLDER` stand for the banks file and the debts file of a case, and for its scenarios in a job of
+#       stress or outcomes, as far as the job names no such file itself.
 # Out:  in FOLDER, for each job, NAME.out with what it prints, where its status is 0, or 7 (a journal that is not lawful and complete),
 #       and beside it NAME.job with its words and the SHA-256 checksums of the program and of the files that it reads; else
 #       NAME.failed with the status and the message, and no NAME.out. `run` ends with a line of counts: of the jobs whose result
@@ -40,7 +41,7 @@ self=$(realpath -- "$0")
 root=$(dirname -- "$(dirname -- "$self")")
 program=${CLEARING:-$root/clearing}
 
-help() { sed -n '2,32s/^# \{0,1\}//p' "$self"; }
+help() { sed -n '2,33s/^# \{0,1\}//p' "$self"; }
 
 # A text in one line without what moves a terminal, or turns its letters round.
 shown() {
@@ -84,6 +85,12 @@ key_of() { # the words
         esac
         before=$word
     done
+}
+
+# Tells in a line of a file of a case that is not the one that was described.
+tell_other() { # the folder, the file
+    [ ! -f "$1/datapackage.json" ] || grep -qF "\"sha256:$(sum_of "$1/$2")\"" <"$1/datapackage.json" ||
+        printf 'case: %s is not the file that was described\n' "$(shown "$1/$2")" >&2
 }
 
 # Who may not read the files that the words name may not read what is made of them.
@@ -130,6 +137,33 @@ one() { # its line
     # The words of the line, split at its tabs alone.
     set -- ${line#*	}
     unset IFS
+    # The files of a case in its place, behind the other words.
+    case_at= said= is_next= task=$1
+    for word; do
+        shift
+        if [ -n "$is_next" ]; then
+            case_at=$word is_next=
+            continue
+        fi
+        case $word in
+        --case) is_next=1; continue ;;
+        --case=*) case_at=${word#*=}; continue ;;
+        --banks | --banks=* | --debts | --debts=* | --scenarios | --scenarios=*) said="$said ${word%%=*}" ;;
+        esac
+        set -- "$@" "$word"
+    done
+    if [ -n "$case_at" ]; then
+        for what in banks debts scenarios; do
+            case "$said " in *" --$what "*) continue ;; esac
+            file=$what.csv
+            if [ "$what" = scenarios ]; then
+                file=scenarios.toml
+                case $task in stress | outcomes) [ -f "$case_at/$file" ] || continue ;; *) continue ;; esac
+            fi
+            tell_other "$case_at" "$file"
+            set -- "$@" "--$what=$case_at/$file"
+        done
+    fi
     key=$(key_of "$@")
     keep_private "$@"
     # What is there already is no place to write to.

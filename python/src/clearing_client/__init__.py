@@ -55,6 +55,22 @@ for each debt, `.to_networkx()`, `.to_matrix()` and, without numpy, `.to_lists()
 >>> net.clear().to_lists()
 [[0, 19, 9, 0], [0, 0, 20, 4], [8, 0, 0, 0], [0, 0, 0, 0]]
 
+A case
+------
+A folder with the two files and what belongs to them: what a unit is worth in which currency, the
+date, the names, where it all comes from:
+
+>>> case = cc.Case(net, title="Four banks", unit="1000", currency="EUR", as_of="2026-01-31")
+>>> case.amount(45)
+Decimal('45000')
+
+`case.write("four-banks")` writes it, and `Case.read("four-banks")` reads it back; `.network`,
+`.labels` and `.notes` are what it has. Importers write cases too, by `--case FOLDER`.
+
+`compare(before, after)` puts two cases side by side, `ensemble(cases, tasks)` says what tasks say over many
+networks, and `stands(case)` which banks are elsewhere where unit, order, rule, classes or costs are varied.
+`unsteady(case)` has the banks that one unit decides.
+
 The tables and their columns; amounts are units, and a table has a place for each debt or each
 bank, in the order of the files:
 
@@ -138,6 +154,7 @@ OutOfMemoryError   6, want of memory
 NoProgramError     8, or none: there is no program, or it cannot be built
 StatusError        any other: it was ended by a signal, or is another program
 SheetError         none: a sheet makes no network
+CaseError          none: a folder is no case, or is written over
 TableError         none: a table cannot be written as a file, as an amount is not whole
 TextError          none: a text is not one that the program prints, or an answer on another network
 OutOfTimeError     none: a run took longer than its `timeout`, in seconds, and was ended
@@ -156,6 +173,20 @@ The program is the one that the environment variable CLEARING names; else the on
 package, where that has one; else that of the repository or the installation that the package stands in, which a
 repository builds first where it is not built yet; else `clearing` on the path, whose absolute entries alone count.
 """
+from .case import Case
+from .case import ImportLine as ImportLine
+from .case import ImportSummary as ImportSummary
+from .case import Label as Label
+from .case import Origin as Origin
+from .case import Source as Source
+from .compare import Comparison as Comparison
+from .compare import Difference as Difference
+from .compare import compare
+from .ensemble import Ensemble as Ensemble
+from .ensemble import Share as Share
+from .ensemble import Spread as Spread
+from .ensemble import ensemble
+from .errors import CaseError as CaseError
 from .errors import ClearingError as ClearingError
 from .errors import MissingPackageError as MissingPackageError
 from .errors import NoProgramError as NoProgramError
@@ -209,17 +240,26 @@ from .results import Result as Result
 from .results import Stress as Stress
 from .results import Verdict as Verdict
 from .scenarios import Scenario, Scenarios
+from .stands import Stands as Stands
+from .stands import stands
+from .steady import Place as Place
+from .steady import unsteady
 from .table import Table
 
 # What `help` shows in full. Records, results and exceptions are in modules of their own, and public all the same.
 __all__ = [
+    "Case",
     "Network",
     "Scenario",
     "Scenarios",
     "Table",
+    "compare",
+    "ensemble",
     "find_program",
     "generate",
     "map_outcomes",
     "map_stress",
     "read",
+    "stands",
+    "unsteady",
 ]

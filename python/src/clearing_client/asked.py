@@ -9,8 +9,23 @@ from typing import Any, Dict, Iterator, List, Optional, Sequence, Tuple, Type, U
 
 from .errors import TextError
 from .records import (
-    Bank, BankCounts, Bound, BreakingCut, CostBound, CostStanding, Debt, Harm, Payment, Raise, Rank, Ruin, Saved,
-    Saving, ScenarioSums, Standing, Wave,
+    Bank,
+    BankCounts,
+    Bound,
+    BreakingCut,
+    CostBound,
+    CostStanding,
+    Debt,
+    Harm,
+    Payment,
+    Raise,
+    Rank,
+    Ruin,
+    Saved,
+    Saving,
+    ScenarioSums,
+    Standing,
+    Wave,
 )
 from .results import Clearing, Compression, Outcomes, Rescue, Result, Stress, Verdict
 from .scenarios import Scenarios
@@ -21,7 +36,10 @@ OF_DEBTS: Tuple[Type[Any], ...] = (Payment, Bound)
 OF_BANKS: Tuple[Type[Any], ...] = (Standing, CostStanding, CostBound, BreakingCut, Ruin, Wave, BankCounts)
 # Tables of some banks, with the columns that name them.
 OF_SOME: Dict[Type[Any], Tuple[str, ...]] = {
-    Saving: ("bank",), Saved: ("bank", "saves"), Harm: ("bank", "of"), Rank: ("bank",),
+    Saving: ("bank",),
+    Saved: ("bank", "saves"),
+    Harm: ("bank", "of"),
+    Rank: ("bank",),
 }
 DEBT = ("debtor", "creditor", "class")
 

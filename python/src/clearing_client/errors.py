@@ -44,6 +44,15 @@ class SheetError(ClearingError, ValueError):
         super().__init__("\n".join(self.faults))
 
 
+class CaseError(ClearingError, ValueError):
+    """A folder that is no case, or that is written over. `key` is the key of its description that is wrong, such as
+    `clearing.unit`, empty where it is none of them."""
+
+    def __init__(self, folder: str, key: str, what: str) -> None:
+        self.folder, self.key, self.what = folder, key, what
+        super().__init__(": ".join(part for part in (folder, key, what) if part))
+
+
 class UsageError(ClearingError, ValueError):
     """Status 2: the program does not understand the words, such as a number of workers outside 1 to 64."""
 

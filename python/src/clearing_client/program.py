@@ -27,9 +27,7 @@ from .errors import (
     UsageError,
 )
 
-FAULT = re.compile(
-    r"clearing: (banks|debts|scenarios|journal|words) row ([0-9]{1,20}): (.{1,100}) \(([0-9]{1,3})\)\n"
-)
+FAULT = re.compile(r"clearing: (banks|debts|scenarios|journal|words) row ([0-9]{1,20}): (.{1,100}) \(([0-9]{1,3})\)\n")
 CANNOT_READ = re.compile(r"clearing: cannot read (.*)\n", re.DOTALL)
 BUILDS = (b"clearing: building ", b"clearing: proving ")
 
@@ -166,32 +164,48 @@ def started(
     # Names are UTF-8 for the program, whatever the locale says; names of files are bytes already.
     line = [os.fsencode(program), *(word if isinstance(word, bytes) else word.encode() for word in words)]
     messages: List[bytes] = []
+    with contextlib.ExitStack() as ending:
+        with signals_wait():
+            try:
+                process = subprocess.Popen(
+                    line, stdin=subprocess.DEVNULL, stdout=subprocess.PIPE, stderr=subprocess.PIPE, pass_fds=files
+                )
+            except OSError as fault:
+                raise NoProgramError(f"{program} cannot be started: {fault.strerror}") from fault
+            ending.enter_context(process)
+            ending.push(lambda kind, *_: process.kill() if kind else None)
+        assert process.stdout is not None and process.stderr is not None
+        listener = threading.Thread(target=listen, args=(process.stderr, messages), daemon=True)
+        deadline = Deadline(process, timeout)
+        if deadline.timer is not None:
+            ending.callback(deadline.timer.cancel)
+
+        def end() -> Tuple[int, str]:
+            listener.join()
+            status = process.wait()
+            deadline.stop()
+            return status, b"".join(messages).decode("utf-8", "replace")
+
+        listener.start()
+        yield process.stdout, end
+
+
+@contextlib.contextmanager
+def signals_wait() -> Iterator[None]:
+    """What a signal does in the main thread is done at the end of the block. `Popen` leaves a process that nobody knows
+    where an interrupt comes while it begins one."""
+    asked = (signal.SIGINT, signal.SIGTERM, signal.SIGHUP)
+    here = threading.current_thread() is threading.main_thread()
+    numbers = [number for number in asked if here and callable(signal.getsignal(number))]
+    came: List[int] = []
+    before = {number: signal.signal(number, lambda which, _: came.append(which)) for number in numbers}
     try:
-        process = subprocess.Popen(
-            line, stdin=subprocess.DEVNULL, stdout=subprocess.PIPE, stderr=subprocess.PIPE, pass_fds=files
-        )
-    except OSError as fault:
-        raise NoProgramError(f"{program} cannot be started: {fault.strerror}") from fault
-    assert process.stdout is not None and process.stderr is not None
-    listener = threading.Thread(target=listen, args=(process.stderr, messages), daemon=True)
-    deadline = Deadline(process, timeout)
-
-    def end() -> Tuple[int, str]:
-        listener.join()
-        status = process.wait()
-        deadline.stop()
-        return status, b"".join(messages).decode("utf-8", "replace")
-
-    with process:
-        try:
-            listener.start()
-            yield process.stdout, end
-        except BaseException:
-            process.kill()
-            raise
-        finally:
-            if deadline.timer is not None:
-                deadline.timer.cancel()
+        yield
+    finally:
+        for number, handler in before.items():
+            signal.signal(number, handler)
+        for which in came:
+            signal.raise_signal(which)
 
 
 def listen(stream: IO[bytes], messages: List[bytes]) -> None:

@@ -107,9 +107,13 @@ class Scenarios(Sequence[Scenario]):
         return cls([Scenario(f"cut {cut}", cut) for cut in (whole(one, 0, "cut") for one in cuts)])
 
     @overload
-    def __getitem__(self, place: int) -> Scenario: ...
+    def __getitem__(self, place: int) -> Scenario:
+        ...
+
     @overload
-    def __getitem__(self, place: slice) -> "Scenarios": ...
+    def __getitem__(self, place: slice) -> "Scenarios":
+        ...
+
     def __getitem__(self, place: Union[int, slice]) -> "Union[Scenario, Scenarios]":
         return Scenarios(self._all[place]) if isinstance(place, slice) else self._all[place]
 

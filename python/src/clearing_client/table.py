@@ -65,9 +65,13 @@ class Table(Sequence[R]):
         return (self._record(*values) for values in zip(*self._values))
 
     @overload
-    def __getitem__(self, place: int) -> R: ...
+    def __getitem__(self, place: int) -> R:
+        ...
+
     @overload
-    def __getitem__(self, place: slice) -> "Table[R]": ...
+    def __getitem__(self, place: slice) -> "Table[R]":
+        ...
+
     def __getitem__(self, place: Union[int, slice]) -> "Union[R, Table[R]]":
         if isinstance(place, slice):
             return Table(self._record, [column[place] for column in self._values])

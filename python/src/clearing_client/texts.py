@@ -8,7 +8,18 @@ from __future__ import annotations
 
 import sys
 from typing import (
-    Any, Callable, Dict, Iterable, Iterator, List, Optional, Sequence, Tuple, Type, TypeVar, get_type_hints,
+    Any,
+    Callable,
+    Dict,
+    Iterable,
+    Iterator,
+    List,
+    Optional,
+    Sequence,
+    Tuple,
+    Type,
+    TypeVar,
+    get_type_hints,
 )
 
 from .errors import TextError

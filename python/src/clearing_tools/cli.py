@@ -3,7 +3,7 @@ import argparse
 import os
 from typing import Any, Callable, List, NoReturn, Optional, Sequence
 
-from . import files
+from . import cases, files
 from .runner import Failed, same_file, shown
 
 
@@ -32,6 +32,13 @@ def files_parser(doc: Optional[str]) -> argparse.ArgumentParser:
     parser = parser_of(doc)
     parser.add_argument("--banks", metavar="FILE", required=True, help="the banks file")
     parser.add_argument("--debts", metavar="FILE", required=True, help="the debts file")
+    return parser
+
+
+def case_parser(doc: Optional[str]) -> argparse.ArgumentParser:
+    """A parser of words that takes a case: a folder, or the two files of a network. `cases.take_case` reads it."""
+    parser = parser_of(doc)
+    cases.add_case(parser)
     return parser
 
 

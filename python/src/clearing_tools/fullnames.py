@@ -1,8 +1,11 @@
-"""Full names beside the names of banks: what --labels reads, a file `code,name`, and how the two are said together."""
+"""Full names of banks: what --labels reads, a file `code,name`, and what a bank is called then."""
 import argparse
+import collections
 import csv
 import io
 from typing import Dict, Iterable, Mapping, Optional
+
+from clearing_client.steady import MARK
 
 from . import files
 from .runner import Failed, shown
@@ -11,13 +14,25 @@ HEADER = ["code", "name"]
 
 
 class FullNames:
-    """The full names of some banks. Called with a name it gives the two, such as `KMI (Kemin Pankki)`, or the name alone."""
+    """The full names of some banks. Called with a name it gives the full one alone, as people have it; where two
+    banks have the same, the name of the files stands behind it. `marked` has the banks that one unit decides: a mark
+    stands behind what they are called."""
 
-    def __init__(self, full: Optional[Mapping[str, str]] = None) -> None:
+    def __init__(self, full: Optional[Mapping[str, str]] = None, marked: Iterable[str] = ()) -> None:
         self.full: Dict[str, str] = {code: name for code, name in (full or {}).items() if name and name != code}
+        times = collections.Counter(self.full.values())
+        self.twice = {name for name, number in times.items() if number > 1}
+        self.marked = set(marked)
 
     def __call__(self, name: str) -> str:
-        return f"{name} ({self.full[name]})" if name in self.full else name
+        return self.without_mark(name) + (f" {MARK}" if name in self.marked else "")
+
+    def without_mark(self, name: str) -> str:
+        """What a bank is called."""
+        full = self.full.get(name)
+        if full is None:
+            return name
+        return f"{full} ({name})" if full in self.twice else full
 
     def of(self, name: str) -> str:
         """The full name of a bank alone, or nothing."""
@@ -27,19 +42,21 @@ class FullNames:
         """Fails with this status where a bank has the name that another one has with its full name."""
         names = set(names)
         for name in names & self.full.keys():
-            if self(name) in names:
+            if self.without_mark(name) in names:
                 raise Failed(f"with its full name the bank {shown(name)!r} is called as another bank is", status)
         return self
 
 
 def add_labels(parser: argparse.ArgumentParser) -> None:
     """The word --labels of a tool that shows banks."""
-    parser.add_argument("--labels", metavar="FILE", help="a CSV file code,name: full names, shown beside the names of the files")
+    parser.add_argument(
+        "--labels", metavar="FILE", help="a CSV file code,name: full names, shown in place of the names of the files"
+    )
 
 
 def read_labels(name: Optional[str], status: int = 1) -> FullNames:
-    """The full names of a file `code,name`; none where no file is named. Codes are not looked at. Fails with this status where it is no
-    such file."""
+    """The full names of a file `code,name`; none where no file is named. Codes are not looked at. Fails with this
+    status where it is no such file."""
     if name is None:
         return FullNames()
     try:

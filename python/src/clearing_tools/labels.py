@@ -2,17 +2,18 @@
 import re
 import shlex
 import unicodedata
-from typing import Optional, Sequence, Tuple
+from typing import Callable, Optional, Sequence, Tuple
 
 from .money import Money
-from .runner import UNSEEN, shown
-from .texts import STATES, Bank, Flow, due_of, given_by
+from .runner import UNSEEN
+from .runner import shown as shown  # what is said of names begins with it
+from .texts import STATES, Bank, Flow, due_of, given_by, shortfall_of
 
 STATE_WORDS = {
     "sound": "sound: pays all it owes",
-    "fundamental": "in default by its own fundamentals",
-    "contagion": "in default by contagion",
-    "gridlock": "in default by gridlock: at the least alone",
+    "fundamental": "in default, label own fundamentals",
+    "contagion": "in default, label contagion",
+    "gridlock": "in default, label contagion, gridlock: at the least alone",
 }
 
 RULE_WORDS = {
@@ -46,10 +47,14 @@ def is_turned(text: str) -> bool:
     return not text.isascii() and any(unicodedata.bidirectional(letter) not in left for letter in text)
 
 
+def held(name: str) -> str:
+    """A name that can be read, held apart within a sentence where it has letters that run from right to left."""
+    return f"\u2068{name}\u2069" if is_turned(name) else name
+
+
 def apart(name: str) -> str:
     """A name within a sentence, as it can be read, and held apart where it has letters that run from right to left."""
-    name = shown(name)
-    return f"\u2068{name}\u2069" if is_turned(name) else name
+    return held(shown(name))
 
 
 def word_shown(word: str) -> str:
@@ -78,22 +83,41 @@ def say_flow(flow: Flow, money: Money) -> str:
     return f"{apart(flow.debtor)} to {creditor}: {money.number(flow.paid)} of {money.number(flow.claim)} paid"
 
 
-def headline(banks: Sequence[Bank], money: Money) -> Tuple[str, str]:
-    """The title of a picture, and the line below it."""
-    owed = sum(bank.owed for bank in banks)
-    paid = sum(bank.paid for bank in banks)
-    title = f"{count(len(banks), 'bank')} owe each other {money(owed)}; {percent(paid, owed)} of it, {money.number(paid)}, is paid"
-    nothing = f"{count(len(banks), 'bank')} {'owes others' if len(banks) == 1 else 'owe each other'} nothing"
-    return title if owed else nothing, causes(banks)
+def headline(banks: Sequence[Bank], money: Money, called: Callable[[str], str] = str) -> Tuple[str, str]:
+    """The title of a picture of the network, which is its message, and the line below it."""
+    owed, unpaid = sum(map(due_of, banks)), sum(map(shortfall_of, banks))
+    fallen = sorted((bank for bank in banks if bank.state != "sound"), key=lambda bank: -shortfall_of(bank))
+    below = (
+        f"{count(len(banks), 'bank')} owe {money(owed)}; {money(unpaid)} of it, {percent(unpaid, owed)},"
+        f" stays unpaid. {defaults_of(banks)}"
+    )
+    if not owed:
+        return (
+            f"{count(len(banks), 'bank')} {'owes others' if len(banks) == 1 else 'owe each other'} nothing",
+            defaults_of(banks),
+        )
+    if not fallen:
+        return "All that is owed is paid", below
+    first = apart(called(fallen[0].name))
+    if len(fallen) == 1:
+        return f"{first} alone leaves debts unpaid, {money.in_short(unpaid)}", below
+    return (
+        f"{first} leaves the most unpaid, {money.in_short(shortfall_of(fallen[0]))} of {money.in_short(unpaid)}",
+        below,
+    )
 
 
-def causes(banks: Sequence[Bank]) -> str:
-    """How many banks default, and by which causes."""
+def defaults_of(banks: Sequence[Bank]) -> str:
+    """How many banks default, and with which labels."""
     of = {state: sum(bank.state == state for bank in banks) for state in STATES}
     defaults = len(banks) - of["sound"]
     if not defaults:
         return "No bank is in default."
-    words = {"fundamental": "by own fundamentals", "contagion": "by contagion", "gridlock": "by gridlock"}
+    words = {
+        "fundamental": "with the label own fundamentals",
+        "contagion": "with the label contagion",
+        "gridlock": "in gridlock",
+    }
     parts = [f"{of[state]:,} {words[state]}" for state in STATES[1:] if of[state]]
     return f"{count(defaults, 'bank')} {'is' if defaults == 1 else 'are'} in default: {', '.join(parts)}."
 

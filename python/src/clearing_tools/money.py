@@ -1,5 +1,5 @@
-"""Amounts: whole units of account, and what a unit is worth. One reader of the word --unit, and two ways to print: a decimal number to
-the last digit for files, and an amount with its currency for people."""
+"""Amounts: whole units of account, and what a unit is worth. One reader of the word --unit, and two ways to print: a
+decimal number to the last digit for files, and an amount with its currency for people."""
 import argparse
 import contextlib
 from decimal import Context, Decimal, Inexact, InvalidOperation, localcontext
@@ -46,8 +46,8 @@ def add_money(parser: argparse.ArgumentParser) -> None:
 
 
 def amount_by(unit: Optional[Decimal]) -> Callable[[int], str]:
-    """What makes a text of a number of units: the number where no unit is given, else the amount as a decimal number. Fails where it
-    has more digits than are kept."""
+    """What makes a text of a number of units: the number where no unit is given, else the amount as a decimal
+    number. Fails where it has more digits than are kept."""
     if unit is None:
         return str
     exact, worth_each = Context(prec=MOST_DIGITS, traps=[Inexact, InvalidOperation]), unit
@@ -88,45 +88,64 @@ class Money:
         return f"Amounts in{of or ' the currency'}; a unit of account is{of} {self.unit:,f}."
 
     def in_short(self, units: int) -> str:
-        """An amount with its currency, in millions or billions where it is large."""
+        """An amount with its currency in a sentence: billions with two decimals, whole millions below one billion,
+        whole below one million. A number and its unit do not part."""
         value = Decimal(units * (self.unit or 1))
-        for least, size, word in ((10**12, 10**9, "billion"), (10**6, 10**6, "million")):
-            if value >= least:
-                number = f"{value / size:,.1f}".removesuffix(".0")
-                return f"{self.currency} {number} {word}" if self.currency else f"{number} {word}{' units' if self.unit is None else ''}"
-        return self(units)
+        for size, word, places in SHORT:
+            if abs(value) >= size:
+                number = f"{value / size:,.{places}f}\u00a0{word}"
+                return (
+                    f"{self.currency}\u00a0{number}"
+                    if self.currency
+                    else number + (" units" if self.unit is None else "")
+                )
+        return self(units).replace(" ", "\u00a0") if self.currency else self(units)
 
     def verb(self, units: int, one: str, many: str) -> str:
         """The form of a verb behind an amount: several units are many, and an amount of a currency is one."""
         return many if self.unit is None and not self.currency and units != 1 else one
 
     def scale_of(self, amounts: Iterable[int]) -> "Scale":
-        """The scale in which a table with these amounts is read: whole, or in thousands, millions or billions."""
-        return Scale(self, list(amounts))
+        """The scale of a table with these amounts: all of them whole, or in whole thousands, millions or billions."""
+        most = self.most_of(amounts)
+        size, word = next(((size, word) for least, size, word in SIZES if most >= least), (1, ""))
+        return Scale(self, size, word, 0)
+
+    def short_scale_of(self, amounts: Iterable[int]) -> "Scale":
+        """The scale of a chart with these amounts: as a sentence has its largest."""
+        most = self.most_of(amounts)
+        size, word, places = next(((size, word, places) for size, word, places in SHORT if most >= size), (1, "", 0))
+        return Scale(self, size, word, places)
+
+    def most_of(self, amounts: Iterable[int]) -> Decimal:
+        """What the largest of some amounts is worth."""
+        most = max([abs(units) for units in amounts], default=0)
+        return Decimal(most * (self.unit or 1))
 
 
+SHORT = ((10**9, "billion", 2), (10**6, "million", 0))
 SIZES = ((10**12, 10**9, "billion"), (10**9, 10**6, "million"), (10**6, 10**3, "thousand"))
 
 
 class Scale:
-    """Amounts of a table in one size: below a million as they are, above it in thousands, millions or billions, rounded to a tenth where
-    they are not all whole. `words` says it, for the head of a column."""
+    """Amounts of a table or a chart in one size, with some decimals. `words` says it, for a head."""
 
-    def __init__(self, money: Money, amounts: Iterable[int]) -> None:
-        self.money = money
-        values = [units * (money.unit or 1) for units in amounts]
-        most = max(values, default=0)
-        self.size, size_word = next(((size, word) for least, size, word in SIZES if most >= least), (1, ""))
-        self.is_rounded = self.size > 1 and any(value * 10 % self.size for value in values)
-        self.places = 0 if all(value % self.size == 0 for value in values) else 1
+    def __init__(self, money: Money, size: int, size_word: str, places: int) -> None:
+        self.money, self.size, self.places = money, size, places
+        self.is_rounded = size > 1
         kind = money.currency or ("" if money.unit is not None else "units")
         self.words = " ".join(filter(None, (kind, size_word) if money.currency else (size_word, kind)))
+
+    def value(self, units: int) -> float:
+        """An amount in this size, for a place on an axis."""
+        return float(Decimal(units * (self.money.unit or 1)) / self.size)
 
     def number(self, units: int) -> str:
         """An amount in this size. One that is not 0 is never shown as 0."""
         if self.size == 1:
             return self.money.number(units)
-        value = Decimal(units * (self.money.unit or 1)) / self.size
         if not units:
             return "0"
-        return "<0.1" if 0 < value < Decimal("0.05") else f"{value:,.{self.places}f}"
+        value = Decimal(units * (self.money.unit or 1)) / self.size
+        least = Decimal(1).scaleb(-self.places)
+        return f"<{least}" if 0 < value < least / 2 else f"{value:,.{self.places}f}".replace("-", "\u2212")

@@ -22,7 +22,21 @@ import sys
 import tempfile
 import threading
 import time
-from typing import Any, Callable, Iterable, Iterator, List, NamedTuple, Optional, Sequence, Set, Tuple, TypeVar
+from typing import (
+    Any,
+    BinaryIO,
+    Callable,
+    Iterable,
+    Iterator,
+    List,
+    NamedTuple,
+    Optional,
+    Sequence,
+    Set,
+    Tuple,
+    TypeVar,
+    Union,
+)
 
 PACKAGES, ROOT = (pathlib.Path(__file__).resolve().parents[above] for above in (1, 3))
 """The repository, or what stands for it where the package is installed."""
@@ -41,6 +55,13 @@ class Failed(Exception):
     def __init__(self, message: str, status: int = 1, more: Iterable[str] = ()) -> None:
         super().__init__(message)
         self.status, self.lines = status, [message, *more]
+
+
+def lacking(name: str, extra: str, use: str = "") -> Failed:
+    """That this Python lacks a library, in one line: what it is for, Debian's package, which is for Debian's Python,
+    and the extra of the wheel that installs it for any other. The status is 2."""
+    debian = f"Debian's package python3-{name} is for /usr/bin/python3 and its environments with --system-site-packages"
+    return Failed(f"{sys.executable} has no {name}{use} ({debian}; for others: pip install 'FILE.whl[{extra}]')", 2)
 
 
 def on_path(name: str) -> Optional[str]:
@@ -65,7 +86,7 @@ def said_by(*words: str, folder: Any = None, seconds: float = 30) -> Optional[st
 BUILD = "--build"
 WAYS = (
     "to have the program install the wheel of a release: pip install FILE.whl",
-    f"or build it in the repository: ./clearing, or this command with {BUILD}; it proves first, for 15 to 30 minutes",
+    f"or build it in the repository: ./clearing, or this command with {BUILD}; it proves first, for 15 to 40 minutes",
 )
 """What to do where there is no program."""
 MAY_BUILD: List[bool] = []
@@ -97,7 +118,7 @@ def says_yes(why: str) -> bool:
     if not (sys.stdin and sys.stdin.isatty() and sys.stderr and sys.stderr.isatty()):
         return False
     say(why)
-    question = "build it now? It proves first, for 15 to 30 minutes [y/N] "
+    question = "build it now? It proves first, for 15 to 40 minutes [y/N] "
     print(f"{tool_name()}: {question}", end="", file=sys.stderr, flush=True)
     return sys.stdin.readline().strip().lower() in ("y", "yes")
 
@@ -176,6 +197,24 @@ def limited_memory(most: int) -> Iterator[None]:
         resource.setrlimit(resource.RLIMIT_AS, (soft, hard))
 
 
+@contextlib.contextmanager
+def signals_wait() -> Iterator[None]:
+    """What a signal does in the main thread is done at the end of the block. `Popen` leaves a process that nobody knows
+    where an interrupt comes while it begins one."""
+    asked = (signal.SIGINT, signal.SIGTERM, signal.SIGHUP)
+    here = threading.current_thread() is threading.main_thread()
+    numbers = [number for number in asked if here and callable(signal.getsignal(number))]
+    came: List[int] = []
+    before = {number: signal.signal(number, lambda which, _: came.append(which)) for number in numbers}
+    try:
+        yield
+    finally:
+        for number, handler in before.items():
+            signal.signal(number, handler)
+        for which in came:
+            signal.raise_signal(which)
+
+
 class Asking:
     """Runs of the program, side by side, each within limits where there are some."""
 
@@ -187,41 +226,50 @@ class Asking:
         """The status, output and messages of a command, as bytes."""
         return self.run_on(None, command, folder)
 
-    def run_on(self, given: Any, command: Sequence[str], folder: Any = None) -> Tuple[int, bytes, bytes]:
-        """The same of a command whose standard input is a file."""
-        with self.lock, contextlib.ExitStack() as opened:
-            if self.stopped:
-                raise KeyboardInterrupt
-            try:
-                stdin = opened.enter_context(open(os.devnull if given is None else given, "rb"))
-                child = subprocess.Popen(
-                    command, cwd=folder, stdin=stdin, stdout=subprocess.PIPE, stderr=subprocess.PIPE
-                )
-            except (OSError, ValueError) as fault:
-                raise Failed(f"cannot run {command[0]}: {fault}") from fault
-            self.running.add(child)
-            if self.limits is not None:
-                self.limits.put_on(child.pid)
+    def run_on(
+        self, given: Any, command: Sequence[str], folder: Any = None, into: Any = None
+    ) -> Tuple[int, bytes, bytes]:
+        """The same of a command whose standard input is a file, where one is given; and so is its output, which is then
+        not held in memory and is empty here."""
+        child: Optional["subprocess.Popen[bytes]"] = None
         try:
+            with self.lock, signals_wait(), contextlib.ExitStack() as opened:
+                if self.stopped:
+                    raise KeyboardInterrupt
+                try:
+                    stdin = opened.enter_context(open(os.devnull if given is None else given, "rb"))
+                    stdout: Union[int, BinaryIO] = subprocess.PIPE
+                    if into is not None:
+                        stdout = opened.enter_context(open(into, "wb"))
+                    child = subprocess.Popen(command, cwd=folder, stdin=stdin, stdout=stdout, stderr=subprocess.PIPE)
+                except (OSError, ValueError) as fault:
+                    raise Failed(f"cannot run {command[0]}: {fault}") from fault
+                self.running.add(child)
+                if self.limits is not None:
+                    self.limits.put_on(child.pid)
+            assert child is not None
             output, messages = self.wait_for(child)
+            return child.returncode, output, messages
         except BaseException:
-            child.kill()
-            for stream in (child.stdout, child.stderr):
-                if stream is not None:
-                    stream.close()
-            child.wait()
+            if child is not None:
+                child.kill()
+                for stream in (child.stdout, child.stderr):
+                    if stream is not None:
+                        stream.close()
+                child.wait()
             raise
         finally:
-            with self.lock:
-                self.running.discard(child)
-        return child.returncode, output, messages
+            if child is not None:
+                with self.lock:
+                    self.running.discard(child)
 
     def wait_for(self, child: "subprocess.Popen[bytes]") -> Tuple[bytes, bytes]:
         """The output and messages of a run, none once all runs were stopped."""
         while not self.stopped:
             with contextlib.suppress(subprocess.TimeoutExpired):
                 # Not for long: what a run that was ended has begun itself may hold its output.
-                return child.communicate(timeout=1)
+                output, messages = child.communicate(timeout=1)
+                return output or b"", messages
         raise KeyboardInterrupt
 
     def answer(self, words: Sequence[str], folder: Any = None) -> bytes:
@@ -333,13 +381,19 @@ def signs_of(ranges: str) -> str:
     return "".join(f"\\U{int(first, 16):08x}-\\U{int(last or first, 16):08x}" for first, _, last in ends)
 
 
-UNSEEN = re.compile(f"[{signs_of(HIDDEN)}]|(?<= ) |<(?=U\\+[0-9A-F]{{4,6}}>)")
+NOT_SEEN = re.compile(f"[{signs_of(HIDDEN)}]|(?<= ) ")
+UNSEEN = re.compile(f"{NOT_SEEN.pattern}|<(?=U\\+[0-9A-F]{{4,6}}>)")
 
 
 def shown(text: str) -> str:
     """A text as it can be read: a sign that is not seen, or that turns the order of letters, stands as its code, such
     as <U+202E>, and so does a blank behind a blank. Two texts that differ are shown differently."""
     return UNSEEN.sub(lambda found: f"<U+{ord(found[0]):04X}>", text)
+
+
+def seen(text: str) -> str:
+    """A text in which names may be shown already, so that a code in it stays as it is."""
+    return NOT_SEEN.sub(lambda found: f"<U+{ord(found[0]):04X}>", text)
 
 
 MOST_SHOWN = 2000

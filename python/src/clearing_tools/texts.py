@@ -198,7 +198,9 @@ def read_outside(name: Any) -> Dict[str, int]:
 # What follows.
 
 
-def check_same_network(payments: Table[Payment], banks: Sequence[Bank], payments_name: Any, defaults_name: Any) -> None:
+def check_same_network(
+    payments: Sequence[Payment], banks: Sequence[Bank], payments_name: Any, defaults_name: Any
+) -> None:
     """Refuses payments of banks that the table of defaults does not have."""
     known = {bank.name for bank in banks}
     for payment in payments:

@@ -1,7 +1,10 @@
-"""What is odd in names that the program takes: signs that are not seen, what a spreadsheet takes for a formula, letters of several
-scripts, and names that look the same."""
+"""What is odd in names that the program takes: signs that are not seen, what a spreadsheet takes for a formula, letters
+of several scripts, and names that look the same."""
+from __future__ import annotations
+
 import re
 import unicodedata
+from typing import Dict, Iterator, List, Optional, Sequence, Tuple
 
 from ..runner import UNSEEN, shown
 
@@ -10,7 +13,7 @@ TOGETHER = [{"LATIN", "CJK", "HIRAGANA", "KATAKANA", "HANGUL", "BOPOMOFO"}]
 SCRIPT = re.compile("([A-Z]+)[ -].*(?:LETTER|SYLLABLE|IDEOGRAPH)")
 
 
-def script_of(letter):
+def script_of(letter: str) -> Optional[str]:
     """The script of a letter by its name in Unicode, or nothing where it has none of its own."""
     if not unicodedata.category(letter).startswith("L"):
         return None
@@ -18,14 +21,15 @@ def script_of(letter):
     return found[1] if found and found[1] != "MODIFIER" else None
 
 
-def scripts_of(name):
+def scripts_of(name: str) -> List[str]:
     """The scripts of a name that do not go together, in the order of its letters; none where they do."""
     found = list(dict.fromkeys(script for script in map(script_of, name) if script)) if not name.isascii() else []
     return [] if len(found) < 2 or any(set(found) <= kinds for kinds in TOGETHER) else found
 
 
-def look_of(name):
-    """A name as it looks: without what is not seen, with one blank where there are several, and with each letter in one form."""
+def look_of(name: str) -> str:
+    """A name as it looks: without what is not seen, with one blank where there are several, and with each letter in one
+    form."""
     seen = UNSEEN.sub(lambda found: " " if unicodedata.category(found[0]) == "Zs" else found[0] if found[0] == "<" else "", name)
     return unicodedata.normalize("NFC", " ".join(seen.split()))
 
@@ -34,9 +38,9 @@ def look_of(name):
 FORMULA = re.compile(r"[=+@-]")
 
 
-def oddities(names):
+def oddities(names: Sequence[str]) -> Iterator[Tuple[int, str]]:
     """What is odd in some names, each once: the place of the name, and what it is."""
-    first = {}
+    first: Dict[str, int] = {}
     for at, name in enumerate(names):
         signs = list(dict.fromkeys(sign for sign in UNSEEN.findall(name) if sign != "<"))
         if signs:

@@ -7,13 +7,17 @@ Out: on standard output a line for each fault: the number of the word, the word,
      what to do; and last what the words ask for, or how many faults they have. `clearing` ends with status 2 exactly
      where there is a fault.
 
-Ends with 0 where the words are understood, with 1 where they are not, with 2 where there are no words, and with 5 where the
-output cannot be written.
+Ends with 0 where the words are understood, with 1 where they are not, with 2 where there are no words, and with 5 where
+the output cannot be written.
 """
+from __future__ import annotations
+
 import difflib
+import io
 import os
 import re
 import sys
+from typing import Any, Dict, List, Optional, Sequence, Tuple
 
 from clearing_client.format import MAX_BANKS, MAX_KEEP, MAX_SEED, MAX_SWEEPS, MAX_TRIES, MAX_WORKERS, is_name
 
@@ -23,7 +27,7 @@ from ..runner import command
 # What each task requires, and what it may have.
 FILES = ["banks", "debts"]
 WORKERS = ["workers", "sweeps"]
-TASKS = {
+TASKS: Dict[str, Tuple[List[str], List[str]]] = {
     "check": (FILES, []),
     "clear": (FILES, WORKERS + ["show"]),
     "central": (FILES, []),
@@ -61,17 +65,20 @@ OPTIONS = {
 
 
 class Reader:
-    """Reads the words one after another, and gathers faults: the number of a word, 0 for the whole, and what is wrong."""
+    """Reads the words one after another, and gathers faults: the number of a word, 0 for the whole, and what is
+    wrong."""
 
-    def __init__(self, words):
-        self.words, self.faults = words, []
-        self.task, self.given = None, {}
+    def __init__(self, words: Sequence[str]) -> None:
+        self.words = words
+        self.faults: List[Tuple[int, str]] = []
+        self.task: Optional[str] = None
+        self.given: Dict[str, Tuple[int, Any]] = {}
         self.read()
 
-    def add(self, at, what, hint=""):
+    def add(self, at: int, what: str, hint: str = "") -> None:
         self.faults.append((at, what + (f"; {hint}" if hint else "")))
 
-    def read(self):
+    def read(self) -> None:
         at, is_over = 0, False
         while at < len(self.words):
             word = self.words[at]
@@ -91,7 +98,7 @@ class Reader:
                 self.add(at, f"the task is {shown(self.task)} already, and it is the only word that is no option", self.stray_hint(at, word))
         self.check_uses()
 
-    def read_option(self, at, word):
+    def read_option(self, at: int, word: str) -> int:
         """Takes an option and its value, and gives the place behind them."""
         name, sign, value = word[2:].partition("=")
         place = at
@@ -115,22 +122,22 @@ class Reader:
                 self.add(at if sign == " " else place, f"{shown(value)} is no value of --{name}: {wrong}")
         return at
 
-    def check_task(self, at, word):
+    def check_task(self, at: int, word: str) -> None:
         if word not in TASKS:
             close = difflib.get_close_matches(word.casefold(), TASKS, 1)
             hint = f"is it {close[0]}?" if close else f"the tasks are {', '.join(TASKS)}"
             self.add(at, f"there is no task {shown(word)}", hint)
 
-    def stray_hint(self, at, word):
+    def stray_hint(self, at: int, word: str) -> str:
         if word in OPTIONS:
             return f"is it --{word}?"
         return "a value with a blank in it stands between quotes" if at > 1 and not self.words[at - 2].startswith("-") else ""
 
-    def check_uses(self):
+    def check_uses(self) -> None:
         """What the task does not take, and what it requires."""
         if self.task is None:
             self.add(0, "there is no task", f"the tasks are {', '.join(TASKS)}")
-        if self.task not in TASKS:
+        if self.task is None or self.task not in TASKS:
             return
         required, allowed = TASKS[self.task]
         for name, (at, _) in self.given.items():
@@ -142,22 +149,22 @@ class Reader:
                 self.add(0, f"{self.task} requires --{name}")
 
 
-def is_utf8(word):
+def is_utf8(word: str) -> bool:
     return not any(0xD800 <= ord(c) <= 0xDFFF for c in word)
 
 
-def shown(text):
+def shown(text: str) -> str:
     return runner.shown(repr(text))
 
 
-def option_hint(name):
+def option_hint(name: str) -> str:
     if name in ("help", "h", "version"):
         return "docs/FORMATS.md and the manual page say what there is"
     close = difflib.get_close_matches(name.casefold().lstrip("-"), OPTIONS, 1)
     return f"is it --{close[0]}?" if close else f"the options are {', '.join(f'--{option}' for option in OPTIONS)}"
 
 
-def value_fault(kind, value):
+def value_fault(kind: Any, value: str) -> Optional[str]:
     """What is wrong with a value of an option, or nothing."""
     if kind == "file":
         return "the name of a file is not empty, and does not begin with a dash" if value == "" or value.startswith("-") else None
@@ -171,7 +178,7 @@ def value_fault(kind, value):
     return None if least <= int(value) <= most else f"it is a number from {least:,} to {most:,}"
 
 
-def bank_fault(value):
+def bank_fault(value: str) -> Optional[str]:
     if value.startswith("-"):
         return "a bank whose name begins with a dash cannot be named"
     if not 1 <= len(value.encode()) <= 64:
@@ -179,13 +186,13 @@ def bank_fault(value):
     return None if is_name(value) else "a name has no comma, double quote or control character"
 
 
-def faults_of(words):
+def faults_of(words: Sequence[str]) -> List[Tuple[int, str]]:
     """The faults of the words after the program's name, each with the number of its word, in the order of the words."""
     return sorted(Reader(words).faults, key=lambda fault: fault[0] or len(words) + 1)
 
 
 @command("why.py")
-def main():
+def main() -> int:
     words = sys.argv[1:]
     if words in (["--help"], ["-h"]):
         print(f"usage: why.py WORDS..\n\n{__doc__.strip()}")
@@ -197,7 +204,8 @@ def main():
     words = words[before:]
     reader = Reader(words)
     faults = faults_of(words)
-    sys.stdout.reconfigure(encoding="utf-8", errors="backslashreplace")
+    if isinstance(sys.stdout, io.TextIOWrapper):
+        sys.stdout.reconfigure(encoding="utf-8", errors="backslashreplace")
     for at, what in faults:
         print(f"word {at + before} {shown(words[at - 1])}: {what}" if at else what)
     if faults:

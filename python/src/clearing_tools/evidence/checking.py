@@ -6,6 +6,7 @@ folder that is another at the end is not the one that was checked, and is refuse
 """
 import argparse
 import contextlib
+import json
 import os
 import pathlib
 import shutil
@@ -16,9 +17,10 @@ from .. import runner
 from ..runner import ROOT, Failed
 from . import audit, shock, source
 from .parts import (
-    BANKS, BUILT, CHANGES, FILE, JOURNAL, PROGRAM, README, SUMS, TABLES, TEXTS, UNREAD, VERSIONS, CommandOf, NoRoom,
-    Part, checksum_of, commands_of, commands_text, is_stress, most_of, most_of_journal, names_of, opened_in, parts_of,
-    program_sum, read_inputs, read_rescue, rescue_holds, sums_listed, sums_text, words_of,
+    BANKS, BUILT, CHANGES, DESCRIPTION, FILE, JOURNAL, LABELS, PROGRAM, README, SUMS, TABLES, TEXTS, UNREAD,
+    VERSIONS, CommandOf, NoRoom, Part, checksum_of, commands_of, commands_text, is_stress, most_of, most_of_journal,
+    names_of, opened_in, parts_of, program_sum, read_inputs, read_rescue, rescue_holds, sums_listed, sums_text,
+    words_of,
 )
 
 # No folder of these commands has as many names.
@@ -165,11 +167,25 @@ def inputs_of(folder: Folder) -> Inputs:
 def files_of(folder: Folder, inputs: Inputs) -> Set[str]:
     """The names of the files that these commands make of these inputs."""
     files = names_of(inputs.parts, inputs.commands, folder.has("inputs/scenarios.toml"))
-    if folder.has(CHANGES):
-        files.add(CHANGES)
+    files |= {name for name in (CHANGES, LABELS, DESCRIPTION) if folder.has(name)}
     if folder.has("source/"):
         files |= {"source/command.tsv", "source/summary.csv", *source.names_of(folder.read("source/command.tsv"))}
     return files
+
+
+def described_otherwise(folder: Folder) -> List[str]:
+    """The files of the inputs that have another checksum than the description of the case says."""
+    try:
+        resources = json.loads(folder.read(DESCRIPTION).decode("utf-8"))["resources"]
+        known = {resource.get("path"): resource.get("hash") for resource in resources}
+    except (ValueError, KeyError, TypeError, AttributeError, RecursionError) as fault:
+        raise Failed(f"{DESCRIPTION} is not the description of a case", UNREAD) from fault
+    found = []
+    for name, said in known.items():
+        has = folder.sums.get(f"inputs/{name}")
+        if isinstance(name, str) and said is not None and has is not None and said != f"sha256:{has}":
+            found.append(name)
+    return found
 
 
 def most_in(name: str, network: audit.Network) -> int:
@@ -226,6 +242,7 @@ class Checking:
             raise self.fault
         self.names()
         self.texts()
+        self.is_described()
         self.source_holds()
         self.banks_hold()
         self.audit()
@@ -284,10 +301,19 @@ class Checking:
         except Failed as fault:
             self.tell(f"source: {str(fault).partition(chr(10))[0]}", BANKS if fault.status == 4 else UNREAD)
             return
-        for name in source.MADE:
-            place = f"source/{name}" if name == "summary.csv" else f"inputs/{name}"
-            same = self.folder.read(place) == made[name]
+        for name, content in made.items():
+            place = source.place_of(name)
+            same = self.folder.has(place) and self.folder.read(place) == content
             self.tell(f"source: {place} {'same' if same else 'differs'}", None if same else BANKS)
+        if self.folder.has(LABELS) and source.NAMED not in made and not self.folder.has(DESCRIPTION):
+            self.tell(f"source: {LABELS} differs", BANKS)
+
+    def is_described(self) -> None:
+        """The files of the inputs are those that the description of the case says, where it is there."""
+        if not self.folder.has(DESCRIPTION):
+            return
+        for name in described_otherwise(self.folder):
+            self.tell(f"{DESCRIPTION}: {name} is not the file that was described", SUMS)
 
     def banks_hold(self) -> None:
         """The banks files are what the scenarios leave, or have the sum that saves."""

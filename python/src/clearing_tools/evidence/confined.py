@@ -5,6 +5,7 @@ of Python and the packages, to read; it starts no program and calls nobody; and 
 
 It is started by `source.py`, in a folder of its own, and ends with the status of the tool.
 """
+import contextlib
 import importlib
 import os
 import pathlib
@@ -23,6 +24,8 @@ LIMITS: Dict[int, int] = {
 }
 """Bytes of memory, seconds of a processor, and bytes of a file that it writes."""
 
+# What tools for sheets import once they need it, and what binds to C while it is imported.
+LIBRARIES = ("numpy", "openpyxl", "odf.opendocument", "odf.table", "odf.teletype")
 # What a tool for sheets has no need of, by the beginnings of the names that Python has for it.
 FORBIDDEN = (
     "socket.", "subprocess.", "os.system", "os.exec", "os.posix_spawn", "os.spawn", "os.startfile", "os.fork", "pty.",
@@ -78,6 +81,9 @@ def main(words: List[str]) -> None:
     others = [place for place in sys.path if os.path.isabs(place) and place != os.path.dirname(__file__)]
     sys.path[:] = [str(SOURCES), *others]
     tool = importlib.import_module(f"clearing_tools.imports.{words[0]}")
+    for library in LIBRARIES:
+        with contextlib.suppress(ImportError):
+            importlib.import_module(library)
     sys.argv[:] = [f"from_{words[0]}", *words[1:]]
     libraries = tuple(os.path.realpath(place) + os.sep for place in sys.path)
     sys.addaudithook(guard(os.getcwd(), libraries))

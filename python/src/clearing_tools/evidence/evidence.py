@@ -1,6 +1,7 @@
 """Makes a folder of evidence for what `clearing` says of a network, and checks one on any machine.
 
     tools/evidence.sh make FOLDER --banks FILE --debts FILE [--scenarios FILE] [--bank NAME] [--changes FILE]
+    tools/evidence.sh make FOLDER --case CASE [--scenarios FILE] [--bank NAME] [--changes FILE]
     tools/evidence.sh make FOLDER --source COMMAND [--scenarios FILE] [--bank NAME] [--changes FILE]
     tools/evidence.sh check FOLDER
 
@@ -14,7 +15,9 @@ with --bank the rescue of that bank, the network with the sum that saves it (res
 (unit-less/), and the same of each; stress.csv with what `clearing stress` prints, which is compared with all that;
 commands.tsv with the words and the status of each run; versions.txt; and SHA256SUMS over all files. With --source in
 place of the two files, source/ has the sheets of that command of from_matrix.py, from_list.py or from_totals.py
-(without where it writes), the command and the summary, and the two files are what it makes. --changes keeps a text
+(without where it writes), the command and the summary, and the two files are what it makes. With --case the inputs are
+those of a case, with labels.csv and its description, and source/ has its sheets where it keeps them; a case whose files
+are not those that were described is refused. --changes keeps a text
 that says what was changed before, as inputs/changes.txt, of which nothing is computed. One worker makes each journal,
 so that the same program makes the same bytes again.
 
@@ -34,21 +37,24 @@ interrupt.
 """
 import argparse
 import contextlib
+import importlib
 import os
 import pathlib
 import platform
 import secrets
+import shlex
 import shutil
 import sys
-from typing import Iterator, List, Optional
+import tempfile
+from typing import Any, Dict, Iterator, List, Optional
 
 from .. import files, runner
 from ..runner import ROOT, Failed
 from . import audit, shock, source
 from .checking import check
 from .parts import (
-    CHANGES, README, checksum, commands_of, commands_text, contents, parts_of, program_sum, read_inputs, rescue_holds,
-    stress_of, sums_text,
+    CHANGES, DESCRIPTION, LABELS, README, checksum, commands_of, commands_text, contents, parts_of, program_sum,
+    read_inputs, rescue_holds, stress_of, sums_text,
 )
 
 # Making.
@@ -85,16 +91,67 @@ def versions() -> bytes:
     return "".join(line + "\n" for line in lines).encode()
 
 
+def take_case(asked: argparse.Namespace) -> None:
+    """Sets the files that were not said to those of the case. One whose files are not those that were described is
+    refused. It is read as all tools read it; what checks an evidence has no need of that."""
+    asked.labels = asked.description = asked.kept = None
+    if asked.case is None:
+        return
+    cases = importlib.import_module("clearing_tools.cases")
+    case = cases.read_case(asked.case)
+    if case.notes:
+        raise Failed(f"{asked.case}: {case.notes[0]}", cases.REFUSED)
+    for name in ("banks", "debts", "scenarios", "labels"):
+        if vars(asked)[name] is None:
+            setattr(asked, name, case.paths.get(name))
+    asked.description = os.path.join(asked.case, "datapackage.json") if case.is_described else None
+    asked.kept = kept_command(case) if asked.source is None else None
+
+
+def kept_command(case: Any) -> Optional[str]:
+    """The command that made the files of a case, where it keeps all its sheets; nothing else."""
+    kept = {one.path: os.path.join(case.folder, one.path) for one in case.sources if one.path}
+    if case.summary is None or not case.summary.command or len(kept) < len(case.sources) or not kept:
+        return None
+    words = [with_path(word, kept) for word in case.summary.command]
+    return shlex.join(words) if all(map(os.path.isfile, kept.values())) else None
+
+
+def with_path(word: str, kept: Dict[str, str]) -> str:
+    """A word with the path of a sheet in place of its name in the case."""
+    before, sign, name = word.rpartition("=")
+    return kept.get(word) or (before + sign + kept[name] if sign and name in kept else word)
+
+
+def keep_source(folder: pathlib.Path, command: str) -> None:
+    """Keeps the sheets of a case, unless its files are not what they make any more."""
+    with tempfile.TemporaryDirectory() as name:
+        source.keep(pathlib.Path(name), command, put)
+        made = pathlib.Path(name)
+        for path in made.glob("inputs/*"):
+            there = folder / "inputs" / path.name
+            if not there.exists() or there.read_bytes() != path.read_bytes():
+                runner.say(f"the sheets of the case do not make its {path.name} any more; they are left out")
+                return
+        for path in made.glob("source/*"):
+            put(folder, f"source/{path.name}", path.read_bytes())
+
+
 def put_inputs(folder: pathlib.Path, asked: argparse.Namespace) -> None:
     """Puts the inputs into a folder."""
     if asked.source is not None:
         source.keep(folder, asked.source, put)
+    for name, place in ((asked.labels, LABELS), (asked.description, DESCRIPTION)):
+        if name is not None:
+            put(folder, place, contents(name))
     for name in ("banks", "debts", "scenarios"):
         if vars(asked)[name] is not None:
             ending = "toml" if name == "scenarios" else "csv"
             put(folder, f"inputs/{name}.{ending}", contents(vars(asked)[name]))
     if asked.changes is not None:
         put(folder, CHANGES, contents(asked.changes))
+    if asked.kept is not None:
+        keep_source(folder, asked.kept)
 
 
 def make_in(folder: pathlib.Path, asked: argparse.Namespace) -> str:
@@ -182,9 +239,10 @@ def make(asked: argparse.Namespace) -> int:
     """Makes a new folder: the status."""
     if os.path.lexists(asked.folder):
         raise Failed(f"{asked.folder} is there already", 2)
+    take_case(asked)
     # Who may not read the inputs may not read the evidence.
     sheets = source.sheets_of(asked.source) if asked.source is not None else []
-    given = [asked.banks, asked.debts, asked.scenarios, asked.changes, *sheets]
+    given = [asked.banks, asked.debts, asked.scenarios, asked.labels, asked.changes, *sheets]
     mask = files.mask_of(name for name in given if name is not None)
     os.umask(mask)
     try:
@@ -210,6 +268,7 @@ def main() -> int:
     tasks = parser.add_subparsers(dest="task", required=True, metavar="make|check")
     making = tasks.add_parser("make", help="makes a new folder", allow_abbrev=False)
     making.add_argument("folder", metavar="FOLDER", help="the folder to make")
+    making.add_argument("--case", metavar="FOLDER", help="the case: its files, what banks are called, and its sheets")
     making.add_argument("--banks", metavar="FILE", help="the banks file")
     making.add_argument("--debts", metavar="FILE", help="the debts file")
     making.add_argument("--source", metavar="COMMAND", help="the command that makes the two files of sheets")
@@ -218,6 +277,7 @@ def main() -> int:
     making.add_argument("--changes", metavar="FILE", help="a text that says what was changed against other files")
     tasks.add_parser("check", help="checks a folder", allow_abbrev=False).add_argument("folder", metavar="FOLDER")
     asked = parser.parse_args()
-    if asked.task == "make" and (asked.banks is None, asked.debts is None) != ((asked.source is not None),) * 2:
+    is_whole = asked.task == "check" or asked.case is not None and asked.source is None
+    if not is_whole and (asked.banks is None, asked.debts is None) != ((asked.source is not None),) * 2:
         making.error("--banks and --debts are needed, or --source in their place")
     return (make if asked.task == "make" else check)(asked)

@@ -16,9 +16,12 @@ UNREAD, SUMS, BANKS, JOURNAL, TABLES, PROGRAM = 3, 4, 5, 6, 7, 8
 TEXTS = ("README.txt", "SHA256SUMS", "commands.tsv", "versions.txt")
 # What was changed before, in words, in the folders that say so.
 CHANGES = "inputs/changes.txt"
+# What banks are called, and the description of the case, in the folders of a case: nothing is computed of them.
+LABELS, DESCRIPTION = "inputs/labels.csv", "inputs/datapackage.json"
 # What a file of a folder may be called, and how long it may be at most.
 FILE = re.compile(
-    r"inputs/(banks\.csv|debts\.csv|scenarios\.toml|changes\.txt)|README\.txt|SHA256SUMS|commands\.tsv|versions\.txt"
+    r"inputs/(banks\.csv|debts\.csv|scenarios\.toml|changes\.txt|labels\.csv|datapackage\.json)"
+    r"|README\.txt|SHA256SUMS|commands\.tsv|versions\.txt"
     r"|stress\.csv|rescue/rescue\.csv|source/(command\.tsv|summary\.csv|[0-9]+-[^/\0\t\n]{1,200})"
     r"|(as-is|scenario-[1-9][0-9]{0,2}|rescue|unit-less)/(banks|journal|payments|defaults)\.csv"
 )

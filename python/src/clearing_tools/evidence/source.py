@@ -23,14 +23,19 @@ TOOLS = {"from_matrix.py": "matrix", "from_list.py": "list", "from_totals.py": "
 """The tools that make two files of sheets, and their modules."""
 # What makes more than one network.
 MANY = "--samples"
-# What says where to write, or asks for help, and so is not for the command.
-NOT_ITS_OWN = ("--banks", "--debts", "--label", "--summary", "--out", "--help", MANY)
+# What says where to write, with a value behind it, and without; it is left out of a command that is kept.
+PLACES = ("--banks", "--debts", "--label", "--summary", "--out", "--case")
+FLAGS = ("--replace", "--keep-sources")
+# What is not for the command, as it says where to write, or asks for help.
+NOT_ITS_OWN = (*PLACES, *FLAGS, "--help", MANY)
 # What may name a file beside those that are kept.
 OUTSIDE = re.compile(r"(^|=)[/~]|(^|[=/])\.\.(/|$)")
 # What may stand before the name of a sheet: nothing, an option, a column, or both, each with its sign.
 BEFORE = re.compile(r"(--[a-z-]+=)?([^/~=][^/=]*=)?")
 NAME = re.compile(r"[0-9]+-[^/\0\t\n]{1,200}")
 MADE = ("banks.csv", "debts.csv", "summary.csv")
+NAMED = "labels.csv"
+"""What banks are called, which a tool makes where the sheets say it."""
 MOST_WORDS, MOST_SECONDS = 1000, 600
 
 
@@ -52,7 +57,18 @@ def parsed(command: str) -> Tuple[str, List[Word]]:
         raise Failed(f"--source begins with one of {', '.join(TOOLS)}", 2)
     if any(word.split("=")[0] == MANY for word in words):
         raise Failed(f"--source is of one network, and {MANY} makes several", 2)
-    return tool, list(map(word_in, words))
+    return tool, list(map(word_in, without_places(words)))
+
+
+def without_places(words: List[str]) -> List[str]:
+    """The words of a command without those that say where to write."""
+    found, is_value = [], False
+    for word in words:
+        option, sign, _ = word.partition("=")
+        if not is_value and option not in (*PLACES, *FLAGS):
+            found.append(word)
+        is_value = not is_value and option in PLACES and not sign
+    return found
 
 
 def word_in(word: str) -> Word:
@@ -88,8 +104,13 @@ def keep(folder: pathlib.Path, command: str, put: Callable[[pathlib.Path, str, b
         raise Failed(f"--source: {fault} cannot be kept", 2) from fault
     put(folder, "source/command.tsv", text)
     made = made_of(text, lambda name: (folder / "source" / name).read_bytes())
-    for name in MADE:
-        put(folder, f"source/{name}" if name == "summary.csv" else f"inputs/{name}", made[name])
+    for name, content in made.items():
+        put(folder, place_of(name), content)
+
+
+def place_of(name: str) -> str:
+    """The place in an evidence of a file that a tool makes."""
+    return f"source/{name}" if name == "summary.csv" else f"inputs/{name}"
 
 
 def sheet_in(name: str) -> bytes:
@@ -149,8 +170,8 @@ def names_of(text: bytes) -> List[str]:
 
 
 def made_of(text: bytes, read: Callable[[str], bytes]) -> Dict[str, bytes]:
-    """What the tool makes of the sheets, by the names of `MADE`. Fails with 4 where it refuses them, and with 3 where
-    the command is none that makes the files."""
+    """What the tool makes of the sheets, by the names of `MADE`, and what banks are called, where the sheets say it.
+    Fails with 4 where it refuses them, and with 3 where the command is none that makes the files."""
     tool, words = known_words(text)
     with runner.work_folder() as name:
         folder = pathlib.Path(name)
@@ -160,7 +181,8 @@ def made_of(text: bytes, read: Callable[[str], bytes]) -> Dict[str, bytes]:
                 (folder / "source" / word.sheet).write_bytes(read(word.sheet))
         run_tool(tool, list(map(in_folder, words)), folder)
         try:
-            return {made: (folder / "made" / made).read_bytes() for made in MADE}
+            there = [*MADE, *([NAMED] if (folder / "made" / NAMED).exists() else [])]
+            return {made: (folder / "made" / made).read_bytes() for made in there}
         except OSError as fault:
             raise Failed("source/command.tsv is not a command that is run: it makes no files", 3) from fault
 
@@ -171,10 +193,9 @@ def in_folder(word: Word) -> str:
 
 
 def run_tool(tool: str, words: List[str], folder: pathlib.Path) -> None:
-    """Runs a tool in a folder, to which it is confined; what it makes stands in made/ there."""
-    files = ["--banks", "made/banks.csv", "--debts", "made/debts.csv"]
-    out = ["--out", "made"] if tool == "from_totals.py" else files
-    command = [sys.executable, "-IB", confined.__file__, TOOLS[tool], *out, "--summary", "made/summary.csv", *words]
+    """Runs a tool in a folder, to which it is confined; what it makes stands in made/ there, a case."""
+    out = ["--case", "made", "--summary", "made/summary.csv"]
+    command = [sys.executable, "-IB", confined.__file__, TOOLS[tool], *out, *words]
     try:
         nothing, pipe = subprocess.DEVNULL, subprocess.PIPE
         done = subprocess.run(command, cwd=folder, stdin=nothing, stdout=nothing, stderr=pipe, timeout=MOST_SECONDS)

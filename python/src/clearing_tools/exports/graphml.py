@@ -1,29 +1,32 @@
 """Makes a graph of banks and debts, with what is paid and who defaults, for Gephi, igraph, networkx and others.
 
 In:  PAYMENTS and DEFAULTS, what `clear` (or `central`) and `defaults` printed for one network. With --banks FILE, the
-     banks file, also the cash of each bank, its rule and what it owes outside. Line ends of CR LF and a byte order
-     mark are read.
+     banks file, also the cash of each bank, its rule and what it owes outside; with --case FOLDER these and its labels.
+     Line ends of CR LF and a byte order mark are read.
 Out: --out FILE, a graph in the format GraphML: directed, from debtor to creditor, with an edge for each debt, so that
      two banks may have several. A bank's node is its name; its attributes are `label` (its name), estate,
      outside_paid, paid, owed, equity, state (sound, fundamental or contagion), and cash, rule and outside. A debt's
      are `weight` (its claim), class, claim, paid, unpaid and share (what is paid of the claim, 1 where nothing is
-     claimed). Amounts are whole units. In names U+FFFE and U+FFFF, which XML cannot hold, stand as <U+FFFE> and <U+FFFF>. It is written whole or not at all, and never over a file that is read.
+     claimed). Amounts are whole units. In names U+FFFE and U+FFFF, which XML cannot hold, stand as <U+FFFE> and
+     <U+FFFF>. It is written whole or not at all, and never over a file that is read.
 
 networkx is needed (Debian's package python3-networkx).
 
-Ends with 0, or with 1 and a message where a file is not as it should be, or with 2 where the words are not understood or
-networkx is not there.
+Ends with 0, or with 1 and a message where a file is not as it should be, or with 2 where the words are not understood
+or networkx is not there.
 """
 import io
 import re
-import sys
+from typing import Any, Dict, List, Tuple
 
-from .. import cli, files
-from ..runner import Failed, command
+from clearing_client.case import Case
+
+from .. import cases, cli, files
+from ..runner import Failed, command, lacking
 from ..texts import lines_of, read_accounts, read_payments, read_standings
 
 
-def banks_of(name):
+def banks_of(name: str) -> Dict[str, Dict[str, Any]]:
     """What `defaults` says of each bank, by its name: what is paid outside only where the text has it."""
     standings = read_standings(name)
     words = lines_of(name)[0].split(",")[1:]
@@ -34,12 +37,12 @@ def banks_of(name):
 BARRED = re.compile("[\ufffe\uffff]|<(?=U\\+(?:FFFE|FFFF|003C)>)")
 
 
-def xml_name(name):
+def xml_name(name: str) -> str:
     """A name as XML can hold it: those two stand as <U+FFFE> and <U+FFFF>. Names that differ stay so."""
     return BARRED.sub(lambda found: f"<U+{ord(found[0]):04X}>", name)
 
 
-def add_accounts(name, banks):
+def add_accounts(name: str, banks: Dict[str, Dict[str, Any]]) -> None:
     """Adds what the banks file says to what is known of each bank."""
     accounts = read_accounts(name)[1]
     for other in accounts.keys() ^ banks.keys():
@@ -48,7 +51,15 @@ def add_accounts(name, banks):
         banks[bank].update(account)
 
 
-def debts_of(name, banks):
+def add_labels(case: Case, banks: Dict[str, Dict[str, Any]]) -> None:
+    """Adds what the labels of a case say of each bank; all banks have the attributes that one of them has."""
+    for word in ("short", "full", "group", "country"):
+        if any(getattr(label, word) for label in case.labels.values()):
+            for bank, known in banks.items():
+                known[word] = xml_name(getattr(case.label(bank), word))
+
+
+def debts_of(name: str, banks: Dict[str, Dict[str, Any]]) -> List[Tuple[str, str, Dict[str, Any]]]:
     """The debts with what is paid on each, in file order."""
     owes = dict.fromkeys(banks, 0)
     debts = []
@@ -59,16 +70,31 @@ def debts_of(name, banks):
         if paid > claim:
             raise Failed(f"{name}: line {line}: more is paid than is claimed")
         share = paid / claim if claim else 1.0
-        debts.append((debtor, creditor, {
-            "weight": claim, "class": class_, "claim": claim, "paid": paid, "unpaid": claim - paid, "share": share}))
+        debts.append(
+            (
+                debtor,
+                creditor,
+                {
+                    "weight": claim,
+                    "class": class_,
+                    "claim": claim,
+                    "paid": paid,
+                    "unpaid": claim - paid,
+                    "share": share,
+                },
+            )
+        )
         owes[debtor] += claim
     for bank, owed in owes.items():
         if banks[bank]["owed"] != owed:
-            raise Failed(f"{name}: the debts of {bank} come to {owed}, and the other text says {banks[bank]['owed']}: are they of one network?")
+            raise Failed(
+                f"{name}: the debts of {bank} come to {owed}, and the other text says {banks[bank]['owed']}: are "
+                "they of one network?"
+            )
     return debts
 
 
-def graph_of(networkx, banks, debts):
+def graph_of(networkx: Any, banks: Dict[str, Dict[str, Any]], debts: List[Tuple[str, str, Dict[str, Any]]]) -> Any:
     graph = networkx.MultiDiGraph()
     for name, bank in banks.items():
         graph.add_node(xml_name(name), label=xml_name(name), **bank)
@@ -78,23 +104,32 @@ def graph_of(networkx, banks, debts):
 
 
 @command("to_graphml")
-def main():
+def main() -> None:
     parser = cli.parser_of(__doc__)
     parser.add_argument("payments", metavar="PAYMENTS", help="what `clear` or `central` printed")
     parser.add_argument("defaults", metavar="DEFAULTS", help="what `defaults` printed")
+    parser.add_argument(
+        "--case", metavar="FOLDER", help="the case that the texts are of: its banks file, and its labels"
+    )
     parser.add_argument("--banks", metavar="FILE", help="the banks file")
     parser.add_argument("--out", required=True, metavar="FILE", help="the file to write")
     words = parser.parse_args()
+    case = cases.beside(words)
     banks = banks_of(words.defaults)
     debts = debts_of(words.payments, banks)
     if words.banks:
         add_accounts(words.banks, banks)
+    if case:
+        add_labels(case, banks)
     try:
         import networkx
 
         networkx.MultiDiGraph
     except (ImportError, AttributeError) as fault:
-        raise Failed(f"{sys.executable} has no networkx (Debian's package python3-networkx is for /usr/bin/python3)", 2) from fault
+        raise lacking("networkx", "all") from fault
     text = io.BytesIO()
     networkx.write_graphml_xml(graph_of(networkx, banks, debts), text, encoding="utf-8")
-    files.write_all([(words.out, text.getvalue())], [words.payments, words.defaults, words.banks])
+    files.write_all(
+        [(words.out, text.getvalue())],
+        [words.payments, words.defaults, words.banks, *(cases.inputs_of(case) if case else [])],
+    )

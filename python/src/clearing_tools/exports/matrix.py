@@ -1,36 +1,45 @@
 """Makes a matrix of claims or of payments from the files of `clearing`.
 
-In:  --banks FILE and --debts FILE, two files that `clearing check` accepts. With --payments FILE, also what `clear`
-     or `central` printed for them: the cells are then what is paid, and otherwise what is claimed.
+In:  FOLDER, a case, or --banks FILE and --debts FILE, two files that `clearing check` accepts. With --payments FILE,
+     also what `clear` or `central` printed for them: the cells are then what is paid, and otherwise what is claimed.
 Out: on standard output, or in --out FILE, comma-separated records in UTF-8: the names of the banks in the first row
      and the first column, where they meet what the bank of the row owes or pays the bank of the column, all classes
      together or one alone (--class), and last the columns `cash`, `outside` where the banks file has it, and `rule`.
      from_matrix.py reads it back. No file that is read is written over. A file whose name ends with .xlsx is a
      workbook, which needs openpyxl (Debian's package python3-openpyxl).
 
-With --unit, amounts are units times it, as decimal numbers.
+With --unit, or by the unit of the case, amounts are units times it, as decimal numbers.
 
 Ends with 0, or with 1 and a message where a file is not as it should be, or with 2 where the words are not understood.
 """
+import argparse
 from decimal import Decimal
+from typing import Any, Callable, Dict, Iterable, Iterator, List, Tuple, Union
 
 from clearing_client.texts import DEBTS
 
-from .. import cli, files, money
+from .. import cases, cli, files, money
 from ..runner import Failed, command
 from ..texts import number, read_accounts, read_payments, records_in
 from .workbook import book_of, is_book
 
 
-def debts_in(name):
+AsAmount = Callable[[int], Any]
+DebtRecord = Tuple[int, str, str, int, int, int]
+"""A row, the debtor, the creditor, the class, the claim, and what is shown of it."""
+Debts = Dict[Tuple[str, str, int], Tuple[int, int]]
+"""The claim, and what is shown of it, by debtor, creditor and class."""
+
+
+def debts_in(name: Any) -> Iterator[DebtRecord]:
     """The debts of a debts file, each with its row and its claim twice: what is owed is what is shown."""
     for row, (debtor, creditor, class_, claim) in records_in(name, DEBTS)[1]:
         yield row, debtor, creditor, number(name, row, class_), number(name, row, claim), number(name, row, claim)
 
 
-def debts_of(name, records, banks):
+def debts_of(name: Any, records: Iterable[DebtRecord], banks: Dict[str, List[Any]]) -> Debts:
     """For each debt its debtor, creditor, class and claim, and what is shown of it."""
-    debts = {}
+    debts: Debts = {}
     for row, debtor, creditor, class_, claim, amount in records:
         for bank in (debtor, creditor):
             if bank not in banks:
@@ -42,24 +51,32 @@ def debts_of(name, records, banks):
     return debts
 
 
-def paid_of(words, banks, debts):
+def paid_of(words: argparse.Namespace, banks: Dict[str, List[Any]], debts: Debts) -> Debts:
     """What is paid on each debt, by a file of payments of just these debts."""
-    paid = debts_of(words.payments, ((row, *payment) for row, payment in enumerate(read_payments(words.payments), 1)), banks)
+    paid = debts_of(
+        words.payments, ((row, *payment) for row, payment in enumerate(read_payments(words.payments), 1)), banks
+    )
     for key in {**debts, **paid}:
         if key not in paid or key not in debts or paid[key][0] != debts[key][0]:
-            raise Failed(f"{words.payments} is not of the debts in {words.debts}: see the debt of {key[0]} to {key[1]} of class {key[2]}")
+            raise Failed(
+                f"{words.payments} is not of the debts in {words.debts}: see the debt of {key[0]} to {key[1]} of "
+                f"class {key[2]}"
+            )
     return paid
 
 
-def matrix_of(words, as_amount):
+def matrix_of(words: argparse.Namespace, as_amount: AsAmount) -> Iterator[List[Any]]:
     """The records of the matrix, its header first."""
     columns, accounts = read_accounts(words.banks)
     names = [name for name in ("cash", "outside", "rule") if name in columns]
-    banks = {bank: [account[name] if name == "rule" else as_amount(account[name]) for name in names] for bank, account in accounts.items()}
+    banks = {
+        bank: [account[name] if name == "rule" else as_amount(account[name]) for name in names]
+        for bank, account in accounts.items()
+    }
     debts = debts_of(words.debts, debts_in(words.debts), banks)
     if words.payments:
         debts = paid_of(words, banks, debts)
-    cells = {}
+    cells: Dict[Tuple[str, str], int] = {}
     for (debtor, creditor, class_), amounts in debts.items():
         if words.class_ in (None, class_):
             cells[debtor, creditor] = cells.get((debtor, creditor), 0) + amounts[1]
@@ -69,18 +86,17 @@ def matrix_of(words, as_amount):
 
 
 @command("to_matrix")
-def main():
-    parser = cli.parser_of(__doc__)
-    parser.add_argument("--banks", required=True, metavar="FILE", help="the banks file")
-    parser.add_argument("--debts", required=True, metavar="FILE", help="the debts file")
+def main() -> None:
+    parser = cli.case_parser(__doc__)
     parser.add_argument("--payments", metavar="FILE", help="what `clear` or `central` printed")
     parser.add_argument("--class", dest="class_", type=int, choices=range(1, 10), help="one class alone")
     money.add_unit(parser)
     parser.add_argument("--out", metavar="FILE", help="the file to write, in place of standard output")
     words = parser.parse_args()
+    case = cases.take_case(parser, words)
     amount = money.amount_by(words.unit)
     if is_book(words.out):
-        made = book_of({"matrix": matrix_of(words, lambda units: Decimal(amount(units)))})
+        made: Union[str, bytes] = book_of({"matrix": matrix_of(words, lambda units: Decimal(amount(units)))})
     else:
         made = files.csv_text(matrix_of(words, amount))
-    files.put(made, words.out, [words.banks, words.debts, words.payments])
+    files.put(made, words.out, [*cases.inputs_of(case), words.payments])

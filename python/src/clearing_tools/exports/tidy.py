@@ -1,16 +1,18 @@
 """Makes tidy tables of a text that `clearing` printed: one comma-separated file for each table.
 
 In:  OUTPUT, a file with what a task of `clearing` printed, or `-` for standard input. Which task, its text tells.
-Out: for each table of the text the file NAME-TABLE.csv, where NAME is that of OUTPUT without its ending, or `output`; in
-     the folder of OUTPUT (of standard input: the folder of the call), or in --folder. Or, with --out FILE.xlsx, one
+Out: for each table of the text the file NAME-TABLE.csv, where NAME is that of OUTPUT without its ending, or `output`;
+     in the folder of OUTPUT (of standard input: the folder of the call), or in --folder. Or, with --out FILE.xlsx, one
      workbook with a sheet for each table. On standard output the names of the files, one a line.
 
-A file has a header, then a record for each debt, bank, raise or scenario, and no line of sums, so that what reads tables adds
-up to what is there. The tables are payments, standings, journal, waves, ranks, banks, debts, scenarios, cuts, pairs and saved. The
-sums that the program printed, and what it printed once, such as `rounds`, are the table `totals`: one record, and for `stress` one for each
-scenario. What `stress` prints has the columns `number`, the scenario's from 1, and `scenario`, its name.
+A file has a header, then a record for each debt, bank, raise or scenario, and no line of sums, so that what reads
+tables adds up to what is there. The tables are payments, standings, journal, waves, ranks, banks, debts, scenarios,
+cuts, pairs and saved. The sums that the program printed, and what it printed once, such as `rounds`, are the table
+`totals`: one record, and for `stress` one for each scenario. What `stress` prints has the columns `number`, the
+scenario's from 1, and `scenario`, its name.
 
-With --unit, amounts are units times it, as decimal numbers; classes, stamps, ranks and counts stay.
+With --unit, or by the unit of --case FOLDER, amounts are units times it, as decimal numbers; classes, stamps, ranks and
+counts stay.
 
 A name may be `NA` or `null`: read the tables with pandas.read_csv(.., keep_default_na=False), or read.csv(..,
 na.strings = character(0)).
@@ -26,20 +28,23 @@ import pathlib
 import sys
 import tempfile
 from decimal import Decimal
+from typing import IO, Any, Callable, Dict, Iterable, Iterator, List, Union
 
 from clearing_client.errors import TextError
 from clearing_client.records import ScenarioPayment, ScenarioStanding, ScenarioTotals
 from clearing_client.table import words_of
 from clearing_client.texts import SUMS, outcomes_in
 
-from .. import cli, files, money
+from .. import cases, cli, files, money
 from ..runner import Failed, command
 from ..texts import parsed
 from .workbook import book_of, is_book
 
+AsAmount = Callable[[int], str]
+Content = Union[str, IO[bytes]]
 AMOUNTS = set(
-    """claim paid least greatest estate outside_paid owed equity lost cash outside to added short cancelled had allowed own others
-    lost_at_least equity_at_least lost_at_greatest equity_at_greatest""".split()
+    """claim paid least greatest estate outside_paid owed equity lost cash outside to added short cancelled had allowed
+    own others lost_at_least equity_at_least lost_at_greatest equity_at_greatest""".split()
 )
 # A journal and what is printed beside it are no longer, and no header is.
 MOST_BYTES, MOST_LINE = 2_000_000_000, 1_000_000
@@ -47,7 +52,7 @@ SHOWN = {True: "yes", False: "no", None: ""}
 
 
 @contextlib.contextmanager
-def opened(output):
+def opened(output: str) -> Iterator[IO[bytes]]:
     """The bytes of a file, or of standard input, as they come."""
     if output == "-":
         yield sys.stdin.buffer
@@ -60,9 +65,9 @@ def opened(output):
         yield file
 
 
-def tables_of(output, as_amount, undo):
-    """The files of the tables of a text, by their names. What `stress` printed is read one scenario at a time, and its tables are kept in
-    files without a name until they are written."""
+def tables_of(output: str, as_amount: AsAmount, undo: contextlib.ExitStack) -> Dict[str, Content]:
+    """The files of the tables of a text, by their names. What `stress` printed is read one scenario at a time, and its
+    tables are kept in files without a name until they are written."""
     name = "standard input" if output == "-" else output
     with opened(output) as stream:
         try:
@@ -78,10 +83,12 @@ def tables_of(output, as_amount, undo):
     return {table: "".join(csv_lines(each, as_amount)) for table, each in parsed(name, text).tables().items()}
 
 
-def stress_tables(name, stream, as_amount, undo):
+def stress_tables(
+    name: str, stream: Iterable[bytes], as_amount: AsAmount, undo: contextlib.ExitStack
+) -> Dict[str, Content]:
     """The files of the tables of what `stress` printed, each record with the number and the name of its scenario."""
     kinds = {"payments": ScenarioPayment, "standings": ScenarioStanding, "totals": ScenarioTotals}
-    made = {table: undo.enter_context(tempfile.TemporaryFile()) for table in kinds}
+    made: Dict[str, IO[bytes]] = {table: undo.enter_context(tempfile.TemporaryFile()) for table in kinds}
     for table, kind in kinds.items():
         made[table].write((",".join(words_of(kind)) + "\n").encode())
     try:
@@ -91,30 +98,30 @@ def stress_tables(name, stream, as_amount, undo):
                 made[table].write("".join(f"{outcome.number},{outcome.name},{row}" for row in rows).encode())
     except TextError as fault:
         raise Failed(f"{name}: {fault}") from fault
-    return made
+    return dict(made)
 
 
-def cell_of(name, value, as_amount):
+def cell_of(name: str, value: Any, as_amount: AsAmount) -> str:
     """A value of a column as a text."""
     if value is None or isinstance(value, bool):
         return SHOWN[value]
     return as_amount(value) if name in AMOUNTS else str(value)
 
 
-def csv_lines(table, as_amount):
+def csv_lines(table: Any, as_amount: AsAmount) -> List[str]:
     """The lines of a file of a table. No name has a comma, a quote or the end of a line."""
     columns = [[cell_of(name, value, as_amount) for value in table.column(name)] for name in table.columns]
     return [",".join(row) + "\n" for row in [table.columns, *zip(*columns)]]
 
 
-def value_of(name, value, as_amount):
+def value_of(name: str, value: Any, as_amount: AsAmount) -> Any:
     """A value of a column as a number or a text."""
     if value is None or isinstance(value, (bool, str)):
         return value if isinstance(value, str) else SHOWN[value]
     return Decimal(as_amount(value)) if name in AMOUNTS else value
 
 
-def sheets_of(output, as_amount):
+def sheets_of(output: str, as_amount: AsAmount) -> Dict[str, List[Any]]:
     """The tables of a text as the sheets of a workbook: the records of each by its name, the header first."""
     name = "standard input" if output == "-" else output
     with opened(output) as stream:
@@ -130,9 +137,10 @@ def sheets_of(output, as_amount):
 
 
 @command("tidy")
-def main():
+def main() -> None:
     parser = cli.parser_of(__doc__)
     parser.add_argument("output", metavar="OUTPUT", help="what `clearing` printed; `-` is standard input")
+    parser.add_argument("--case", metavar="FOLDER", help="the case that the text is of, for what a unit is worth")
     money.add_unit(parser)
     parser.add_argument("--folder", help="the folder of the tables, which is made where it is not there")
     parser.add_argument("--out", metavar="FILE.xlsx", help="one workbook in place of the files")
@@ -142,12 +150,13 @@ def main():
     is_input = words.output == "-"
     path = pathlib.Path("output" if is_input else words.output)
     folder = path.parent if words.folder is None else pathlib.Path(words.folder)
+    case = cases.beside(words)
     as_amount = money.amount_by(words.unit)
     with contextlib.ExitStack() as undo:
         if words.out is not None:
-            tables = {words.out: book_of(sheets_of(words.output, as_amount))}
+            tables: Dict[Any, Any] = {words.out: book_of(sheets_of(words.output, as_amount))}
         else:
             made = tables_of(words.output, as_amount, undo)
             tables = {folder / f"{path.stem}-{name}.csv": table for name, table in made.items()}
-        files.write_all(tables, [] if is_input else [words.output])
+        files.write_all(tables, [*([] if is_input else [words.output]), *(cases.inputs_of(case) if case else [])])
     files.put(b"".join(os.fsencode(name) + b"\n" for name in tables))

@@ -1,37 +1,39 @@
-"""Workbooks of tables, for outputs whose name ends with .xlsx: one sheet a table, its header frozen; numbers as numbers, and names as
-text that no spreadsheet takes for a formula. The same tables make the same bytes."""
+"""Workbooks of tables, for outputs whose name ends with .xlsx: one sheet a table, its header frozen; numbers as
+numbers, and names as text that no spreadsheet takes for a formula. The same tables make the same bytes."""
 import datetime
 import io
 import re
-import sys
 import zipfile
 from decimal import Decimal
+from typing import Any, Iterable, Mapping, Sequence, Union
 
 from .. import files
-from ..runner import Failed
+from ..runner import Failed, lacking
 
+Tables = Mapping[str, Iterable[Sequence[Any]]]
+"""Tables by their titles, each its records, the header first."""
 DIGITS, MOST_ROWS = 15, 1_048_576
 EPOCH = (1980, 1, 1, 0, 0, 0)
 # What openpyxl says of when a workbook was made.
 MADE = re.compile(rb"(<dcterms:(?:created|modified)[^>]*>)[^<]*(?=<)")
 
 
-def is_book(name):
+def is_book(name: Any) -> bool:
     """Whether a file is to be a workbook, by its ending."""
     return name is not None and str(name).casefold().endswith(".xlsx")
 
 
-def library():
+def library() -> Any:
     try:
         import openpyxl
 
         openpyxl.Workbook
     except (ImportError, AttributeError) as fault:
-        raise Failed(f"{sys.executable} has no openpyxl, which writes .xlsx (Debian's package python3-openpyxl is for /usr/bin/python3)", 2) from fault
+        raise lacking("openpyxl", "sheets", ", which writes .xlsx") from fault
     return openpyxl
 
 
-def number_of(value):
+def number_of(value: Any) -> Any:
     """A number that a spreadsheet keeps to its last digit, or nothing."""
     if isinstance(value, (int, Decimal)) and not isinstance(value, bool):
         digits = str(value).lstrip("-").replace(".", "").lstrip("0")
@@ -39,9 +41,9 @@ def number_of(value):
     return None
 
 
-def book_of(tables):
-    """The bytes of a workbook of some tables, each its records by its title, the header first. Fails where a text cannot stand in
-    one, or a table is too long."""
+def book_of(tables: Tables) -> bytes:
+    """The bytes of a workbook of some tables, each its records by its title, the header first. Fails where a text
+    cannot stand in one, or a table is too long."""
     openpyxl = library()
     from openpyxl.cell import WriteOnlyCell
 
@@ -58,13 +60,14 @@ def book_of(tables):
     return without_dates(made)
 
 
-def cell_of(make, sheet, value):
+def cell_of(make: Any, sheet: Any, value: Any) -> Any:
     """A cell of a number, or of a text as it is."""
     number = number_of(value)
     if number is not None:
         cell = make(sheet, number)
-        if isinstance(number, Decimal) and number.as_tuple().exponent < 0:
-            cell.number_format = "0." + "0" * -number.as_tuple().exponent
+        places = -int(number.as_tuple().exponent) if isinstance(number, Decimal) else 0
+        if places > 0:
+            cell.number_format = "0." + "0" * places
         return cell
     text = "" if value is None else str(value)
     if re.search("[\x00-\x08\x0b\x0c\x0e-\x1f\ufffe\uffff]", text):
@@ -76,20 +79,23 @@ def cell_of(make, sheet, value):
     return cell
 
 
-def without_dates(made):
+def without_dates(made: Any) -> bytes:
     """A workbook without the time at which it was made."""
     plain = io.BytesIO()
     with zipfile.ZipFile(made) as archive, zipfile.ZipFile(plain, "w", zipfile.ZIP_DEFLATED) as other:
         for info in archive.infolist():
             content = archive.read(info)
             if info.filename == "docProps/core.xml":
-                content = MADE.sub(rb"\g<1>" + datetime.datetime(*EPOCH).strftime("%Y-%m-%dT%H:%M:%SZ").encode(), content)
+                content = MADE.sub(
+                    rb"\g<1>" + datetime.datetime(*EPOCH).strftime("%Y-%m-%dT%H:%M:%SZ").encode(), content
+                )
             entry = zipfile.ZipInfo(info.filename, EPOCH)
             entry.compress_type = zipfile.ZIP_DEFLATED
             other.writestr(entry, content)
     return plain.getvalue()
 
 
-def content_of(tables, name):
-    """What a file of some tables has: a workbook by its ending, else comma-separated records, an empty line between tables."""
+def content_of(tables: Tables, name: Any) -> Union[str, bytes]:
+    """What a file of some tables has: a workbook by its ending, else comma-separated records, an empty line between
+    tables."""
     return book_of(tables) if is_book(name) else "\n".join(map(files.csv_text, tables.values()))

@@ -2,6 +2,7 @@
 import re
 import unicodedata
 from fractions import Fraction
+from typing import Dict, Optional, Set, Tuple, Union
 
 BLANKS = " \t\u00a0\u2007\u2009\u202f"
 SAME_SIGN = {**{blank: " " for blank in BLANKS}, "\u2019": "'"}
@@ -12,36 +13,53 @@ POWER = re.compile(r"([0-9]*)(?:([.,])([0-9]*))?[eE]([+-]?[0-9]{1,2})", re.ASCII
 MOST_DIGITS = 40
 
 
-class Cell(str):
-    """A cell of a workbook: its text, and its number where it has one, or why it is none; with the currency of its format."""
+Amount = Union[int, Fraction]
 
-    value = None
-    fault = None
-    currency = None
+
+class Cell(str):
+    """A cell of a workbook: its text, and its number where it has one, or why it is none; with the currency of its
+    format."""
+
+    value: Optional[Amount] = None
+    fault: Optional[str] = None
+    currency: Optional[str] = None
 
 
 class Unread(Exception):
     """A text that is no amount; with the kind of a question, where one answer serves many cells."""
 
-    def __init__(self, what, question=None):
+    def __init__(self, what: str, question: object = None, kind: str = "no amount") -> None:
         super().__init__(what)
-        self.question = question
+        self.question, self.kind = question, kind
 
 
 class Amounts:
-    """Reads amounts as they stand in a sheet: with a decimal sign, separators between thousands, an exponent, or a currency.
+    """Reads amounts as they stand in a sheet: with a decimal sign, separators between thousands, an exponent, or a
+    currency.
 
-    What could be read in two ways is refused, unless --decimal or --thousands says which sign is which; so is a sign that is used
-    in two ways. A number of a workbook is itself."""
+    What could be read in two ways is refused, unless --decimal or --thousands says which sign is which; so is a sign
+    that is used in two ways. A number of a workbook is itself."""
 
-    def __init__(self, decimal=None, thousands=None):
+    def __init__(
+        self,
+        decimal: Optional[str] = None,
+        thousands: Optional[str] = None,
+        empty_words: bool = False,
+        is_signed: bool = False,
+    ) -> None:
         self.decimal, self.thousands = decimal, thousands
+        # Whether NULL and its like are 0, and whether an amount below 0 is read as one.
+        self.empty_words, self.is_signed = empty_words, is_signed
         if decimal is None and thousands in (".", ","):
             self.decimal = "," if thousands == "." else "."
-        # The use of each sign and the currency, with the text that showed it; what was read of texts, and the numbers of workbooks.
-        self.uses, self.currency, self.known, self.numbers = {}, None, {}, set()
+        # The use of each sign and the currency, with the text that showed it; what was read of texts, and the numbers
+        # of workbooks.
+        self.uses: Dict[str, Tuple[str, str]] = {}
+        self.currency: Optional[Tuple[str, str]] = None
+        self.known: Dict[str, Amount] = {}
+        self.numbers: Set[Amount] = set()
 
-    def read(self, text):
+    def read(self, text: str) -> Amount:
         """The amount in a cell: an integer or a fraction. Fails with `Unread` where it is none."""
         if isinstance(text, Cell):
             return self.of_cell(text)
@@ -50,42 +68,49 @@ class Amounts:
             amount = self.known[text] = self.of_text(text)
         return amount
 
-    def of_cell(self, cell):
+    def of_cell(self, cell: Cell) -> Amount:
         if cell.fault:
             raise Unread(f"{str(cell)!r} {cell.fault}")
-        if cell.value is None:
+        value: Optional[Amount] = cell.value
+        if value is None:
             return self.of_text(str(cell))
-        if cell.value < 0:
-            raise Unread(below_zero(str(cell)))
-        if cell.currency and cell.value:
+        if value < 0 and not self.is_signed:
+            raise Unread(below_zero(str(cell)), kind="below 0")
+        if cell.currency and value:
             self.see_currency(cell.currency, str(cell))
-        if not isinstance(cell.value, int):
-            self.numbers.add(cell.value)
-        return cell.value
+        self.numbers.add(value)
+        return value
 
-    def of_text(self, text):
+    def of_text(self, text: str) -> Amount:
         if text.isascii() and text.isdigit() and len(text) <= MOST_DIGITS:
             return int(text)
         text = "".join(SAME_SIGN.get(c, c) for c in text).strip(" ")
+        if is_null(text):
+            if self.empty_words:
+                return 0
+            raise Unread(f"{text!r} is not an amount; say --empty 0 to read it as 0, or --leave-out empty", kind="null")
         digits, currency = bare(text)
         if digits == "" or all(c in DASHES for c in digits):
             if currency and not digits:
                 raise Unread(f"{text!r} is not an amount")
             return 0
         amount = self.number(text, digits)
-        if is_negative(digits) and amount:
-            raise Unread(below_zero(text))
+        if is_negative(digits) and amount and not self.is_signed:
+            raise Unread(below_zero(text), kind="below 0")
         if currency:
             self.see_currency(currency, text)
-        return amount
+        return -amount if is_negative(digits) else amount
 
-    def see_currency(self, currency, text):
+    def see_currency(self, currency: str, text: str) -> None:
         """Refuses a currency that is another than those before."""
         self.currency = self.currency or (currency, text)
         if self.currency[0] != currency:
-            raise Unread(f"{text!r} is of another currency than {self.currency[1]!r}: {currency}, not {self.currency[0]}; convert all amounts to one")
+            raise Unread(
+                f"{text!r} is of another currency than {self.currency[1]!r}: {currency}, not {self.currency[0]}; "
+                "convert all amounts to one"
+            )
 
-    def number(self, text, digits):
+    def number(self, text: str, digits: str) -> Amount:
         if is_negative(digits):
             digits = digits.strip(DASHES + "() ")
         if not any(c.isascii() and c.isdigit() for c in digits) or len(digits) > 2 * MOST_DIGITS:
@@ -108,7 +133,7 @@ class Amounts:
             self.use(text, sign, "decimals")
         return decimal_of("".join(c for c in whole if c.isdigit()), part)
 
-    def decimal_sign(self, text, digits):
+    def decimal_sign(self, text: str, digits: str) -> Optional[str]:
         """The sign before the decimals, or none where all signs stand between thousands."""
         signs = [c for c in digits if not c.isdigit()]
         last = signs[-1] if signs else None
@@ -126,65 +151,83 @@ class Amounts:
         question = f"{text}: thousands or decimals? say --thousands {last} or --decimal {last}"
         raise Unread(question, last)
 
-    def use(self, text, sign, use):
+    def use(self, text: str, sign: str, use: str) -> None:
         """Remembers a use of a sign, and refuses another of it, or two signs for decimals."""
         said = {self.decimal: "decimals", self.thousands: "thousands"}
         if sign in said and said[sign] != use or use == "decimals" and self.decimal not in (None, sign):
             raise Unread(self.question_of(text, sign, use), ("sign", sign, use))
         other = self.uses.get(sign)
         if other and other[0] != use:
-            raise Unread(f"{text!r} has {sign!r} before {use}, and {other[1]!r} before {other[0]}; say --decimal or --thousands")
+            raise Unread(
+                f"{text!r} has {sign!r} before {use}, and {other[1]!r} before {other[0]}; say --decimal or --thousands"
+            )
         if use == "decimals":
             for seen, (what, where) in self.uses.items():
                 if what == use and seen != sign:
-                    raise Unread(f"{text!r} has {sign!r} before its decimals, and {where!r} has {seen!r}; say --decimal")
+                    raise Unread(
+                        f"{text!r} has {sign!r} before its decimals, and {where!r} has {seen!r}; say --decimal"
+                    )
         self.uses.setdefault(sign, (use, text))
 
-    def question_of(self, text, sign, use):
+    def question_of(self, text: str, sign: str, use: str) -> str:
         """What is asked where a sheet has a sign otherwise than a word says."""
         word = {"decimals": "--decimal", "thousands": "--thousands"}
         said = word["thousands" if use == "decimals" and sign == self.thousands else "decimals"]
         return f"{text!r} has {sign!r} before its {use}, and {said} says otherwise; is {word[use]} {sign} meant?"
 
 
-def below_zero(text):
-    return f"{text!r} is below 0; what a bank is owed stands as a debt of the bank that owes"
+NULLS = {"null", "(null)", "na", "n/a", "n.a.", "none", "nan", "nil"}
+"""What databases and programs write where there is nothing."""
 
 
-def is_in_threes(whole):
+def is_null(text: str) -> bool:
+    """Whether a text says that there is nothing."""
+    return text.casefold() in NULLS
+
+
+def below_zero(text: str) -> str:
+    """What is said of an amount below 0."""
+    way = "say --turn negative, or --leave-out negative"
+    return f"{text!r} is below 0; what a bank is owed stands as a debt of the bank that owes: {way}"
+
+
+def is_in_threes(whole: str) -> bool:
     return re.fullmatch(r"[0-9]{1,3}(\D[0-9]{3})+", whole) is not None
 
 
-def is_indian(whole):
+def is_indian(whole: str) -> bool:
     """Whether digits stand as in India, such as 12,34,567: three at the end, and two in each group before."""
     return re.fullmatch(r"[0-9]{1,2}(,[0-9]{2})+,[0-9]{3}", whole) is not None
 
 
-def bare(text):
+def bare(text: str) -> Tuple[str, Optional[str]]:
     """A text without a currency at one of its ends, and that currency or nothing."""
-    for pattern in (r"(?P<code>[^\W\d_]{3}|[^\W\d_]{0,3}\W)(?P<rest>.*)", r"(?P<rest>.*?)(?P<code>[^\W\d_]{3}|[^\W\d_]{0,2}\W)"):
+    for pattern in (
+        r"(?P<code>[^\W\d_]{3}|[^\W\d_]{0,3}\W)(?P<rest>.*)",
+        r"(?P<rest>.*?)(?P<code>[^\W\d_]{3}|[^\W\d_]{0,2}\W)",
+    ):
         found = re.fullmatch(pattern, text, re.DOTALL)
         if found and is_currency(found["code"]):
             return found["rest"].strip(" "), CURRENCIES.get(found["code"], found["code"])
     return text, None
 
 
-def is_currency(code):
+def is_currency(code: str) -> bool:
     return re.fullmatch("[A-Z]{3}", code) is not None or unicodedata.category(code[-1]) == "Sc"
 
 
-def is_negative(text):
+def is_negative(text: str) -> bool:
     return text[0] in DASHES or text[-1] in DASHES or text[0] == "(" and text[-1] == ")"
 
 
-def decimal_of(whole, part):
+def decimal_of(whole: str, part: str) -> Amount:
     if not whole + part or len(whole) > MOST_DIGITS or len(part) > MOST_DIGITS:
         raise Unread(f"{whole}.{part} is not an amount")
     number = Fraction(int(whole + part or "0"), 10 ** len(part))
     return int(number) if number.denominator == 1 else number
 
 
-def shown(amount):
+def shown(amount: Amount) -> str:
     """An amount as a decimal number with commas between thousands."""
     amount = Fraction(amount)
     places = decimals_of(amount)
@@ -193,7 +236,7 @@ def shown(amount):
     return f"-{text}" if amount < 0 else text
 
 
-def decimals_of(amount):
+def decimals_of(amount: Amount) -> int:
     """How many decimals a number needs; a fraction without an end is cut at 12."""
     if isinstance(amount, int) or amount.denominator == 1:
         return 0

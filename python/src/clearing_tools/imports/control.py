@@ -1,42 +1,80 @@
 """Lines of totals: found by their names or their numbers, and checked before they are dropped."""
+import argparse
 import math
 import unicodedata
 from fractions import Fraction
+from typing import Any, Container, Dict, Iterable, Iterator, List, Mapping, Optional, Sequence, Set, Tuple
 
-from .amounts import Unread, decimals_of, shown
-from .tables import quoted
+from .amounts import Amount, Amounts, Unread, decimals_of, shown
+from .faults import Faults
+from .summary import Summary
+from .tables import Table, quoted
+
+Value = Any
+"""A whole number, None for what is empty and may be, or `UNREAD`."""
+WrongPlace = Tuple[int, Fraction, Fraction]
+WrongCell = Tuple[str, str, Amount, Amount]
+"""The row and the column of a cell of totals, what stands there, and what the others come to."""
 
 # Names that lines of totals have.
 TOTALS = {
-    "total", "totals", "grand total", "subtotal", "sub-total", "sum", "sums", "σ", "∑", "summe", "gesamt", "gesamtsumme", "insgesamt",
-    "gesamtergebnis", "somme", "total général", "total general", "totale", "totali", "totaal", "suma", "soma", "summa", "razem",
-    "celkem", "yhteensä",
+    "total",
+    "totals",
+    "grand total",
+    "subtotal",
+    "sub-total",
+    "sum",
+    "sums",
+    "σ",
+    "∑",
+    "summe",
+    "gesamt",
+    "gesamtsumme",
+    "insgesamt",
+    "gesamtergebnis",
+    "somme",
+    "total général",
+    "total general",
+    "totale",
+    "totali",
+    "totaal",
+    "suma",
+    "soma",
+    "summa",
+    "razem",
+    "celkem",
+    "yhteensä",
 }
-# So many of its cells must be the sums of the others, and above 0, for a line to be one of totals with cells that are wrong; two where
-# what is wrong is off by a tenth at most.
+# So many of its cells must be the sums of the others, and above 0, for a line to be one of totals with cells that are
+# wrong; two where what is wrong is off by a tenth at most.
 WITNESSES, SHARE, NEAR = 3, 5, 10
+# A sum of whole numbers is this many times as large as what rounding may take from it, at the least.
+SURE = 1000
 
 
-def is_called_total(name):
+def is_called_total(name: str) -> bool:
     return unicodedata.normalize("NFKC", name).strip(" :.*").casefold() in TOTALS
 
 
 UNREAD = object()
-"""What stands for a text that is no amount, or may be one in two ways: nothing is said of its line's sum until it is read."""
+"""What stands for a text that is no amount, or may be one in two ways: nothing is said of its line's sum until it is
+read."""
 
 
 class Values:
-    """The amounts of some columns of a table as far as they can be read, without a fault: a list for each row, with None for what
-    is empty in a line that is called one of totals, or in a column that such a line may leave empty. They are whole
-    numbers, `scale` of which make one."""
+    """The amounts of some columns of a table as far as they can be read, without a fault: a list for each row, with
+    None for what is empty in a line that is called one of totals, or in a column that such a line may leave empty. They
+    are whole numbers, `scale` of which make one."""
 
-    def __init__(self, table, amounts, columns, may_be_empty=()):
+    def __init__(
+        self, table: Table, amounts: Amounts, columns: Iterable[str], may_be_empty: Container[str] = ()
+    ) -> None:
         self.table, self.columns = table, list(columns)
         places = [table.columns[column] for column in self.columns]
         open_ = [column in may_be_empty or is_called_total(column) for column in self.columns]
         read = amounts.read
 
-        def value(text, may_be_empty):
+        def value(text: str, may_be_empty: bool) -> Value:
             try:
                 return None if may_be_empty and text == "" else read(text)
             except Unread:
@@ -48,30 +86,47 @@ class Values:
             self.rows[row] = [value(cells[at], open_at) for at, open_at in zip(places, may)]
         self.scale = self.make_whole(amounts)
 
-    def make_whole(self, amounts):
+    def make_whole(self, amounts: Amounts) -> int:
         """Makes whole numbers of the amounts, which are many: by how much each is more."""
         known = [amount for amount in (*amounts.known.values(), *amounts.numbers) if not isinstance(amount, int)]
-        scale = 10 ** max(map(decimals_of, known), default=0)
+        scale: int = 10 ** max(map(decimals_of, known), default=0)
         if scale > 1:
             for row, line in self.rows.items():
-                self.rows[row] = [value if value is None or value is UNREAD else value * scale if isinstance(value, int) else value.numerator * (scale // value.denominator) for value in line]
+                self.rows[row] = [whole_of(value, scale) for value in line]
         return scale
 
 
-def sum_of(values, scale):
-    """A sum, or None where a value is not read, and how far it may be off as sheets print it: half of its last digit for each value."""
+def whole_of(value: Value, scale: int) -> Value:
+    """A value as a whole number, so many of which make one."""
+    if value is None or value is UNREAD:
+        return value
+    return value * scale if isinstance(value, int) else value.numerator * (scale // value.denominator)
+
+
+def sum_of(values: Sequence[Value], scale: int) -> Tuple[Optional[int], int]:
+    """A sum, or None where a value is not read, and how far it may be off as sheets print it: half of its last digit
+    for each value."""
     if UNREAD in values:
         return None, 0
     there = [value for value in values if value is not None]
     if scale == 1 or not there:
-        return sum(there), 0
+        return sum(there), slack_of(there)
     places = decimals_of(Fraction(math.gcd(*there, scale), scale))
     return sum(there), len(there) * scale // (2 * 10**places) if places else 0
 
 
-def wrong_places(line, sums, most):
-    """The places at which a line is not the sum of the others, where `sums` has it too, and how many of the others are above 0; or
-    None once there are more than so many."""
+def slack_of(there: Sequence[int]) -> int:
+    """How far a sum of whole numbers may be off that were rounded themselves: half a unit for each of them, where the
+    sum is at least so many times as much that this is no other number."""
+    slack = sum(value != 0 for value in there) // 2
+    return slack if sum(there) >= 2 * SURE * slack else 0
+
+
+def wrong_places(
+    line: Sequence[Value], sums: Sequence[Tuple[Optional[int], int]], most: int
+) -> Optional[Tuple[List[int], int]]:
+    """The places at which a line is not the sum of the others, where `sums` has it too, and how many of the others are
+    above 0; or None once there are more than so many."""
     wrong, above = [], 0
     for at, (value, (total, slack)) in enumerate(zip(line, sums)):
         if total is None or value is None and total:
@@ -86,62 +141,116 @@ def wrong_places(line, sums, most):
     return wrong, above
 
 
-def totals_in(lines, words, scale):
-    """The lines of totals, each with the places at which it is wrong: a place, its value and the sum of the others. Lines are called
-    so, or are the sums of all the others, but for a few places where at least three are; two where it is to be dropped, or where the
-    few are near."""
+def totals_in(
+    lines: Mapping[str, Sequence[Value]], words: argparse.Namespace, scale: int
+) -> Dict[str, List[WrongPlace]]:
+    """The lines of totals, each with the places at which it is wrong: a place, its value and the sum of the others.
+    Lines are called so, or are the sums of all the others, but for a few places where at least three are; two where it
+    is to be dropped, or where the few are near."""
     keep = words.keep
     named = {name: line for name, line in lines.items() if name not in keep and is_called_total(name)}
     others = {name: line for name, line in lines.items() if name not in named}
     sums = [sum_of(column, scale) for column in zip(*others.values())]
-    found, rest = {}, sums
+    found: Dict[str, List[Tuple[int, int, int]]] = {}
+    rest = sums
     for name, line in others.items():
         if name in keep or len(others) < 3:
             continue
         is_dropped = name in words.drop
         judged = wrong_places(line, sums, max(1, len(line) // (2 if is_dropped else SHARE)))
-        off = [(at, line[at] or 0, sums[at][0] - (line[at] or 0)) for at in judged[0]] if judged else []
+        # Where a sum is not read, nothing is wrong.
+        off = [(at, line[at] or 0, (sums[at][0] or 0) - (line[at] or 0)) for at in judged[0]] if judged else []
         is_near = all(NEAR * abs(value - total) <= total for _, value, total in off)
         if judged and judged[1] and (not off or judged[1] >= WITNESSES - (is_dropped or is_near)):
             found[name] = off
     if found and named:
         rest = [sum_of(column, scale) for column in zip(*(line for name, line in others.items() if name not in found))]
     for name, line in named.items():
-        cells = zip(range(len(line)), (None if value is UNREAD else value for value in line), rest)
-        found[name] = [(at, value, total) for at, value, (total, slack) in cells if None not in (value, total) and abs(value - total) > slack]
-    return {name: [(at, Fraction(value, scale), Fraction(total, scale)) for at, value, total in found[name]] for name in lines if name in found}
+        found[name] = off_places(line, rest)
+    scaled = {
+        name: [(at, Fraction(value, scale), Fraction(total, scale)) for at, value, total in off]
+        for name, off in found.items()
+    }
+    return {name: scaled[name] for name in lines if name in scaled}
+
+
+def off_places(line: Sequence[Value], sums: Sequence[Tuple[Optional[int], int]]) -> List[Tuple[int, int, int]]:
+    """The places at which a line of totals is not the sum of the others, each with what stands there and the sum; those
+    that are not read say nothing."""
+    found = []
+    for at, (value, (total, slack)) in enumerate(zip(line, sums)):
+        if value is not None and value is not UNREAD and total is not None and abs(value - total) > slack:
+            found.append((at, value, total))
+    return found
 
 
 class Totals:
     """The lines of totals of a table, found before any is dropped: rows and columns by their names."""
 
-    def __init__(self, table, amounts, columns, banks, words, may_be_empty=()):
+    def __init__(
+        self,
+        table: Table,
+        amounts: Amounts,
+        columns: Iterable[str],
+        banks: Iterable[str],
+        words: argparse.Namespace,
+        may_be_empty: Container[str] = (),
+    ) -> None:
         values = Values(table, amounts, columns, may_be_empty)
         self.table, self.columns = table, values.columns
         self.values = values
         self.rows = totals_in(values.rows, words, values.scale)
-        self.across = {}
+        self.across, self.banks = {}, list(banks)
         if banks:
             places = {column: at for at, column in enumerate(values.columns)}
-            self.across = totals_in({column: [line[places[column]] for line in values.rows.values()] for column in banks}, words, values.scale)
+            self.across = totals_in(
+                {column: [line[places[column]] for line in values.rows.values()] for column in banks},
+                words,
+                values.scale,
+            )
         self.names = list(values.rows)
 
-    def wrong_cells(self, name):
+    def wrong_cells(self, name: str) -> Iterator[WrongCell]:
         """The cells of a line of totals that are wrong: row, column, what stands there, and what the others come to."""
         for at, value, total in self.rows.get(name, ()):
             yield name, self.columns[at], value, total
         for at, value, total in self.across.get(name, ()):
             yield self.names[at], name, value, total
 
-    def check(self, name, faults, summary):
+    def off_by_rounding(self, name: str) -> List[Fraction]:
+        """By how much the cells of a line of totals are off, where they are."""
+        columns, rows = zip(*self.values.rows.values()) if self.values.rows else (), self.values.rows
+        lines = []
+        if name in self.rows:
+            totals = [at for at, other in enumerate(rows) if other in self.rows]
+            lines += [
+                (rows[name][at], [value for row, value in enumerate(column) if row not in totals])
+                for at, column in enumerate(columns)
+            ]
+        if name in self.across:
+            at = self.columns.index(name)
+            places = [self.columns.index(bank) for bank in self.banks if bank not in self.across]
+            lines += [(line[at], [line[place] for place in places]) for row, line in rows.items()]
+        found = []
+        for value, others in lines:
+            if value not in (None, UNREAD) and UNREAD not in others:
+                off = abs(value - sum(other for other in others if other is not None))
+                found += [Fraction(off, self.values.scale)] if off else []
+        return found
+
+    def check(self, name: str, faults: Faults, summary: Summary) -> None:
         """Checks a line of totals that is dropped."""
         cells = list(self.wrong_cells(name))
         for row, column, value, total in cells:
             faults.add(self.table, self.table.rows[row], column, wrong(name, value, total))
         if not cells and (name in self.rows or name in self.across):
             summary.tell("control totals that agree", 1, None, f"{said(name)} in {self.table.label}")
+            off = self.off_by_rounding(name)
+            if off:
+                detail = f"the largest by {shown(max(off))}; {said(name)} in {self.table.label}"
+                summary.tell("control totals off by rounding", len(off), sum(off), detail)
 
-    def refuse(self, faults, names=None):
+    def refuse(self, faults: Faults, names: Optional[Container[str]] = None) -> Set[str]:
         """Refuses each line of totals that is still there. Gives their names."""
         for name in {**self.rows, **self.across}:
             if names is None or name in names:
@@ -150,19 +259,26 @@ class Totals:
         return {name for name in {**self.rows, **self.across} if names is None or name in names}
 
 
-def said(name):
+def said(name: str) -> str:
     return name or "the line without a name"
 
 
-def wrong(name, value, total):
-    return f"{said(name)} says {shown(value)}, and the others come to {shown(total)}: correct the sheet, or delete the line of totals"
+def wrong(name: str, value: Amount, total: Amount) -> str:
+    return (
+        f"{said(name)} says {shown(value)}, and the others come to {shown(total)}: correct the sheet, or delete the "
+        "line of totals"
+    )
 
 
-def total_fault(faults, table, name, kind, cells=()):
+def total_fault(faults: Faults, table: Table, name: str, kind: str, cells: Sequence[WrongCell] = ()) -> None:
     """Refuses a line of totals, and tells what is wrong in it."""
     row = table.rows.get(name) if kind == "row" else 0
     where = f"{name} is a {kind} of totals" if name else f"a {kind} of totals that has no name"
-    why = "its name says so" if is_called_total(name) else f"each of its cells is the sum of the others{' but for what is told below' if cells else ''}"
+    why = (
+        "its name says so"
+        if is_called_total(name)
+        else f"each of its cells is the sum of the others{' but for what is told below' if cells else ''}"
+    )
     what = f"{where}: {why}; say --drop {quoted(name)}, or --keep {quoted(name)} if it is a bank"
     faults.add(table, row, (name or "without a name") if kind == "column" else None, what)
     for at, column, value, total in cells:

@@ -4,10 +4,10 @@ In:  TOTALS, a file of comma-separated records in UTF-8, or a workbook (.xlsx, .
      sheets), with the names of the banks in its first column and the columns `assets` and `liabilities`, what other
      banks of the file owe the bank and what it owes them, `cash`, and, where they are there, `outside`, what is owed to
      others, and `rule`. --assets, --liabilities, --cash, --outside and --rule-column give them other names, which then
-     must be there; capitals and spaces matter only between two columns. A column that looks like what is owed outside is
-     asked for, until --outside NAME or --no-outside. No bank has more of assets and liabilities than all
-     others can owe it and be owed by it. Where the sums of the two differ, a bank `rest of the world` (--rest NAME) stands
-     for those who are not in the file, and is told; it has the cash that it owes. --no-rest refuses such sums.
+     must be there; capitals and spaces matter only between two columns. A column that looks like what is owed outside
+     is asked for, until --outside NAME or --no-outside. No bank has more of assets and liabilities than all
+     others can owe it and be owed by it. Where the sums of the two differ, a bank `rest of the world` (--rest NAME)
+     stands for those who are not in the file, and is told; it has the cash that it owes. --no-rest refuses such sums.
      --known FILE (debtor, creditor, amount) has claims that are known and stay, a claim of 0 too; the others are made.
 Out: in --out FOLDER the files banks.csv and debts.csv; with --samples N the folders 1 to N with two files each. All are
      written or none, and none over a file that is read. --label FILE has a code for each name that the program refuses.
@@ -18,7 +18,8 @@ Out: in --out FOLDER the files banks.csv and debts.csv; with --samples N the fol
             (the usual one; it understates contagion, see Upper 2011). Of more than --most claims (20,000) so many stay:
             some by which the totals can be kept, at most two for each bank, then the largest; they are fitted anew to
             the same totals, and what was left out is told
-  sparse    few claims: minimum density, in the manner of Anand, Craig and von Peter (2015): pairs of banks are drawn, the
+  sparse    few claims: minimum density, in the manner of Anand, Craig and von Peter (2015): pairs of banks are drawn,
+  the
             more likely the more what one has left differs from the other, and load all that both have left; of --tries
             runs (20, fewer for more than 120 banks) the one of fewest claims
   sample    networks at random, by a sampler over cycles of claims as that of Gandy and Veraart (2017), in whole units:
@@ -27,8 +28,8 @@ Out: in --out FOLDER the files banks.csv and debts.csv; with --samples N the fol
             and a tenth of them before each other; it is told where the chain has not come to rest before the first
 --seed S (1) is the number from which `sparse` and `sample` draw; the same seed makes the same networks for good.
 
-In every network the claims of each bank come exactly to its totals in whole units. Amounts are read and rounded, lines of
-totals are refused, and units are chosen as by from_matrix.py. Where rounding takes the sums apart, the totals that
+In every network the claims of each bank come exactly to its totals in whole units. Amounts are read and rounded, lines
+of totals are refused, and units are chosen as by from_matrix.py. Where rounding takes the sums apart, the totals that
 were nearest to a half go the other way, and that is told.
 
 `entropy` needs numpy (Debian's package python3-numpy).
@@ -38,30 +39,44 @@ what is needed is not there.
 """
 import argparse
 import os
-import sys
 from fractions import Fraction
+from typing import Any, Callable, Dict, Iterable, Iterator, List, Optional, Sequence, Tuple
 
 from clearing_client.format import MAX_BANKS, MAX_CASH, MAX_CLAIM, MAX_DEBTS, MAX_OUTSIDE, MAX_OWED, MAX_SEED
 from clearing_client.texts import DEBTS
 
 from .. import cli, files
-from ..runner import Failed, command
-from . import tables, words as sheet_words
-from .amounts import decimals_of, shown
+from ..runner import command, lacking
+from . import made_case, tables, words as sheet_words
+from .amounts import Amount, decimals_of, shown
 from .control import Totals as ControlTotals
 from .faults import Faults
 from .groups import plain
-from .matrix import tell_read
-from .methods import Totals, networks_of, some_network
+from .left_out import (
+    Gone,
+    Rates,
+    add_rates,
+    ask_currencies,
+    beside_of,
+    currencies_in,
+    left_out_of,
+    no_total,
+    tell_columns,
+)
+from .matrix import Made, tell_read
+from .methods import Claims, Totals, networks_of, some_network
 from .summary import Summary
 from .tables import Cells, Table
 from .units import Bank, Network, codes_of, handy_units, units_of
 
+Known = Dict[Tuple[str, str], Tuple[Amount, Table, Any]]
+"""Amounts by the names of debtor and creditor, each with its table and row."""
+ToldLine = Tuple[str, Optional[int], Optional[Amount], str]
 MAX_SAMPLES = 1000
 REST = "rest of the world"
 
 
-def density_in(word):
+def density_in(word: str) -> float:
     try:
         density = float(word)
     except ValueError:
@@ -71,9 +86,9 @@ def density_in(word):
     return density
 
 
-def add_own(add):
+def add_own(add: Callable[..., Any]) -> None:
     add("totals", metavar="TOTALS", help="the table of totals")
-    add("--out", required=True, metavar="FOLDER", help="the folder to write to")
+    add("--out", metavar="FOLDER", help="the folder to write to")
     add("--method", choices=["entropy", "sparse", "sample"], default="entropy", help="which network (entropy)")
     add("--samples", type=cli.number_in(1, MAX_SAMPLES), metavar="N", help="so many networks, each in a folder")
     add("--seed", type=cli.number_in(0, MAX_SEED), default=1, help="the number to draw from (1)")
@@ -81,18 +96,29 @@ def add_own(add):
     add("--density", type=density_in, help="how likely sample takes a claim to be (0.3, less for many banks)")
     add("--steps", type=cli.number_in(1, 10**9), help="steps of sample before the first network")
     add("--known", metavar="FILE", help="a list of claims that are known and stay (debtor, creditor, amount)")
-    add("--most", type=cli.number_in(1, MAX_DEBTS), default=MAX_DEBTS, help=f"so many claims of entropy, the largest ({MAX_DEBTS:,})")
-    add("--rest", default=REST, metavar="NAME", help=f"the bank for those who are not in the file, where sums differ ({REST})")
+    add(
+        "--most",
+        type=cli.number_in(1, MAX_DEBTS),
+        default=MAX_DEBTS,
+        help=f"so many claims of entropy, the largest ({MAX_DEBTS:,})",
+    )
+    add(
+        "--rest",
+        default=REST,
+        metavar="NAME",
+        help=f"the bank for those who are not in the file, where sums differ ({REST})",
+    )
     add("--no-rest", action="store_true", help="refuse sums that differ")
+    add_rates(add)
     add("--assets", default="assets", metavar="NAME", help="the column of what a bank is owed by banks")
     add("--liabilities", default="liabilities", metavar="NAME", help="the column of what a bank owes to banks")
 
 
-def parser():
+def parser() -> cli.Parser:
     return sheet_words.parser_of(__doc__, add_own, two_files=False)
 
 
-def parsed(words=None):
+def parsed(words: Optional[Sequence[str]] = None) -> argparse.Namespace:
     """The words of a command line, or some others."""
     asked = sheet_words.parsed(parser(), words)
     if asked.samples and asked.method == "entropy":
@@ -102,9 +128,10 @@ def parsed(words=None):
 
 # Totals in whole units
 
-def rounded_to(amounts, unit, total):
-    """Amounts in whole units that come to a total: each to its nearest, but for those whose rounding is nearest to a half.
-    And how many went the other way."""
+
+def rounded_to(amounts: Sequence[Amount], unit: Fraction, total: int) -> Tuple[List[int], int, bool]:
+    """Amounts in whole units that come to a total: each to its nearest, but for those whose rounding is nearest to a
+    half. And how many went the other way."""
     units = [units_of(amount, unit) for amount in amounts]
     gap = total - sum(units)
     step = 1 if gap > 0 else -1
@@ -116,34 +143,62 @@ def rounded_to(amounts, unit, total):
     return units, abs(gap), sum(units) == total
 
 
-def with_the_rest(names, banks, owes, owed, table, words, faults, summary):
-    """Adds a bank for those who are not in the file, where the sums differ; it has the cash that it owes, and so pays."""
-    gap = sum(owes) - sum(owed)
+def with_the_rest(
+    names: List[str],
+    banks: List[Bank],
+    owes: List[Amount],
+    owed: List[Amount],
+    table: Table,
+    words: argparse.Namespace,
+    faults: Faults,
+    summary: Summary,
+) -> None:
+    """Adds a bank for those who are not in the file, where the sums differ; it has the cash that it owes, and so
+    pays."""
+    gap: Fraction = Fraction(sum(owes)) - sum(owed)
     if not gap:
         return
     if words.no_rest or words.rest in names:
         side = "assets" if gap < 0 else "liabilities"
-        what = f"{words.liabilities} come to {shown(sum(owes))} and {words.assets} to {shown(sum(owed))}: {side} are {shown(abs(gap))} more"
-        hint = f"there is a bank {words.rest} already; say --rest NAME" if words.rest in names else "add a bank that stands for those who are not in the file"
+        what = (
+            f"{words.liabilities} come to {shown(sum(owes))} and {words.assets} to {shown(sum(owed))}: {side} are "
+            f"{shown(abs(gap))} more"
+        )
+        hint = (
+            f"there is a bank {words.rest} already; say --rest NAME"
+            if words.rest in names
+            else "add a bank that stands for those who are not in the file"
+        )
         faults.add(table, None, None, f"{what}; {hint}")
         return
     names.append(words.rest)
-    owes.append(max(-gap, 0))
-    owed.append(max(gap, 0))
+    short: Amount = abs(gap) if gap.denominator != 1 else abs(int(gap))
+    nothing: Amount = 0
+    owes.append(short if gap < 0 else nothing)
+    owed.append(short if gap > 0 else nothing)
     banks.append(Bank(words.rest, owes[-1], words.rule, 0))
     does = f"owes the others {shown(-gap)}, and has as much cash" if gap < 0 else f"is owed {shown(gap)} by the others"
-    summary.tell("banks for those who are not in the file", 1, abs(gap), f"{words.rest} {does}, since liabilities come to {shown(sum(owes) - owes[-1])} and assets to {shown(sum(owed) - owed[-1])}")
+    summary.tell(
+        "banks for those who are not in the file",
+        1,
+        abs(gap),
+        f"{words.rest} {does}, since liabilities come to {shown(sum(owes) - owes[-1])} and assets to "
+        f"{shown(sum(owed) - owed[-1])}",
+    )
 
 
-def check_sums(names, owes, owed, table, faults):
+def check_sums(names: List[str], owes: List[Amount], owed: List[Amount], table: Table, faults: Faults) -> None:
     """Refuses totals that no network has."""
     for name, out, in_ in zip(names, owes, owed):
         if out + in_ > sum(owes):
-            what = f"{name} owes {shown(out)} and is owed {shown(in_)}, together {shown(out + in_ - sum(owes))} more than all claims, {shown(sum(owes))}"
+            what = (
+                f"{name} owes {shown(out)} and is owed {shown(in_)}, together {shown(out + in_ - sum(owes))} more "
+                f"than all claims, {shown(sum(owes))}"
+            )
             faults.add(table, table.rows.get(name), None, f"{what}: no bank can owe itself")
 
 
-def read_known(words, faults):
+def read_known(words: argparse.Namespace, faults: Faults) -> Known:
     """The known claims: amounts by debtor and creditor, with the table and the row of each."""
     if not words.known:
         return {}
@@ -151,7 +206,8 @@ def read_known(words, faults):
     for column in ("debtor", "creditor", "amount"):
         tables.need_column(faults, table, column, column)
     faults.end_if_any()
-    cells, found = Cells(sheet_words.amounts_of(words), faults), {}
+    cells = Cells(sheet_words.amounts_of(words), faults)
+    found: Known = {}
     for row in table.rows:
         pair = str(table.cell(row, "debtor")), str(table.cell(row, "creditor"))
         if pair in found:
@@ -160,7 +216,7 @@ def read_known(words, faults):
     return found
 
 
-def known_places(known, names, unit, faults):
+def known_places(known: Known, names: List[str], unit: Fraction, faults: Faults) -> Claims:
     """The known claims in whole units, by the places of debtor and creditor."""
     places, fixed = {name: at for at, name in enumerate(names)}, {}
     for (debtor, creditor), (amount, table, row) in known.items():
@@ -175,7 +231,9 @@ def known_places(known, names, unit, faults):
     return fixed
 
 
-def units_for(banks, owes, owed, words):
+def units_for(
+    banks: List[Bank], owes: List[Amount], owed: List[Amount], words: argparse.Namespace
+) -> Iterator[Fraction]:
     """The units to try: the one that is named, or from the smallest on that keeps all limits as far as totals tell."""
     if words.unit != "auto":
         yield words.unit
@@ -191,26 +249,37 @@ def units_for(banks, owes, owed, words):
 
 # Files
 
-def check_network(claims, where, faults, table):
+
+def check_network(claims: Claims, where: str, faults: Faults, table: Table) -> None:
     """Refuses a network beyond the limits."""
     if len(claims) > MAX_DEBTS:
         what = f"{where}{len(claims):,} debts, {len(claims) - MAX_DEBTS:,} more than the most, {MAX_DEBTS:,}"
-        faults.add(table, None, None, f"{what}; take --method sparse, or sample with a smaller --density and more --steps")
+        faults.add(
+            table, None, None, f"{what}; take --method sparse, or sample with a smaller --density and more --steps"
+        )
     most = max(claims.values(), default=0)
     if most > MAX_CLAIM:
         what = f"{where}a claim of {most:,} units, {most - MAX_CLAIM:,} more than the most, {MAX_CLAIM:,}"
         faults.add(table, None, None, f"{what}; take a larger --unit, or --unit auto")
 
 
-def texts_of(banks, claims, unit, has_outside, rank, codes):
+def texts_of(
+    banks: List[Bank], claims: Claims, unit: Fraction, has_outside: bool, rank: int, codes: Dict[str, str]
+) -> Tuple[str, str]:
     header = ["name", "cash", "rule"] + ["outside"] * has_outside
-    records = [[codes.get(b.name, b.name), units_of(b.cash, unit), b.rule] + ([units_of(b.outside, unit)] if has_outside else []) for b in banks]
+    records = [
+        [codes.get(b.name, b.name), units_of(b.cash, unit), b.rule]
+        + ([units_of(b.outside, unit)] if has_outside else [])
+        for b in banks
+    ]
     names = [codes.get(bank.name, bank.name) for bank in banks]
     debts = [[names[row], names[column], rank, claim] for (row, column), claim in sorted(claims.items())]
     return files.csv_text([header, *records]), files.csv_text([DEBTS.split(","), *debts])
 
 
-def read_totals(words, faults, summary):
+def read_totals(
+    words: argparse.Namespace, faults: Faults, summary: Summary
+) -> Tuple[Table, List[Bank], List[Amount], List[Amount]]:
     """The banks, and what each owes and is owed, in amounts."""
     table = Table(words.totals, words, faults, sheet=words.sheet)
     for option in ("assets", "liabilities", "cash"):
@@ -218,39 +287,103 @@ def read_totals(words, faults, summary):
     passed = tables.find_outside(faults, words, table)
     tables.find_column(faults, words, table, "rule-column")
     faults.end_if_any()
-    tell_read(summary, [table])
+    tell_read(summary, [table], words)
     amounts = [words.cash, *(words.outside or [])]
-    used = {words.assets, words.liabilities, words.rule_column, words.label_column, *amounts}
+    made_case.check_columns(words, table, faults)
+    used = {
+        words.assets,
+        words.liabilities,
+        words.rule_column,
+        words.label_column,
+        *made_case.columns_of(words),
+        *amounts,
+    }
     others = [column for column in table.header if column not in used or column in passed]
     if others:
-        summary.tell("columns not looked at", len(others), None, ", ".join(others))
+        summary.tell("columns not looked at", len(others), None, ", ".join(others), step="leftOut")
+        tell_columns(summary, others, table, lambda: sheet_words.amounts_of(words), "amounts in a column not looked at")
+    for column in others:
+        is_rate = bool(words.rate) and words.rate.startswith(f"{column}=")
+        if currencies_in(table, column) and not is_rate and column not in words.ignore:
+            ask_currencies(faults, table, column)
     drop_totals(table, [words.assets, words.liabilities, *amounts], amounts, words, faults, summary)
-    cells = Cells(sheet_words.amounts_of(words), faults)
+    rates = Rates(words, [table], faults)
+    cells = Cells(sheet_words.amounts_of(words), faults, rates.convert)
     names = list(table.rows)
-    banks = sheet_words.banks_of(table, names, words, cells)
+    banks = sheet_words.banks_of(table, names, words, cells, summary)
+    tell_empty(table, (words.assets, words.liabilities), summary)
     owed, owes = ([cells.amount(table, name, column) for name in names] for column in (words.assets, words.liabilities))
     faults.end_if_any()
+    rates.tell(summary)
     with_the_rest(names, banks, owes, owed, table, words, faults, summary)
     if len(names) > MAX_BANKS:
-        faults.add(table, None, None, f"{len(names):,} banks, {len(names) - MAX_BANKS:,} more than the most, {MAX_BANKS:,}")
+        faults.add(
+            table, None, None, f"{len(names):,} banks, {len(names) - MAX_BANKS:,} more than the most, {MAX_BANKS:,}"
+        )
     faults.end_if_any()
     check_sums(names, owes, owed, table, faults)
     faults.end_if_any()
     return table, banks, owes, owed
 
 
-def drop_totals(table, columns, may_be_empty, words, faults, summary):
+def drop_totals(
+    table: Table,
+    columns: List[str],
+    may_be_empty: List[str],
+    words: argparse.Namespace,
+    faults: Faults,
+    summary: Summary,
+) -> None:
     """Checks the lines of totals that are dropped, drops them, and refuses the others."""
     totals = ControlTotals(table, sheet_words.amounts_of(words), columns, (), words, may_be_empty)
     for name in words.drop:
         totals.check(name, faults, summary)
-        if not table.drop(name):
+        gone = gone_of(table, name, words)
+        if name in table.rows and name not in totals.rows:
+            faults.add(table, table.rows[name], None, no_total(table, name, gone.owes, gone.owed))
+        elif not table.drop(name):
             faults.add(table, None, None, f"there is no {name} to drop")
+    for name in left_out_of(words).banks:
+        gone = gone_of(table, name, words)
+        if not table.drop(name):
+            faults.add(table, None, None, f"there is no {name or 'line without a name'} to leave out")
+            continue
+        gone.tell(summary)
     totals.refuse(faults, {row for row in totals.rows if row not in words.drop})
     faults.end_if_any()
 
 
-def in_units(table, banks, owes, owed, unit, words, faults):
+def gone_of(table: Table, name: str, words: argparse.Namespace) -> Gone:
+    """What goes with a bank: all that it owes and is owed, and what stands beside."""
+    gone, reader = Gone(name), sheet_words.amounts_of(words)
+    if name in table.rows:
+        gone.beside = beside_of(
+            table, name, [words.assets, words.liabilities, words.cash, *(words.outside or [])], reader
+        )
+        for counted, column in ((gone.owes, words.liabilities), (gone.owed, words.assets)):
+            if gone.beside.pop(column, 0):
+                counted.add(reader.read(table.cell(name, column)))
+    return gone
+
+
+def tell_empty(table: Table, columns: Iterable[str], summary: Summary) -> None:
+    """Tells of empty cells, which are read as 0."""
+    empty = sum(
+        not str(text).strip() for column in columns if column in table for text in table.column(column).values()
+    )
+    if empty:
+        summary.tell("empty totals, read as 0", empty, 0)
+
+
+def in_units(
+    table: Table,
+    banks: List[Bank],
+    owes: List[Amount],
+    owed: List[Amount],
+    unit: Fraction,
+    words: argparse.Namespace,
+    faults: Faults,
+) -> Tuple[Totals, List[ToldLine]]:
     """The totals in whole units, and what was done to come to them."""
     total = units_of(sum(owes), unit)
     for column, amounts in ((words.liabilities, owes), (words.assets, owed)):
@@ -259,24 +392,52 @@ def in_units(table, banks, owes, owed, unit, words, faults):
                 what = f"{shown(amount)} is not a whole number of units; take a smaller --unit, or --round"
                 faults.add(table, table.rows.get(bank.name), column, what)
     if total > MAX_OWED:
-        faults.add(table, None, None, f"all claims come to {total:,} units: {total - MAX_OWED:,} more than the most, {MAX_OWED:,}; take a larger --unit, or --unit auto")
+        faults.add(
+            table,
+            None,
+            None,
+            f"all claims come to {total:,} units: {total - MAX_OWED:,} more than the most, {MAX_OWED:,}; take a "
+            "larger --unit, or --unit auto",
+        )
     for bank in banks:
-        for amount, most, what in ((bank.cash, MAX_CASH, "the cash of"), (bank.outside, MAX_OUTSIDE, "what is owed outside by")):
+        for amount, most, what in (
+            (bank.cash, MAX_CASH, "the cash of"),
+            (bank.outside, MAX_OUTSIDE, "what is owed outside by"),
+        ):
             if units_of(amount, unit) > most:
-                faults.add(table, table.rows.get(bank.name), None, f"{what} {bank.name} is {units_of(amount, unit):,} units: {units_of(amount, unit) - most:,} more than the most, {most:,}")
+                faults.add(
+                    table,
+                    table.rows.get(bank.name),
+                    None,
+                    f"{what} {bank.name} is {units_of(amount, unit):,} units: {units_of(amount, unit) - most:,} more "
+                    f"than the most, {most:,}",
+                )
     faults.end_if_any()
     new_owes, down, fits = rounded_to(owes, unit, total)
     new_owed, up, fits_too = rounded_to(owed, unit, total)
     if not (fits and fits_too):
-        faults.add(table, None, None, f"in units of {shown(unit)} the totals cannot come to one sum; take a smaller --unit")
+        faults.add(
+            table, None, None, f"in units of {shown(unit)} the totals cannot come to one sum; take a smaller --unit"
+        )
     totals = Totals([bank.name for bank in banks], new_owes, new_owed)
     for name, out, in_ in zip(totals.names, new_owes, new_owed):
         if out + in_ > totals.sum:
-            faults.add(table, table.rows.get(name), None, f"rounded to units of {shown(unit)} {name} owes {out:,} and is owed {in_:,}, more than all claims, {totals.sum:,}; take a smaller --unit")
+            faults.add(
+                table,
+                table.rows.get(name),
+                None,
+                f"rounded to units of {shown(unit)} {name} owes {out:,} and is owed {in_:,}, more than all claims, "
+                f"{totals.sum:,}; take a smaller --unit",
+            )
     faults.end_if_any()
     pairs = [*zip(owes, new_owes), *zip(owed, new_owed)]
-    rounding = max([abs(u * unit - a) for a, u in pairs] + [abs(units_of(a, unit) * unit - a) for b in banks for a in (b.cash, b.outside)], default=Fraction(0))
-    told, lost = [], sum(1 for amount, units in pairs if amount and not units)
+    rounding = max(
+        [abs(u * unit - a) for a, u in pairs]
+        + [abs(units_of(a, unit) * unit - a) for b in banks for a in (b.cash, b.outside)],
+        default=Fraction(0),
+    )
+    told: List[ToldLine] = []
+    lost = sum(1 for amount, units in pairs if amount and not units)
     if rounding or words.unit == "auto":
         detail = f"in units of {shown(unit)}; the largest rounding is {shown(rounding)}, and {lost:,} became 0"
         told.append(("totals in the sheet", len(pairs), sum(owes), detail))
@@ -285,25 +446,38 @@ def in_units(table, banks, owes, owed, unit, words, faults):
     return totals, told
 
 
-def numpy_or_end():
+def numpy_or_end() -> Any:
     try:
         import numpy
 
         numpy.ndarray
     except (ImportError, AttributeError) as fault:
-        raise Failed(f"{sys.executable} has no numpy (Debian's package python3-numpy is for /usr/bin/python3)", 2) from fault
+        raise lacking("numpy", "all") from fault
     return numpy
 
 
-def networks_in_units(table, banks, owes, owed, known, words, faults):
-    """The networks in the unit that is named, or the smallest that keeps all limits; with the totals, what was cut, and what was
-    done to come to whole units."""
+def networks_in_units(
+    table: Table,
+    banks: List[Bank],
+    owes: List[Amount],
+    owed: List[Amount],
+    known: Known,
+    words: argparse.Namespace,
+    faults: Faults,
+) -> Tuple[Fraction, Totals, List[Claims], Optional[Tuple[int, int, int]], List[ToldLine]]:
+    """The networks in the unit that is named, or the smallest that keeps all limits; with the totals, what was cut, and
+    what was done to come to whole units."""
     numpy = numpy_or_end() if words.method == "entropy" else None
     for unit in units_for(banks, owes, owed, words):
         totals, told = in_units(table, banks, owes, owed, unit, words, faults)
         totals.fixed = known_places(known, totals.names, unit, faults)
         if any(left < 0 for side in totals.left() for left in side) or some_network(totals) is None:
-            faults.add(table, None, None, f"in units of {shown(unit)} no network has these totals{' with the known claims' if known else ''}")
+            faults.add(
+                table,
+                None,
+                None,
+                f"in units of {shown(unit)} no network has these totals{' with the known claims' if known else ''}",
+            )
             faults.end_if_any()
         networks, cut, settling = networks_of(numpy, totals, words)
         if words.unit != "auto" or max(max(claims.values(), default=0) for claims in networks) <= MAX_CLAIM:
@@ -311,7 +485,7 @@ def networks_in_units(table, banks, owes, owed, known, words, faults):
     raise AssertionError("a unit is large enough in the end")
 
 
-def made(words):
+def made(words: argparse.Namespace) -> Made:
     """The files that the words ask for, each with its text, what is read, and the summary."""
     faults, summary = Faults(), Summary()
     table, banks, owes, owed = read_totals(words, faults, summary)
@@ -324,31 +498,49 @@ def made(words):
         summary.tell("claims that are known, and stay", len(known), sum(amount for amount, _, _ in known.values()))
     if cut:
         count, lost, largest = cut
-        summary.tell("claims left out by --most", count, lost * unit, f"the largest {shown(largest * unit)}; the others are fitted to the same totals")
-    codes = codes_of([bank.name for bank in banks]) if words.label else {}
-    outputs, has_outside = [], bool(words.outside)
+        detail = f"the largest {shown(largest * unit)}; the others are fitted to the same totals"
+        summary.tell("claims left out by --most", count, lost * unit, detail, step="leftOut")
+    codes = codes_of([bank.name for bank in banks]) if words.label or words.case else {}
+    outputs: sheet_words.Outputs = []
+    has_outside, pairs = bool(words.outside), []
     for at, claims in enumerate(networks, 1):
         check_exact(claims, totals)
         check_network(claims, f"network {at} has " if words.samples else "", faults, table)
-        folder = os.path.join(words.out, str(at)) if words.samples else words.out
-        for name, text in zip(("banks.csv", "debts.csv"), texts_of(banks, claims, unit, has_outside, words.class_, codes)):
-            outputs.append((os.path.join(folder, name), text))
-        summary.tell("debts made", len(claims), totals.sum * unit, f"{totals.sum:,} units, the largest {max(claims.values(), default=0):,}, in {folder}")
+        pairs.append(
+            (str(at) if words.samples else "", texts_of(banks, claims, unit, has_outside, words.class_, codes))
+        )
+        folder = os.path.join(words.out or words.case, pairs[-1][0]).removesuffix("/")
+        most = max(claims.values(), default=0)
+        summary.tell(
+            "debts made", len(claims), totals.sum * unit, f"{totals.sum:,} units, the largest {most:,}, in {folder}"
+        )
     faults.end_if_any()
+    network = Network(banks, [], has_outside, codes)
+    network.labels = sheet_words.labels_in(network, table, words)
+    for number, texts in pairs:
+        if words.out:
+            outputs += [
+                (os.path.join(words.out, number, name), text) for name, text in zip(("banks.csv", "debts.csv"), texts)
+            ]
+        if words.case:
+            labels, folder = made_case.labels_of(network, table, words), os.path.join(words.case, number).removesuffix(
+                "/"
+            )
+            read = [words.totals, words.known]
+            outputs += made_case.case_files(folder, texts, unit, labels, words, "from_totals", read, summary).items()
     if words.label:
-        network = Network(banks, [], has_outside, codes)
-        network.labels = sheet_words.labels_in(network, table, words)
         outputs.append((words.label, network.labels_text()))
-    return outputs, [words.totals, words.known], summary
+    return outputs, [words.totals, words.known, words.rate and words.rate.partition("=")[2]], summary
 
 
 @command("from_totals")
-def main():
+def main() -> None:
     words = parsed()
-    sheet_words.write(*made(words), words)
+    outputs, read, summary = made(words)
+    sheet_words.write(outputs, read, summary, words)
 
 
-def check_exact(claims, totals):
+def check_exact(claims: Claims, totals: Totals) -> None:
     """Each network has its totals: a fault here is one of this tool."""
     for place, want in ((0, totals.owes), (1, totals.owed)):
         have = [0] * totals.size

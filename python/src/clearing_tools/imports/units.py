@@ -1,47 +1,56 @@
 """A network in the amounts of a sheet, and how it becomes whole units within the limits of docs/FORMATS.md."""
+import argparse
 import re
 from collections import defaultdict
 from dataclasses import dataclass, field
 from fractions import Fraction
+from typing import Any, Dict, Iterable, Iterator, List, Mapping, Tuple
 
 from clearing_client.format import MAX_BANKS, MAX_CASH, MAX_CLAIM, MAX_DEBTS, MAX_OUTSIDE, MAX_OWED, is_name
 from clearing_client.texts import DEBTS
 
 from .. import files
-from .amounts import decimals_of, shown
+from .amounts import Amount, decimals_of, shown
+from .faults import Faults
+from .summary import Summary
 
 NAME_BYTES = 64
 
 
 @dataclass
 class Bank:
+    """A bank in the amounts of a sheet."""
+
     name: str
-    cash: Fraction
+    cash: Amount
     rule: str
-    outside: Fraction
+    outside: Amount
 
 
 @dataclass
 class Debt:
+    """A debt in the amounts of a sheet, with its place: the table, the row and the column."""
+
     debtor: str
     creditor: str
     rank: int
-    amount: Fraction
-    # The table, row and column.
-    place: tuple
+    amount: Amount
+    place: Tuple[Any, Any, str]
 
 
 @dataclass
 class Network:
     """Banks and debts in amounts, the codes of names that are none, and the full names that labels have."""
 
-    banks: list
-    debts: list
+    banks: List[Bank]
+    debts: List[Debt]
     has_outside: bool
-    codes: dict = field(default_factory=dict)
-    labels: dict = field(default_factory=dict)
+    codes: Dict[str, str] = field(default_factory=dict)
+    labels: Dict[str, str] = field(default_factory=dict)
+    # The table of the banks, which may have more of their names.
+    table: Any = None
 
-    def amounts(self):
+    def amounts(self) -> Iterator[Tuple[Amount, int, str]]:
         """Each amount with its limit in units, what it is, and its place."""
         for bank in self.banks:
             yield bank.cash, MAX_CASH, f"the cash of {bank.name}"
@@ -49,22 +58,23 @@ class Network:
         for debt in self.debts:
             yield debt.amount, MAX_CLAIM, f"the claim of {debt.creditor} on {debt.debtor}"
 
-    def owed(self):
+    def owed(self) -> Amount:
         return sum(debt.amount for debt in self.debts)
 
-    def labels_text(self):
+    def labels_text(self) -> str:
         """The file of labels: a record for each bank that has a code or a full name."""
         records = [(self.codes.get(bank.name, bank.name), self.labels.get(bank.name, bank.name)) for bank in self.banks]
         return "code,name\n" + "".join(f"{code},{in_quotes(name)}\n" for code, name in records if code != name)
 
 
-def in_quotes(text):
+def in_quotes(text: str) -> str:
     """A field of a record, in quotes where it needs them."""
     return '"' + text.replace('"', '""') + '"' if re.search('[,"\r\n]', text) else text
 
 
-def codes_of(names):
-    """A code for each of some names that the program refuses: the name without what it may not have, cut to 64 bytes."""
+def codes_of(names: Iterable[str]) -> Dict[str, str]:
+    """A code for each of some names that the program refuses: the name without what it may not have, cut to 64
+    bytes."""
     taken, codes = {name for name in names if is_name(name)}, {}
     for name in names:
         if is_name(name):
@@ -79,7 +89,7 @@ def codes_of(names):
     return codes
 
 
-def cut(text, most):
+def cut(text: str, most: int) -> str:
     """The beginning of a text in so many bytes, at the end of a word where one is near."""
     if len(text.encode()) <= most:
         return text
@@ -88,11 +98,11 @@ def cut(text, most):
     return head if len(head) > most // 2 else short.strip()
 
 
-def units_of(amount, unit):
+def units_of(amount: Amount, unit: Fraction) -> int:
     return amount if unit == 1 and isinstance(amount, int) else round(Fraction(amount) / unit)
 
 
-def breaks(network, unit):
+def breaks(network: Network, unit: Fraction) -> Iterator[str]:
     """What passes a limit in a unit, and by how much, each in a line."""
     for amount, most, what in network.amounts():
         units = units_of(amount, unit)
@@ -103,7 +113,7 @@ def breaks(network, unit):
         yield f"all claims come to {owed:,} units: {owed - MAX_OWED:,} more than the most, {MAX_OWED:,}"
 
 
-def handy_units(least):
+def handy_units(least: Fraction) -> Iterator[Fraction]:
     """The units 1, 2 and 5 times a power of ten, from a power of ten on."""
     while True:
         for factor in (1, 2, 5):
@@ -111,18 +121,21 @@ def handy_units(least):
         least *= 10
 
 
-def auto_unit(network):
-    """The smallest unit that keeps all limits, of 1, 2 and 5 times the powers of ten, and no finer than the amounts are."""
+def auto_unit(network: Network) -> Fraction:
+    """The smallest unit that keeps all limits, of 1, 2 and 5 times the powers of ten, and no finer than the amounts
+    are."""
     amounts = [amount for amount, _, _ in network.amounts()]
     finest = Fraction(1, 10 ** max(map(decimals_of, amounts), default=0))
-    bound = max([Fraction(amount, most) for amount, most, _ in network.amounts()] + [Fraction(network.owed(), MAX_OWED)])
+    bound = max(
+        [Fraction(amount, most) for amount, most, _ in network.amounts()] + [Fraction(network.owed(), MAX_OWED)]
+    )
     return next(unit for unit in handy_units(finest) if 2 * unit >= bound and not any(breaks(network, unit)))
 
 
 class Units:
     """A network in whole units, and what was done to come to them."""
 
-    def __init__(self, network, words, faults, table):
+    def __init__(self, network: Network, words: argparse.Namespace, faults: Faults, table: Any) -> None:
         self.network, self.unit = network, words.unit
         self.is_auto = words.unit == "auto"
         if self.is_auto:
@@ -131,23 +144,29 @@ class Units:
             for line in breaks(network, self.unit):
                 faults.add(table, None, None, line)
             unit = shown(auto_unit(network))
-            faults.add(table, None, None, f"a unit of {unit} keeps all limits on amounts (--unit {unit.replace(',', '')} --round, or --unit auto)")
+            faults.add(
+                table,
+                None,
+                None,
+                f"a unit of {unit} keeps all limits on amounts (--unit {unit.replace(',', '')} --round, or --unit "
+                "auto)",
+            )
         self.check_counts(faults, table)
         if not self.is_auto and not words.round:
             for debt in network.debts:
                 if (Fraction(debt.amount) / self.unit).denominator != 1:
-                    faults.add(*debt.place, not_whole(debt.amount))
+                    faults.add(*debt.place, not_whole(debt.amount), kind="whole")
 
-    def check_counts(self, faults, table):
+    def check_counts(self, faults: Faults, table: Any) -> None:
         count = sum(1 for debt in self.network.debts if units_of(debt.amount, self.unit))
         for found, most, what in [(len(self.network.banks), MAX_BANKS, "banks"), (count, MAX_DEBTS, "debts")]:
             if found > most:
                 faults.add(table, None, None, f"{found:,} {what}, {found - most:,} more than the most, {most:,}")
 
-    def named(self, name):
+    def named(self, name: str) -> str:
         return self.network.codes.get(name, name)
 
-    def banks_text(self):
+    def banks_text(self) -> str:
         header = ["name", "cash", "rule"] + ["outside"] * self.network.has_outside
         records = []
         for bank in self.network.banks:
@@ -155,42 +174,55 @@ class Units:
             records.append([self.named(bank.name), units_of(bank.cash, self.unit), bank.rule, *outside])
         return files.csv_text([header, *records])
 
-    def debts_text(self):
-        records = [[self.named(d.debtor), self.named(d.creditor), d.rank, units_of(d.amount, self.unit)] for d in self.network.debts]
+    def debts_text(self) -> str:
+        records = [
+            [self.named(d.debtor), self.named(d.creditor), d.rank, units_of(d.amount, self.unit)]
+            for d in self.network.debts
+        ]
         return files.csv_text([DEBTS.split(","), *(record for record in records if record[3])])
 
-    def tell(self, summary):
+    def tell(self, summary: Summary) -> None:
         """Tells what was made, what was rounded, and what became 0."""
         network, unit = self.network, self.unit
-        for what, amounts in [("cash", [b.cash for b in network.banks]), ("owed outside", [b.outside for b in network.banks]),
-                              ("debts", [d.amount for d in network.debts])]:
+        for what, amounts in [
+            ("cash", [b.cash for b in network.banks]),
+            ("owed outside", [b.outside for b in network.banks]),
+            ("debts", [d.amount for d in network.debts]),
+        ]:
             units = [units_of(amount, unit) for amount in amounts]
             made, given = sum(units) * unit, Fraction(sum(amounts))
             if what == "owed outside" and not network.has_outside:
                 continue
             count = sum(map(bool, units)) if what == "debts" else len(network.banks)
-            off = f"; {shown(abs(made - given))} {'more' if made > given else 'less'} than the sheet's {shown(given)}" if made != given else ""
+            off = (
+                f"; {shown(abs(made - given))} {'more' if made > given else 'less'} than the sheet's {shown(given)}"
+                if made != given
+                else ""
+            )
             summary.tell(f"{what} made", count, made, f"in units of {shown(unit)}: {sum(units):,}{off}")
         self.tell_rounding(summary)
 
-    def tell_rounding(self, summary):
+    def tell_rounding(self, summary: Summary) -> None:
         unit = self.unit
         off = [abs(units_of(a, unit) * unit - a) for a, _, _ in self.network.amounts()]
         if any(off):
-            summary.tell("amounts rounded", sum(map(bool, off)), None, f"by {shown(sum(off))} together, the largest by {shown(max(off))}")
+            detail = f"by {shown(sum(off))} together, the largest by {shown(max(off))}"
+            summary.tell("amounts rounded", sum(map(bool, off)), None, detail, step="rounded")
         lost = [debt for debt in self.network.debts if debt.amount and not units_of(debt.amount, unit)]
         if lost:
             some = ", ".join(f"{debt.debtor} owes {debt.creditor} {shown(debt.amount)}" for debt in lost[:3])
-            summary.tell("debts that became 0", len(lost), sum(debt.amount for debt in lost), some + (", and others" if len(lost) > 3 else ""))
+            some += ", and others" if len(lost) > 3 else ""
+            summary.tell("debts that became 0", len(lost), sum(debt.amount for debt in lost), some, step="rounded")
 
 
-def not_whole(amount):
+def not_whole(amount: Amount) -> str:
     return f"{shown(amount)} is not a whole number of units; take a smaller --unit, or --round"
 
 
 # Groups
 
-def grouped(network, groups, faults, table, summary):
+
+def grouped(network: Network, groups: Mapping[str, str], faults: Faults, table: Any, summary: Summary) -> Network:
     """A network in which the banks of a group are one: debts within it are gone, all else adds up."""
     names = {bank.name for bank in network.banks}
     of = {bank: group for bank, group in groups.items() if bank in names}
@@ -211,8 +243,11 @@ def grouped(network, groups, faults, table, summary):
         made[group].cash += bank.cash
         made[group].outside += bank.outside
         if made[group].rule != bank.rule:
-            faults.add(table, None, None, f"the banks of the group {group} have the rules {made[group].rule} and {bank.rule}; give them one")
-    debts, within, summed = {}, [], defaultdict(int)
+            what = f"the banks of the group {group} have the rules {made[group].rule} and {bank.rule}; give them one"
+            faults.add(table, None, None, what)
+    debts: Dict[Tuple[str, str, int], Debt] = {}
+    within: List[Amount] = []
+    summed: Dict[Tuple[str, str, int], int] = defaultdict(int)
     for debt in network.debts:
         key = (of.get(debt.debtor, debt.debtor), of.get(debt.creditor, debt.creditor), debt.rank)
         if key[0] == key[1]:
@@ -223,7 +258,9 @@ def grouped(network, groups, faults, table, summary):
         else:
             debts[key] = Debt(*key, debt.amount, debt.place)
     summary.tell("groups", len(set(of.values())), None, f"of {len(of):,} banks")
-    summary.tell("debts within groups, left out", len(within), sum(within))
+    summary.tell("debts within groups, left out", len(within), sum(within), step="leftOut")
     if summed:
-        summary.tell("debts summed by groups", sum(summed.values()) + len(summed), None, f"into {len(summed):,}")
-    return Network(list(made.values()), list(debts.values()), network.has_outside, {}, network.labels)
+        summary.tell(
+            "debts summed by groups", sum(summed.values()) + len(summed), None, f"into {len(summed):,}", step="summed"
+        )
+    return Network(list(made.values()), list(debts.values()), network.has_outside, {}, network.labels, network.table)

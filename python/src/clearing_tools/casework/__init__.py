@@ -1,0 +1,1 @@
+"""Cases: what they are, side by side, many of them, and whether an answer stands."""

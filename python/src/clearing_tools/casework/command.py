@@ -1,0 +1,224 @@
+"""Works with cases: folders with a network and what belongs to it.
+
+In:  TASK, and the folder of a case, with banks.csv and debts.csv, and, where they are there, scenarios.toml,
+     labels.csv, sources/ and datapackage.json, the description by the Data Package standard of Frictionless Data,
+     version 2. A folder with the two files alone is a case too. Importers write one by --case FOLDER, and every tool
+     takes one in place of --banks and --debts.
+Out: on standard output, or in --output FILE, what the task says; TASK --help has the words of each task.
+
+show       what the case is: title, date, currency, unit, sums, sources, what the import did, and its text
+check      the description by its schema, the files by their checksums, and all faults of the files, as lint names them
+refresh    describes the files anew, once they were changed by hand; what is said beside decides
+scenarios  makes scenarios.toml of a sheet: a scenario a column (or a row, --rows), a bank a row, and what it loses, as
+           an amount or as a share of its cash (--share); what was rounded is told
+compare    two cases side by side: who falls and who is saved, what each bank pays, keeps and owes more or less, who
+           came and who went
+ensemble   what tasks say over many networks: least, quartiles and greatest, and in how many each bank defaults
+stands     which banks change their state, or begin or cease to keep anything, where a unit is worth twice or half as
+           much, the debts stand in reversed order, all banks have webster, all debts one class, default keeps 950, 900
+           or 800 per mille, or the greatest payments are made; `*` marks what is otherwise than as it is. A bank that
+           is otherwise at twice or half the unit is within the rounding of a unit: no figure of it that is of that
+           size is to be relied on
+
+Ends with 0; 1 where `check` finds something; 2 where the words are not understood; 3 where a file cannot be read; 4
+where the folder is no case; 5 where the output cannot be written.
+
+Example:
+    tools/case.py show examples/twelve-banks
+"""
+import argparse
+import os
+import pathlib
+import sys
+from typing import Callable, List, NamedTuple
+
+from clearing_client import description
+from clearing_client.case import Case, ImportSummary
+from clearing_client.errors import CaseError
+from clearing_client.texts import DEBTS
+
+from .. import cases, cli, files, money
+from ..checks import lint
+from ..imports.made_case import currency_in, date_in
+from ..labels import word_shown
+from ..runner import Failed, command, shown
+from ..texts import number, read_accounts, records_in
+from . import answers, shocks
+from .folder import files_in
+
+STEPS = {"left_out": "left out", "summed": "summed", "rounded": "rounded", "converted": "converted"}
+"""The steps of an import that change what is read, in words."""
+
+
+class Task(NamedTuple):
+    """A task of the command: what it does in a few words, the words that it takes beside the folder, and its work."""
+
+    what: str
+    add_words: Callable[[argparse.ArgumentParser], None]
+    work: Callable[[argparse.Namespace], int]
+
+
+def add_folder(parser: argparse.ArgumentParser) -> None:
+    """The folder of a case."""
+    parser.add_argument("case", metavar="FOLDER", help="the case")
+
+
+def add_said(parser: argparse.ArgumentParser) -> None:
+    """What may be said of a case while it is described anew."""
+    add_folder(parser)
+    parser.add_argument("--title", metavar="TEXT", help="its title")
+    parser.add_argument("--text", metavar="FILE", help="its text, in Markdown")
+    parser.add_argument("--as-of", metavar="DATE", type=date_in, help="the date of its amounts, YYYY-MM-DD")
+    parser.add_argument("--test", choices=["liquidity", "solvency"], help="what cash stands for")
+    parser.add_argument("--currency", metavar="CODE", type=currency_in, help="its currency, such as EUR")
+    parser.add_argument("--unit", metavar="AMOUNT", type=money.unit_in, help="what a unit of account is worth")
+    parser.add_argument(
+        "--default-keeps", metavar="K", type=cli.number_in(0, 1000), help="what default keeps, per mille"
+    )
+
+
+def say_all(lines: List[str]) -> None:
+    """Prints lines, whatever stands in them."""
+    files.put("".join(f"{shown(line)}\n" for line in lines), status=5)
+
+
+# show
+
+
+def show(asked: argparse.Namespace) -> int:
+    """Prints what a case is."""
+    case = cases.read_case(asked.case)
+    cases.tell(case)
+    say_all(lines_of(case))
+    return 0
+
+
+def lines_of(case: Case) -> List[str]:
+    """What a case is, a line each."""
+    said = [
+        ("title", case.title),
+        ("as of", case.as_of.isoformat() if case.as_of else ""),
+        ("test", case.test),
+        ("default keeps", f"{case.keep} per mille" if case.keep is not None else ""),
+        ("limits", case.limits if case.limits != "standard" else ""),
+        ("by", ", ".join(str(one.get("title", "")) for one in case.contributors)),
+        ("amounts", cases.money_of(case).about().removeprefix("Amounts ").rstrip(".")),
+    ]
+    lines = [f"{what}: {text}" for what, text in said if text]
+    lines += sums_of(case)
+    lines += [f"source: {source.title}{f' in {source.path}' if source.path else ''}" for source in case.sources]
+    if case.summary:
+        lines += import_lines(case.summary)
+    if case.origin:
+        lines.append(f"made from: {case.origin.title or 'another case'}")
+        lines += [f"change: {change}" for change in case.origin.changes]
+    return lines + (["", *case.description.splitlines()] if case.description else [])
+
+
+def sums_of(case: Case) -> List[str]:
+    """How many banks and debts there are, and what they come to."""
+    amount = cases.money_of(case)
+    accounts = read_accounts(case.paths["banks"])[1].values()
+    records = records_in(case.paths["debts"], DEBTS)[1]
+    claims = [number(case.paths["debts"], row, fields[3]) for row, fields in records]
+    outside = sum(account.get("outside", 0) for account in accounts)
+    lines = [f"banks: {len(accounts):,}; cash {amount(sum(account['cash'] for account in accounts))}"]
+    lines += [f"owed outside: {amount(outside)}"] if outside else []
+    lines.append(f"debts: {len(claims):,}; {amount(sum(claims))}")
+    if case.labels:
+        full = sum(bool(label.full) for label in case.labels.values())
+        lines.append(f"labels: {len(case.labels):,}; {full:,} with a full name")
+    return lines
+
+
+def import_lines(summary: ImportSummary) -> List[str]:
+    """What the import did, a line for each change."""
+    lines = [f"imported by: {' '.join(map(word_shown, summary.command))}"] if summary.command else []
+    for step, word in STEPS.items():
+        for line in getattr(summary, step):
+            count = f"{line.count:,}" if line.count is not None else ""
+            parts = [count, line.sum or "", line.where]
+            lines.append(f"{word}: {line.what}: {'; '.join(part for part in parts if part)}")
+    return lines
+
+
+# check
+
+
+def check(asked: argparse.Namespace) -> int:
+    """Tells what is wrong with a case."""
+    case = cases.read_case(asked.case)
+    names = {what: name for what, name in case.paths.items() if what in ("banks", "debts", "scenarios")}
+    if sys.version_info < (3, 11):
+        # Whose module reads the scenarios.
+        names.pop("scenarios", None)
+    linter = lint.Linter(**{what: lint.content_of(what, name) for what, name in names.items()})
+    faults = list(linter.faults)
+    told = [f"case: {note}" for note in case.notes]
+    if not case.is_described:
+        told.append(f"case: it has no {description.NAME}")
+    unknown = unknown_labels(case)
+    told += [f"case: labels.csv has {len(unknown):,} names of no bank, such as {unknown[0]}"] if unknown else []
+    told += [lint.line_of(fault, names) for fault in [*faults, *linter.warnings()]]
+    is_sound = not faults and not case.notes and not unknown
+    say_all([*told, "the case is as it is described" if is_sound and case.is_described else f"{len(told):,} told"])
+    return 0 if is_sound else 1
+
+
+def unknown_labels(case: Case) -> List[str]:
+    """The names of labels that are those of no bank."""
+    try:
+        banks = read_accounts(case.paths["banks"])[1]
+    except Failed:
+        return []
+    return [name for name in case.labels if name not in banks]
+
+
+# refresh
+
+
+def refresh(asked: argparse.Namespace) -> int:
+    """Describes the files of a case anew."""
+    case = cases.read_case(asked.case)
+    for word, key in (
+        ("title", "title"),
+        ("test", "test"),
+        ("currency", "currency"),
+        ("unit", "unit"),
+        ("default_keeps", "keep"),
+    ):
+        if getattr(asked, word) is not None:
+            setattr(case, key, getattr(asked, word))
+    if asked.as_of is not None:
+        case.as_of = description.date_of(asked.as_of)
+    if asked.text is not None:
+        case.description = files.text_of(asked.text)
+    place = pathlib.Path(asked.case)
+    try:
+        text = case.description_of(files_in(case, place))
+    except CaseError as fault:
+        raise Failed(f"{asked.case}: {fault}", cases.REFUSED) from fault
+    files.put(text, os.fspath(place / description.NAME), status=5)
+    return 0
+
+
+TASKS = {
+    "show": Task("what the case is", add_folder, show),
+    "check": Task("whether it is as described, and whether its files have faults", add_folder, check),
+    "refresh": Task("describes its files anew", add_said, refresh),
+    "scenarios": Task("scenarios of a sheet", shocks.add_scenarios, shocks.take_scenarios),
+    "compare": Task("two cases side by side", answers.add_compare, answers.compare_cases),
+    "ensemble": Task("what tasks say over many networks", answers.add_ensemble, answers.ask_many),
+    "stands": Task("which banks are elsewhere where something is varied", answers.add_stands, answers.ask_stands),
+}
+
+
+@command("case")
+def main() -> int:
+    """The command."""
+    parser = cli.parser_of(__doc__)
+    tasks = parser.add_subparsers(dest="asked_for", required=True, metavar="TASK")
+    for name, task in TASKS.items():
+        task.add_words(tasks.add_parser(name, help=task.what, description=task.what, allow_abbrev=False))
+    asked = parser.parse_args()
+    return TASKS[asked.asked_for].work(asked)

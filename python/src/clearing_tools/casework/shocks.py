@@ -1,0 +1,197 @@
+"""Scenarios from a sheet: a scenario a column, or a row, and a bank a row, or a column, with what each bank loses, as
+an amount or as a share of its cash."""
+import argparse
+import os
+import pathlib
+import re
+from fractions import Fraction
+from typing import Any, Dict, Iterator, List, NamedTuple
+
+from clearing_client import description
+from clearing_client.case import FILES, Case
+from clearing_client.format import MAX_LOSS, MAX_SCENARIOS, is_name
+from clearing_client.scenarios import Scenario, Scenarios
+
+from .. import cases, files, labels
+from ..imports import tables
+from ..imports import words as sheet_words
+from ..imports.amounts import Amounts, Unread, shown
+from ..imports.faults import Faults
+from ..imports.made_case import scale_in
+from ..imports.summary import Summary
+from ..imports.tables import Table
+from ..runner import Failed
+from ..texts import read_accounts
+from .folder import files_in
+
+PERCENT = re.compile(r"(.*?)\s*%")
+
+
+class Loss(NamedTuple):
+    """What a bank loses in a scenario, in the currency or as a share of its cash, and where it stands."""
+
+    scenario: str
+    bank: str
+    amount: Fraction
+    row: Any
+    column: str
+
+
+def add_scenarios(parser: argparse.ArgumentParser) -> None:
+    """The words of scenarios."""
+    add = parser.add_argument
+    add("case", metavar="FOLDER", help="the case, which gets the scenarios")
+    add("scenario_sheet", metavar="SHEET", help="the sheet: names of banks in its first column, a scenario a column")
+    add("--rows", action="store_true", help="a scenario a row, and a bank a column")
+    add("--share", action="store_true", help="losses are shares of cash, such as 0.25 or 25%%, and not amounts")
+    add("--amounts-in", metavar="N", type=scale_in, help="losses are in so many of the currency, such as 1000 (1)")
+    add("--replace", action="store_true", help="write over the scenarios that are there")
+    add(
+        "--ignore",
+        action="append",
+        default=[],
+        metavar="COLUMN",
+        help="a column that is not looked at; may be repeated",
+    )
+    add("--sheet", metavar="NAME", help="the sheet of a workbook")
+    add("--decimal", choices=[".", ","], help="the sign before decimals")
+    add("--thousands", choices=[".", ",", "'", " "], help="the sign between thousands")
+    add("--delimiter", type=sheet_words.delimiter_in, help="what stands between two fields, or tab")
+    add("--encoding", type=sheet_words.encoding_in, default="utf-8", help="the encoding of the sheet (utf-8)")
+    add(
+        "--skip",
+        type=sheet_words.count_in,
+        default=0,
+        metavar="N",
+        help="rows above the header that are passed over (0)",
+    )
+
+
+def take_scenarios(asked: argparse.Namespace) -> int:
+    """Makes the scenarios of a case of a sheet, and describes the case anew."""
+    case = cases.read_case(asked.case)
+    cases.tell(case)
+    if "scenarios" in case.paths and not asked.replace:
+        raise Failed(f"{case.paths['scenarios']} is there; say --replace to write over it")
+    faults, summary = Faults(), Summary()
+    table = Table(asked.scenario_sheet, asked, faults, sheet=asked.sheet)
+    faults.end_if_any()
+    scenarios = scenarios_of(table, case, asked, faults, summary)
+    faults.end_if_any()
+    case.scenarios = scenarios.to_toml(plain=True).encode()
+    place = pathlib.Path(asked.case)
+    made = {os.fspath(place / FILES["scenarios"]): case.scenarios}
+    if case.is_described:
+        there = {name: data for name, data in files_in(case, place).items() if name != FILES["scenarios"]}
+        text = case.description_of({**there, FILES["scenarios"]: case.scenarios})
+        made[os.fspath(place / description.NAME)] = text.encode()
+    files.write_all(made, [asked.scenario_sheet])
+    files.put(summary.text(), status=5)
+    return 0
+
+
+def scenarios_of(table: Table, case: Case, asked: argparse.Namespace, faults: Faults, summary: Summary) -> Scenarios:
+    """The scenarios of a sheet, in its order."""
+    cash = {bank: int(account["cash"]) for bank, account in read_accounts(case.paths["banks"])[1].items()}
+    losses = list(losses_of(table, asked, faults))
+    check_banks(table, losses, cash, case, faults, asked)
+    names = (
+        list(table.rows) if asked.rows else [column for column in table.header if column and column not in asked.ignore]
+    )
+    for name in names:
+        if not is_name(name):
+            what = f"{name!r} is no name of a scenario: 1 to 64 bytes, no comma, quote or control character"
+            faults.add(table, table.rows[name] if asked.rows else 0, None, what, kind="name")
+    if len(names) > MAX_SCENARIOS:
+        what = f"{len(names):,} scenarios, {len(names) - MAX_SCENARIOS:,} more than the most, {MAX_SCENARIOS:,}"
+        faults.add(table, None, None, what)
+    faults.end_if_any()
+    units: Dict[str, Dict[str, int]] = {name: {} for name in names}
+    worth = Fraction(case.unit) / (asked.amounts_in or 1)
+    off: List[Fraction] = []
+    above = 0
+    for loss in losses:
+        exact = loss.amount * cash[loss.bank] if asked.share else loss.amount / worth
+        whole = round(exact)
+        if whole > MAX_LOSS:
+            faults.add(table, loss.row, loss.column, f"a loss of {whole:,} units, more than the most, {MAX_LOSS:,}")
+        off += [abs(whole - exact) * worth] if whole != exact else []
+        above += whole > cash[loss.bank]
+        if whole:
+            units[loss.scenario][loss.bank] = whole
+    tell(summary, table, units, worth, off, above)
+    return Scenarios([Scenario(name, losses=units[name]) for name in names])
+
+
+def losses_of(table: Table, asked: argparse.Namespace, faults: Faults) -> Iterator[Loss]:
+    """The losses of a sheet that are not 0."""
+    reader = Amounts(asked.decimal or ("." if asked.share and not asked.thousands else None), asked.thousands)
+    for name, row in table.rows.items():
+        for column in table.header:
+            if column in asked.ignore or not column:
+                continue
+            amount = amount_of(table, name, column, reader, asked.share, faults)
+            if amount:
+                scenario, bank = (name, column) if asked.rows else (column, name)
+                yield Loss(scenario, bank, amount, row, column)
+
+
+def amount_of(table: Table, name: str, column: str, reader: Amounts, is_share: bool, faults: Faults) -> Fraction:
+    """The amount in a cell, or the share of cash, 0 where it is none."""
+    cell = table.cell(name, column)
+    percent = PERCENT.fullmatch(str(cell)) if is_share else None
+    try:
+        value = getattr(cell, "value", None)
+        if is_share and value is not None:
+            # A number of a workbook, be it shown in per cent or not.
+            amount = Fraction(value)
+        else:
+            amount = Fraction(reader.read(percent[1] if percent else cell)) / (100 if percent else 1)
+    except Unread as unread:
+        faults.add(table, table.rows[name], column, unread, kind=unread.kind)
+        return Fraction(0)
+    if is_share and not 0 <= amount <= 1:
+        faults.add(
+            table,
+            table.rows[name],
+            column,
+            f"{shown(amount)} is no share of cash from 0 to 1; per cent have the sign %",
+            kind="share",
+        )
+        return Fraction(0)
+    return amount
+
+
+def check_banks(
+    table: Table, losses: List[Loss], cash: Dict[str, int], case: Case, faults: Faults, asked: argparse.Namespace
+) -> None:
+    """Refuses losses of banks that the case does not have."""
+    for loss in losses:
+        if loss.bank not in cash:
+            hint = "" if not asked.rows else f"; say --ignore {tables.quoted(loss.column)} if it is no bank"
+            faults.add(table, loss.row, loss.column, f"{case.folder} has no bank {loss.bank}{hint}", kind="no bank")
+
+
+def tell(
+    summary: Summary, table: Table, units: Dict[str, Dict[str, int]], worth: Fraction, off: List[Fraction], above: int
+) -> None:
+    """Tells what was made, and what was rounded, in the amounts of the sheet; a unit is worth so much of them."""
+    count = sum(map(len, units.values()))
+    total = sum(sum(losses.values()) for losses in units.values())
+    summary.tell("rows read", len(table.rows), None, table.label)
+    summary.tell(
+        "scenarios made",
+        len(units),
+        None,
+        f"{labels.count(count, 'loss', 'losses')}; {shown(total * worth)} in all, "
+        f"in units of {shown(worth)}: {total:,}",
+    )
+    empty = [name for name, losses in units.items() if not losses]
+    if empty:
+        summary.tell("scenarios without a loss", len(empty), None, ", ".join(empty[:5]))
+    if off:
+        summary.tell(
+            "losses rounded", len(off), None, f"by {shown(sum(off))} together, the largest by {shown(max(off))}"
+        )
+    if above:
+        summary.tell("losses above the cash of the bank, which then loses it all", above)
