@@ -145,7 +145,9 @@ class InTheBrowser(Browsing, Report):
     def assert_quiet(self):
         """No request leaves the page, and no error is on the console."""
         told, asked = self.logged()
-        self.assertEqual([url for url in asked if url.split("#")[0] != self.address], [])
+        # What the page makes itself, such as a picture to be saved, has an address too, and leaves it by no request.
+        left = [url for url in asked if url.split("#")[0] != self.address and not url.startswith("blob:")]
+        self.assertEqual(left, [])
         self.assertEqual(told, [])
 
     def open(self, files, *more, part=""):
@@ -163,12 +165,11 @@ class InTheBrowser(Browsing, Report):
         return self.js("return [...document.querySelectorAll('#banks-table thead button')].map(b => b.firstChild.textContent.trim())")
 
     def flows(self):
-        """What the drawing says of each debt drawn, and how much of it is filled, from 0 to 1."""
-        return self.js("""return Object.fromEntries([...document.querySelectorAll('g[data-flow]')].map(g => {
-            const paid = g.querySelector('.paid'), fill = g.querySelector('.fill');
-            const share = paid ? parseFloat(paid.getAttribute('stroke-dasharray')) / g.dataset.length
-                               : fill.getAttribute('height') / fill.dataset.side;
-            return [g.querySelector('title').textContent, share];
+        """What the drawing says of each debt drawn, and how wide it is drawn as unpaid: 0 where it is drawn as paid."""
+        return self.js("""return Object.fromEntries([...document.querySelectorAll('#network g[data-flow]')].map(g => {
+            const line = g.querySelector('.line'), square = g.querySelector('.sq');
+            const size = line ? +line.getAttribute('stroke-width') : +square.getAttribute('width');
+            return [g.querySelector('title').textContent, g.classList.contains('done') ? 0 : size];
         }))""")
 
     def expected_flows(self, paid_of, banks, outside):
@@ -184,16 +185,14 @@ class InTheBrowser(Browsing, Report):
 
     def assert_same(self, shown, before):
         self.assertEqual(shown.keys(), before.keys())
-        for title, share in shown.items():
-            self.assertAlmostEqual(share, before[title], delta=0.02, msg=title)
+        for title, size in shown.items():
+            self.assertAlmostEqual(size, before[title], delta=0.11, msg=title)
 
     def assert_flows(self, expected):
+        """Each debt is drawn, as paid where it is paid in full, and else as wide as what stays unpaid, from 2 to 15 pixels."""
         shown = self.flows()
         self.assertEqual(sorted(shown), sorted(expected))
+        most = self.js("return JSON.parse(document.getElementById('data').textContent).mostUnpaid")
         for title, (paid, claim) in expected.items():
-            share = shown[title]
-            if paid in (0, claim):
-                self.assertAlmostEqual(share, paid / claim if claim else 1, places=2, msg=title)
-            else:
-                self.assertTrue(0.02 < share < 0.98, (title, share))
-                self.assertAlmostEqual(share, paid / claim, delta=0.41, msg=title)
+            unpaid = claim - paid
+            self.assertAlmostEqual(shown[title], max(2, 15 * min(1, unpaid / most)) if unpaid else 0, delta=0.06, msg=title)

@@ -1,18 +1,15 @@
 """The pictures: what they show is what the program says, to be read in grey print and by the colour-blind as well."""
-import itertools
-import math
 import re
 import shutil
 import subprocess
 import sys
-import unittest
 import xml.etree.ElementTree as tree
 
 from common import ODD_NAMES, PROGRAM, ROOT, Case, clearing, needs_modules, python_with, tool
 
+from clearing_tools.drawing import lettering  # noqa: E402
 from clearing_tools.labels import shown  # noqa: E402
 from clearing_tools.drawing.shortfalls import parts_owed  # noqa: E402
-from clearing_tools.drawing.style import DARK, LIGHT  # noqa: E402
 from clearing_tools.texts import read_banks, read_outside, read_payments  # noqa: E402
 
 HUB = ["--banks", ROOT / "examples/hub/banks.csv", "--debts", ROOT / "examples/hub/debts.csv"]
@@ -57,18 +54,15 @@ class Network(Pictures):
         # A pays 7 of 10, B 8 of 9, and C owes nothing.
         self.assertIn("A to B: 7 of 10 paid", titles(svg))
         self.assertIn("B to C: 8 of 9 paid", titles(svg))
-        self.assertEqual([text for text in texts(svg) if text in ("A", "B", "C") or "% unpaid" in text],
-                         ["A", "30.0% unpaid", "B", "11.1% unpaid", "C"])
-        root = tree.fromstring(svg)
-        pipes = [group for group in root.iter(f"{SVG}g") if group.get("data-flow")]
-        shares = []
-        for group in pipes:
-            length = float(group.get("data-length"))
-            paid = next(path for path in group.iter(f"{SVG}path") if kind(path, "paid"))
-            shares.append(float(paid.get("stroke-dasharray").split()[0]) / length)
-        self.assertEqual(len(pipes), 2)
-        for share, expected in zip(shares, (0.7, 8 / 9)):
-            self.assertAlmostEqual(share, expected, delta=0.06)
+        self.assertEqual([text for text in texts(svg) if text in ("A", "B", "C") or text.endswith(" unpaid")], ["A", "3 unpaid", "B", "1 unpaid", "C"])
+        flows = [group for group in tree.fromstring(svg).iter(f"{SVG}g") if group.get("data-flow")]
+        widths = {group.get("data-flow"): float(next(path for path in group.iter(f"{SVG}path") if kind(path, "line")).get("stroke-width"))
+                  for group in flows}
+        # The width is what stays unpaid, from zero: 3 and 1.
+        self.assertEqual(widths, {"0": 15.0, "1": 5.0})
+        areas = {group.get("class").split("-")[1]: float(group.get("width")) ** 2 for group in tree.fromstring(svg).iter(f"{SVG}rect")
+                 if kind(group, "n")}
+        self.assertEqual(list(areas), ["fundamental"])
 
     def test_a_matrix_has_a_square_for_each_pair(self):
         svg = self.drawn(HUB, "--form", "matrix")
@@ -77,20 +71,30 @@ class Network(Pictures):
 
     def test_the_title_has_figures_unit_and_currency(self):
         svg = self.drawn(TWELVE, "--unit", "1000", "--currency", "EUR")
-        self.assertEqual(texts(svg)[0], "12 banks owe each other EUR 9,750,000,000; 84.7% of it, 8,256,671,000, is paid")
-        self.assertIn("Amounts in EUR; a unit of account is EUR 1,000.", " ".join(texts(svg)))
-        self.assertIn("4 banks are in default: 2 by own fundamentals, 2 by contagion.", " ".join(texts(svg)))
+        self.assertEqual(texts(svg)[0], "Dunmore leaves the most unpaid, EUR 700 million of EUR 1.49 billion")
+        said = " ".join(texts(svg))
+        self.assertIn("12 banks owe EUR 9,750,000,000; EUR 1,493,329,000 of it, 15.3%, stays unpaid.", said)
+        self.assertIn("Amounts in EUR; a unit of account is EUR 1,000.", said)
+        self.assertIn("4 banks are in default: 2 with the label own fundamentals, 2 with the label contagion.", said)
         cents = self.drawn(CHAIN, "--unit", "0.01", "--currency", "EUR")
-        self.assertIn("3 banks owe each other EUR 0.19; 78.9% of it, 0.15, is paid", " ".join(texts(cents)))
+        self.assertIn("3 banks owe EUR 0.19; EUR 0.04 of it, 21.1%, stays unpaid.", " ".join(texts(cents)))
 
     def test_many_banks_are_a_matrix_that_can_be_read(self):
         svg = self.drawn(CORE)
-        self.assertIn("60 other banks", texts(svg))
+        # Twelve debtors and twelve creditors by name, all others in two blocks.
+        said = texts(svg)
+        others = [int(text.split()[0]) for text in said if re.fullmatch("[0-9]+ others? (in default|that stands?)", text)]
+        self.assertEqual((len(others), sum(others)), (4, 2 * 88))
+        # Thirteen are in default, and the twelve debtors by name are of them.
+        states = [line.split(",")[-1] for line in clearing("defaults", *CORE).stdout.decode().splitlines()]
+        self.assertEqual(sum(state in ("fundamental", "contagion") for state in states), 13)
+        self.assertIn("1 other in default", said)
+        self.assertIn("87 others that stand", said)
         flows = [title for title in titles(svg) if " paid" in title and " to " in title]
         for part, sum_ in ((r": ([0-9,]+) of", 877984), (r" of ([0-9,]+) paid", 977920)):
             self.assertEqual(sum(int(re.search(part, title)[1].replace(",", "")) for title in flows), sum_)
-        sizes = {float(text.get("font-size")) for text in tree.fromstring(svg).iter(f"{SVG}text")}
-        self.assertGreaterEqual(min(sizes), 12)
+        sizes = {float(size) for size in re.findall(r"font-size: ?([0-9.]+)px", svg)}
+        self.assertEqual(min(sizes), 12)
 
     def test_only_unpaid_and_around_a_bank(self):
         unpaid = self.drawn(TWELVE, "--only-unpaid")
@@ -114,36 +118,35 @@ class Network(Pictures):
         banks.write_text("name,cash,rule\nA,999998,order\nB,1,order\n")
         for form in ("graph", "matrix"):
             root = tree.fromstring(self.drawn(files, "--form", form))
-            self.assertIn(">99.9%", "".join(root.itertext()))
+            group = next(group for group in root.iter(f"{SVG}g") if group.get("data-flow") == "0")
+            self.assertFalse(kind(group, "done"))
             if form == "graph":
-                heads = [kind(head, "full") for head in root.iter(f"{SVG}polygon") if head.get("data-flow")]
-                self.assertEqual(sorted(heads), [False, True])
-                pipe = next(group for group in root.iter(f"{SVG}g") if group.get("data-flow") == "0")
-                paid = next(path for path in pipe.iter(f"{SVG}path") if kind(path, "paid"))
-                self.assertGreaterEqual(float(pipe.get("data-length")) - float(paid.get("stroke-dasharray").split()[0]), 8.9)
+                line = next(path for path in group.iter(f"{SVG}path") if kind(path, "line"))
+                self.assertGreaterEqual(float(line.get("stroke-width")), 2)
             else:
-                cell = next(group for group in root.iter(f"{SVG}g") if group.get("data-flow") == "0")
-                box, fill = cell.findall(f"{SVG}rect")
-                self.assertGreaterEqual(float(box.get("height")) - float(fill.get("height")), 2.9)
+                self.assertGreaterEqual(float(group.find(f"{SVG}rect").get("width")), 3)
+            paid = next(group for group in root.iter(f"{SVG}g") if group.get("data-flow") == "1")
+            self.assertTrue(kind(paid, "done"))
 
     def test_gridlock_has_a_shape_of_its_own(self):
         folder = ROOT / "examples/gridlock"
         files = ["--banks", folder / "banks.csv", "--debts", folder / "debts.csv"]
         svg = self.drawn(files, "--bounds", self.text("b.csv", "bounds", files))
-        self.assertEqual(sum(kind(path, "gridlock") for path in tree.fromstring(svg).iter(f"{SVG}path")), 3 + 1)
-        self.assertIn("3 banks are in default: 3 by gridlock.", " ".join(texts(svg)))
+        paths = list(tree.fromstring(svg).iter(f"{SVG}path"))
+        self.assertEqual([sum(kind(path, name) for path in paths) for name in ("n-gridlock", "m-gridlock")], [3, 1])
+        self.assertIn("3 banks are in default: 3 in gridlock.", " ".join(texts(svg)))
 
     def test_outside_claims_are_drawn_and_state_decides(self):
         files = self.alone_outside()
         svg = self.drawn(files, "--banks", files[1])
         self.assertIn("A to the world outside: 3 of 9 paid", titles(svg))
         self.assertIn("C to the world outside: 5 of 5 paid", titles(svg))
-        self.assertIn("66.7% unpaid", texts(svg))
-        self.assertIn("1 bank is in default: 1 by own fundamentals.", " ".join(texts(svg)))
+        self.assertIn("6 unpaid", texts(svg))
+        self.assertIn("1 bank is in default: 1 with the label own fundamentals.", " ".join(texts(svg)))
         # Without the banks file what is owed there is not known, and the bank is drawn in default all the same.
         svg = self.drawn(files)
         self.assertIn("in default", texts(svg))
-        self.assertTrue(any(kind(path, "fundamental") for path in tree.fromstring(svg).iter(f"{SVG}path")))
+        self.assertTrue(any(kind(mark, "n-fundamental") for mark in tree.fromstring(svg).iter(f"{SVG}rect")))
 
     def test_names_stand_as_they_are_but_for_signs_that_are_not_seen(self):
         names = [name for name in ODD_NAMES if name.strip(" \t") == name]
@@ -152,30 +155,33 @@ class Network(Pictures):
         files = ["--banks", banks, "--debts", debts]
         for form in ("graph", "matrix"):
             said = "".join(tree.fromstring(self.drawn(files, "--form", form)).itertext())
-            for name in map(shown, names[:30] if form == "matrix" else names):
-                for part in name.split(" "):
-                    self.assertIn(part, said)
-            self.assertEqual("<U+202E>A" in said, form == "graph")
+            # In a ring each name is told whole on pointing; in a matrix those are that have a row or a column of their own.
+            found = [name for name in map(shown, names) if name in said]
+            self.assertEqual(found, list(map(shown, names)) if form == "graph" else found)
+            self.assertGreaterEqual(len(found), 12)
+            # A code is not shown as a code again.
+            self.assertNotIn("<U+003C>", said)
             self.assertEqual([name for name in names if shown(name) != name and name in said], [])
 
-    def test_full_names_stand_behind_the_names(self):
+    def test_full_names_stand_in_place_of_the_names(self):
         labels = self.file("l.csv", "code,name\nA,Aster & Söhne\nC,<b>Cedar\u202e</b>\nX,nobody\n")
         for form in ("graph", "matrix"):
             svg = self.drawn(CHAIN, "--form", form, "--labels", labels)
             said = " ".join(texts(svg))
-            self.assertIn("A (Aster & Söhne)", said)
-            self.assertIn("C (<b>Cedar<U+202E></b>)", said)
-            self.assertIn("A (Aster & Söhne) to B: 7 of 10 paid", titles(svg))
+            self.assertIn("Aster & Söhne", said)
+            # A name that stands in two lines is told whole on pointing.
+            self.assertIn("<b>Cedar<U+202E></b>", [*texts(svg), *titles(svg)])
+            self.assertIn("Aster & Söhne to B: 7 of 10 paid", titles(svg))
             self.assertNotIn("nobody", svg)
-        self.assertIn("B to C (<b>Cedar<U+202E></b>): 8 of 9 paid", titles(self.drawn(CHAIN, "--around", "C", "--labels", labels)))
+        self.assertIn("B to <b>Cedar<U+202E></b>: 8 of 9 paid", titles(self.drawn(CHAIN, "--around", "C", "--labels", labels)))
         payments, defaults = self.both(CHAIN)
         for text, status, message in [("name,label\n", 1, "the first row is not code,name"), ("code,name\nA\n", 1, "row 1: 1 fields in place of 2"),
                                       ("code,name\nA,x\nA,y\n", 1, "row 2: 'A' has a full name already"), ('code,name\n"A,x\n', 1, "unexpected end of data")]:
             self.refused("who_pays.py", status, message, payments, defaults, "--labels", self.file("l.csv", text))
         self.refused("who_pays.py", 1, "cannot be read", payments, defaults, "--labels", self.folder / "none.csv")
         # No bank is called as another one is.
-        banks = self.file("banks.csv", "name,cash,rule\nA,1,order\nA (x),1,order\n")
-        payments, defaults = self.both(["--banks", banks, "--debts", self.file("debts.csv", "debtor,creditor,class,claim\nA,A (x),1,2\n")])
+        banks = self.file("banks.csv", "name,cash,rule\nA,1,order\nx,1,order\n")
+        payments, defaults = self.both(["--banks", banks, "--debts", self.file("debts.csv", "debtor,creditor,class,claim\nA,x,1,2\n")])
         self.refused("who_pays.py", 1, "with its full name the bank 'A' is called as another bank is", payments, defaults,
                      "--labels", self.file("l.csv", "code,name\nA,x\n"))
 
@@ -222,9 +228,37 @@ class Charts(Pictures):
         defaults = self.text("d.csv", "defaults", TWELVE)
         stress = self.text("s.txt", "stress", TWELVE, "--scenarios", self.file("s.toml", '[[scenario]]\nname = "x"\n'))
         for said in (self.chart("shortfalls.py", defaults, "--labels", labels), self.chart("stress_map.py", stress, "--labels", labels)):
-            for words in ("Dunmore (Dunmore Bank plc)", "Isar (Isar $1$ AG)", "Elbe", "Birk"):
+            for words in ("Dunmore Bank plc", "Isar $1$ AG", "Elbe", "Birk"):
                 self.assertIn(words, said)
             self.assertNotIn("Alster", " ".join(said))
+
+    def test_names_of_eighty_signs_are_cut_and_squeeze_no_picture(self):
+        names = ["Landesbank für Handel, Gewerbe und Landwirtschaft der Norddeutschen Küstenländer A", "W" * 80]
+        for banks in (4, 16, 40):
+            rows = [f"b{at},{0 if at % 2 else 9},webster" for at in range(banks)]
+            debts = [f"b{at},b{(at + far) % banks},1,{3 + at}" for at in range(banks) for far in (1, 2)]
+            files = ["--banks", self.file("b.csv", "name,cash,rule\n" + "\n".join(rows) + "\n"),
+                     "--debts", self.file("e.csv", "debtor,creditor,class,claim\n" + "\n".join(debts) + "\n")]
+            labels = self.file("l.csv", "code,name\n" + "".join(f'b{at},"{names[at % 2]}{at}"\n' for at in range(banks)))
+            payments, defaults = self.both(files)
+            stress = self.text("s.txt", "stress", files, "--scenarios", self.file("s.toml", f'[[scenario]]\nname = "{"s" * 64}"\ncut = 900\n'))
+            for said in (self.chart("shortfalls.py", defaults, "--payments", payments, "--labels", labels, "--most", 40),
+                         self.chart("stress_map.py", stress, "--labels", labels)):
+                self.assertTrue(any("\u2026" in words for words in said))
+                self.assertNotIn(f"{names[0]}0", said)
+            size = re.search(r'width="([0-9.]+)pt"', self.svg)
+            self.assertLess(float(size[1]), 72 * 32)
+            # In SVG each label ends within the picture.
+            for form in ("graph", "matrix"):
+                root = tree.fromstring(self.drawn(files, "--form", form, "--labels", labels))
+                width = float(root.get("width"))
+                for text in root.iter(f"{SVG}text"):
+                    if not text.get("transform") and text.get("x"):
+                        long = lettering.width_of("".join(text.itertext()) if not list(text) else text.text or "", 12)
+                        x = float(text.get("x"))
+                        left = x - {"start": 0, "middle": long / 2, "end": long}[text.get("text-anchor") or "start"]
+                        self.assertGreater(left, -24, text.text)
+                        self.assertLess(left + long, width + 8, text.text)
 
     def test_a_bank_that_defaults_on_outside_claims_alone_is_shown(self):
         files = self.alone_outside()
@@ -249,7 +283,7 @@ class Charts(Pictures):
         scenarios = self.file("s.toml", f'[[scenario]]\nname = "{long}"\ncut = 500\n[[scenario]]\nname = "$x_1$"\n')
         stress = self.text("s.txt", "stress", TWELVE, "--scenarios", scenarios)
         said = self.chart("stress_map.py", stress)
-        self.assertIn(long, said)
+        self.assertIn(long, " ".join(said))  # in two lines
         self.assertIn("$x_1$", said)
         self.assertNotIn("Oblique", self.svg)  # it is no formula
         self.assertIn("47.5%", said)  # of Birk in the first
@@ -289,59 +323,6 @@ class WithoutMatplotlib(Pictures):
             self.assertEqual((done.returncode, done.stdout), (2, ""))
             self.assertIn("python3-matplotlib", done.stderr)
             self.assertIn(sys.executable, done.stderr)
-
-
-# Colours, by the model of Machado, Oliveira and Fernandes (2009) for those who lack one kind of cone, and by the contrast of WCAG 2.
-
-BLIND = {
-    "none": ((1, 0, 0), (0, 1, 0), (0, 0, 1)),
-    "protanopia": ((0.152286, 1.052583, -0.204868), (0.114503, 0.786281, 0.099216), (-0.003882, -0.048116, 1.051998)),
-    "deuteranopia": ((0.367322, 0.860646, -0.227968), (0.280085, 0.672501, 0.047413), (-0.011820, 0.042940, 0.968881)),
-    "tritanopia": ((1.255528, -0.076749, -0.178779), (-0.078411, 0.930809, 0.147602), (0.004733, 0.691367, 0.303900)),
-}
-
-
-def linear(colour):
-    parts = [int(colour[at : at + 2], 16) / 255 for at in (1, 3, 5)]
-    return [part / 12.92 if part <= 0.04045 else ((part + 0.055) / 1.055) ** 2.4 for part in parts]
-
-
-def luminance(colour):
-    return sum(weight * part for weight, part in zip((0.2126, 0.7152, 0.0722), linear(colour)))
-
-
-def contrast(one, two):
-    low, high = sorted((luminance(one), luminance(two)))
-    return (high + 0.05) / (low + 0.05)
-
-
-def lab(colour, model):
-    """The colour in CIE L*a*b*, as one sees it who lacks a kind of cone."""
-    seen = [min(1, max(0, sum(a * b for a, b in zip(row, linear(colour))))) for row in model]
-    to_xyz = ((0.4124, 0.3576, 0.1805), (0.2126, 0.7152, 0.0722), (0.0193, 0.1192, 0.9505))
-    x, y, z = (sum(a * b for a, b in zip(row, seen)) / white for row, white in zip(to_xyz, (0.9505, 1, 1.089)))
-    f = [part ** (1 / 3) if part > 0.008856 else 7.787 * part + 16 / 116 for part in (x, y, z)]
-    return 116 * f[1] - 16, 500 * (f[0] - f[1]), 200 * (f[1] - f[2])
-
-
-class Colours(unittest.TestCase):
-    def test_colours_are_told_apart_by_all_and_by_lightness(self):
-        for theme in (LIGHT, DARK):
-            for name, model in BLIND.items():
-                for one, two in itertools.combinations(("paid", "fundamental", "contagion", "gridlock", "sound", "ground"), 2):
-                    far = math.dist(lab(theme[one], model), lab(theme[two], model))
-                    self.assertGreater(far, 20, (name, one, two))
-            # What is paid and what is not are far apart in grey print.
-            self.assertGreater(abs(lab(theme["paid"], BLIND["none"])[0] - lab(theme["ground"], BLIND["none"])[0]), 40)
-            self.assertGreater(abs(lab(theme["fundamental"], BLIND["none"])[0] - lab(theme["contagion"], BLIND["none"])[0]), 14)
-
-    def test_contrasts(self):
-        for theme in (LIGHT, DARK):
-            for ground in ("ground", "panel"):
-                for text in ("ink", "muted", "link"):
-                    self.assertGreater(contrast(theme[text], theme[ground]), 4.5, (text, ground))
-                for mark in ("edge", "paid", "fundamental", "contagion", "gridlock", "sound"):
-                    self.assertGreater(contrast(theme[mark], theme[ground]), 3, (mark, ground))
 
 
 class Script(Case):

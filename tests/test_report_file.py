@@ -2,6 +2,7 @@
 import base64
 import getpass
 import hashlib
+import html
 import json
 import os
 import pathlib
@@ -48,28 +49,44 @@ class TheFile(Report):
 
     def test_names_stand_as_they_are(self):
         files, names = odd_net(self.folder)
-        read = Reader(self.page(files, "--title", "<b>Title</b> & 'more'", "--d3", self.file("d3.js", "0;")))
-        rows = [cells[0] for pairs, cells in read.rows if "data-bank" in pairs]
-        self.assertEqual(rows, list(map(shown, names)))
-        self.assertFalse([tag for tag, _ in read.elements if tag in ("img", "b")])
+        read = Reader(self.page(files, "--title", "<u>Title</u> & 'more'", "--d3", self.file("d3.js", "0;")))
+        rows = {int(pairs["data-bank"]): cells[0] for pairs, cells in read.rows if "data-bank" in pairs}
+        self.assertEqual([rows[at] for at in range(len(rows))], list(map(shown, names)))
+        self.assertFalse([tag for tag, _ in read.elements if tag in ("img", "u")])
         data = json.loads(next(text for _, pairs, text in read.raw if pairs.get("type") == "application/json"))
         self.assertEqual(data["names"], list(map(shown, names)))
 
-    def test_full_names_stand_behind_the_names(self):
-        labels = self.file("l.csv", "code,name\nDunmore,<i>Dunmore</i> & Co\nKemi,\u05d1\u05e0\u05e7\u202e\nNobody,nowhere\n")
+    def test_a_sign_that_is_not_seen_is_shown_once(self):
+        """In sentences, tables, pictures and files, names of banks and of scenarios, as a page and in what was changed:
+        a code is never shown as a code again."""
+        names = ["A\u202eA", "B\u200b", "\ufeffC", "D\u2028"]
+        banks = self.file("banks.csv", "name,cash,rule\n" + "".join(f"{name},{at},order\n" for at, name in enumerate(names)))
+        debts = self.file("debts.csv", "debtor,creditor,class,claim\n" + "".join(f"{a},{b},1,9\n" for a, b in zip(names, names[1:])))
+        losses = "".join(f'[[scenario]]\nname = "lost\u202e{at}"\ncut = 500\n' for at in range(2))
+        changed = self.file("changes.txt", "A<U+202E>A loses 3 of its cash.\n")
+        text = html.unescape(self.page(["--banks", banks, "--debts", debts], "--scenarios", self.file("s.toml", losses), "--changes", changed))
+        for name in map(shown, names):
+            self.assertGreater(text.count(name), 10, name)
+        twice = text.find("<U+003C>")
+        self.assertEqual(twice, -1, text[max(0, twice - 200) : twice + 100])
+
+    def test_full_names_stand_in_place_of_the_names(self):
+        labels = self.file("l.csv", "code,name\nDunmore,<u>Dunmore</u> & Co\nKemi,\u05d1\u05e0\u05e7\u202e\nNobody,nowhere\n")
         text = self.page(files_of(TWELVE), "--labels", labels, "--d3", self.file("d3.js", "0;"))
         read = Reader(text)
         rows = {pairs["data-bank"]: cells[0] for pairs, cells in read.rows if "data-bank" in pairs}
-        self.assertEqual((rows["3"], rows["0"]), ("Dunmore <i>Dunmore</i> & Co", "Alster"))
-        self.assertIn("Kemi \u05d1\u05e0\u05e7<U+202E>", rows.values())
-        self.assertFalse([tag for tag, _ in read.elements if tag == "i"])
+        self.assertEqual((rows["3"], rows["0"]), ("<u>Dunmore</u> & Co", "Alster"))
+        self.assertIn("\u05d1\u05e0\u05e7<U+202E>", rows.values())
+        self.assertFalse([tag for tag, _ in read.elements if tag == "u"])
         self.assertNotIn("nowhere", text)
         # In the summary, above the part of the bank and in the picture; and the script can find it.
-        self.assertIn("<li>Dunmore (&lt;i&gt;Dunmore&lt;/i&gt; &amp; Co) and Isar could not pay", text)
-        self.assertIn('Dunmore <span class="full">&lt;i&gt;Dunmore&lt;/i&gt; &amp; Co</span>: in default by its own fundamentals</h3>', text)
-        self.assertIn("<title>Dunmore (&lt;i&gt;Dunmore&lt;/i&gt; &amp; Co): in default", text)
+        self.assertIn("<li>&lt;u&gt;Dunmore&lt;/u&gt; &amp; Co and Isar could not pay", text)
+        self.assertIn("&lt;u&gt;Dunmore&lt;/u&gt; &amp; Co: in default, label own fundamentals</h3>", text)
+        self.assertIn("<title>&lt;u&gt;Dunmore&lt;/u&gt; &amp; Co: in default", text)
+        # The name of the files is told once, among the evidence.
+        self.assertIn("<code>Dunmore</code> is &lt;u&gt;Dunmore&lt;/u&gt; &amp; Co", text)
         data = json.loads(next(text for _, pairs, text in read.raw if pairs.get("type") == "application/json"))
-        self.assertEqual(data["full"], {"3": "<i>Dunmore</i> & Co", str(data["names"].index("Kemi")): "\u05d1\u05e0\u05e7<U+202E>"})
+        self.assertEqual(data["full"], {"3": "<u>Dunmore</u> & Co", str(data["names"].index("Kemi")): "\u05d1\u05e0\u05e7<U+202E>"})
         # Its file is among the evidence.
         self.assertIn("l.csv", text)
         self.page(files_of(TWELVE), "--labels", self.file("l.csv", "name\n"), status=1, message="the first row is not code,name")
@@ -87,10 +104,13 @@ class TheFile(Report):
             content = (self.folder / name).read_bytes()
             self.assertEqual(inputs[name][2:], [f"{len(content):,}", hashlib.sha256(content).hexdigest()])
         commands = [cells for cells in rows if len(cells) == 3 and cells[0].startswith("clearing ")]
-        self.assertEqual(len(commands), 11)
-        for path in kept.glob("*.toml"):
-            self.assertEqual(inputs[path.name][3], hashlib.sha256(path.read_bytes()).hexdigest())
-            shutil.copy(path, self.folder / path.name)
+        self.assertEqual(len(commands), 16)
+        made = [cells[1] for cells in inputs.values() if cells[0] == "made for a question"]
+        self.assertEqual(sorted(made), ["banks-order.csv", "banks-rescued.csv", "banks-unit.csv", "banks-webster.csv", "debts-reversed.csv",
+                                        "debts-unit.csv", "rescues.toml"])
+        for name in made:
+            self.assertEqual(inputs[name][3], hashlib.sha256((kept / name).read_bytes()).hexdigest())
+            shutil.copy(kept / name, self.folder / name)
         shell = f"clearing() {{ {shlex.quote(PROGRAM)} \"$@\"; }}\n"
         for words, status, digest in commands:
             name = words.split(" > ")[1]
@@ -211,7 +231,7 @@ class TheFile(Report):
         program = self.file("program", f"#!/bin/sh\n{script}")
         program.chmod(0o755)
         words = [*map(str, files_of(TWELVE)), "--scenarios", str(TWELVE / "scenarios.toml"), "--default-keeps", "500", "--out", str(self.folder / "r.html")]
-        for task in ("check", "clear", "defaults", "bounds", "replay", "stress", "rescues", "impact", "breaking", "cost-bounds"):
+        for task in ("check", "clear", "defaults", "bounds", "replay", "stress", "rescues", "impact", "breaking", "outcomes", "cost-bounds"):
             for said in ("", "lawful\n", "\n\n\n", "a,b\n\nc\n\nd\n"):
                 # Of a file without scenarios nothing is printed.
                 if (task, said) == ("stress", ""):
@@ -226,4 +246,4 @@ class TheFile(Report):
         debts = self.file("debts.csv", "debtor,creditor,class,claim\n")
         text = self.page(["--banks", banks, "--debts", debts, "--scenarios", self.file("none.toml", "")])
         self.assertIn("The file has no scenario", text)
-        self.assertIn("No bank is in default", text)
+        self.assertIn("None of one bank is in default", text)

@@ -6,11 +6,15 @@ from reports import InTheBrowser, networks_of_every_character, odd_net
 from clearing_tools.labels import shown  # noqa: E402
 
 
+# What a longer name has more of: its whole name on pointing, a second line in a picture, and the note with the names in full.
+LONGER = {"title ", "text text-anchor,x,y", "P "}
+
+
 class Names(InTheBrowser):
     def test_hostile_names_do_nothing_and_are_shown(self):
         files, names = odd_net(self.folder, 38)
         self.open(files)
-        drawn = self.js("return [...document.querySelectorAll('svg.network-drawing a')].map("
+        drawn = self.js("return [...document.querySelectorAll('svg.net a')].map("
                         "a => { a.focus(); return [a.dataset.bank, document.querySelector('#shown h3').textContent]; })")
         self.assertEqual([name for _, name in sorted(drawn, key=lambda pair: int(pair[0]))], list(map(shown, names)))
         for key in ("first", "next", "next", "last"):
@@ -46,9 +50,11 @@ class Names(InTheBrowser):
             self.open(files, "--title", title)
             with self.subTest(names=number):
                 # The page's own table, its data, its title, its scenarios, and the parts of some banks, which are laid out when asked for.
-                self.assertEqual(self.js("return [...document.querySelectorAll('#banks-table tbody th')].map(h => h.textContent)"), names)
+                rows = self.js("return [...document.querySelectorAll('#banks-table tbody tr')].map(r => [+r.dataset.bank, r.cells[0].textContent])")
+                self.assertEqual([name for _, name in sorted(rows)], names)
                 self.assertEqual(self.js("return JSON.parse(document.getElementById('data').textContent).names"), names)
-                self.assertEqual(self.js("return [document.querySelector('title').textContent, document.querySelector('h1').textContent]"), [shown(title)] * 2)
+                self.assertTrue(self.js("return document.querySelector('title').textContent").startswith(shown(title)))
+                self.assertEqual(self.js("return document.querySelector('#case').textContent"), shown(title))
                 everything = self.js("return document.body.textContent")
                 self.assertEqual([name for name in names[:3] if everything.count(name) < 3], [])
                 for at in range(number % 7, len(names), max(1, len(names) // 12)):
@@ -73,4 +79,6 @@ class Names(InTheBrowser):
                 self.driver.get(self.address)
                 self.click("first")
                 self.click("next")
-                self.assertEqual(found, self.elements())
+                plain = self.elements()
+                self.assertEqual(set(found), set(plain))
+                self.assertEqual({kind: found[kind] for kind in found if kind not in LONGER}, {kind: plain[kind] for kind in plain if kind not in LONGER})

@@ -33,15 +33,26 @@ class Player(InTheBrowser):
         self.assertIn("Nobody can pay more", said)
         self.assertIn("8,256,671 units of 9,750,000 units", self.js("return document.getElementById('sum').textContent"))
 
-    def test_banks_fill_up_as_they_pay(self):
+    def test_the_area_of_a_bank_is_what_it_leaves_unpaid(self):
         self.open(files_of(TWELVE))
-        levels = ("return Object.fromEntries([...document.querySelectorAll('a[data-bank]')].map("
-                  "a => [a.dataset.bank, a.querySelector('stop').getAttribute('offset')]))")
+        sides = ("return Object.fromEntries([...document.querySelectorAll('svg.net a[data-bank]')].map("
+                 "a => [a.dataset.bank, Math.sqrt(a.querySelector('.n').getBBox().width ** 2 * (a.querySelector('rect') ? 1 : 0.5))]))")
         rows = rows_of("defaults", files_of(TWELVE))
-        for at, row in enumerate(rows):
-            self.assertAlmostEqual(float(self.js(levels)[str(at)]), int(row[2]) / int(row[3]), delta=0.03)
+        unpaid = {str(at): int(row[3]) - int(row[2]) for at, row in enumerate(rows)}
+        found = self.js(sides)
+        for at, units in unpaid.items():
+            if units:
+                self.assertAlmostEqual(found[at], max(12, 50 * (units / max(unpaid.values())) ** 0.5), delta=0.5)
+        # While the journal plays the marks stay, and what is unpaid at the end, of a bank or on a debt, is not said.
+        seen = ("return [...new Set([...document.querySelectorAll('svg.net .un, svg.net .amt')].map("
+                "e => e.classList[0] + ' ' + getComputedStyle(e).visibility))].sort()")
         self.click("first")
-        self.assertEqual(set(map(float, self.js(levels).values())), {0.0})
+        self.assertEqual(self.js(sides), found)
+        self.assertEqual(self.js(seen), ["amt hidden", "un hidden"])
+        self.click("last")
+        self.assertEqual(self.js(seen), ["amt visible", "un visible"])
+        # The words of the curve are letters, not strokes.
+        self.assertEqual(self.js("return [...new Set([...document.querySelectorAll('#rise text')].map(e => getComputedStyle(e).stroke))]"), ["none"])
 
     def test_it_plays_to_the_end(self):
         self.open(files_of(TWELVE))
@@ -57,7 +68,7 @@ class Player(InTheBrowser):
         files = files_of(ROOT / "examples/core")
         self.open(files)
         final = self.flows()
-        # The pairs drawn and those of other banks together are all debts.
+        # The pairs drawn and those of the blocks of others together are all debts.
         for part, column in ((r": ([0-9,]+) of", 4), (r" of ([0-9,]+) paid", 3)):
             drawn = [int(re.search(part, title)[1].replace(",", "")) for title in final]
             self.assertEqual(sum(drawn), sum(int(debt[column]) for debt in rows_of("clear", files)))
@@ -66,10 +77,10 @@ class Player(InTheBrowser):
             before = debts.get((debtor, creditor), (0, 0))
             debts[debtor, creditor] = before[0] + int(claim), before[1] + int(sum_)
         alone = {f"{a} to {b}: {part:,} of {claim:,} paid" for (a, b), (claim, part) in debts.items()}
-        self.assertGreater(len(alone & set(final)), 100)
-        self.assertEqual([title for title in final if "other banks" not in title and title not in alone], [])
+        self.assertGreater(len(alone & set(final)), 20)
+        self.assertEqual([title for title in final if not re.search("[0-9] others? ", title) and title not in alone], [])
         self.click("first")
-        self.assertEqual(set(self.flows().values()), {0.0})
+        self.assertNotIn(0, self.flows().values())
         self.click("last")
         self.assert_same(self.flows(), final)
 
@@ -77,8 +88,8 @@ class Player(InTheBrowser):
         self.open(files_of(TWELVE))
         from selenium.webdriver.common.keys import Keys
 
-        first = self.js("return document.querySelector('svg.network-drawing a').dataset.bank")
-        self.js("document.querySelector('#network .scroll').focus()")
+        first = self.js("return document.querySelector('svg.net a').dataset.bank")
+        self.js("document.querySelector('.lim a').focus()")
         self.press(Keys.TAB)
         self.assertEqual(self.js("return document.activeElement.dataset.bank"), first)
         for at in range(1, 4):
@@ -89,7 +100,7 @@ class Player(InTheBrowser):
             self.assertIn(word, text)
         self.assertEqual(self.js("return document.querySelectorAll('g.flow.lit').length"),
                          len({tuple(debt[:2]) for debt in rows_of("clear", files_of(TWELVE)) if "Dunmore" in debt[:2]}))
-        hover = "document.querySelector('svg.network-drawing a[data-bank=\"4\"]').dispatchEvent(new MouseEvent(arguments[0]))"
+        hover = "document.querySelector('svg.net a[data-bank=\"4\"]').dispatchEvent(new MouseEvent(arguments[0]))"
         self.js(hover, "mouseenter")
         self.assertIn("1,620,001", self.js("return document.getElementById('shown').innerText"))
         self.assertEqual(self.js("return document.querySelector('tr.lit').id"), "row-4")
@@ -101,30 +112,30 @@ class Player(InTheBrowser):
     def test_gridlock_and_a_journal_without_a_raise(self):
         self.open(files_of(ROOT / "examples/gridlock"))
         values = self.js("return [...document.querySelectorAll('#figures .value')].map(v => v.textContent)")
-        self.assertEqual(values[4:], ["0 units", "300 units", "3", "0", "3", "3"])
-        self.assertIn("Greater payments, by 300 units in all", self.js("return document.getElementById('figures').innerText"))
+        self.assertEqual(values, ["3 of 3 banks", "300 units", "300 units", "\u2013"])
+        self.assertIn("greater payments, by 300 units in all, would clear too", self.js("return document.getElementById('summary').innerText"))
         self.assertEqual(self.js("return document.getElementById('raise').textContent"), "Nothing is paid yet.")
         self.click("next")
         self.click("play")
-        self.assertEqual(set(self.flows().values()), {0.0})
-        self.assertEqual(self.js("return document.querySelectorAll('svg.network-drawing .gridlock').length"), 3)
+        self.assertEqual(set(self.flows().values()), {15.0})
+        self.assertEqual(self.js("return document.querySelectorAll('svg.net .n-gridlock').length"), 3)
 
     def test_the_keyboard_alone_reaches_and_works_all(self):
         from selenium.webdriver.common.keys import Keys
 
         self.open(files_of(TWELVE), "--scenarios", TWELVE / "scenarios.toml")
         reached = []
-        for _ in range(80):
+        for _ in range(260):
             self.press(Keys.TAB)
             reached.append(self.js("const e = document.activeElement; return e.id || e.dataset.bank || e.textContent.trim()"))
-        for key in ("To the summary", "0", "11", "step", "first", "back", "play", "next", "last", "search", "state", "Estate thousand units"):
+        for key in ("To the summary", "0", "11", "step", "first", "back", "play", "next", "last", "search", "state", "Owed", "CSV", "PNG"):
             self.assertIn(key, reached)
         self.js("document.getElementById('step').focus()")
         self.press(Keys.HOME)
         self.assertEqual(self.js("return document.getElementById('raise').textContent"), "Nothing is paid yet.")
         self.press(Keys.ARROW_RIGHT, Keys.ARROW_RIGHT)
         self.assertIn("line 3:", self.js("return document.getElementById('line').textContent"))
-        self.js("document.querySelector('#banks-table thead th:nth-child(5) button').focus()")
+        self.js("document.querySelector('#banks-table thead th:nth-child(6) button').focus()")
         self.press(Keys.ENTER)
         self.assertEqual(self.shown_rows()[0], "Crédit Loire")
 

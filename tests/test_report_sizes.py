@@ -20,27 +20,27 @@ class Sizes(InTheBrowser):
 
     def widths_of(self, *words):
         self.open(*words)
-        self.js("document.querySelector('svg.network-drawing a').focus()")
+        self.js("document.querySelector('svg.net a').focus()")
         for wide in (320, 360, 640, 1280):  # 640 is 1280 at 200 %, 320 at 400 %
             self.size(wide, 800)
             self.assertLessEqual(self.js("return document.scrollingElement.scrollWidth"), wide)
-            cut = self.js("""return [...document.querySelectorAll('button, input, select, .figures > div, .shown, .player, h1, h2, h3, p')].filter(
-                e => e.checkVisibility() && !e.closest('.scroll') && e.getBoundingClientRect().right > innerWidth + 1).map(e => e.outerHTML.slice(0, 80))""")
+            cut = self.js("""return [...document.querySelectorAll('button, input, select, .kpi > div, .shown, .player, h1, h2, h3, p')].filter(
+                e => e.checkVisibility() && !e.closest('.scroll') && !e.closest('nav') && e.getBoundingClientRect().right > innerWidth + 1).map(e => e.outerHTML.slice(0, 80))""")
             self.assertEqual(cut, [], wide)
 
     # Cells.
 
+    # A table without a caption is known by its head.
     CUT = """return [...document.querySelectorAll('th, td')].filter(c => c.checkVisibility() && (c.scrollWidth > c.clientWidth + 1
-        || c.scrollHeight > c.clientHeight + 1)).map(c => c.closest('table').caption.textContent.slice(0, 30) + ': ' + c.textContent.slice(0, 40))"""
-    # A table is within its frame, or the frame has a bar, and the bar is on the screen when the frame is looked at.
+        || c.scrollHeight > c.clientHeight + 1)).map(c => c.closest('table').rows[0].textContent.slice(0, 30) + ': ' + c.textContent.slice(0, 40))"""
+    # A table is within its frame, or the frame has a bar, by which its last column is reached.
     FRAMES = """return [...document.querySelectorAll('.scroll')].filter(f => f.checkVisibility() && f.scrollWidth > f.clientWidth + 1).map(f => {
-        f.scrollIntoView({block: 'end'});
-        const box = f.getBoundingClientRect(), bar = f.offsetHeight - f.clientHeight;
-        f.scrollTo(f.scrollWidth, f.scrollHeight);
-        const first = f.querySelector('tbody th'), head = f.querySelector('thead th:nth-child(2)');
-        const left = first ? first.getBoundingClientRect().left - box.left : 0, top = head ? head.getBoundingClientRect().top - box.top : 0;
+        const bar = f.offsetHeight - f.clientHeight, end = f.getBoundingClientRect().right;
+        f.scrollTo(f.scrollWidth, 0);
+        const last = [...f.querySelectorAll('thead th')].filter(h => h.checkVisibility()).pop();
+        const reached = !last || last.getBoundingClientRect().right <= end + 1;
         f.scrollTo(0, 0);
-        return [f.getAttribute('aria-label'), bar >= 10, box.bottom <= innerHeight + 1 && box.top >= -1, Math.abs(left) < 3, top > -1];
+        return [f.getAttribute('aria-label') || 'a bank', bar >= 10, reached];
     })"""
 
     def large(self):
@@ -53,8 +53,6 @@ class Sizes(InTheBrowser):
     def test_no_cell_is_cut(self):
         for words in (self.large(), [*files_of(TWELVE), "--scenarios", TWELVE / "scenarios.toml", "--unit", "1000", "--currency", "EUR"]):
             self.open(words, "--default-keeps", "700")
-            self.js("document.querySelectorAll('.scroll').forEach(e => { e.style.contentVisibility = 'visible'; })")
-            self.js("document.querySelectorAll('details').forEach(e => { e.open = true; })")
             for font in ("DejaVu Sans", "Liberation Sans"):
                 self.js("document.body.style.fontFamily = arguments[0]", font)
                 for wide in (390, 768, 1366, 1920):
@@ -73,10 +71,12 @@ class Sizes(InTheBrowser):
         self.open(files_of(TWELVE), "--scenarios", TWELVE / "scenarios.toml", "--unit", "1000000", "--currency", "EUR")
         self.run_of("Emulation.setEmulatedMedia", media="print")
         self.size(703, 1000)  # 186 mm between the margins
-        cut = self.js("""return [...document.querySelectorAll('body *')].filter(e => e.checkVisibility() && !e.closest('svg.drawing g, svg.drawing a')
+        cut = self.js("""return [...document.querySelectorAll('body *')].filter(e => e.checkVisibility() && !e.closest('svg.chart *')
             && e.getBoundingClientRect().right > 704).map(e => e.tagName + ' ' + e.textContent.slice(0, 40))""")
         self.assertEqual(cut, [])
         self.assertFalse(self.js("return document.getElementById('player').checkVisibility()"))
+        # Figures, rows and running titles: each page has its number, and no figure is parted.
+        self.assertEqual(set(self.js("return [...document.querySelectorAll('figure')].map(f => getComputedStyle(f).breakInside)")), {"avoid"})
 
     PAPERS = {"A4": (8.27, 11.69), "Letter": (8.5, 11)}
 
@@ -87,7 +87,10 @@ class Sizes(InTheBrowser):
         file = self.file("paper.pdf", base64.b64decode(printed))
         pages = subprocess.run(["pdftotext", "-layout", file, "-"], capture_output=True, encoding="utf-8", check=True).stdout.split("\f")[:-1]
         heads = set(self.js("return [...document.querySelectorAll('h2, h3, caption')].map(e => e.textContent.trim())"))
-        last = [[line.strip() for line in page.split("\n") if line.strip()][-1:] for page in pages]
+        lines = [[line.strip() for line in page.split("\n") if line.strip()] for page in pages]
+        self.assertEqual([page[-1] for page in lines], [f"page {at} of {len(pages)}" for at in range(1, len(pages) + 1)])
+        self.assertEqual([page[0].split("  ")[0] for page in lines], [page[0].split("  ")[0] for page in lines[:1]] * len(pages))
+        last = [page[-2:-1] for page in lines]
         self.assertEqual([line for line in last if line and line[0] in heads], [])
         pages = [" ".join(page.split()) for page in pages]
         # Nor stands a head there with nothing but its first words.
@@ -98,13 +101,14 @@ class Sizes(InTheBrowser):
         return pages
 
     @needs("pdftotext")
-    def test_twelve_banks_are_four_pages(self):
+    def test_twelve_banks_are_five_pages(self):
         self.open(files_of(TWELVE), "--scenarios", TWELVE / "scenarios.toml", "--unit", "1000", "--currency", "EUR")
         for paper in self.PAPERS:
             pages = self.pages(paper)
-            self.assertLessEqual(len(pages), 4, paper)
-            for words in ("Summary", "Rankings", "Nearest to breaking", "What this model says", "The evidence", "On paper stand the 8"):
+            self.assertLessEqual(len(pages), 5, paper)
+            for words in ("Summary", "Figure 1", "Unpaid is not loss", "The rule matters", "What this says and what not", "The evidence"):
                 self.assertIn(words, " ".join(pages))
+            self.assertIn("Dunmore leaves the most unpaid", pages[0])
 
     def thirty(self):
         """Thirty banks and a hundred scenarios."""
@@ -122,12 +126,17 @@ class Sizes(InTheBrowser):
             pages = self.pages(paper)
             self.assertLessEqual(len(pages), 12, paper)
             self.assertIn("shock number 99", " ".join(pages))
-            self.assertIn("On paper stand the first 8", " ".join(pages))
 
     def test_a_phone_shows_the_summary_first(self):
         self.open(files_of(TWELVE), "--scenarios", TWELVE / "scenarios.toml", "--unit", "1000", "--currency", "EUR")
         self.size(390, 844)
-        self.assertLess(self.js("return document.querySelector('#summary').getBoundingClientRect().bottom"), 844)
+        # The finding and the four figures stand on the first screen, and the first sentences.
+        self.assertLess(self.js("return document.querySelector('#figures').getBoundingClientRect().bottom"), 844)
+        self.assertLess(self.js("return document.querySelector('#summary li').getBoundingClientRect().bottom"), 844)
+        # In place of the picture a list by bank.
+        self.assertFalse(self.js("return document.querySelector('svg.net').checkVisibility()"))
+        listed = self.js("return [...document.querySelectorAll('.netlist li b')].map(b => b.textContent)")
+        self.assertEqual(listed, ["Dunmore", "Isar", "Elbe", "Birk"])
         links = self.js("return [...document.querySelectorAll('nav a')].map(a => document.querySelector(a.hash).getBoundingClientRect().top)")
         self.assertEqual(len(links), 9)
         self.assertEqual(links, sorted(links))
@@ -147,7 +156,7 @@ class Sizes(InTheBrowser):
         # A script of the driver still runs; those of the page do not.
         self.assertFalse(self.js("return !!window.d3"))
         self.assertEqual(len(self.shown_rows()), 100)
-        self.assertTrue(self.js("return document.querySelector('svg.network-drawing').checkVisibility()"))
+        self.assertTrue(self.js("return document.querySelector('svg.net').checkVisibility()"))
         for key in ("player", "table-tools", "shown"):
             self.assertFalse(self.js("return document.getElementById(arguments[0]).checkVisibility()", key))
         self.open(files_of(ROOT / "examples/core"), part="#bank-70")
@@ -163,9 +172,11 @@ class Sizes(InTheBrowser):
         # What is laid out at first does not grow with the banks: no part of a bank, and of each table a page.
         self.assertEqual(self.js("return document.getElementById('part').childNodes.length"), 0)
         rows = rows_of("defaults", files)
-        self.assertEqual(self.shown_rows(), [row[0] for row in rows[:50]])
+        short = sorted((row for row in rows if row[-1] != "sound"), key=lambda row: int(row[2]) - int(row[3]))
+        order = [row[0] for row in short] + [row[0] for row in rows if row[-1] == "sound"]
+        self.assertEqual(self.shown_rows(), order[:50])
         self.click("later")
-        self.assertEqual(self.shown_rows(), [row[0] for row in rows[50:100]])
+        self.assertEqual(self.shown_rows(), order[50:100])
         debts = rows_of("clear", files)
         self.js("location.hash = '#bank-700'")
         self.until(lambda: self.js("return document.querySelector('#bank-700')"))
@@ -178,10 +189,10 @@ class Sizes(InTheBrowser):
         final = self.flows()
         self.assertEqual(sum(int(re.search(r": ([0-9,]+) of", title)[1].replace(",", "")) for title in final), sum(int(debt[4]) for debt in debts))
         self.click("first")
-        self.assertEqual(set(self.flows().values()), {0.0})
+        self.assertNotIn(0, self.flows().values())
         self.click("last")
         self.assert_same(self.flows(), final)
         if shutil.which("pdftotext"):
             pages = self.pages("A4")
-            self.assertLessEqual(len(pages), 20)
-            self.assertIn("On paper stand the 100 that leave most unpaid", " ".join(pages))
+            self.assertLessEqual(len(pages), 12)
+            self.assertIn("all 1,000 banks are in the CSV of the page", " ".join(pages))

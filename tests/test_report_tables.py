@@ -1,31 +1,39 @@
 """The tables of the report have the numbers of the program, and are sorted and filtered."""
 import re
 
-from common import ROOT, clearing, tool
+from common import ROOT, clearing
 from reports import TWELVE, InTheBrowser, amount, files_of, outside_net, rows_of
+
+from clearing_client import Network
+from clearing_client.steady import MARK, NOTE, WHY, unsteady
 
 
 class Tables(InTheBrowser):
+    def rows(self, table="#banks-table"):
+        """The cells of the rows of a table, by the first of them."""
+        rows = self.js("return [...document.querySelectorAll(arguments[0] + ' tbody tr')].map(r => [...r.cells].map(c => c.textContent.trim()))", table)
+        return {row[0]: row[1:] for row in rows}
+
     def test_the_table_of_banks_has_the_numbers_of_the_program(self):
         files = files_of(TWELVE)
         self.open(files, "--unit", "0.01", "--currency", "EUR")
-        heads = self.heads()
-        rows = self.js("return [...document.querySelectorAll('#banks-table tbody tr')].map(r => [...r.cells].map(c => c.textContent.trim()))")
-        waves = {row[0]: row[1] for row in rows_of("bounds", files) if len(row) == 4}
+        self.assertEqual(self.heads(), ["Bank", "State", "Owed", "Paid", "Unpaid", "Keeps", "Least rescue", "Falls at a cut of"])
+        rows, found = self.rows(), rows_of("defaults", files)
+        cuts = {row[0]: int(row[1]) for row in rows_of("breaking", files)}
         self.assertEqual(len(rows), 12)
-        for shown, (name, estate, paid, owed, equity, state) in zip(rows, rows_of("defaults", files)):
-            row = dict(zip(heads, shown))
-            rescue = ""
+        # Those in default stand first, the most unpaid of them before.
+        short = sorted((row for row in found if row[-1] != "sound"), key=lambda row: int(row[2]) - int(row[3]))
+        self.assertEqual(list(rows), [row[0] for row in short] + [row[0] for row in found if row[-1] == "sound"])
+        for name, _, paid, owed, equity, state in found:
+            rescue = "\u2013"
             if state != "sound":
                 rescue = amount(clearing("rescue", *files, "--bank", name).stdout.decode().split("\n")[0].split(",")[2], "0.01")
-            expected = {
-                "Bank": name, "State": "sound" if state == "sound" else "default", "Cause": {"sound": "", "fundamental": "own fundamentals"}.get(state, state),
-                "Wave": "" if state == "sound" else waves[name], "Estate": amount(estate, "0.01"), "Owed": amount(owed, "0.01"),
-                "Paid": amount(paid, "0.01"), "Unpaid": amount(int(owed) - int(paid), "0.01"), "Equity": amount(equity, "0.01"),
-                "Least rescue": rescue}
-            self.assertEqual({head: row[head] for head in expected}, expected)
+            cut = "now" if state != "sound" else "100%" if cuts[name] == 1000 else f"{cuts[name] / 10:.1f}%"
+            none = lambda units: amount(units, "0.01") if int(units) else "0"
+            self.assertEqual(rows[name], [{"fundamental": "own fundamentals"}.get(state, state), none(owed), none(paid), none(int(owed) - int(paid)),
+                                          none(equity), rescue, cut], name)
         values = self.js("return [...document.querySelectorAll('#figures .value')].map(v => v.textContent)")
-        self.assertEqual(values, ["12", "40", "EUR 97,500.00", "EUR 251,200.02", "EUR 82,566.71", "EUR 14,933.29", "4", "2", "2", "0"])
+        self.assertEqual(values, ["4 of 12 banks", "EUR 14,933.29", "EUR 97,500.00", "89.1%"])
 
     def test_each_bank_has_what_it_owes_and_is_owed(self):
         files = files_of(TWELVE)
@@ -42,15 +50,15 @@ class Tables(InTheBrowser):
     def test_outside_claims_are_shown_and_state_decides(self):
         files = outside_net(self.folder)
         self.open(files)
-        heads = self.heads()
-        rows = self.js("return [...document.querySelectorAll('#banks-table tbody tr')].map(r => [...r.cells].map(c => c.textContent.trim()))")
-        row = {cells[0]: dict(zip(heads, cells)) for cells in rows}
-        self.assertEqual([row["A"][head] for head in ("State", "Owed outside", "Paid outside", "Owed to banks", "Paid to banks", "Unpaid")],
-                         ["default", "9", "8", "8", "0", "9"])
-        states = [cells[-1] for cells in rows_of("defaults", files)]
-        self.assertEqual([cells["State"] for cells in row.values()], ["sound" if state == "sound" else "default" for state in states])
+        rows = self.rows()
+        self.assertEqual(rows["A"][:4], ["own fundamentals", "17", "8", "9"])
+        states = {cells[0]: {"fundamental": "own fundamentals"}.get(cells[-1], cells[-1]) for cells in rows_of("defaults", files)}
+        self.assertEqual({name: cells[0] for name, cells in rows.items()}, states)
         outside = {cells[0]: (owed, int(cells[2])) for cells, owed in zip(rows_of("defaults", files), (9, 4, 5, 0))}
         self.assert_flows(self.expected_flows([(debt[:4], int(debt[4])) for debt in rows_of("clear", files)], None, outside))
+        # A file of the page has what is owed and paid outside apart.
+        text = self.js("return JSON.parse(document.getElementById('data').textContent).files.banks").split("\n")
+        self.assertEqual(dict(zip(text[0].split(","), text[1].split(",")))["owed_outside"], "9")
         self.click("first")
         # With what they have at first A pays 3 of 9 outside, and B 4 of 4.
         self.assertIn("A to the world outside: 3 of 9 paid", self.flows())
@@ -59,36 +67,82 @@ class Tables(InTheBrowser):
     def test_scenarios_have_the_numbers_of_the_program(self):
         files = files_of(TWELVE)
         self.open(files, "--scenarios", TWELVE / "scenarios.toml", "--unit", "0.01", "--currency", "EUR")
-        self.js("document.querySelectorAll('.scroll').forEach(e => { e.style.contentVisibility = 'visible'; })")
-        first, *maps = self.js("return [...document.querySelectorAll('#scenarios table')].map("
-                               "t => [...t.rows].map(r => [...r.cells].map(c => c.innerText.trim())))")
+        rows = self.rows("#cases table")
         text = clearing("stress", *files, "--scenarios", TWELVE / "scenarios.toml").stdout.decode()
         blocks = [block.split("\n") for block in re.split(r"\n\n(?=scenario,)", text.removesuffix("\n"))]
-        self.assertEqual([row[0] for row in first[2:]], [block[0].removeprefix("scenario,") for block in blocks])
-        for row, lines in zip(first[2:], blocks):
-            banks = [line.split(",") for line in lines[lines.index("bank,estate,paid,owed,equity,state") + 1 : -2]]
-            states = [bank[-1] for bank in banks]
+        self.assertEqual(list(rows)[1:], [block[0].removeprefix("scenario,") for block in blocks])
+        for lines in blocks:
+            row = rows[lines[0].removeprefix("scenario,")]
+            states = [line.split(",")[-1] for line in lines[lines.index("bank,estate,paid,owed,equity,state") + 1 : -2]]
             _, _, paid, owed, _, defaults = lines[-2].split(",")
             lost = 25120002 - int(lines[-1].removeprefix("cash,"))
-            self.assertEqual(row[1:7], [defaults, str(states.count("fundamental")), str(states.count("contagion")),
-                                        *(amount(units, "0.01") for units in (lost, paid, int(owed) - int(paid)))])
-            cells = next(line for line in maps[0][1:] if line[0] == row[0])
-            of = {bank[0]: bank for bank in banks}
-            for name, cell in zip(maps[0][0][1:], cells[1:]):
-                self.assertEqual(cell, f"{100 * (1 - int(of[name][2]) / int(of[name][3])):.1f}%")
-        self.assertIn("unpaid +31,005.57", first[2][8])
-        self.assertIn("newly in default: none", first[2][8])
-        self.assertIn("by another cause: Birk, Elbe", first[2][8])
+            self.assertEqual(row[:5], [defaults, str(states.count("fundamental")), str(states.count("contagion")),
+                                       amount(int(owed) - int(paid), "0.01"), amount(lost, "0.01") if lost else "0"])
+        self.assertEqual(rows["half of all cash is lost"][5], "with the other label: Birk and Elbe")
+        self.assertEqual(rows["Kemi and Havel lose their cash"][5], "the same banks, the same labels")
+        # The chart says the same, and its message is that unpaid is no loss.
+        chart = self.js("return document.querySelector('#scenarios .w-l').textContent")
+        for lines in blocks:
+            _, _, paid, owed, *_ = lines[-2].split(",")
+            self.assertIn(amount(int(owed) - int(paid), "0.01"), chart)
+        title = self.js("return document.querySelector('#scenarios h3').textContent.replaceAll('\u00a0', ' ')")
+        self.assertEqual(title, "Unpaid is not loss: with EUR 60,000.00 less at Havel and Kemi, no debt more goes unpaid")
+
+    def test_does_it_stand_is_what_the_program_says_of_the_case_changed(self):
+        files = files_of(TWELVE)
+        self.open(files)
+        rows = self.rows("#stands table")
+        expected = {}
+        banks, debts = ([line.split(",") for line in file.read_text(encoding="utf-8").splitlines()] for file in (files[1], files[3]))
+        halves = lambda rows, at: [rows[0]] + [[*row[:at], str(round(int(row[at]) / 2)), *row[at + 1 :]] for row in rows[1:]]
+        for name, changed in {"as given": (banks, debts), "each bank by webster, pro rata": ([banks[0]] + [[*row[:2], "webster"] for row in banks[1:]], debts),
+                              "each bank pays one after another (order)": ([banks[0]] + [[*row[:2], "order"] for row in banks[1:]], debts),
+                              "unit twice as large": (halves(banks, 1), halves(debts, 3)), "debts in reverse order": (banks, [debts[0], *debts[:0:-1]])}.items():
+            both = [self.file(word, "".join(",".join(row) + "\n" for row in rows)) for word, rows in zip(("b.csv", "d.csv"), changed)]
+            found = rows_of("defaults", ["--banks", both[0], "--debts", both[1]])
+            unit = 2 if name.startswith("unit") else 1
+            unpaid = unit * sum(int(row[3]) - int(row[2]) for row in found)
+            expected[name] = [str(sum(row[-1] != "sound" for row in found)), f"{round(unpaid / 1000):,}"]
+        self.assertEqual({name: row[:2] for name, row in rows.items() if name in expected}, expected)
+        self.assertNotIn("unit half as large", rows)  # debts twice as large are more than a file may have
+        self.assertEqual(rows["each bank pays one after another (order)"][2], "Birk and Elbe sound")
+        self.assertEqual(rows["greatest payments, not least"][2], "no payment differs")
+        # A network in which one unit decides a label says so, and marks the bank.
+        banks = self.file("b.csv", "name,cash,rule\nA,3,webster\nB,0,order\nC,0,order\nD,0,order\n")
+        debts = self.file("d.csv", "debtor,creditor,class,claim\nA,B,1,2\nA,C,1,2\nB,D,1,2\nC,D,1,2\n")
+        self.open(["--banks", banks, "--debts", debts])
+        self.assertIn("One unit decides", self.js("return document.querySelector('#stands h3').textContent"))
+        expected = unsteady(Network(str(banks), str(debts)))
+        self.assertIn("C", expected)
+        # With amounts twice as large B leaves a unit of four unpaid too, and all of them four of sixteen, which are two here.
+        self.assertEqual(self.rows("#stands table")["unit half as large"][:2], ["3", "2"])
+        self.assertEqual([name for name, cells in self.rows().items() if MARK in cells[0]], sorted(expected, key=list(self.rows()).index))
+        # In pictures and sentences too, with what it means.
+        drawn = self.js("return [...document.querySelectorAll('svg.net .nm')].map(t => t.textContent)")
+        self.assertEqual(sorted(name for name in drawn if MARK in name), sorted(f"{name} {MARK}" for name in expected))
+        self.assertIn(NOTE, self.js("return document.querySelector('.lim').textContent"))
+        self.assertIn(WHY, self.js("return document.querySelector('#stands .src').textContent"))
+
+    def test_a_rescue_takes_away_what_the_program_says_when_it_is_tried(self):
+        files = files_of(TWELVE)
+        self.open(files)
+        text = self.js("return JSON.parse(document.getElementById('data').textContent).files.unpaid").splitlines()
+        paid = lambda files: sum(int(row[4]) for row in rows_of("clear", files))
+        before = paid(files)
+        for line in text[1:]:
+            row = dict(zip(text[0].split(","), line.split(",")))
+            banks = [given.split(",") for given in files[1].read_text(encoding="utf-8").splitlines()]
+            banks = [[one[0], str(int(one[1]) + int(row["least_rescue"])), one[2]] if one[0] == row["bank"] else one for one in banks]
+            changed = self.file("b.csv", "".join(",".join(one) + "\n" for one in banks))
+            self.assertEqual(int(row["takes_away"]), paid(["--banks", changed, *files[2:]]) - before, row["bank"])
 
     def test_the_table_is_sorted(self):
         self.open(files_of(TWELVE))
         rows = rows_of("defaults", files_of(TWELVE))
-        for place, column in ((4, 1), (6, 2), (9, 4)):
-            head = f"#banks-table thead th:nth-child({place + 1})"
-            at = {row[0]: (int(row[column]), -k) for k, row in enumerate(rows)} if column != 4 else None
-            if column == 4:  # the shortfall is the ninth column of the page
-                head = "#banks-table thead th:nth-child(9)"
-                at = {row[0]: (int(row[3]) - int(row[2]), -k) for k, row in enumerate(rows)}
+        values = {3: lambda row: int(row[3]), 4: lambda row: int(row[2]), 5: lambda row: int(row[3]) - int(row[2]), 6: lambda row: int(row[4])}
+        for place, value in values.items():
+            head = f"#banks-table thead th:nth-child({place})"
+            at = {row[0]: (value(row), -k) for k, row in enumerate(rows)}
             self.js("document.querySelector(arguments[0] + ' button').click()", head)
             self.assertEqual(self.shown_rows(), sorted(at, key=at.get, reverse=True))
             self.assertEqual(self.js("return document.querySelector(arguments[0]).getAttribute('aria-sort')", head), "descending")
@@ -102,7 +156,7 @@ class Tables(InTheBrowser):
         for choice, states in (("default", ("fundamental", "contagion")), ("sound", ("sound",)), ("contagion", ("contagion",)),
                                ("gridlock", ()), ("all", ("sound", "fundamental", "contagion"))):
             self.js(choose, choice)
-            self.assertEqual(self.shown_rows(), [name for name, state in state_of.items() if state in states])
+            self.assertEqual(sorted(self.shown_rows()), sorted(name for name, state in state_of.items() if state in states))
         self.js("document.getElementById('search').focus()")
         self.press("i", "R")
         self.assertEqual(self.shown_rows(), ["Birk", "Crédit Loire"])
@@ -111,39 +165,69 @@ class Tables(InTheBrowser):
         self.js(choose, "sound")
         self.assertEqual(self.shown_rows(), [])
 
-    def test_unpaid_is_one_figure_with_its_parts(self):
+    def test_each_table_and_picture_is_given_as_a_file(self):
+        self.open(files_of(TWELVE), "--scenarios", TWELVE / "scenarios.toml", "--default-keeps", "700")
+        self.js("""window.saved = {}; const made = URL.createObjectURL; let last;
+            URL.createObjectURL = content => { last = content; return made.call(URL, content); };
+            HTMLAnchorElement.prototype.click = function () { saved[this.download] = last; };
+            document.querySelectorAll('button[data-file]').forEach(b => b.click());""")
+        pictures = ("network", "unpaid", "breaking", "scenarios", "ruin")
+        names = sorted([f"{key}.{kind}" for key in pictures for kind in ("csv", "svg", "png")] + ["stands.csv", "banks.csv", "costs.csv"])
+        self.until(lambda: self.js("return Object.keys(saved).length") == len(names))
+        self.assertEqual(self.js("return Object.keys(saved).sort()"), names)
+        kinds = self.js("return Object.fromEntries(Object.entries(saved).map(([name, content]) => [name, [content.type, content.size]]))")
+        for name, (kind, size) in kinds.items():
+            self.assertIn({"csv": "text/csv", "svg": "image/svg+xml", "png": "image/png"}[name[-3:]], kind)
+            self.assertGreater(size, 100, name)
+        text = self.driver.execute_async_script("saved['banks.csv'].text().then(arguments[0])").splitlines()
+        self.assertEqual([line.split(",")[0] for line in text[1:]], [row[0] for row in rows_of("defaults", files_of(TWELVE))])
+        costs = self.driver.execute_async_script("saved['costs.csv'].text().then(arguments[0])").splitlines()
+        self.assertEqual([line.split(",") for line in costs[1:]], [row for row in rows_of("cost-bounds", files_of(TWELVE), "--keep", "700") if len(row) == 7][1:])
+        # Each table that is shown has its numbers as a file.
+        self.assertEqual(self.js("""return [...document.querySelectorAll('main table.data')].filter(t => t.checkVisibility() && !t.closest('#evidence, .banks-apart')
+            && !t.closest('section, figure').querySelector('button[data-file$=".csv"]')).map(t => t.textContent.slice(0, 40))"""), [])
+        svg = self.driver.execute_async_script("saved['network.svg'].text().then(arguments[0])")
+        self.assertNotIn("var(--", svg)
+        self.assertEqual(svg.count("data-flow"), 40)
+
+    def test_unpaid_is_one_figure(self):
         files = outside_net(self.folder)
         scenarios = self.file("s.toml", '[[scenario]]\nname = "half"\ncut = 500\n')
         self.open(files, "--scenarios", scenarios)
         owed, outside = {"A": 8, "B": 10, "C": 11, "D": 1}, {"A": 9, "B": 4, "C": 5, "D": 0}
         rows = rows_of("defaults", files)
-        lost = sum(owed[row[0]] - int(row[3]) for row in rows), sum(outside[row[0]] - int(row[2]) for row in rows)
+        unpaid = sum(owed[row[0]] - int(row[3]) + outside[row[0]] - int(row[2]) for row in rows)
         tile = self.js("return [...document.querySelectorAll('#figures div')].find(d => d.firstChild.textContent === 'Unpaid').textContent")
-        self.assertIn(f"Unpaid{sum(lost)} units", tile)
-        self.assertIn(f"{lost[0]} units of it to banks and {lost[1]} unit outside", tile)
+        self.assertIn(f"Unpaid{unpaid} units", tile)
         foot = self.js("return [...document.querySelectorAll('#banks-table tfoot td')].map(c => c.textContent)")
-        self.assertEqual(dict(zip(self.heads()[1:], foot))["Unpaid"], str(sum(lost)))
-        cells = self.js("return [...document.querySelectorAll('#scenarios table.cases tbody tr')].map(r => [...r.cells].map(c => c.textContent.trim()))")
-        self.assertEqual(cells[0][6:8], [str(part) for part in lost])
+        self.assertEqual(dict(zip(self.heads()[1:], foot))["Unpaid"], str(unpaid))
+        cases = self.rows("#cases table")
+        self.assertEqual(cases["as things are"][3], str(unpaid))
         text = clearing("stress", *files, "--scenarios", scenarios).stdout.decode().split("\n")
-        then = [line.split(",") for line in text[text.index("bank,estate,outside_paid,paid,owed,equity,state") + 1 :] if line.count(",") == 6 and line[0] in "ABCD"]
-        after = sum(owed[row[0]] - int(row[3]) for row in then), sum(outside[row[0]] - int(row[2]) for row in then)
-        self.assertEqual(cells[1][6:8], [str(part) for part in after])
-        self.assertIn(f"unpaid +{sum(after) - sum(lost)}", cells[1][9])
-        sentence = self.js("return document.querySelector('#summary li').textContent")
-        self.assertIn(f": {sum(lost)} units stay unpaid, ", sentence)
+        head = text.index("bank,estate,outside_paid,paid,owed,equity,state")
+        then = [line.split(",") for line in text[head + 1 :] if line.count(",") == 6 and line[0] in "ABCD"]
+        after = sum(owed[row[0]] - int(row[3]) + outside[row[0]] - int(row[2]) for row in then)
+        self.assertEqual(cases["half"][3], str(after))
+        self.assertIn(f": {unpaid} units of ", self.js("return document.querySelector('#summary li').textContent"))
 
-    def test_the_rankings_are_those_of_the_tools(self):
+    def test_the_charts_have_the_numbers_of_the_program(self):
         files = files_of(TWELVE)
         self.open(files)
-        tables = self.js("return [...document.querySelectorAll('#rankings table')].map(t => [...t.tBodies[0].rows].map(r => [...r.cells].map(c => c.textContent.trim())))")
-        run = lambda name: [line.split(",") for line in tool(name, *files).stdout.split("\n")[1:] if line]
-        ranking = [row for row in run("impact.py") if int(row[3])][:5]
-        self.assertEqual([row[:1] + row[3:] for row in tables[0]], [[row[0], row[4]] for row in ranking])
-        near = sorted((row for row in run("breaking.py") if 0 < int(row[1]) <= 1000), key=lambda row: int(row[1]))[:5]
-        self.assertEqual(tables[1], [[row[0], f"{int(row[1]) / 10:.1f}%", {"fundamental": "own fundamentals"}.get(row[2], row[2])] for row in near])
-        cheap = sorted(run("rescues.py"), key=lambda row: int(row[1]))[:5]
-        self.assertEqual([[row[0], row[2]] for row in tables[2]], [[row[0], row[2]] for row in cheap])
+        texts = lambda key: self.js("return [...document.querySelectorAll(arguments[0] + ' .w-l text')].map(t => t.firstChild.textContent)", key)
+        bars = self.js("return [...document.querySelectorAll('#unpaid .w-l rect.u')].map(b => b.getBBox().width)")
+        unpaid = sorted((int(row[3]) - int(row[2]) for row in rows_of("defaults", files) if row[-1] != "sound"), reverse=True)
+        for bar, units in zip(bars, unpaid):
+            self.assertAlmostEqual(bar / bars[0], units / unpaid[0], delta=0.01)
+        self.assertEqual(len(bars), 4)
+        # Of the harm of ruin what it adds: the banks that stand, those first whose ruin others feel.
+        impact = {row[0]: row for row in rows_of("impact", files) if len(row) == 5}
+        sound = [row[0] for row in rows_of("defaults", files) if row[-1] == "sound"]
+        order = sorted(sound, key=lambda name: (-int(impact[name][3]), -int(impact[name][4]), -int(impact[name][2])))
+        self.assertEqual([word for word in texts("#ruin") if word in impact], order)
+        # Each step of the curve is a bank that stands, at its cut.
+        cuts = sorted((int(row[1]), row[0]) for row in rows_of("breaking", files) if 0 < int(row[1]) <= 1000)
+        named = [word for word in texts("#breaking") if word in impact]
+        self.assertEqual(named, [name for _, name in cuts])
 
     def test_both_ends_where_default_costs_are_those_of_the_program(self):
         for name, keep in (("core", 800), ("hub", 500), ("cycles", 0), ("gridlock", 900), ("chain", 1000)):
@@ -183,30 +267,30 @@ class Tables(InTheBrowser):
         core, ring = files_of(ROOT / "examples/core"), files_of(ROOT / "examples/gridlock")
         self.assertEqual(last(core, "--default-keeps", "800"), [
             "Where a bank in default keeps 80% of its estate, 42 banks fall at the least payments that clear, and 41 at the greatest. At the least 102,005"
-            " units are lost, and 341,769 units more stay unpaid than without costs; at the greatest 101,718 units are lost, and 340,505 units more stay"
+            " units are lost of estates, and 341,769 units more stay unpaid than without costs; at the greatest 101,718 units are lost of estates, and 340,505 units more stay"
             " unpaid than without costs."])
         self.assertEqual(last(files_of(ROOT / "examples/chain"), "--default-keeps", "500", "--unit", "1000", "--currency", "EUR"), [
-            "Where a bank in default keeps 50% of its estate, 2 banks fall at the least as at the greatest payments that clear; EUR 6,000 is lost, and"
-            " EUR 10,000 more stays unpaid than without costs."])
+            "Where a bank in default keeps 50% of its estate, 2 banks fall at the least as at the greatest payments that clear; EUR\u00a06,000 is lost of estates, and"
+            " EUR\u00a010,000 more stays unpaid than without costs."])
         self.assertEqual(last(ring, "--default-keeps", "900"), [
-            "Where a bank in default keeps 90% of its estate, 3 banks fall at the least payments that clear, and none at the greatest. At the least nothing is lost, and"
-            " as much stays unpaid as without costs; at the greatest nothing is lost, and 300 units less stay unpaid than without costs."])
+            "Where a bank in default keeps 90% of its estate, 3 banks fall at the least payments that clear, and none at the greatest. At the least nothing is lost of estates, and"
+            " as much stays unpaid as without costs; at the greatest nothing is lost of estates, and 300 units less stay unpaid than without costs."])
         self.assertEqual(last(core), [])
 
     def test_the_summary_is_five_sentences_of_the_results(self):
         self.open(files_of(TWELVE), "--scenarios", TWELVE / "scenarios.toml", "--unit", "1000", "--currency", "EUR")
-        said = self.js("return [...document.querySelectorAll('#summary li')].map(e => e.textContent)")
-        self.assertEqual(said, [
-            "4 of 12 banks cannot pay all that they owe: EUR 1,493.3 million stays unpaid, 15.3% of what the banks owe.",
-            "Dunmore and Isar could not pay even if all who owe to them paid in full; Birk and Elbe fall because those who owe to them do not.",
-            "The cheapest to save is Birk: with EUR 113.3 million more it pays all that it owes; EUR 400 million for Isar would save Birk too.",
-            "The worst of 3 scenarios, \u201cthree quarters are lost and Isar loses all\u201d, leaves the same 4 banks in default and EUR 6,610.8 million"
-            " unpaid, EUR 5,117.5 million more than as things are.",
-            "The next to fall is Jura, once all banks have lost 89.1% of their cash; then Fjord, at 94.1%."])
+        said = lambda: self.js("return [...document.querySelectorAll('#summary li')].map(e => e.textContent.replaceAll('\u00a0', ' '))")
+        self.assertEqual(said(), [
+            "Four of twelve banks cannot pay all they owe: EUR 1.49 billion of EUR 9.75 billion stays unpaid, 15.3%.",
+            "Dunmore and Isar could not pay even if all their debtors paid in full; Elbe and Birk could (label: contagion).",
+            "EUR 113 million more lets Birk pay in full, the least of the four; Dunmore needs EUR 700 million, and that takes EUR 1.06 billion of"
+            " unpaid debt away, the most for each EUR (1.51).",
+            "In the worst of three scenarios, \u201cthree quarters are lost and Isar loses all\u201d, the same four banks default and EUR 6.61"
+            " billion stays unpaid.",
+            "The next bank in default is Jura, at a cut of 89.1% of all cash; then Fjord, at 94.1%."])
+        self.assertEqual(self.js("return document.querySelector('h1').textContent.replaceAll('\u00a0', ' ')"), "Four of twelve banks leave EUR 1.49 billion unpaid")
         self.open(files_of(ROOT / "examples/gridlock"))
-        said = self.js("return [...document.querySelectorAll('#summary li')].map(e => e.textContent)")
-        self.assertEqual(said[1], "A, B and C fall at the least payments alone, and greater payments, by 300 units in all, would clear too.")
+        self.assertEqual(said()[1], "A, B and C are in default at the least payments alone (gridlock); greater payments, by 300 units in all, would clear too.")
         self.open(["--banks", self.file("b.csv", "name,cash,rule\nA,3,order\n"), "--debts", self.file("d.csv", "debtor,creditor,class,claim\n")])
-        said = self.js("return [...document.querySelectorAll('#summary li')].map(e => e.textContent)")
-        self.assertEqual(said, ["None of 1 bank is in default: it pays all it owes, 0 units in all.", "The least is left at A, 3 units.",
-                                "No bank needs to be saved.", "No scenario was given.", "No other bank would fall, even if all cash were lost."])
+        self.assertEqual(said(), ["None of one bank is in default: it pays all it owes, 0 units in all.", "A keeps the least, 3 units.",
+                                  "No bank needs a rescue.", "No scenario was given.", "No other bank falls at any cut of all cash."])

@@ -1,25 +1,38 @@
-"""What is asked many times: the network, and how its banks stand in many scenarios or as things are, by the one parser of the
-program's texts."""
+"""What is asked many times: the network, and how its banks stand in many scenarios or as things are, by the one parser
+of the program's texts."""
 import json
 import os
 import tempfile
-from collections import namedtuple
+from typing import Any, Callable, Dict, Iterable, Iterator, List, Mapping, NamedTuple, Optional, Sequence, Tuple, Type, TypeVar
 
 from clearing_client import texts
 from clearing_client.errors import TextError
 from clearing_client.format import MAX_BYTES, MAX_SCENARIOS
-from clearing_client.records import Standing
+from clearing_client.records import Debt, Standing
 from clearing_client.results import Check, Defaults, Outcomes
+from clearing_client.table import Table
 
 from .. import files
 from ..exports.workbook import content_of
-from ..runner import Failed, groups_of, program
+from ..runner import Asking, Failed, groups_of, program
 
-# Names, cash, rules and what is owed outside, by the banks' places; and the debts as records.
-Network = namedtuple("Network", "names cash rules outside debts")
+T = TypeVar("T")
 
 
-def answer_of(asking, words, kind):
+class Network(NamedTuple):
+    """Names, cash, rules and what is owed outside, by the banks' places; and the debts as records."""
+
+    names: List[str]
+    cash: List[int]
+    rules: List[str]
+    outside: List[int]
+    debts: List[Debt]
+
+
+Tables = Mapping[str, Iterable[Sequence[Any]]]
+
+
+def answer_of(asking: Asking, words: Sequence[str], kind: Type[T]) -> T:
     """The answer to some words of the program, which is a result of this kind."""
     try:
         answer = texts.parse(asking.answer(words).decode())
@@ -30,24 +43,24 @@ def answer_of(asking, words, kind):
     return answer
 
 
-def network_of(asking, words):
+def network_of(asking: Asking, words: Sequence[str]) -> Network:
     """The network as `clearing check` prints it."""
     check = answer_of(asking, ["check", *words], Check)
-    columns = (check.banks.column(name) for name in ("name", "cash", "rule", "outside"))
-    return Network(*columns, list(check.debts))
+    names, cash, rules, outside = (check.banks.column(name) for name in ("name", "cash", "rule", "outside"))
+    return Network(names, cash, rules, outside, list(check.debts))
 
 
-def defaults_of(asking, words):
+def defaults_of(asking: Asking, words: Sequence[str]) -> Table[Standing]:
     """How the banks stand, by `clearing defaults`: a table of standings."""
     return answer_of(asking, ["defaults", *words, "--workers", "1"], Defaults).standings
 
 
-def in_default(standings):
+def in_default(standings: Table[Standing]) -> Dict[int, str]:
     """The places of the banks in default, each with its state."""
     return {place: state for place, state in enumerate(standings.column("state")) if state != "sound"}
 
 
-def scenario_text(cut, losses):
+def scenario_text(cut: int, losses: Iterable[Tuple[str, int]]) -> bytes:
     """A scenario with a cut per mille and losses, each a bank's name and units."""
     lines = ['[[scenario]]\nname = "s"\n', f"cut = {cut}\n"]
     for bank, amount in losses:
@@ -55,10 +68,11 @@ def scenario_text(cut, losses):
     return "".join(lines).encode()
 
 
-def scenario_groups(numbers, texts):
+def scenario_groups(numbers: Iterable[int], texts: Sequence[bytes]) -> Iterator[List[int]]:
     """The numbers of some scenarios, in groups that a file of scenarios may have, for all processors."""
     for group in groups_of(numbers, MAX_SCENARIOS):
-        part, size = [], 0
+        part: List[int] = []
+        size = 0
         for number in group:
             if part and size + len(texts[number]) > MAX_BYTES["scenarios"]:
                 yield part
@@ -68,10 +82,18 @@ def scenario_groups(numbers, texts):
         yield part
 
 
-def by_groups(asking, folder, words, texts, groups, read):
-    """What `read` makes of the words of a run on each group of scenarios, which stand in a file for so long, and of their number."""
+def by_groups(
+    asking: Asking,
+    folder: str,
+    words: Sequence[str],
+    texts: Sequence[bytes],
+    groups: Iterable[Sequence[int]],
+    read: Callable[[List[str], int], T],
+) -> List[T]:
+    """What `read` makes of the words of a run on each group of scenarios, which stand in a file for so long, and of
+    their number."""
 
-    def work(group):
+    def work(group: Sequence[int]) -> T:
         handle, name = tempfile.mkstemp(suffix=".toml", dir=folder)
         with open(handle, "wb") as file:
             file.writelines(texts[number] for number in group)
@@ -79,13 +101,16 @@ def by_groups(asking, folder, words, texts, groups, read):
         os.unlink(name)
         return made
 
-    return asking.all(work, groups, "group of scenarios")
+    made: List[T] = asking.all(work, groups, "group of scenarios")
+    return made
 
 
-def stress(asking, folder, words, texts, take):
+def stress(
+    asking: Asking, folder: str, words: Sequence[str], texts: Sequence[bytes], take: Callable[[Table[Standing]], T]
+) -> List[T]:
     """What `take` makes of the table of standings of each scenario, in their order."""
 
-    def read(line, count):
+    def read(line: List[str], count: int) -> Any:
         made = [take(standings) for standings in tables_of(asking.answer(["stress", *line, "--workers", "1"]))]
         if len(made) != count:
             raise Failed(f"{program()} did not print a table for each scenario")
@@ -95,10 +120,12 @@ def stress(asking, folder, words, texts, take):
     return [made for part in by_groups(asking, folder, words, texts, groups, read) for made in part]
 
 
-def outcomes(asking, folder, words, texts, groups):
+def outcomes(
+    asking: Asking, folder: str, words: Sequence[str], texts: Sequence[bytes], groups: Iterable[Sequence[int]]
+) -> List[Outcomes]:
     """The sums of each group of scenarios."""
 
-    def read(line, count):
+    def read(line: List[str], count: int) -> Any:
         made = answer_of(asking, ["outcomes", *line], Outcomes)
         if len(made.scenarios) != count:
             raise Failed(f"{program()} did not print a line for each scenario")
@@ -107,11 +134,12 @@ def outcomes(asking, folder, words, texts, groups):
     return by_groups(asking, folder, words, texts, groups, read)
 
 
-def tables_of(output):
+def tables_of(output: bytes) -> Iterator[Table[Standing]]:
     """The table of standings of each scenario of what `clearing stress` prints. The payments are passed over unread."""
     output = b"\n" + output
     for header, without in ((texts.STANDINGS_1, "outside_paid"), (texts.STANDINGS_2, "")):
-        # No name has a comma or an end of a line, so that no other line is a header. A table ends at an empty line, or with the output.
+        # No name has a comma or an end of a line, so that no other line is a header. A table ends at an empty line, or
+        # with the output.
         mark = f"\n{header}\n".encode()
         at = output.find(mark)
         while at >= 0:
@@ -124,12 +152,12 @@ def tables_of(output):
             at = output.find(mark, at + 1)
 
 
-def write(header, records, output, title="table"):
-    """Writes a table whole, or to standard output where there is no name; as a workbook where its ending asks for one. It ends with 5
-    where it cannot be written."""
+def write(header: Sequence[str], records: Iterable[Sequence[Any]], output: Optional[str], title: str = "table") -> None:
+    """Writes a table whole, or to standard output where there is no name; as a workbook where its ending asks for one.
+    It ends with 5 where it cannot be written."""
     write_tables({title: [header, *records]}, output)
 
 
-def write_tables(tables, output):
+def write_tables(tables: Tables, output: Optional[str]) -> None:
     """Writes tables, each its records by its title."""
     files.put(content_of(tables, output), output, status=5, folders=False)

@@ -1,56 +1,78 @@
 """Finds for each bank the least cut of all cash at which it is no longer sound.
 
-In:   --banks FILE and --debts FILE, as `clearing` reads them
+In:   FOLDER, a case, or --banks FILE and --debts FILE, as `clearing` reads them
       --loss BANK      asks for the least loss of this bank alone, in units, in place of a cut of all cash
-Out:  CSV on standard output, or in --output FILE: `bank,cut,state`, a line for each bank in file order. The cut is per mille, and the
-      state is that in which the bank is at this cut: `fundamental` or `contagion`. Where no cut breaks the bank the cut is 1001 and the
-      state `sound`. With --loss the header is `bank,loss,state`, and where not even all the cash of BANK breaks a bank, the loss is that
-      cash and one more. 0 is a bank that is in default as things are.
-      --picture FILE   a curve: how many banks are in default at each cut or loss, by how they stand at it. The kind of picture
-                       is the ending: .svg, .png or .pdf. It wants matplotlib.
+Out:  CSV on standard output, or in --output FILE: `bank,cut,state`, a line for each bank in file order. The cut is per
+      mille, and the state is that in which the bank is at this cut: `fundamental` or `contagion`. Where no cut breaks
+      the bank the cut is 1001 and the state `sound`. With --loss the header is `bank,loss,state`, and where not even
+      all the cash of BANK breaks a bank, the loss is that cash and one more. 0 is a bank that is in default as things
+      are.
+      --picture FILE   a curve: how many banks are in default at each cut or loss, by how they stand at it, with the
+                       names of the banks beside it where they are few: full names, where the case has them. The kind of
+                       picture is the ending: .svg, .png or .pdf. It wants matplotlib.
+      The banks of a case that one unit decides are told on standard error, and marked in the picture.
 
-A smaller shock hurts nobody (stress::laws::milder_shock_hurts_nobody). So each bank has one such number, and it is sound exactly below
-it (stress::laws::sound_exactly_below_the_breaking_cut). The cuts are those of `clearing breaking`. A loss is found by `clearing
-stress`, a hundred scenarios a run, each round of which parts what is left for each bank; answers against the law are an error then.
+A smaller shock hurts nobody (stress::laws::milder_shock_hurts_nobody). So each bank has one such number, and it is
+sound exactly below it (stress::laws::sound_exactly_below_the_breaking_cut). The cuts are those of `clearing breaking`.
+A loss is found by `clearing stress`, a hundred scenarios a run, each round of which parts what is left for each bank;
+answers against the law are an error then.
 
 The environment variable CLEARING names the program, the repository's where it is not set.
 
-Ends with 0; 1 where the program fails, an answer is against the law or a picture cannot be written; 2 where the words are not understood, an
-output would be written over an input, or matplotlib is missing; 3 where a file cannot be read; 4 where one is refused; 5 where the output cannot
-be written; 130 at an interrupt.
+Ends with 0; 1 where the program fails, an answer is against the law or a picture cannot be written; 2 where the words
+are not understood, an output would be written over an input, or matplotlib is missing; 3 where a file cannot be read; 4
+where one is refused; 5 where the output cannot be written; 130 at an interrupt.
 
 Example:
     tools/breaking.py --banks banks.csv --debts debts.csv --picture breaking.svg >breaking.csv
 """
-from clearing_client.format import MAX_CUT, MAX_SCENARIOS
-from clearing_client.results import Breaking
+from __future__ import annotations
 
-from .. import cli
+from typing import Any, Callable, Container, Iterable, Iterator, List, NamedTuple, Optional, Sequence, Set, Tuple
+
+from clearing_client.case import Case
+from clearing_client.format import MAX_CUT, MAX_SCENARIOS
+from clearing_client.records import Standing
+from clearing_client.results import Breaking
+from clearing_client.table import Table
+
+from .. import cases, cli
 from ..drawing import style
 from ..runner import Asking, Failed, command, processors, work_folder
 from . import asking as ask
 
+MOST_NAMED = 30
+"""So many banks are named in a picture at most."""
+
+
+def states_in(standings: Table[Standing]) -> List[str]:
+    """The states of all banks."""
+    states: List[str] = standings.column("state")
+    return states
+
 
 class Ranges:
-    """For each bank the greatest shock at which it is known to be sound, and the least at which it is known not to be."""
+    """For each bank the greatest shock at which it is known to be sound, and the least at which it is known not to
+    be."""
 
-    def __init__(self, banks, most):
+    def __init__(self, banks: int, most: int) -> None:
         self.low, self.high, self.state = [-1] * banks, [most + 1] * banks, ["sound"] * banks
 
-    def open(self):
+    def open(self) -> List[Tuple[int, int]]:
         """The pairs with shocks in between, each once."""
         return sorted({(low, high) for low, high in zip(self.low, self.high) if high - low > 1})
 
-    def points(self, count):
+    def points(self, count: int) -> List[int]:
         """About so many shocks that part what is open evenly."""
-        found, pairs = set(), self.open()
+        pairs = self.open()
+        found: Set[int] = set()
         each = max(1, count // max(1, len(pairs)))
         for low, high in pairs:
             parts = min(each + 1, high - low)
             found.update(low + (high - low) * part // parts for part in range(1, parts))
         return sorted(found)
 
-    def take(self, shock, states):
+    def take(self, shock: int, states: List[str]) -> None:
         for bank, state in enumerate(states):
             if state == "sound":
                 self.low[bank] = max(self.low[bank], shock)
@@ -58,14 +80,24 @@ class Ranges:
                 self.high[bank], self.state[bank] = shock, state
             if self.low[bank] >= self.high[bank]:
                 raise Failed(
-                    f"the program says that a bank is sound at {self.low[bank]} and not at {self.high[bank]}, a smaller shock: "
+                    f"the program says that a bank is sound at {self.low[bank]} and not at {self.high[bank]}, a "
+                    "smaller shock: "
                     "this is against stress::laws::milder_shock_hurts_nobody"
                 )
 
 
-def find(asking, folder, files, banks, most, text_of, states_of=lambda standings: standings.column("state"), count=None):
-    """The ranges, closed, where `text_of` makes the scenario of a shock, `states_of` gives the states of the banks that are asked for, and
-    about so many shocks are tried in a round."""
+def find(
+    asking: Asking,
+    folder: str,
+    files: List[str],
+    banks: int,
+    most: int,
+    text_of: Callable[[int], bytes],
+    states_of: Callable[[Table[Standing]], List[str]] = states_in,
+    count: Optional[int] = None,
+) -> Ranges:
+    """The ranges, closed, where `text_of` makes the scenario of a shock, `states_of` gives the states of the banks that
+    are asked for, and about so many shocks are tried in a round."""
     ranges = Ranges(banks, most)
     while points := ranges.points(count or MAX_SCENARIOS * processors()):
         texts = [text_of(shock) for shock in points]
@@ -74,7 +106,7 @@ def find(asking, folder, files, banks, most, text_of, states_of=lambda standings
     return ranges
 
 
-def losses_of(asking, files, network, bank):
+def losses_of(asking: Asking, files: List[str], network: ask.Network, bank: int) -> Tuple[List[int], List[str]]:
     """For each bank the least loss of one of them at which it is not sound, and its state then."""
     text_of = lambda loss: ask.scenario_text(0, [(network.names[bank], loss)])  # noqa: E731
     with work_folder() as folder:
@@ -82,9 +114,10 @@ def losses_of(asking, files, network, bank):
     return ranges.high, ranges.state
 
 
-def depths_of(network, most, hit):
-    """The least shocks from which on banks are in default by their own fundamentals: their cash and all that is owed to them does not cover
-    what they owe. The banks that are hit lose so many parts of their cash, of the most that there are, rounded down."""
+def depths_of(network: ask.Network, most: int, hit: Container[int]) -> Iterator[int]:
+    """The least shocks from which on banks are in default by their own fundamentals: their cash and all that is owed to
+    them does not cover what they owe. From the banks that are hit so many parts of their cash go, of the most that
+    there are, rounded down."""
     spare = [cash - outside for cash, outside in zip(network.cash, network.outside)]
     place_of = {name: place for place, name in enumerate(network.names)}
     for debtor, creditor, _, claim in network.debts:
@@ -98,54 +131,84 @@ def depths_of(network, most, hit):
             yield -(-(units + 1) * most // cash)
 
 
-def draw(pyplot, cuts, depths, most, words):
-    """How many banks are in default at each shock, by how they stand at it; the axis ends soon behind the last change."""
-    falls, depths = sorted(shock for shock in cuts if shock <= most), sorted(depths)
-    figure, axes = pyplot.subplots(figsize=(9, 4.6), layout="constrained")
-    last = max(falls + depths, default=most)
+class Fall(NamedTuple):
+    """A bank that is in default from a shock on, and what it is called."""
+
+    shock: int
+    called: str
+
+
+def draw(pyplot: Any, cuts: Sequence[int], depths: Iterable[int], most: int, words: str, called: Sequence[str]) -> Any:
+    """How many banks are in default at each shock, by how they stand at it; the axis ends soon behind the last change.
+    `called` is what each bank is called: few banks are named beside the curve, in the order in which they fall."""
+    falls = sorted(Fall(shock, name) for shock, name in zip(cuts, called) if shock <= most)
+    depths = sorted(depths)
+    has_names = 0 < len(falls) <= MOST_NAMED
+    tall = max(4.6, 1.4 + 0.2 * len(falls)) if has_names else 4.6
+    figure, axes = pyplot.subplots(figsize=(10 if has_names else 9, tall), layout="constrained")
+    last = max([fall.shock for fall in falls] + depths, default=most)
     right = min(max(last * 1.06, 1), 1.01 * max(most, 1))
-    steps = sorted({0, right, *falls, *depths})
+    steps = sorted({0, right, *(fall.shock for fall in falls), *depths})
     fundamental = [sum(shock <= step for shock in depths) for step in steps]
-    fallen = [sum(shock <= step for shock in falls) for step in steps]
-    for cause, below, above in (("fundamental", [0] * len(steps), fundamental), ("contagion", fundamental, fallen)):
-        axes.fill_between(steps, below, above, step="post", color=style.LIGHT[cause], label=f"{cause} at it", linewidth=0)
-    axes.step(steps, fallen, where="post", color="#1a1a1a", linewidth=0.8)
-    already = sum(shock == 0 for shock in falls)
-    axes.set_title(f"{len(falls)} of {len(cuts)} banks are in default at some point, {already} of them as things are", fontsize=11, loc="left", pad=26)
+    fallen = [sum(fall.shock <= step for fall in falls) for step in steps]
+    for state, below, above in (("fundamental", [0] * len(steps), fundamental), ("contagion", fundamental, fallen)):
+        axes.fill_between(
+            steps, below, above, step="post", color=style.LIGHT[state], label=f"{state} at it", linewidth=0
+        )
+    axes.step(steps, fallen, where="post", color=style.LIGHT["ink"], linewidth=0.8)
+    already = sum(fall.shock == 0 for fall in falls)
+    title = f"{len(falls)} of {len(cuts)} banks are in default at some point, {already} of them as things are"
+    axes.set_title(title, fontsize=11, loc="left", pad=26)
     axes.set_xlim(0, right)
     axes.set_ylim(0, max(1, len(falls)) * 1.08)
-    axes.yaxis.get_major_locator().set_params(integer=True)
+    if has_names:
+        axes.set_yticks(
+            [at + 0.5 for at in range(len(falls))], [style.in_short(fall.called, 3.2, 8) for fall in falls], fontsize=8
+        )
+        axes.tick_params(axis="y", length=0)
+    else:
+        axes.yaxis.get_major_locator().set_params(integer=True)
+    axes.set_ylabel("banks in default, in the order in which they fall" if has_names else "banks in default")
     axes.xaxis.set_major_formatter(lambda units, _: f"{units:,.0f}")
     axes.set_xlabel(words)
-    axes.set_ylabel("banks in default")
     # Above the axes, where no curve runs.
     axes.legend(loc="lower left", bbox_to_anchor=(-0.01, 0.99), ncol=2, frameon=False, fontsize=9)
     axes.spines[["top", "right"]].set_visible(False)
     return figure
 
 
+def loss_words(bank: str, case: Case) -> str:
+    """What the axis of the losses of a bank says."""
+    return f"loss of {style.in_short(cases.names_of(case)(bank))}, in units"
+
+
 @command()
-def main():
-    parser = cli.files_parser(__doc__)
+def main() -> None:
+    """The command."""
+    parser = cli.case_parser(__doc__)
     parser.add_argument("--loss", metavar="BANK", help="ask for the least loss of this bank alone")
     parser.add_argument("--output", metavar="FILE", help="the CSV, standard output where it is not given")
     parser.add_argument("--picture", metavar="FILE", help="the picture to write")
     asked = parser.parse_args()
-    cli.keep_inputs([asked.banks, asked.debts], [asked.output, asked.picture])
+    case = cases.take_case(parser, asked)
+    cli.keep_inputs(cases.inputs_of(case), [asked.output, asked.picture])
     pyplot = style.pyplot_of() if asked.picture else None
     asking, files = Asking(), cli.words_of(asked)
-    network = ask.network_of(asking, files) if pyplot or asked.loss is not None else None
+    network = ask.network_of(asking, files) if pyplot or asked.loss is not None else ask.Network([], [], [], [], [])
     if asked.loss is None:
         most, kind, words = MAX_CUT, "cut", "cut of all cash, per mille"
-        names, shocks, states = map(ask.answer_of(asking, ["breaking", *files], Breaking).cuts.column, ("bank", "cut", "state"))
-        hit = range(len(names))
+        cuts = ask.answer_of(asking, ["breaking", *files], Breaking).cuts
+        names, shocks, states = map(cuts.column, ("bank", "cut", "state"))
+        hit = list(range(len(names)))
     elif asked.loss in network.names:
         bank = network.names.index(asked.loss)
-        most, kind, words = network.cash[bank], "loss", f"loss of {style.in_short(asked.loss)}, in units"
+        most, kind, words = network.cash[bank], "loss", loss_words(asked.loss, case)
         names, hit, (shocks, states) = network.names, [bank], losses_of(asking, files, network, bank)
     else:
         like = {name.strip().casefold(): name for name in network.names}.get(asked.loss.strip().casefold())
         raise Failed(f"no bank has the name {asked.loss!r}" + (f"; is it {like!r}?" if like else ""), 4)
+    called = cases.marked_names_of(case)
     if pyplot:
-        style.save(draw(pyplot, shocks, depths_of(network, most, hit), most, words), asked.picture, folders=False)
+        picture = draw(pyplot, shocks, depths_of(network, most, hit), most, words, list(map(called, names)))
+        style.save(picture, asked.picture, folders=False)
     ask.write(("bank", kind, "state"), zip(names, shocks, states), asked.output)

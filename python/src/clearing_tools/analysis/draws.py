@@ -1,63 +1,90 @@
 """Draws scenarios at random, and tells how many banks default and how many units are left unpaid.
 
-In:   --banks FILE and --debts FILE, as `clearing` reads them
-      --moments FILE   what may be lost, as CSV: `of,mean,deviation` and a line for each bank that may lose, or for the word `cut`, a cut
-                       of all cash per mille (a bank of that name cannot be given). Columns behind, each named as a line is, have the correlations: all of them, symmetric, 1
-                       on the diagonal. Without them losses are independent. Draws are normal, rounded to whole units and kept
-                       between 0 and 1,000 for the cut, and at least 0 and at most the bank's cash for a loss.
-      --past FILE      in its place losses that came about, as CSV: a header of a word, then banks or `cut`, and a line for each time, with its
-                       name first. A draw takes a line at random, so that what was lost together is lost together.
+In:   FOLDER, a case, or --banks FILE and --debts FILE, as `clearing` reads them
+      --moments FILE   what may be lost, as CSV: `of,mean,deviation` and a line for each bank that may lose, or for the
+                       word `cut`, a cut of all cash per mille (a bank of that name cannot be given). Columns behind,
+                       each named as a line is, have the correlations: all of them, symmetric, 1 on the diagonal.
+                       Without them losses are independent. Draws are normal, rounded to whole units and kept between 0
+                       and 1,000 for the cut, and at least 0 and at most the bank's cash for a loss.
+      --past FILE      in its place losses that came about, as CSV: a header of a word, then banks or `cut`, and a line
+                       for each time, with its name first. A draw takes a line at random, so that what was lost together
+                       is lost together.
       --relative       losses of banks are per mille of their cash, and not units
       --draws N        how many scenarios are drawn, 1 to 100,000 (1,000)
       --seed S         the number that the draws are made from (1): the same number gives the same draws
-Out:  CSV on standard output, or in --output FILE, three tables with empty lines between: `of,least,q1,q5,q25,median,q75,q95,q99,greatest,mean`
-      for the defaults, those by a bank's own fundamentals, the units unpaid in the network, those unpaid outside, and the cash lost; a
-      quantile q is the least number that at least q of a hundred draws do not pass; `defaults,draws`, in how many draws so many banks
-      default; and `bank,fundamental,contagion`, in how many draws each bank does.
+Out:  CSV on standard output, or in --output FILE, three tables with empty lines between:
+      `of,least,q1,q5,q25,median,q75,q95,q99,greatest,mean` for the defaults, those by a bank's own fundamentals, the
+      units unpaid in the network, those unpaid outside, and the cash lost; a quantile q is the least number that at
+      least q of a hundred draws do not pass; `defaults,draws`, in how many draws so many banks default; and
+      `bank,fundamental,contagion`, in how many draws each bank does.
       --each FILE      `draw,cut,lost,defaults,fundamental,unpaid,outside_unpaid`, a line for each draw
-      --picture FILE   histograms of defaults and of units unpaid. The kind of picture is the ending: .svg, .png or .pdf. It wants
-                       matplotlib.
+      --picture FILE   histograms of defaults and of what is unpaid, and the banks that default most often, by their
+                       full names where the case has them; amounts are in its currency. The kind of picture is the
+                       ending: .svg, .png or .pdf. It wants matplotlib.
+      The banks of a case that one unit decides are told on standard error, and marked in the picture.
 
-Each draw is a scenario of `clearing outcomes`, a hundred of them a run, so that each answer is that of the least payments of the network
-that the scenario leaves (clear_top, the row of `outcomes`). What the draws say of chance is worth what the numbers given are worth.
+Each draw is a scenario of `clearing outcomes`, a hundred of them a run, so that each answer is that of the least
+payments of the network that the scenario leaves (clear_top, the row of `outcomes`). What the draws say of chance is
+worth what the numbers given are worth.
 
 The environment variable CLEARING names the program, the repository's where it is not set.
 
-Ends with 0; 1 where the program fails or a picture cannot be written; 2 where the words are not understood, an output would be written over
-an input, or matplotlib is missing; 3 where a file cannot be read; 4 where one is refused; 5 where the output cannot be written; 130 at an
-interrupt.
+Ends with 0; 1 where the program fails or a picture cannot be written; 2 where the words are not understood, an output
+would be written over an input, or matplotlib is missing; 3 where a file cannot be read; 4 where one is refused; 5 where
+the output cannot be written; 130 at an interrupt.
 
 Example:
     tools/draws.py --banks banks.csv --debts debts.csv --moments moments.csv --draws 2000 --picture draws.svg >draws.csv
 """
+from __future__ import annotations
+
+import argparse
 import csv
 import io
 import math
 import operator
 import random
 import statistics
-from collections import Counter, namedtuple
+from collections import Counter
 from decimal import Decimal
+from typing import Any, Callable, Dict, List, NamedTuple, Sequence, Tuple
 
+from clearing_client.case import Case
 from clearing_client.format import MAX_CUT
 
-from .. import cli, files
+from .. import cases, cli, files
 from ..drawing import style
+from ..money import Money
 from ..runner import Asking, Failed, command, work_folder
 from . import asking as ask
 
 CUT = "cut"
 # As many bytes has a file of losses at most.
 MOST_BYTES = 64_000_000
+MOST_NAMED = 15
+"""So many banks are named in a picture at most."""
 QUANTILES = {"q1": 1, "q5": 5, "q25": 25, "median": 50, "q75": 75, "q95": 95, "q99": 99}
 
-Draw = namedtuple("Draw", "cut losses")  # losses by the banks' places
+
+class Draw(NamedTuple):
+    """A scenario that is drawn: a cut of all cash, and losses by the banks' places."""
+
+    cut: int
+    losses: Tuple[Tuple[int, int], ...]
+
+
+class Often(NamedTuple):
+    """What a bank is called, in how many draws it defaults, and in how many by its own fundamentals."""
+
+    called: str
+    defaults: int
+    fundamental: int
 
 
 # What may be lost.
 
 
-def records_of(name):
+def records_of(name: str) -> List[Tuple[int, List[str]]]:
     """The lines of a CSV, the fields without blanks at their ends, each with its number."""
     try:
         text = files.bytes_of(name, MOST_BYTES).decode("utf-8-sig")
@@ -79,7 +106,7 @@ def records_of(name):
     return lines
 
 
-def decimal(name, line, field, least=-math.inf, most=math.inf):
+def decimal(name: str, line: int, field: str, least: float = -math.inf, most: float = math.inf) -> float:
     try:
         number = float(field)
     except ValueError:
@@ -89,7 +116,7 @@ def decimal(name, line, field, least=-math.inf, most=math.inf):
     return number
 
 
-def check_names(name, line, names, known):
+def check_names(name: str, line: int, names: List[str], known: Dict[str, int]) -> None:
     for at, each in enumerate(names):
         if each != CUT and each not in known:
             raise Failed(f"{name}: line {line}: no bank has the name {each!r}", 4)
@@ -100,7 +127,7 @@ def check_names(name, line, names, known):
 class Moments:
     """Normal draws with means, deviations and correlations."""
 
-    def __init__(self, name, known):
+    def __init__(self, name: str, known: Dict[str, int]) -> None:
         (first, header), *lines = records_of(name)
         if header[:3] != ["of", "mean", "deviation"]:
             raise Failed(f"{name}: line {first}: not the header of,mean,deviation", 4)
@@ -115,7 +142,7 @@ class Moments:
             matrix = [[decimal(name, line, field, -1, 1) for field in fields[3:]] for line, fields in lines]
             self.rows = triangle_of(name, matrix)
 
-    def draw(self, chance):
+    def draw(self, chance: random.Random) -> List[float]:
         normal = statistics.NormalDist()
         free = [normal.inv_cdf(chance.random() or 2.0**-54) for _ in self.names]
         if self.rows is not None:
@@ -123,13 +150,14 @@ class Moments:
         return [mean + deviation * each for mean, deviation, each in zip(self.means, self.deviations, free)]
 
 
-def triangle_of(name, matrix):
+def triangle_of(name: str, matrix: List[List[float]]) -> List[List[float]]:
     """The lower triangle whose product with itself is a matrix of correlations (Cholesky)."""
-    count, rows = len(matrix), []
+    count = len(matrix)
+    rows: List[List[float]] = []
     for i in range(count):
         if matrix[i][i] != 1 or any(matrix[i][j] != matrix[j][i] for j in range(i)):
             raise Failed(f"{name}: the correlations are not symmetric with 1 on the diagonal", 4)
-        row = []
+        row: List[float] = []
         for j in range(i):
             rest = matrix[i][j] - math.fsum(map(operator.mul, row, rows[j]))
             pivot = rows[j][j]
@@ -147,22 +175,24 @@ def triangle_of(name, matrix):
 class Past:
     """Draws of one of the lines of a table."""
 
-    def __init__(self, name, known):
+    def __init__(self, name: str, known: Dict[str, int]) -> None:
         (first, header), *lines = records_of(name)
         self.names = header[1:]
         check_names(name, first, self.names, known)
         self.lines = [[decimal(name, line, field) for field in fields[1:]] for line, fields in lines]
 
-    def draw(self, chance):
+    def draw(self, chance: random.Random) -> List[float]:
         return self.lines[int(chance.random() * len(self.lines))]
 
 
-def whole(number, most):
+def whole(number: float, most: int) -> int:
     """The nearest whole number, a half up, within limits."""
     return max(0, min(most, math.floor(number + 0.5)))
 
 
-def draw_of(network, places, names, numbers, relative):
+def draw_of(
+    network: ask.Network, places: Dict[str, int], names: List[str], numbers: List[float], relative: bool
+) -> Draw:
     cut, losses = 0, {}
     for name, number in zip(names, numbers):
         if name == CUT:
@@ -176,19 +206,21 @@ def draw_of(network, places, names, numbers, relative):
 # The answers.
 
 
-def answers_of(asking, files, network, draws):
-    """The sums of each draw by the draw, and for each bank in how many draws it defaults, and in how many by its own doing. What is drawn
-    twice is asked for once, so that the scenarios of a run are drawn equally often."""
+def answers_of(asking: Asking, files: List[str], network: ask.Network, draws: List[Draw]) -> Any:
+    """The sums of each draw by the draw, and for each bank in how many draws it defaults, and in how many by its own
+    doing. What is drawn twice is asked for once, so that the scenarios of a run are drawn equally often."""
     often = Counter(draws)
     different = list(often)
-    texts = [ask.scenario_text(draw.cut, [(network.names[place], loss) for place, loss in draw.losses]) for draw in different]
-    groups = []
+    texts = [
+        ask.scenario_text(draw.cut, [(network.names[place], loss) for place, loss in draw.losses]) for draw in different
+    ]
+    groups: List[List[int]] = []
     for times in sorted(set(often.values())):
         groups += ask.scenario_groups([at for at, draw in enumerate(different) if often[draw] == times], texts)
     causes = [[0] * len(network.names) for _ in range(2)]
     with work_folder() as folder:
         made = ask.outcomes(asking, folder, files, texts, groups)
-    sums = {}
+    sums: Dict[Draw, Any] = {}
     for group, left in zip(groups, made):
         sums.update(zip((different[at] for at in group), left.scenarios))
         times = often[different[group[0]]]
@@ -197,68 +229,114 @@ def answers_of(asking, files, network, draws):
     return sums, causes
 
 
-def quantile(numbers, percent):
+def quantile(numbers: Sequence[int], percent: int) -> int:
     """The least number that at least so many of a hundred do not pass; the numbers are in order."""
     return numbers[max(0, -(-len(numbers) * percent // 100) - 1)]
 
 
-def summary(name, numbers):
+def summary(name: str, numbers: List[int]) -> Tuple[Any, ...]:
     numbers = sorted(numbers)
     mean = Decimal(f"{sum(numbers) / len(numbers):.3f}")
     return (name, numbers[0], *(quantile(numbers, percent) for percent in QUANTILES.values()), numbers[-1], mean)
 
 
-def draw_picture(pyplot, defaults, unpaid, seed):
-    """Two histograms, with the quantiles of 5, 50 and 95 of a hundred."""
-    figure, both = pyplot.subplots(1, 2, figsize=(11, 4.2), layout="constrained")
+def draw_picture(
+    pyplot: Any, defaults: List[int], unpaid: List[int], often: Sequence[Often], seed: int, money: Money
+) -> Any:
+    """Two histograms, with the quantiles of 5, 50 and 95 of a hundred, and the banks that default most often."""
+    figure, (by_count, by_amount, by_bank) = pyplot.subplots(1, 3, figsize=(16, 4.6), layout="constrained")
     width = max(1, -(-(max(defaults) - min(defaults) + 1) // 60))
     starts = range(min(defaults), max(defaults) + 1, width)
     counts = Counter((number - min(defaults)) // width for number in defaults)
-    both[0].bar([start + (width - 1) / 2 for start in starts], [counts[at] for at in range(len(starts))], width=0.9 * width,
-                color=style.LIGHT["contagion"])
-    both[0].xaxis.get_major_locator().set_params(integer=True)
-    both[1].xaxis.get_major_locator().set_params(nbins=5)
-    both[0].set_xlabel("banks in default")
-    both[1].hist(unpaid, bins=min(30, max(unpaid) - min(unpaid) + 1), color=style.LIGHT["fundamental"], rwidth=0.9)
-    both[1].set_xlabel("units unpaid in the network")
-    for axes, numbers in zip(both, (defaults, unpaid)):
-        lines = {}
-        for percent in (5, 50, 95):
-            lines.setdefault(quantile(sorted(numbers), percent), []).append(str(percent))
-        for at, percents in lines.items():
-            axes.axvline(at, color="#1a1a1a", linewidth=0.8, linestyle="-" if "50" in percents else ":")
-            text = ", ".join(percents) + "%"
-            axes.text(at, 1.0, text, transform=axes.get_xaxis_transform(), ha="center", va="bottom", fontsize=7)
+    middles, heights = [start + (width - 1) / 2 for start in starts], [counts[at] for at in range(len(starts))]
+    by_count.bar(middles, heights, width=0.9 * width, color=style.LIGHT["contagion"])
+    by_count.xaxis.get_major_locator().set_params(integer=True)
+    by_count.xaxis.set_major_formatter(lambda number, _: f"{number:,.0f}")
+    by_count.set_xlim(min(defaults) - 1, max(defaults) + width)
+    by_count.set_xlabel("banks in default")
+    scale = money.short_scale_of(unpaid)
+    bins = min(30, max(unpaid) - min(unpaid) + 1)
+    by_amount.hist(unpaid, bins=bins, color=style.LIGHT["fundamental"], rwidth=0.9)
+    by_amount.xaxis.get_major_locator().set_params(nbins=5)
+    by_amount.xaxis.set_major_formatter(lambda units, _: scale.number(round(units)))
+    by_amount.set_xlabel(f"unpaid in the network, {scale.words or 'in the currency'}")
+    for axes, numbers in ((by_count, defaults), (by_amount, unpaid)):
+        mark_quantiles(axes, numbers)
         axes.set_ylabel("draws")
-        axes.xaxis.set_major_formatter(lambda units, _: f"{units:,.0f}")
         axes.spines[["top", "right"]].set_visible(False)
-    figure.suptitle(f"{len(defaults):,} draws from the seed {seed}; lines: the quantiles of 5, 50 and 95 of a hundred", fontsize=10)
+    draw_often(by_bank, often, len(defaults))
+    title = f"{len(defaults):,} draws from the seed {seed}; lines: the quantiles of 5, 50 and 95 of a hundred"
+    figure.suptitle(title, fontsize=10)
     return figure
 
 
-def words():
-    parser = cli.files_parser(__doc__)
+def mark_quantiles(axes: Any, numbers: List[int]) -> None:
+    """Lines at the quantiles of 5, 50 and 95 of a hundred."""
+    lines: Dict[int, List[str]] = {}
+    for percent in (5, 50, 95):
+        lines.setdefault(quantile(sorted(numbers), percent), []).append(str(percent))
+    for at, percents in lines.items():
+        axes.axvline(at, color=style.LIGHT["ink"], linewidth=0.8, linestyle="-" if "50" in percents else ":")
+        text = ", ".join(percents) + "%"
+        axes.text(at, 1.0, text, transform=axes.get_xaxis_transform(), ha="center", va="bottom", fontsize=7)
+
+
+def draw_often(axes: Any, often: Sequence[Often], draws: int) -> None:
+    """A bar for each of the banks that default most often: in how many of the draws, and in how many by its own
+    fundamentals."""
+    shown = often[:MOST_NAMED]
+    places = range(len(shown))
+    axes.barh(places, [bank.defaults for bank in shown], color=style.LIGHT["contagion"], label="by contagion")
+    alone = [bank.fundamental for bank in shown]
+    axes.barh(places, alone, color=style.LIGHT["fundamental"], label="by own fundamentals")
+    axes.set_yticks(places, [style.in_short(bank.called, 3.2, 8) for bank in shown], fontsize=8)
+    axes.invert_yaxis()
+    axes.set_xlim(0, draws)
+    axes.xaxis.get_major_locator().set_params(nbins=5, integer=True)
+    axes.xaxis.set_major_formatter(lambda number, _: f"{number:,.0f}")
+    more = f"; {len(often) - len(shown):,} banks more" if len(often) > len(shown) else ""
+    axes.set_xlabel(f"draws in which a bank defaults{more}")
+    axes.spines[["top", "right"]].set_visible(False)
+    if shown:
+        axes.legend(loc="lower left", bbox_to_anchor=(-0.01, 0.99), ncol=2, frameon=False, fontsize=8)
+
+
+def often_of(
+    names: Sequence[str], short: Sequence[int], fundamental: Sequence[int], called: Callable[[str], str]
+) -> List[Often]:
+    """The banks that default in some draw, those that do most often first."""
+    found = map(Often, map(called, names), short, fundamental)
+    return sorted((one for one in found if one.defaults), key=lambda one: -one.defaults)
+
+
+def words() -> Tuple[argparse.Namespace, Case]:
+    parser = cli.case_parser(__doc__)
     given = parser.add_mutually_exclusive_group(required=True)
     given.add_argument("--moments", metavar="FILE", help="means, deviations and correlations of losses")
     given.add_argument("--past", metavar="FILE", help="losses that came about")
     parser.add_argument("--relative", action="store_true", help="losses are per mille of a bank's cash")
-    parser.add_argument("--draws", metavar="N", type=cli.number_in(1, 100_000), default=1000, help="how many scenarios are drawn (1000)")
-    parser.add_argument("--seed", metavar="S", type=cli.number_in(0, 2**64 - 1), default=1, help="what the draws are made from (1)")
+    parser.add_argument(
+        "--draws", metavar="N", type=cli.number_in(1, 100_000), default=1000, help="how many scenarios are drawn (1000)"
+    )
+    parser.add_argument(
+        "--seed", metavar="S", type=cli.number_in(0, 2**64 - 1), default=1, help="what the draws are made from (1)"
+    )
     parser.add_argument("--output", metavar="FILE", help="the tables, standard output where it is not given")
     parser.add_argument("--each", metavar="FILE", help="a line for each draw, to write")
     parser.add_argument("--picture", metavar="FILE", help="the histograms to write")
-    return parser.parse_args()
+    asked = parser.parse_args()
+    return asked, cases.take_case(parser, asked)
 
 
 @command()
-def main():
-    asked = words()
-    cli.keep_inputs([asked.banks, asked.debts, asked.moments, asked.past], [asked.output, asked.each, asked.picture])
+def main() -> None:
+    asked, case = words()
+    cli.keep_inputs([*cases.inputs_of(case), asked.moments, asked.past], [asked.output, asked.each, asked.picture])
     pyplot = style.pyplot_of() if asked.picture else None
     asking, both = Asking(), cli.words_of(asked)
     network = ask.network_of(asking, both)
     places = {name: place for place, name in enumerate(network.names)}
-    source = Moments(asked.moments, places) if asked.moments else Past(asked.past, places)
+    source: Any = Moments(asked.moments, places) if asked.moments else Past(asked.past, places)
     chance = random.Random(asked.seed)
     draws = [draw_of(network, places, source.names, source.draw(chance), asked.relative) for _ in range(asked.draws)]
     sums, (short, fundamental) = answers_of(asking, both, network, draws)
@@ -273,15 +351,31 @@ def main():
         "lost": [sum(network.cash) - each.cash for each in answers],
     }
     if asked.each:
-        lines = zip(range(1, len(draws) + 1), (draw.cut for draw in draws), columns["lost"], defaults, columns["fundamental"],
-                    columns["unpaid"], columns["outside_unpaid"])
+        lines = zip(
+            range(1, len(draws) + 1),
+            (draw.cut for draw in draws),
+            columns["lost"],
+            defaults,
+            columns["fundamental"],
+            columns["unpaid"],
+            columns["outside_unpaid"],
+        )
         header = ("draw", "cut", "lost", "defaults", "fundamental", "unpaid", "outside_unpaid")
         ask.write(header, lines, asked.each)
+    called = cases.marked_names_of(case)
     if pyplot:
-        style.save(draw_picture(pyplot, defaults, columns["unpaid"], asked.seed), asked.picture, folders=False)
-    tables = {
-        "sums": [("of", "least", *QUANTILES, "greatest", "mean"), *(summary(name, numbers) for name, numbers in columns.items())],
+        often = often_of(network.names, short, fundamental, called)
+        picture = draw_picture(pyplot, defaults, columns["unpaid"], often, asked.seed, cases.money_of(case))
+        style.save(picture, asked.picture, folders=False)
+    tables: Dict[str, List[Any]] = {
+        "sums": [
+            ("of", "least", *QUANTILES, "greatest", "mean"),
+            *(summary(name, numbers) for name, numbers in columns.items()),
+        ],
         "counts": [("defaults", "draws"), *sorted(Counter(defaults).items())],
-        "banks": [("bank", "fundamental", "contagion"), *zip(network.names, fundamental, map(operator.sub, short, fundamental))],
+        "banks": [
+            ("bank", "fundamental", "contagion"),
+            *zip(network.names, fundamental, map(operator.sub, short, fundamental)),
+        ],
     }
     ask.write_tables(tables, asked.output)

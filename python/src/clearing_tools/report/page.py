@@ -2,270 +2,326 @@
 import base64
 import functools
 import hashlib
+import html
 import json
 import pathlib
-import sys
-from collections import namedtuple
+import re
+from typing import Any, Dict, Iterator, List, NamedTuple, Optional, Sequence, Tuple
+
+from clearing_client.records import CostBound
+from clearing_client.steady import MARK, NOTE
 
 from .. import labels
-from ..drawing import network, web
-from ..drawing import style as drawing
-from ..drawing.style import DARK, LIGHT
-from ..runner import Failed
-from ..texts import STATES, due_of, flows_of, shortfall_of
-from . import costs, tables
-from .summary import summary
+from ..drawing import svg, web
+from ..runner import lacking
+from ..texts import STATES
+from . import costs, markdown, player, tables
+from .charts import breaking, ruin, scenarios, shortfalls
+from .charts import network as network_chart
+from .charts.figure import Data, Figure
+from .matter import Matter, counted
+from .summary import headline, summary
 
 MOST_CHANGES = 40  # lines of what was changed, under the title
 FOLDER = pathlib.Path(__file__).resolve().parent
 
-Verdict = namedtuple("Verdict", "lawful line words")
-Evidence = namedtuple("Evidence", "files commit toolchain commands verdict made words")
-# A scenario: its name, its banks in file order, and the cash that it leaves.
-Scenario = namedtuple("Scenario", "name banks cash")
-Answers = namedtuple("Answers", "title money banks full cash rules debts waves more rescued rankings costs scenarios frames changes evidence")
-# Parts of the page, in its order: the key of each and its name.
-PARTS = {
-    "summary": "Summary",
-    "figures": "Key figures",
-    "network": "The network",
-    "banks": "The banks",
-    "rankings": "Rankings",
-    "costs": "Where default costs",
-    "scenarios": "Scenarios",
-    "each": "Bank by bank",
-    "model": "What this model says",
-    "evidence": "The evidence",
-}
+
+class Kpi(NamedTuple):
+    """A figure of the first screen: its title, the word before it, the figure, the word behind it, and what it says."""
+
+    title: str
+    before: str
+    value: str
+    after: str
+    words: str
 
 
-class Matter(Answers):
-    """All that a report says, as the program answered it; amounts are whole units of account. `full` are the full names of banks."""
+def kpis(matter: Matter) -> List[Kpi]:
+    """The four figures: in default, unpaid, owed, and the least cut that fells the next bank."""
+    own, label = len(matter.own), len(matter.labelled)
+    split = (
+        f"{own:,} by their own fundamentals, {label:,} by the label contagion"
+        if own + label
+        else "each pays all that it owes"
+    )
+    share = (
+        f"{labels.percent(matter.unpaid, matter.due)} of what is owed; it is no loss: all together keep"
+        " what cash there was"
+    )
+    debts = (
+        f"{labels.count(len(matter.debts), 'debt')} between {counted(len(matter.banks))} with"
+        f" {matter.amount(matter.all_cash)} in cash"
+    )
+    if matter.near:
+        next_one = Kpi(
+            "Least cut that fells the next",
+            "",
+            labels.percent(matter.near[0].cut, 1000),
+            "",
+            f"of all cash; it is {matter.said(matter.near[0].bank)}",
+        )
+    else:
+        next_one = Kpi(
+            "Least cut that fells the next",
+            "",
+            tables.NOT,
+            "",
+            "no bank that stands falls at a cut of all cash" if matter.sound else "no bank is left that could fall",
+        )
+    return [
+        Kpi("In default", "", f"{len(matter.fallen):,}", f"of {len(matter.banks):,} banks", split),
+        Kpi("Unpaid", *parts_of(matter, matter.unpaid), share),
+        Kpi("Owed", *parts_of(matter, matter.due), debts),
+        next_one,
+    ]
 
-    def called(self, name):
-        """A bank within a sentence, with its full name where it has one."""
-        return labels.apart(self.full(name))
+
+SHORTER = {"billion": "bn", "million": "m"}
+
+
+def parts_of(matter: Matter, units: int) -> Tuple[str, str, str]:
+    """An amount in three parts: its currency, its number, and its size."""
+    words = matter.money.in_short(units).replace("\u00a0", " ").split(" ")
+    before = words.pop(0) if matter.money.currency and words[0] == matter.money.currency else ""
+    return before, words[0], " ".join(SHORTER.get(word, word) for word in words[1:])
+
+
+class View:
+    """A page: what the templates ask of it, by name."""
+
+    def __init__(self, matter: Matter, library: Optional[str] = None) -> None:
+        self.matter, self.library = matter, library
+        self.headline, self.sentences, self.kpis = headline(matter), summary(matter), kpis(matter)
+        self.picture = network_chart.picture_of(matter)
+        self.unpaid = shortfalls.figure_of(matter) if matter.fallen else None
+        self.breaking = breaking.figure_of(matter)
+        self.scenarios = scenarios.figure_of(matter) if matter.scenarios else None
+        self.ruin = ruin.figure_of(matter)
+        self.stands, self.banks = tables.stands_table(matter), tables.banks_table(matter)
+        self.cases = tables.scenarios_table(matter) if matter.scenarios else None
+        self.text = markdown.html_of(matter.head.description)
+        self.fallen_with_costs = costs.shown_of(matter.costs) if matter.costs else []
+        self.figures = [
+            figure for figure in (self.unpaid, self.breaking, self.scenarios, self.ruin) if figure is not None
+        ]
+
+    @property
+    def meta(self) -> List[str]:
+        """The line under the title: the date, the test, the list, the version, the author, each also where it is not
+        stated."""
+        head = self.matter.head
+        return [
+            f"As of {head.as_of}" if head.as_of else "Date not stated",
+            head.test or "test not stated",
+            "list of least payments",
+            head.version,
+            f"author: {head.author}" if head.author else "author not stated",
+            f"made {self.matter.evidence.made}",
+        ]
+
+    @property
+    def parts(self) -> Dict[str, str]:
+        """The parts of the page that its head links to."""
+        found = {
+            "network": "Network",
+            "unpaid": "Unpaid",
+            "breaking": "Breaking",
+            "scenarios": "Scenarios",
+            "stands": "Does it stand?",
+            "costs": "Costs",
+            "banks": "Banks",
+            "journal": "Journal",
+            "limits": "Limits",
+            "evidence": "Evidence",
+        }
+        absent = {
+            "unpaid": self.unpaid is None,
+            "scenarios": self.matter.scenarios is None,
+            "costs": self.matter.costs is None,
+            "journal": self.matter.frames is None or self.library is None,
+        }
+        return {key: words for key, words in found.items() if not absent.get(key)}
 
     @functools.cached_property
-    def place(self):
-        """Each bank's place in the file."""
-        return {bank.name: at for at, bank in enumerate(self.banks)}
+    def numbers(self) -> Dict[str, str]:
+        """The numbers of figures and tables, in their order on the page."""
+        keys = ["network", *(figure.key for figure in self.figures)]
+        found = {key: f"Figure {at}" for at, key in enumerate(keys, 1)}
+        more = ["stands", *(["cases"] if self.cases else []), "banks"]
+        return {**found, **{key: f"Table {at}" for at, key in enumerate(more, 1)}}
 
-    @functools.cached_property
-    def scale(self):
-        """The scale of the sums over all banks, and of the scenarios."""
-        sums = [sum(self.cash.values()), sum(map(due_of, self.banks))]
-        return self.money.scale_of(sums + [sum(map(shortfall_of, banks)) for _, banks, _ in self.scenarios or []])
+    def each(self) -> Iterator[tables.Part]:
+        """The part of each bank."""
+        return tables.parts_of_banks(self.matter)
+
+    @property
+    def is_many(self) -> bool:
+        """Whether the part of one bank is shown at a time."""
+        return len(self.matter.banks) > tables.MANY_BANKS
+
+    @property
+    def files(self) -> Dict[str, str]:
+        """The tables that the page gives as files of CSV, by their keys."""
+        found = {
+            "network": self.picture.data,
+            **{figure.key: figure.data for figure in self.figures},
+            "stands": self.stands.data,
+            "banks": self.banks.data,
+        }
+        if self.matter.costs:
+            found["costs"] = Data(CostBound._fields, list(self.matter.costs.banks))
+        return {key: tables.csv_of(data) for key, data in found.items()}
+
+    @property
+    def page_title(self) -> str:
+        """The title in the browser."""
+        return f"{labels.shown(self.matter.head.title)}: {self.headline}"
+
+    @property
+    def limits(self) -> List[str]:
+        """The model's limits in two lines."""
+        head = self.matter.head
+        of = " as of ".join(filter(None, (head.test or "test not stated", head.as_of or "a date not stated")))
+        kept = "" if self.matter.costs else ", costs of default"
+        return [
+            f"{of[:1].upper()}{of[1:]}; the least list of payments that clears. All debts are due at"
+            " once; each bank pays by its own rule,"
+            " smaller classes first.",
+            f"Left out: fire sales, maturities, runs{kept}. Contagion is a label, and names no debtor."
+            + (f" {MARK}: {NOTE}, within its rounding." if self.matter.unsure else ""),
+        ]
 
 
 # The templates.
 
 
-def templates():
-    """The templates, by Jinja2, each text escaped. Where that is missing the tool fails with 2 and says for which Python."""
+def templates() -> Any:
+    """The templates, by Jinja2, each text escaped. Where that is missing the tool fails with 2 and says for which
+    Python."""
     try:
         import jinja2
     except ImportError as fault:
-        raise Failed(
-            f"jinja2 is missing for {sys.executable} (Python {sys.version.split()[0]}); Debian's package python3-jinja2 is for"
-            " /usr/bin/python3, and for a virtual environment that was made of it with --system-site-packages", 2) from fault
+        raise lacking("jinja2", "report", ", which makes the page") from fault
     return jinja2.Environment(
-        loader=jinja2.FileSystemLoader(FOLDER / "templates"), autoescape=True, undefined=jinja2.StrictUndefined, trim_blocks=True,
-        lstrip_blocks=True)
-
-
-def names_of(matter, markup):
-    """What gives a name as HTML, held apart where it may run from right to left; what gives the full name of a bank; and the banks by their
-    names, each with a link to its part."""
-    def name(text):
-        text = labels.shown(text)
-        return markup("<bdi>{}</bdi>").format(text) if labels.is_turned(text) else markup.escape(text)
-
-    def full(bank):
-        return markup(' <span class="full">{}</span>').format(name(matter.full.of(bank))) if matter.full.of(bank) else ""
-
-    linked = {bank.name: markup('<a href="#bank-{}">{}</a>{}').format(at, name(bank.name), full(bank.name)) for at, bank in enumerate(matter.banks)}
-    return name, full, linked
-
-
-def icon(state):
-    """The mark of a state, as the pictures have it."""
-    outline = drawing.shape(state, 17, 12 if state == "gridlock" else 10, 7)
-    return (
-        '<svg class="drawing icon" viewBox="4 0 26 20" aria-hidden="true">'
-        f'<path class="small shape {state}" fill="none" d="{outline}"/></svg>'
+        loader=jinja2.FileSystemLoader([FOLDER / "templates", web.FOLDER]),
+        autoescape=True,
+        undefined=jinja2.StrictUndefined,
+        trim_blocks=True,
+        lstrip_blocks=True,
     )
 
 
-# What the parts have.
+class Texts:
+    """How names and elements stand in the page: what the templates call."""
+
+    def __init__(self, matter: Matter, markup: Any) -> None:
+        self.matter, self.markup = matter, markup
+        self.icons = {state: markup(svg.icon(state, words)) for state, words in tables.STATE_WORDS.items()}
+        self.links = {bank.name: self.link_to(at, bank.name) for at, bank in enumerate(matter.banks)}
+
+    def link_to(self, at: int, name: str) -> Any:
+        """A bank's name, linked to its part."""
+        return self.markup('<a href="#bank-{}">{}</a>').format(at, self.name(self.matter.called(name)))
+
+    def name(self, text: str) -> Any:
+        """A name as HTML, held apart where it may run from right to left."""
+        return self.readable(labels.shown(text))
+
+    def readable(self, text: str) -> Any:
+        """The same of a name that can be read already."""
+        return self.markup("<bdi>{}</bdi>").format(text) if labels.is_turned(text) else self.markup.escape(text)
+
+    def link(self, name: str) -> Any:
+        """A bank by its name of the files, as a link."""
+        return self.links[name]
+
+    def chart(self, figure: Figure) -> Any:
+        """The charts of a figure, each in a box that is shown at its widths."""
+        return self.markup(
+            "".join(f'<div class="{size}">{chart.whole()}</div>' for size, chart in figure.charts.items())
+        )
+
+    def raw(self, text: str) -> Any:
+        """Markup as it is."""
+        return self.markup(text)
 
 
-def key_figures(matter):
-    """The figures on the first screen: title, value and words of each."""
-    money, banks = matter.money, matter.banks
-    owed, paid = sum(bank.owed for bank in banks), sum(bank.paid for bank in banks)
-    of = {state: sum(bank.state == state for bank in banks) for state in STATES}
-    outside, given = sum(map(tables.outside_of, banks)), sum(bank.outside_paid for bank in banks)
-    due, all_paid = owed + outside, paid + given
-
-    def parts(one, other):
-        """The two parts of a sum, where banks owe outside too."""
-        return f" {money(one)} of it to banks and {money(other)} outside." if outside else ""
-
-    clears = (
-        f"Greater payments, by {money(matter.more)} in all, would clear too."
-        if matter.more
-        else "The least payments are here also the greatest that clear."
-    )
-    return [
-        ("Banks", f"{len(banks):,}", "in the network, each with its cash and a rule by which it divides what it has."),
-        ("Debts", f"{len(matter.debts):,}", "from one bank to another, each in a class; a lower class is paid first."),
-        ("Owed", money(due), "is all that banks owe." + (f"{parts(owed, outside)} What is owed outside comes first." if outside else "")),
-        ("Cash", money(sum(matter.cash.values())), "is what the banks hold before anything is paid."),
-        (
-            "Paid",
-            money(all_paid),
-            f"or {labels.percent(all_paid, due)} of what is owed, the least that clears, out of money that has in fact arrived."
-            f"{parts(paid, given)}",
-        ),
-        (
-            "Unpaid",
-            money(due - all_paid),
-            f"or {labels.percent(due - all_paid, due)}, is what creditors lose.{parts(owed - paid, outside - given)}",
-        ),
-        ("In default", f"{len(banks) - of['sound']:,}", "banks cannot pay all that they owe."),
-        ("by own fundamentals", f"{of['fundamental']:,}", "could not pay even if all their debtors paid in full."),
-        ("by contagion", f"{of['contagion'] + of['gridlock']:,}", "could pay if all their debtors paid in full."),
-        ("of these in gridlock", f"{of['gridlock']:,}", f"default at the least payments alone. {clears}"),
-    ]
-
-
-def drawing_of(matter):
-    """The network drawn, and whether as a graph or as a matrix."""
-    flows = flows_of(matter.debts, matter.banks)
-    form = "graph" if network.is_small(flows, matter.banks) else "matrix"
-    link = lambda bank: f"bank-{matter.place[bank.name]}"  # noqa: E731
-    return network.drawing_of(flows, matter.banks, matter.money, form, link, matter.full), form
-
-
-def tokens():
-    """The colours of both themes, and the style of the drawings in them."""
-
-    def given(colours):
-        return "".join(f"--{name}:{colour};" for name, colour in colours.items())
-
-    return (
-        f":root{{{given(LIGHT)}}}@media screen and (prefers-color-scheme:dark){{:root{{{given(DARK)}}}}}"
-        + drawing.css_of({name: f"var(--{name})" for name in LIGHT})
-    )
-
-
-def data_of(matter, drawn, columns):
-    """What the script needs, as JSON that may stand within a page."""
-    money, place = matter.money, matter.place
-    unit = 1 if money.unit is None else money.unit
-    shown = {flow.debtor for flow in drawn.flows} | {flow.creditor for flow in drawn.flows}
-    rest = network.OTHERS in shown
-
-    def end(name):
-        return -2 if name is None else -1 if name == network.OTHERS else place[name]
-
-    ends = {(end(flow.debtor), end(flow.creditor)): at for at, flow in enumerate(drawn.flows)}
-    drawn_banks = {place[name] for _, name in drawn.fills}
-
-    def flow_of(debt):
-        pair = place[debt.debtor], place[debt.creditor]
-        return ends[pair] if pair in ends else ends[tuple(at if at in drawn_banks or not rest else -1 for at in pair)]
-
-    names = [labels.shown(bank.name) for bank in matter.banks]
-    data = {
-        "names": names,
-        "hidden": {at: bank.name for at, bank in enumerate(matter.banks) if names[at] != bank.name},
-        "full": {at: labels.shown(matter.full.of(bank.name)) for at, bank in enumerate(matter.banks) if matter.full.of(bank.name)},
-        "state": [bank.state for bank in matter.banks],
-        "cash": [matter.cash[bank.name] for bank in matter.banks],
-        "owed": [bank.owed for bank in matter.banks],
-        "outside": [tables.outside_of(bank) for bank in matter.banks],
-        "mantissa": str(int(unit * 10**money.places)),
-        "places": money.places,
-        "currency": money.currency,
-        "bare": money.unit is None,
-        "columns": [names, *([column.value(bank) for bank in matter.banks] for column in columns)],
-        "debts": [part for debt in matter.debts for part in (place[debt.debtor], place[debt.creditor], debt.class_, debt.claim)],
-        "flows": [[end(flow.debtor), end(flow.creditor), flow.claim, flow.paid] for flow in drawn.flows],
-        "flowOf": [flow_of(debt) for debt in matter.debts],
-        "fills": [[key, place[name]] for key, name in drawn.fills],
-        "leastGap": drawing.LEAST_GAP,
-        "frames": matter.frames,
-    }
-    return json.dumps(data, ensure_ascii=False, separators=(",", ":")).replace("<", "\\u003c")
-
-
-# The whole.
-
-
-def hashed(text):
+def hashed(text: str) -> str:
     """The word by which the page's policy allows a text."""
     return "'sha256-" + base64.b64encode(hashlib.sha256(text.encode()).digest()).decode() + "'"
 
 
-def policy_of(style, scripts):
-    """What a browser may load and run: nothing but the style and the scripts of the page itself."""
+def policy_of(style: str, scripts: Sequence[str]) -> str:
+    """What a browser may load and run: nothing but the style and the scripts of the page itself; a picture that it
+    makes of itself."""
     rules = ["default-src 'none'", "base-uri 'none'", "form-action 'none'", f"style-src {hashed(style)}"]
-    return "; ".join(rules + ([f"script-src {' '.join(map(hashed, scripts))}"] if scripts else []))
+    return "; ".join(rules + ([f"script-src {' '.join(map(hashed, scripts))}", "img-src blob:"] if scripts else []))
 
 
-def page_of(matter, library, environment):
+def style_of(matter: Matter) -> str:
+    """The style: the tokens, that of charts, that of the page, and the running titles on paper."""
+    head = matter.head
+    right = f"as of {head.as_of}" if head.as_of else "date not stated"
+    boxes = "".join(
+        f"@{place}{{content:{string_of(text)}}}"
+        for place, text in (("top-left", f"Clearing report: {head.title}"), ("top-right", right))
+    )
+    return web.tokens() + web.charts() + web.player_style() + web.report_style() + f"@page{{{boxes}}}"
+
+
+def string_of(text: str) -> str:
+    """A text as a string of CSS, in which nothing ends the style."""
+    kept = labels.shown(text)[:80]
+    return (
+        '"'
+        + "".join(letter if letter.isalnum() or letter in " .,:-" else f"\\{ord(letter):x} " for letter in kept)
+        + '"'
+    )
+
+
+def page_of(view: View, environment: Any) -> str:
     """The page; without the library d3 it has no script."""
     from markupsafe import Markup
 
-    drawn, form = drawing_of(matter)
-    columns = tables.columns_of(matter)
-    rows = tables.rows_of_banks(matter, columns)
-    name, full, linked = names_of(matter, Markup)
-    style = tokens() + web.style()
-    scripts = [library, web.with_player((FOLDER / "script/script.js").read_text(encoding="utf-8"))] if library else []
-    maps, in_maps = tables.maps_of(matter) if matter.scenarios else ([], 0)
-    title, below = labels.headline(matter.banks, matter.money)
-    return environment.get_template("page.html").render(
+    matter, texts = view.matter, Texts(view.matter, Markup)
+    style = style_of(matter)
+    scripts = [view.library, web.bundle("report.mjs")] if view.library else []
+    found: str = environment.get_template("page.html").render(
+        view=view,
         matter=matter,
-        parts={key: words for key, words in PARTS.items() if key not in ("costs", "scenarios") or getattr(matter, key) is not None},
+        texts=texts,
+        labels=labels,
+        tables=tables,
+        costs=costs,
+        mark=MARK,
+        note=NOTE,
+        states=[state for state in STATES],
+        most_changes=MOST_CHANGES,
         policy=policy_of(style, scripts),
         style=Markup(style),
         scripts=list(map(Markup, scripts)),
-        data=Markup(data_of(matter, drawn, columns)) if scripts else "",
-        page_title=labels.shown(matter.title),
-        most_changes=MOST_CHANGES,
-        name=name,
-        full=full,
-        link=linked.__getitem__,
-        icons={state: Markup(icon(state)) for state in STATES},
-        choices=tables.CHOICES,
-        sentences=summary(matter),
-        figures=key_figures(matter),
-        drawn=drawn,
-        body=Markup(drawn.body),
-        legend=[(Markup(sample), words) for sample, words in drawn.legend],
-        form=form,
-        headline=(title, below),
-        columns=columns,
-        rows=rows,
-        fit=tables.size_on_paper(columns, rows),
-        rounded=tables.scale_of_banks(matter).is_rounded,
-        defaults=sum(bank.state != "sound" for bank in matter.banks),
-        each=tables.parts_of_banks(matter),
-        cases=tables.cases_of(matter) if matter.scenarios else [],
-        fallen=costs.shown_of(matter.costs) if matter.costs else [],
-        most_fallen=costs.MOST_SHOWN,
-        share_of=costs.share_of,
-        of_scale=f", {matter.scale.words}" if matter.scale.words else "",
-        maps=maps,
-        in_maps=in_maps,
-        bar=tables.bar_of,
-        has_outside=tables.owes_outside(matter.banks),
-        rule_words=labels.RULE_WORDS,
-        in_short=labels.in_short,
-        percent=labels.percent,
-        count=labels.count,
-        most=tables,
+        data=Markup(data_text(view)) if scripts else "",
     )
+    return found
+
+
+def limits_of(view: View) -> List[str]:
+    """The limits of the model in whole, as plain paragraphs."""
+    from markupsafe import Markup
+
+    texts = Texts(view.matter, Markup)
+    made: str = templates().get_template("limits.html").render(view=view, matter=view.matter, texts=texts, mark=MARK)
+    return [html.unescape(re.sub("<[^>]*>", "", part)) for part in re.findall("<p>(.*?)</p>", made, re.DOTALL)]
+
+
+def data_text(view: View) -> str:
+    """What the script needs, as JSON that may stand within a page."""
+    matter, drawn = view.matter, view.picture.drawn
+    data = player.data_of(matter, drawn)
+    rows = sorted(view.banks.rows, key=lambda row: row.place or 0)
+    data["columns"] = [[labels.shown(row.head) for row in rows]] + [
+        [row.cells[at].value for row in rows] for at in range(len(rows[0].cells) if rows else 0)
+    ]
+    data["files"] = view.files
+    data["title"] = labels.shown(matter.head.title)
+    return json.dumps(data, ensure_ascii=False, separators=(",", ":")).replace("<", "\\u003c")

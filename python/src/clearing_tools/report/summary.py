@@ -1,96 +1,122 @@
-"""A report in five sentences: how many banks fall, why, what would save them, what the worst scenario does, and who falls next; and a sixth
-where default costs."""
-from ..labels import apart, count, listed, percent
-from ..texts import due_of, shortfall_of
+"""A report in five sentences: how many banks fall, with which label, what would let them pay, what the worst
+scenario does, and who falls next; and a sixth where default costs."""
+from typing import List, Sequence
+
+from ..labels import held, percent
+from ..texts import Bank
 from . import costs
+from .charts.scenarios import cases_of
+from .charts.shortfalls import best_of, ratio_of
+from .matter import Matter, begun, counted, number_word
 
 
-def summary(matter):
+def summary(matter: Matter) -> List[str]:
     """The sentences, each made from the results."""
-    said = [falls(matter), why(matter), saved(matter), worst(matter), following(matter)]
+    said = [falls(matter), labels_of(matter), saved(matter), worst(matter), following(matter)]
     return [*said, costs.sentence(matter)] if matter.costs else said
 
 
-def names(matter, banks):
+def headline(matter: Matter) -> str:
+    """The finding, which is the title of the page."""
+    banks = counted(len(matter.banks))
+    if not matter.fallen:
+        return f"None of {banks} is in default" if matter.banks else "There is no bank"
+    leave = "leaves" if len(matter.fallen) == 1 else "leave"
+    return f"{begun(number_word(len(matter.fallen)))} of {banks} {leave} {matter.amount(matter.unpaid)} unpaid"
+
+
+def names(matter: Matter, banks: Sequence[Bank]) -> str:
     """The names of banks in a sentence."""
-    return listed([matter.called(bank.name) for bank in banks])
+    return matter.listed([bank.name for bank in banks])
 
 
-def falls(matter):
+def falls(matter: Matter) -> str:
     """How many banks are in default, and what stays unpaid."""
-    banks, short = matter.banks, [bank for bank in matter.banks if bank.state != "sound"]
-    due, unpaid = sum(map(due_of, banks)), sum(map(shortfall_of, banks))
+    short = matter.fallen
     if not short:
-        pays = "it pays all it owes" if len(banks) == 1 else "each pays all it owes"
-        return f"None of {count(len(banks), 'bank')} is in default: {pays}, {matter.money.in_short(due)} in all."
-    verb = "cannot pay all that it owes" if len(short) == 1 else "cannot pay all that they owe"
+        pays = "it pays all it owes" if len(matter.banks) == 1 else "each pays all it owes"
+        return f"None of {counted(len(matter.banks))} is in default: {pays}, {matter.amount(matter.due)} in all."
+    they = "it owes" if len(short) == 1 else "they owe"
+    stay = matter.money.verb(matter.unpaid, "stays", "stay")
     return (
-        f"{len(short):,} of {count(len(banks), 'bank')} {verb}: {matter.money.in_short(unpaid)} {matter.money.verb(unpaid, 'stays', 'stay')} unpaid,"
-        f" {percent(unpaid, due)} of what the banks owe."
+        f"{begun(number_word(len(short)))} of {counted(len(matter.banks))} cannot pay all {they}:"
+        f" {matter.amount(matter.unpaid)} of"
+        f" {matter.amount(matter.due)} {stay} unpaid, {percent(matter.unpaid, matter.due)}."
     )
 
 
-def why(matter):
-    """By what the banks in default are so."""
-    of = {state: [bank for bank in matter.banks if bank.state == state] for state in ("fundamental", "contagion", "gridlock")}
+def labels_of(matter: Matter) -> str:
+    """The labels of the banks in default."""
+    contagion = [bank for bank in matter.labelled if bank.state == "contagion"]
+    gridlock = [bank for bank in matter.labelled if bank.state == "gridlock"]
     parts = []
-    if of["fundamental"]:
-        parts.append(f"{names(matter, of['fundamental'])} could not pay even if all who owe to them paid in full")
-    if of["contagion"]:
-        one = len(of["contagion"]) == 1
-        parts.append(f"{names(matter, of['contagion'])} {'falls' if one else 'fall'} because those who owe to {'it' if one else 'them'} do not")
-    if of["gridlock"]:
-        fall = "falls" if len(of["gridlock"]) == 1 else "fall"
-        parts.append(f"{names(matter, of['gridlock'])} {fall} at the least payments alone" + (f", and greater payments, by {matter.money.in_short(matter.more)} in all, would clear too" if matter.more else ""))
+    if matter.own:
+        its = "its" if len(matter.own) == 1 else "their"
+        parts.append(f"{names(matter, matter.own)} could not pay even if all {its} debtors paid in full")
+    if contagion:
+        parts.append(
+            f"{names(matter, contagion)} {'could' if matter.own else 'could if all debtors paid'} (label: contagion)"
+        )
+    if gridlock:
+        are = "is" if len(gridlock) == 1 else "are"
+        more = f"; greater payments, by {matter.amount(matter.more)} in all, would clear too" if matter.more else ""
+        parts.append(f"{names(matter, gridlock)} {are} in default at the least payments alone (gridlock){more}")
     if parts:
         return "; ".join(parts) + "."
-    keeps = min((bank for bank in matter.banks), key=lambda bank: bank.equity, default=None)
-    return f"The least is left at {matter.called(keeps.name)}, {matter.money.in_short(keeps.equity)}." if keeps else "There is no bank."
-
-
-def saved(matter):
-    """What the cheapest rescue costs, and which saves most others."""
-    cheap = matter.rankings.cheap
-    if not cheap:
-        return "No bank needs to be saved."
-    first, best = cheap[0], max(cheap, key=lambda each: each.also_saved)
-    said = f"The cheapest to save is {matter.called(first.bank)}: with {matter.money.in_short(first.added)} more it pays all that it owes"
-    if first.also_saved:
-        said += f", and so {'does' if first.also_saved == 1 else 'do'} {others(matter, first)}"
-    if best.also_saved > first.also_saved:
-        said += f"; {matter.money.in_short(best.added)} for {matter.called(best.bank)} would save {others(matter, best)} too"
-    return said + "."
-
-
-def others(matter, bank):
-    """The others that the rescue of a bank saves, in a sentence."""
-    return listed([matter.called(name) for name in matter.rankings.saved[bank.bank]])
-
-
-def worst(matter):
-    """What the scenario that leaves most unpaid does."""
-    if not matter.scenarios:
-        return "All this is of the network as it was changed; no scenario was given beside." if matter.changes else "No scenario was given."
-    base = sum(map(shortfall_of, matter.banks))
-    unpaid = {at: sum(map(shortfall_of, banks)) for at, (_, banks, _) in enumerate(matter.scenarios)}
-    at = max(unpaid, key=unpaid.get)
-    name, banks, _ = matter.scenarios[at]
-    fallen, before = ({bank.name for bank in some if bank.state != "sound"} for some in (banks, matter.banks))
-    same = "the same " if fallen and fallen == before else ""
-    more = f"{matter.money.in_short(unpaid[at] - base)} more than as things are" if unpaid[at] >= base else "less than as things are"
-    first = f"The worst of {count(len(unpaid), 'scenario')}" if len(unpaid) > 1 else "The scenario"
+    keeps = min(matter.banks, key=lambda bank: bank.equity, default=None)
     return (
-        f"{first}, “{apart(name)}”, leaves {same}{count(len(fallen), 'bank')} in default and {matter.money.in_short(unpaid[at])} unpaid, {more}."
+        f"{matter.said(keeps.name)} keeps the least, {matter.amount(keeps.equity)}." if keeps else "There is no bank."
     )
 
 
-def following(matter):
-    """Which banks fall next where all cash is cut."""
-    near = matter.rankings.near
+def saved(matter: Matter) -> str:
+    """What the cheapest rescue takes, and which takes most of unpaid debt away for each unit of money."""
+    if not matter.rescues:
+        return "No bank needs a rescue."
+    first, best = min(matter.rescues, key=lambda each: each.added), best_of(matter)
+    least = f", the least of the {number_word(len(matter.rescues))}" if len(matter.rescues) > 1 else ""
+    lets = matter.money.verb(first.added, "lets", "let")
+    said = f"{matter.amount(first.added)} more {lets} {matter.said(first.bank)} pay in full{least}"
+    if best is None or best.bank == first.bank:
+        if best is not None and best.less is not None:
+            said += f"; that takes {matter.amount(best.less)} of unpaid debt away"
+        return said + "."
+    need = f"{matter.said(best.bank)} needs {matter.amount(best.added)}"
+    for_each = f"for each {matter.money.currency}" if matter.money.currency else "for each unit"
+    return (
+        f"{said}; {need}, and that takes {matter.amount(best.less or 0)} of unpaid debt away, the most"
+        f" {for_each} ({ratio_of(best):.2f})."
+    )
+
+
+def worst(matter: Matter) -> str:
+    """What the scenario of which most stays unpaid does."""
+    if not matter.scenarios:
+        return (
+            "All this is of the network as it was changed; no scenario was given beside."
+            if matter.changes
+            else "No scenario was given."
+        )
+    base, *cases = cases_of(matter)
+    case = max(cases, key=lambda case: case.total)
+    fallen = {bank.name for bank in case.banks if bank.state != "sound"}
+    same = "the same " if fallen and fallen == {bank.name for bank in matter.fallen} else ""
+    first = f"In the worst of {counted(len(cases), 'scenario')}" if len(cases) > 1 else "In the scenario"
+    stays, defaults = matter.money.verb(case.total, "stays", "stay"), "defaults" if len(fallen) == 1 else "default"
+    return (
+        f"{first}, \u201c{held(case.name)}\u201d, {same}{counted(len(fallen))} {defaults} and"
+        f" {matter.amount(case.total)} {stays} unpaid."
+    )
+
+
+def following(matter: Matter) -> str:
+    """Which banks are in default next where all cash is cut."""
+    near = matter.near
     if not near:
-        left = any(bank.state == "sound" for bank in matter.banks)
-        return "No other bank would fall, even if all cash were lost." if left else "No bank is left that could fall."
-    said = f"The next to fall is {matter.called(near[0].bank)}, once all banks have lost {percent(near[0].cut, 1000)} of their cash"
+        return "No other bank falls at any cut of all cash." if matter.sound else "No bank is left that could fall."
+    said = (
+        f"The next bank in default is {matter.said(near[0].bank)}, at a cut of {percent(near[0].cut, 1000)} of all cash"
+    )
     if len(near) > 1:
-        said += f"; then {matter.called(near[1].bank)}, at {percent(near[1].cut, 1000)}"
+        said += f"; then {matter.said(near[1].bank)}, at {percent(near[1].cut, 1000)}"
     return said + "."

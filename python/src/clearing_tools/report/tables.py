@@ -1,241 +1,400 @@
-"""What the tables of a report have: the banks, each bank's debts, and the scenarios. The templates lay it out."""
-from collections import namedtuple
+"""The tables of a report, as text for its page and its documents, and as numbers for files of CSV."""
+import csv
+import io
+from typing import Any, Dict, Iterator, List, NamedTuple, Optional, Sequence, Tuple
 
-from ..drawing import style as drawing
-from ..labels import in_short, percent, shown
-from ..texts import STATES, due_of, given_by, shortfall_of
+from clearing_client.steady import MARK, NOTE, WHY
+
+from ..labels import percent, shown
+from ..money import Scale
+from ..texts import Bank, due_of, given_by, shortfall_of
+from . import stands
+from .charts.figure import Data
+from .matter import Matter, begun, counted, plain
 
 MANY_BANKS = 40  # above that the part of one bank is shown at a time
-MOST_PRINTED = 8  # of the parts of banks, on paper
-MOST_ON_PAPER = 100  # of the rows of the table of banks, on paper
-COLUMNS_OF_A_MAP = 8  # so many banks stand beside each other on paper
-MOST_IN_MAP = 40
-MAPS_ON_PAPER = 1
-MOST_NAMED = 12
+MOST_PRINTED = 100  # with more banks those in default alone stand on paper, and of them
+MOST_FALLEN = 200  # those that leave most unpaid
+NONE, NOT = "0", "\u2013"  # none, and not applicable
 
-CAUSES = {"sound": "", "fundamental": "own fundamentals", "contagion": "contagion", "gridlock": "contagion, gridlock"}
+STATE_WORDS = {
+    "sound": "sound",
+    "fundamental": "own fundamentals",
+    "contagion": "contagion",
+    "gridlock": "contagion, gridlock",
+}
 CHOICES = {
     "all": "all banks",
     "default": "in default",
     "sound": "sound",
-    "fundamental": "by own fundamentals",
-    "contagion": "by contagion",
-    "gridlock": "by gridlock",
+    "fundamental": "label own fundamentals",
+    "contagion": "label contagion",
+    "gridlock": "in gridlock",
 }
 
-# A cell: its text, whether that is plain text and no number, the state whose mark stands before it, and a share drawn as a bar below it.
-Cell = namedtuple("Cell", "text is_text state share", defaults=(False, None, None))
-# A column of the table of banks: its head, what its amounts are in, whether it is of text, the cell of a bank, what it is sorted by, and
-# the sum below.
-Column = namedtuple("Column", "head unit is_text cell value below")
-# A row of the table of banks: its bank, its cells, and whether it stands on paper too.
-Row = namedtuple("Row", "place bank cells printed")
-# The part of the page for one bank: its sentence in amounts, what it owes and is owed, and whether it stands on paper too.
-Part = namedtuple("Part", "place bank cash receipts estate rule equity owes is_owed long printed")
-# What one bank owes or is owed: the other bank (nothing is the world outside), its class, and amounts as text.
-Debt = namedtuple("Debt", "other class_ claim paid unpaid short")
-Debts = namedtuple("Debts", "rows claim paid unpaid")
-# A scenario: its name (nothing is as things are), its numbers as text, and the names of the banks that stand otherwise.
-Case = namedtuple("Case", "name defaults fundamental contagion paid share lost outside cash sign more fresh saved other")
+
+class Cell(NamedTuple):
+    """A cell: its text, the class that says what it is, and what it is sorted by."""
+
+    text: str
+    kind: str = ""
+    value: Any = None
 
 
-def bar_of(part, whole):
-    """The share of a bar that is drawn filled, in hundredths."""
-    return 100 * drawing.filled(part / whole, 60) if whole else 100
+class Row(NamedTuple):
+    """A row: its bank's place, or none, its head, the state whose mark stands before it, its cells, whether it
+    stands on paper too."""
+
+    place: Optional[int]
+    head: str
+    state: str
+    cells: List[Cell]
+    is_printed: bool = True
 
 
-def outside_of(bank):
+class Table(NamedTuple):
+    """A table: its title, the unit below it, the heads of its columns (each with a class), rows, a last row, where
+    it comes from."""
+
+    key: str
+    title: str
+    unit: str
+    heads: List[Tuple[str, str]]
+    rows: List[Row]
+    foot: Optional[Row]
+    tasks: str
+    data: Data
+    note: str = ""
+
+
+def csv_of(data: Data) -> str:
+    """Numbers as a file of CSV."""
+    text = io.StringIO()
+    csv.writer(text, lineterminator="\n").writerows([data.columns, *data.rows])
+    return text.getvalue()
+
+
+def amount(scale: Scale, units: int, kind: str = "") -> Cell:
+    """An amount as a cell: none is grey."""
+    return Cell(scale.number(units) if units else NONE, kind if units else "nil", units)
+
+
+def outside_of(bank: Bank) -> int:
     """What a bank owes outside the network."""
     return due_of(bank) - bank.owed
-
-
-def owes_outside(banks):
-    """Whether some bank owes outside the network."""
-    return any(map(outside_of, banks))
 
 
 # The banks.
 
 
-def scale_of_banks(matter):
-    """The scale of the table of banks: its largest amount is a sum."""
-    sums = [sum(map(value, matter.banks)) for value in (lambda bank: bank.estate, due_of, lambda bank: bank.equity)]
-    amounts = (amount for bank in matter.banks for amount in (bank.estate, bank.owed, bank.paid, outside_of(bank), bank.outside_paid, bank.equity))
-    return matter.money.scale_of([*sums, *amounts, *matter.rescued.values()])
+def scale_of_banks(matter: Matter) -> Scale:
+    """The scale of the table of banks, by its largest amount but for the sums."""
+    amounts = [part for bank in matter.banks for part in (due_of(bank), bank.equity)]
+    return matter.money.scale_of([*amounts, *(rescue.added for rescue in matter.rescues)])
 
 
-def columns_of(matter):
-    """The columns of the table of banks, the first behind the bank's name."""
+def falls_at(matter: Matter, bank: Bank) -> Cell:
+    """At which cut of all cash a bank is in default."""
+    cut = matter.cut_of.get(bank.name, 0)
+    if bank.state != "sound":
+        return Cell("now", "", 0)
+    return Cell(percent(cut, 1000), "", cut) if cut <= 1000 else Cell(NOT, "nil", None)
+
+
+def row_of_bank(matter: Matter, bank: Bank, scale: Scale) -> Row:
+    """The row of a bank."""
+    rescue = matter.rescue_of.get(bank.name)
+    mark = f" {MARK}" if bank.name in matter.unsure else ""
+    cells = [
+        Cell(STATE_WORDS[bank.state] + mark, "st", STATE_WORDS[bank.state]),
+        amount(scale, due_of(bank)),
+        amount(scale, given_by(bank)),
+        amount(scale, shortfall_of(bank), "u-t"),
+        amount(scale, bank.equity),
+        amount(scale, rescue.added) if rescue else Cell(NOT, "nil", None),
+        falls_at(matter, bank),
+    ]
+    is_printed = len(matter.banks) <= MOST_PRINTED or bank in matter.fallen[:MOST_FALLEN]
+    return Row(matter.place[bank.name], matter.called(bank.name), bank.state, cells, is_printed)
+
+
+HEADS = [
+    ("Bank", ""),
+    ("State", "st"),
+    ("Owed", "wide"),
+    ("Paid", "wide"),
+    ("Unpaid", ""),
+    ("Keeps", "wide"),
+    ("Least rescue", ""),
+    ("Falls at a cut of", ""),
+]
+
+
+def banks_table(matter: Matter) -> Table:
+    """The table of banks, those in default first, the most unpaid first."""
     scale = scale_of_banks(matter)
-    defaults = sum(bank.state != "sound" for bank in matter.banks)
-
-    def amount(head, value):
-        return Column(head, scale.words, False, lambda bank: Cell(scale.number(value(bank))), value, scale.number(sum(map(value, matter.banks))))
-
-    def state(bank):
-        return Cell("sound" if bank.state == "sound" else "default", True, bank.state)
-
-    def wave(bank):
-        return matter.waves[bank.name] if bank.state != "sound" else None
-
-    def share(bank):
-        return given_by(bank) / due_of(bank) if due_of(bank) else None
-
-    def share_cell(bank):
-        given, due = given_by(bank), due_of(bank)
-        return Cell(percent(given, due), share=bar_of(given, due)) if due else Cell("")
-
-    def rescue(bank):
-        return matter.rescued.get(bank.name)
-
-    def rescue_cell(bank):
-        return Cell("" if rescue(bank) is None else scale.number(rescue(bank)))
-
-    columns = [
-        Column("State", "", True, state, lambda bank: STATES.index(bank.state), f"{defaults:,} in default"),
-        Column("Cause", "", True, lambda bank: Cell(CAUSES[bank.state], True), lambda bank: CAUSES[bank.state] or None, ""),
-        Column("Wave", "", False, lambda bank: Cell("" if wave(bank) is None else f"{wave(bank)}"), wave, ""),
-        amount("Estate", lambda bank: bank.estate),
+    banks = [*matter.fallen, *matter.sound]
+    rows = [row_of_bank(matter, bank, scale) for bank in banks]
+    keeps = sum(bank.equity for bank in matter.banks)
+    sums = [
+        Cell(
+            f"{counted(len(matter.fallen), 'bank')} in default"
+            if len(matter.fallen) > 12
+            else f"{len(matter.fallen)} in default",
+            "st",
+        )
     ]
-    if owes_outside(matter.banks):
-        columns += [
-            amount("Owed to banks", lambda bank: bank.owed),
-            amount("Paid to banks", lambda bank: bank.paid),
-            amount("Owed outside", outside_of),
-            amount("Paid outside", lambda bank: bank.outside_paid),
+    sums += [
+        amount(scale, matter.due),
+        amount(scale, matter.due - matter.unpaid),
+        amount(scale, matter.unpaid, "u-t"),
+        amount(scale, keeps),
+    ]
+    foot = Row(None, f"All {len(banks):,} banks", "", [*sums, Cell(NOT, "nil"), Cell("")])
+    rounded = ", rounded" if scale.is_rounded else ""
+    unit = (
+        f"{begun(scale.words)}{rounded}; those in default first. Keeps: cash and receipts less all it"
+        " owes here, not book equity. "
+        "Falls: least cut of all cash after which it is in default."
+    )
+    if matter.unsure:
+        unit += f" {MARK} {WHY}"
+    return Table(
+        "banks",
+        "The banks",
+        unit,
+        HEADS,
+        rows,
+        foot,
+        "defaults, rescues and breaking",
+        data_of_banks(matter),
+        paper_note(matter),
+    )
+
+
+def paper_note(matter: Matter) -> str:
+    """What stands on paper of many banks."""
+    if len(matter.banks) <= MOST_PRINTED:
+        return ""
+    fallen = len(matter.fallen)
+    which = f"the {fallen:,} in default"
+    if fallen > MOST_FALLEN:
+        which = f"the {MOST_FALLEN} of {fallen:,} in default that leave most unpaid"
+    return f"On paper stand {which}; all {len(matter.banks):,} banks are in the CSV of the page."
+
+
+def data_of_banks(matter: Matter) -> Data:
+    """The numbers of the banks, in file order."""
+    columns = (
+        "bank",
+        "name",
+        "label",
+        "cash",
+        "owed",
+        "owed_outside",
+        "paid",
+        "paid_outside",
+        "unpaid",
+        "keeps",
+        "least_rescue",
+        "falls_at_a_cut_of_per_mille",
+        "note",
+    )
+    rows: List[Sequence[Any]] = []
+    for bank in matter.banks:
+        rescue, cut = matter.rescue_of.get(bank.name), matter.cut_of.get(bank.name, 0)
+        rows.append(
+            (
+                bank.name,
+                matter.called(bank.name),
+                bank.state,
+                matter.cash[bank.name],
+                due_of(bank),
+                outside_of(bank),
+                given_by(bank),
+                bank.outside_paid,
+                shortfall_of(bank),
+                bank.equity,
+                rescue.added if rescue else "",
+                cut if cut <= 1000 else "",
+                NOTE if bank.name in matter.unsure else "",
+            )
+        )
+    return Data(columns, rows)
+
+
+# Does it stand.
+
+
+def stands_table(matter: Matter) -> Table:
+    """The case, changed in one point."""
+    scale = matter.money.scale_of([change.unpaid for change in matter.changed])
+    rows = [
+        Row(
+            None,
+            change.words,
+            "",
+            [Cell(f"{change.defaults:,}"), amount(scale, change.unpaid, "u-t"), Cell(change.against, "st")],
+        )
+        for change in matter.changed
+    ]
+    data = Data(
+        ("change", "in_default", "unpaid", "against_the_first"),
+        [(change.words, change.defaults, change.unpaid, change.against) for change in matter.changed],
+    )
+    heads = [("Change", ""), ("In default", ""), ("Unpaid", ""), ("Against the first", "st")]
+    unit = f"The same case, changed in one point; unpaid in {scale.words}"
+    title, tasks = stands.title_of(matter.changed, matter.unsure), "defaults and bounds"
+    return Table("stands", title, unit, heads, rows, None, tasks, data, note_of_unsure(matter))
+
+
+def note_of_unsure(matter: Matter) -> str:
+    """Whose figures one unit decides, and what that means."""
+    if not matter.unsure:
+        return ""
+    names = [bank.name for bank in matter.banks if bank.name in matter.unsure]
+    return f"{MARK} {matter.listed(names)}. {WHY}"
+
+
+# The scenarios, with the labels.
+
+
+def scenarios_table(matter: Matter) -> Table:
+    """The scenarios in numbers, with the labels that change."""
+    from .charts.scenarios import cases_of, shown_of
+
+    cases = cases_of(matter)
+    scale = matter.money.scale_of([part for case in cases for part in (case.total, case.cash)])
+    base = {bank.name: bank.state for bank in matter.banks}
+    printed = {case.name for case in shown_of(cases)}
+    rows: List[Row] = []
+    for case in cases:
+        states = [bank.state for bank in case.banks]
+        default = len(states) - states.count("sound")
+        cells = [
+            Cell(f"{default:,}"),
+            Cell(f"{states.count('fundamental'):,}", "wide"),
+            Cell(f"{default - states.count('fundamental'):,}", "wide"),
+            amount(scale, case.total, "u-t"),
+            amount(scale, case.cash),
+            Cell(against(matter, base, case.banks) if case is not cases[0] else "", "st"),
         ]
-    else:
-        columns += [amount("Owed", lambda bank: bank.owed), amount("Paid", lambda bank: bank.paid)]
-    return columns + [
-        Column("Share paid", "", False, share_cell, share, ""),
-        amount("Unpaid", shortfall_of),
-        amount("Equity", lambda bank: bank.equity),
-        Column("Least rescue", scale.words, False, rescue_cell, rescue, ""),
+        rows.append(Row(None, case.name, "", cells, case.name in printed))
+    heads = [
+        ("Scenario", ""),
+        ("In default", ""),
+        ("Own fundamentals", "wide"),
+        ("Contagion", "wide"),
+        ("Unpaid", ""),
+        ("All keep less", ""),
+        ("Against as things are", "st"),
     ]
+    data = Data(
+        ("scenario", "in_default", "own_fundamentals", "contagion", "unpaid", "kept_less_by_all"),
+        [
+            (case.name, *[cell.value if cell.value is not None else cell.text for cell in row.cells[:5]])
+            for case, row in zip(cases, rows)
+        ],
+    )
+    unit = f"Labels and amounts by scenario, {scale.words}"
+    left = sum(not row.is_printed for row in rows)
+    note = f"On paper stand the {len(rows) - left - 1} of which most stays unpaid; all are on the page." if left else ""
+    return Table("cases", "The scenarios in numbers", unit, heads, rows, None, "stress", data, note)
 
 
-def rows_of_banks(matter, columns):
-    """The rows of the table of banks. On paper stand those that leave most unpaid, and then those that owe most."""
-    heaviest = sorted(matter.banks, key=lambda bank: (-shortfall_of(bank), -due_of(bank)))[:MOST_ON_PAPER]
-    printed = {bank.name for bank in heaviest}
-    return [Row(at, bank, [column.cell(bank) for column in columns], bank.name in printed) for at, bank in enumerate(matter.banks)]
-
-
-def size_on_paper(columns, rows):
-    """The class that makes the table of banks fit the width of A4."""
-    letters = max([len(shown(row.bank.name)[:20]) for row in rows], default=0)
-    for at, column in enumerate(columns):
-        letters += max([len(column.below), *(len(word) for word in column.head.split()), *(len(row.cells[at].text) for row in rows)])
-    return "wider" if letters > 128 else "wide" if letters > 100 else ""
+def against(matter: Matter, base: Dict[str, str], banks: Sequence[Bank]) -> str:
+    """Which banks stand otherwise than as things are."""
+    fresh = [bank.name for bank in banks if bank.state != "sound" and base[bank.name] == "sound"]
+    saved = [bank.name for bank in banks if bank.state == "sound" and base[bank.name] != "sound"]
+    other = [
+        bank.name
+        for bank in banks
+        if "sound" not in (bank.state, base[bank.name]) and plain(base[bank.name]) != bank.state
+    ]
+    parts = [(fresh, "newly in default"), (saved, "no longer in default"), (other, "with the other label")]
+    return (
+        "; ".join(f"{words}: {matter.listed(names)}" for names, words in parts if names)
+        or "the same banks, the same labels"
+    )
 
 
 # Each bank.
 
 
-def debts_of(matter, debts, side, outside=None):
-    """What a bank owes, or is owed, to the last digit; first what it owes outside, where that is given with what is paid of it."""
+class Debt(NamedTuple):
+    """What a bank owes or is owed: the other bank (nothing is the world outside), its class, and amounts as text."""
+
+    other: Optional[str]
+    class_: str
+    claim: str
+    paid: str
+    unpaid: str
+    is_short: bool
+
+
+class Debts(NamedTuple):
+    """The debts of one side, with their sums."""
+
+    rows: List[Debt]
+    claim: str
+    paid: str
+    unpaid: str
+
+
+class Part(NamedTuple):
+    """The part of the page for one bank: its sentence in amounts, what it owes and is owed."""
+
+    place: int
+    bank: Bank
+    cash: str
+    receipts: str
+    estate: str
+    rule: str
+    equity: str
+    owes: Debts
+    is_owed: Debts
+
+
+def debts_of(matter: Matter, debts: Sequence[Any], side: int, outside: Tuple[int, int] = (0, 0)) -> Debts:
+    """What a bank owes, or is owed, to the last unit; first what it owes outside, with what is paid of it."""
     number = matter.money.number
     rows = []
-    if outside and outside[0]:
+    if outside[0]:
         owed, paid = outside
         rows.append(Debt(None, "first", number(owed), number(paid), number(owed - paid), paid < owed))
     for debt in debts:
         unpaid = debt.claim - debt.paid
-        rows.append(Debt(debt[side], debt.class_, number(debt.claim), number(debt.paid), number(unpaid), unpaid > 0))
+        rows.append(
+            Debt(debt[side], str(debt.class_), number(debt.claim), number(debt.paid), number(unpaid), unpaid > 0)
+        )
     claim, paid = sum(debt.claim for debt in debts), sum(debt.paid for debt in debts)
     return Debts(rows, number(claim), number(paid), number(claim - paid))
 
 
-def parts_of_banks(matter):
-    """The parts of the page for each bank; those that leave most unpaid, and then those that owe most, stand on paper too."""
-    owes, is_owed = {bank.name: [] for bank in matter.banks}, {bank.name: [] for bank in matter.banks}
+def parts_of_banks(matter: Matter) -> Iterator[Part]:
+    """The parts of the page for each bank, in file order."""
+    owes: Dict[str, List[Any]] = {bank.name: [] for bank in matter.banks}
+    is_owed: Dict[str, List[Any]] = {bank.name: [] for bank in matter.banks}
     for debt in matter.debts:
         owes[debt.debtor].append(debt)
         is_owed[debt.creditor].append(debt)
-    heaviest = sorted(matter.banks, key=lambda bank: (-shortfall_of(bank), -due_of(bank)))[:MOST_PRINTED]
-    printed, money = {bank.name for bank in heaviest}, matter.money
+    money = matter.money
     for at, bank in enumerate(matter.banks):
         cash = matter.cash[bank.name]
-        tables = debts_of(matter, owes[bank.name], 1, (outside_of(bank), bank.outside_paid)), debts_of(matter, is_owed[bank.name], 0)
-        # On paper the two tables stand side by side where the amounts are not too long for it.
-        long = max(len(table.claim) for table in tables) > 13
-        amounts = (money(cash), money(bank.estate - cash), money(bank.estate), matter.rules[bank.name], money(bank.equity))
-        yield Part(at, bank, *amounts, *tables, long, bank.name in printed)
+        amounts = (
+            money(cash),
+            money(bank.estate - cash),
+            money(bank.estate),
+            matter.rules[bank.name],
+            money(bank.equity),
+        )
+        outside = outside_of(bank), bank.outside_paid
+        yield Part(
+            at, bank, *amounts, debts_of(matter, owes[bank.name], 1, outside), debts_of(matter, is_owed[bank.name], 0)
+        )
 
 
-# The scenarios.
-
-
-def plain_state(bank):
-    """A bank's state as a scenario tells it, which does not tell gridlock."""
-    return "contagion" if bank.state == "gridlock" else bank.state
-
-
-def case_of(matter, name, banks, cash, base):
-    """A row of the table of scenarios."""
-    scale, states = matter.scale, [plain_state(bank) for bank in banks]
-    due, given = sum(map(due_of, banks)), sum(map(given_by, banks))
-    lost = sum(bank.owed - bank.paid for bank in banks)
-    fresh = [bank.name for bank in banks if bank.state != "sound" and base[bank.name].state == "sound"]
-    saved = [bank.name for bank in banks if bank.state == "sound" and base[bank.name].state != "sound"]
-    other = [
-        bank.name
-        for bank, state in zip(banks, states)
-        if "sound" not in (state, base[bank.name].state) and state != plain_state(base[bank.name])
-    ]
-    more = due - given - sum(map(shortfall_of, base.values()))
-    return Case(
-        name,
-        f"{len(banks) - states.count('sound'):,}",
-        f"{states.count('fundamental'):,}",
-        f"{states.count('contagion'):,}",
-        scale.number(given),
-        Cell(percent(given, due), share=bar_of(given, due)),
-        scale.number(lost),
-        scale.number(due - given - lost),
-        scale.number(sum(matter.cash.values()) - cash),
-        "+" if more > 0 else "−" if more < 0 else "±",
-        scale.number(abs(more)),
-        fresh,
-        saved,
-        other,
-    )
-
-
-def cases_of(matter):
-    """The rows of the table of scenarios, the first as things are."""
-    base = {bank.name: bank for bank in matter.banks}
-    first = case_of(matter, None, matter.banks, sum(matter.cash.values()), base)
-    return [first] + [case_of(matter, name, banks, cash, base) for name, banks, cash in matter.scenarios]
-
-
-def maps_of(matter):
-    """The map of banks by scenarios, in tables of some columns: the names of the banks, and a row of cells for each scenario. And how many
-    banks default in some scenario."""
-    standing = [matter.banks] + [banks for _, banks, _ in matter.scenarios]
-    weight = {}
-    for at, bank in enumerate(matter.banks):
-        times = sum(banks[at].state != "sound" for banks in standing)
-        if times:
-            weight[at] = (-times, -sum(shortfall_of(banks[at]) for banks in standing))
-    ranked = sorted(weight, key=weight.get)
-    maps = []
-    for start in range(0, min(len(ranked), MOST_IN_MAP), COLUMNS_OF_A_MAP):
-        places = ranked[start : min(start + COLUMNS_OF_A_MAP, MOST_IN_MAP)]
-        names = [name for name, _, _ in matter.scenarios]
-        rows = [(name, [map_cell(banks[at]) for at in places]) for name, banks in zip([None, *names], standing)]
-        maps.append(([matter.banks[at].name for at in places], rows))
-    return maps, len(ranked)
-
-
-def map_cell(bank):
-    """What a bank leaves unpaid in a scenario."""
-    due, given = due_of(bank), given_by(bank)
-    if bank.state == "sound":
-        return Cell("0%", share=bar_of(given, due) if due else None)
-    return Cell(percent(due - given, due), False, plain_state(bank), bar_of(given, due))
-
-
-def state_of(bank):
-    """A state in a few words."""
-    return in_short(bank.state)
+def cut_names(matter: Matter, most: int = 24) -> List[str]:
+    """The full names of banks that pictures may cut, for those who cannot point at them."""
+    names = [shown(matter.called(bank.name)) for bank in [*matter.fallen, *matter.sound]]
+    return [name for name in names if len(name) > 18][:most]

@@ -1,0 +1,191 @@
+"""A network of many banks as a matrix by blocks: the debtors that leave most unpaid and the creditors to whom most
+stays unpaid, each by name, and all others in two blocks, those in default and those that stand. The area of a square is
+what stays unpaid, on one scale; a square that is too small is drawn at 3 pixels."""
+import math
+from typing import Dict, List, NamedTuple, Sequence, Tuple
+
+from .. import runner
+from ..labels import count, say_bank, say_flow
+from ..money import Money, Scale
+from ..texts import Bank, Flow, shortfall_of
+from . import lettering, svg
+from .ring import Drawn, Link, Say, sample, states_in, unpaid_on
+
+NAMED = 12
+CELL, SIZE = 36.0, 12
+MOST_LEFT, MOST_TOP, LEAN = 196.0, 140.0, 50
+LEAST_SIDE = 3.0
+# Blocks of the other banks in default, of those that stand, and of the world outside; no bank has such a name.
+DEFAULT, STAND, OUTSIDE = "\n", "\n\n", "\n\n\n"
+
+
+class Block(NamedTuple):
+    """Rows or columns: the banks by name that are blocks of their own, and how many others are in default and stand."""
+
+    names: List[str]
+    in_default: int
+    stand: int
+
+    def all(self) -> List[str]:
+        """The banks by name and the blocks of others that there are."""
+        return [*self.names, *[DEFAULT] * (self.in_default > 0), *[STAND] * (self.stand > 0)]
+
+
+def block_of(amounts: Dict[str, Tuple[int, int]], banks: Sequence[Bank]) -> Block:
+    """The banks with the largest amounts, and the others."""
+    names = sorted(amounts, key=lambda name: amounts[name], reverse=True)[:NAMED]
+    named = set(names)
+    stand = sum(bank.state == "sound" for bank in banks if bank.name not in named)
+    return Block(names, len(banks) - len(names) - stand, stand)
+
+
+def blocks_of(flows: Sequence[Flow], banks: Sequence[Bank]) -> Tuple[Block, Block]:
+    """The debtors that leave most unpaid, and the creditors to whom most stays unpaid; where nothing does, those that
+    owe and are owed most."""
+    owed: Dict[str, Tuple[int, int]] = {bank.name: (0, 0) for bank in banks}
+    owes = dict(owed)
+    for flow in flows:
+        unpaid, claim = owes[flow.debtor]
+        owes[flow.debtor] = unpaid + unpaid_on(flow), claim + flow.claim
+        if flow.creditor is not None:
+            unpaid, claim = owed[flow.creditor]
+            owed[flow.creditor] = unpaid + unpaid_on(flow), claim + flow.claim
+    return block_of(owes, banks), block_of(owed, banks)
+
+
+class Matrix:
+    """The drawing of a matrix, part by part."""
+
+    def __init__(
+        self, flows: Sequence[Flow], banks: Sequence[Bank], money: Money, scale: Scale, link: Link, say: Say
+    ) -> None:
+        self.money, self.scale, self.link, self.say = money, scale, link, say
+        self.banks = {bank.name: bank for bank in banks}
+        rows, columns = blocks_of(flows, banks)
+        self.rows, self.columns = rows.all(), columns.all()
+        if any(flow.creditor is None for flow in flows):
+            self.columns.append(OUTSIDE)
+        self.words = {("column", OUTSIDE): "outside"}
+        for way, block in (("row", rows), ("column", columns)):
+            self.words[way, DEFAULT] = f"{count(block.in_default, 'other')} in default"
+            self.words[way, STAND] = f"{count(block.stand, 'other')} that stand{'s' if block.stand == 1 else ''}"
+        self.row_of, self.column_of = self.blocks(self.rows), self.blocks(self.columns)
+        self.flows = self.summed(flows)
+        self.most = max((unpaid_on(flow) for flow in self.flows), default=0)
+        self.left = min(34 + self.widest("row", self.rows), MOST_LEFT)
+        self.top = min(24 + self.widest("column", self.columns) * math.sin(math.radians(LEAN)), MOST_TOP)
+
+    def widest(self, way: str, names: Sequence[str]) -> float:
+        """How wide the widest of some names is."""
+        return max((lettering.width_of(runner.shown(self.called(way, name)), SIZE, True) for name in names), default=0)
+
+    def blocks(self, names: Sequence[str]) -> Dict[str, str]:
+        """In which row or column each bank stands."""
+        named = set(names)
+        return {
+            name: name if name in named else STAND if bank.state == "sound" else DEFAULT
+            for name, bank in self.banks.items()
+        }
+
+    def summed(self, flows: Sequence[Flow]) -> List[Flow]:
+        """The flows from row to column, all of a block as one."""
+        pairs: Dict[Tuple[str, str], Tuple[int, int]] = {}
+        for flow in flows:
+            ends = self.row_of[flow.debtor], OUTSIDE if flow.creditor is None else self.column_of[flow.creditor]
+            claim, paid = pairs.get(ends, (0, 0))
+            pairs[ends] = claim + flow.claim, paid + flow.paid
+        return [Flow(*pair, *sums) for pair, sums in pairs.items()]
+
+    def called(self, way: str, name: str) -> str:
+        """What a row or a column is called."""
+        return self.words.get((way, name)) or self.say(name)
+
+    def ground(self) -> str:
+        """The lines between rows and between columns."""
+        right, bottom = self.left + CELL * len(self.columns), self.top + CELL * len(self.rows)
+        lines = [f"M{self.left + CELL * at:.0f} {self.top:.0f}V{bottom:.0f}" for at in range(len(self.columns) + 1)]
+        lines += [f"M{self.left:.0f} {self.top + CELL * at:.0f}H{right:.0f}" for at in range(len(self.rows) + 1)]
+        return f'<path class="grid" d="{"".join(lines)}"/>'
+
+    def column(self, at: int, name: str) -> str:
+        """The name above a column, which leans."""
+        whole = runner.shown(self.called("column", name))
+        kept = lettering.cut(whole, (self.top - 16) / math.sin(math.radians(LEAN)), SIZE, True)
+        title = f"<title>{svg.text_of(whole)}</title>" if kept != whole else ""
+        where = f'transform="translate({self.left + CELL * (at + 0.5) + 3:.1f} {self.top - 8:.1f}) rotate({-LEAN})"'
+        return f'<text class="nm2" {where}>{svg.text_of(kept)}{title}</text>'
+
+    def row(self, at: int, name: str) -> str:
+        """The name beside a row with the mark of its bank, and what it leaves unpaid behind the row."""
+        y = self.top + CELL * (at + 0.5)
+        whole = runner.shown(self.called("row", name))
+        kept = lettering.cut(whole, self.left - 34, SIZE, True)
+        title = f"<title>{svg.text_of(whole)}</title>" if kept != whole else ""
+        text = (
+            f'<text class="nm2" x="{self.left - 28:.1f}" y="{y + 4:.1f}" text-anchor="end">{svg.text_of(kept)}{title}</text>'
+        )
+        unpaid = sum(unpaid_on(flow) for flow in self.flows if flow.debtor == name)
+        amount = (
+            f'<text class="un" x="{self.left + CELL * len(self.columns) + 8:.1f}"'
+            f' y="{y + 4:.1f}">{svg.text_of(self.scale.number(unpaid))}</text>'
+        )
+        bank = self.banks.get(name)
+        if bank is None:
+            return text + amount
+        body = svg.mark(bank.state, self.left - 14, y, 5.6, f"m-{bank.state} n-mark") + text
+        said = f"<title>{svg.text_of(say_bank(bank._replace(name=self.say(name)), self.money))}</title>"
+        target = self.link(bank) if self.link else ""
+        linked = (
+            f'<a href="#{target}" data-bank="{target.removeprefix("bank-")}">{said}{body}</a>'
+            if target
+            else f"<g>{said}{body}</g>"
+        )
+        return linked + amount
+
+    def square(self, at: int, flow: Flow) -> str:
+        """What stays unpaid from a row to a column."""
+        unpaid = unpaid_on(flow)
+        side = max(LEAST_SIDE, (CELL - 4) * math.sqrt(unpaid / self.most)) if unpaid else LEAST_SIDE
+        x = self.left + CELL * (self.columns.index(str(flow.creditor)) + 0.5)
+        y = self.top + CELL * (self.rows.index(flow.debtor) + 0.5)
+        said = flow._replace(debtor=self.called("row", flow.debtor), creditor=self.called("column", str(flow.creditor)))
+        return (
+            f'<g class="flow cell{"" if unpaid else " done"}" data-flow="{at}" data-middle="{x:.1f} {y:.1f}">'
+            f"<title>{svg.text_of(say_flow(said, self.money))}</title>"
+            f'<rect class="sq" x="{x - side / 2:.1f}" y="{y - side / 2:.1f}" width="{side:.1f}"'
+            f' height="{side:.1f}"/></g>'
+        )
+
+    def box(self) -> List[float]:
+        """The box that the matrix fills, with room for the last name that leans and for the amounts."""
+        wide = max((lettering.width_of(self.scale.number(sum(map(unpaid_on, self.flows))), SIZE)), 96.0)
+        return [0.0, 0.0, self.left + CELL * len(self.columns) + wide + 12, self.top + CELL * len(self.rows) + 6]
+
+
+def draw(
+    flows: Sequence[Flow], banks: Sequence[Bank], money: Money, scale: Scale, link: Link = None, say: Say = str
+) -> Drawn:
+    """The network as a matrix by blocks; amounts are written in the scale."""
+    matrix = Matrix(flows, banks, money, scale, link, say)
+    body = [matrix.ground()]
+    body += [matrix.column(at, name) for at, name in enumerate(matrix.columns)]
+    body += [matrix.row(at, name) for at, name in enumerate(matrix.rows)]
+    body += [matrix.square(at, flow) for at, flow in enumerate(matrix.flows)]
+    flows_drawn = [flow._replace(creditor=None if flow.creditor == OUTSIDE else flow.creditor) for flow in matrix.flows]
+    return Drawn("".join(body), matrix.box(), legend_of(matrix, banks), flows_drawn, matrix.row_of, matrix.column_of)
+
+
+def legend_of(matrix: Matrix, banks: Sequence[Bank]) -> List[Tuple[str, str]]:
+    """What the squares and marks of a matrix mean."""
+    shown = [bank for bank in banks if bank.name in matrix.rows]
+    unpaid = sum(shortfall_of(bank) > 0 for bank in banks)
+    square = sample('<g class="cell"><rect class="sq" x="1" y="1" width="14" height="14"/></g>', 16)
+    paid = sample('<g class="cell done"><rect class="sq" x="6" y="6" width="4" height="4"/></g>', 16)
+    most = f"; the largest is {matrix.money.in_short(matrix.most)}" if matrix.most else ""
+    said = f"A row is a debtor, a column a creditor: the {len(shown)} with most unpaid, all others in two blocks. "
+    return [
+        (square, f"unpaid; area: the amount{most}"),
+        (paid, "owed, and paid in full"),
+        *states_in(shown),
+        ("", said + f"Of {count(len(banks), 'bank')} {unpaid:,} leave something unpaid."),
+    ]

@@ -1,0 +1,80 @@
+"""Names and numbers in a picture: how wide a text is, how it is laid in lines, and where a name is cut."""
+import unicodedata
+from typing import List, Tuple
+
+BOLD = 1.12  # how much wider bold letters are
+WIDTHS = {"mwMW@%…": 0.88, "frtI()[]/-": 0.4, "ijl.,:;|' ": 0.33, "0123456789": 0.64}
+WIDTH_OF = {letter: width for letters, width in WIDTHS.items() for letter in letters}
+CUT = "…"
+LEAST_WORD = 4  # a cut is after a whole word of so many letters, so that no line ends with an article
+
+
+def width_of(text: str, size: float, is_bold: bool = False) -> float:
+    """About how wide a text is, in pixels, by the widest font of the stack."""
+    width = 0.0
+    for letter in text:
+        if unicodedata.combining(letter):
+            continue
+        wide = unicodedata.east_asian_width(letter) in "WF"
+        width += 1.05 if wide else WIDTH_OF.get(letter, 0.72 if letter.isupper() else 0.61)
+    return size * width * (BOLD if is_bold else 1)
+
+
+def fitting(text: str, width: float, size: float, is_bold: bool = False) -> str:
+    """As many letters of a text as are no wider than that, at least one."""
+    end = 1
+    while end < len(text) and width_of(text[: end + 1], size, is_bold) <= width:
+        end += 1
+    return text[:end]
+
+
+def cut(text: str, width: float, size: float, is_bold: bool = False) -> str:
+    """A text that is no wider than that: whole, or cut after a whole word of four letters or more, with … behind it.
+    Within a word it is cut only where its first word is wider."""
+    if width_of(text, size, is_bold) <= width:
+        return text
+    room = width - width_of(CUT, size, is_bold)
+    words = text.split(" ")
+    kept = words[:1]
+    for word in words[1:]:
+        if width_of(" ".join([*kept, word]), size, is_bold) > room:
+            break
+        kept.append(word)
+    while len(kept) > 1 and len(kept[-1]) < LEAST_WORD:
+        kept.pop()
+    held = " ".join(kept).rstrip(",;:-")
+    return (held if width_of(held, size, is_bold) <= room else fitting(held, room, size, is_bold)) + CUT
+
+
+def lines_of(text: str, width: float, size: float, is_bold: bool = False, most: int = 2) -> List[str]:
+    """A text in at most so many lines that are no wider than that, broken at blanks; the last is cut where there is
+    more."""
+    words = text.split(" ")
+    lines: List[str] = []
+    while words and len(lines) < most - 1:
+        line = words.pop(0)
+        while words and width_of(f"{line} {words[0]}", size, is_bold) <= width:
+            line += f" {words.pop(0)}"
+        if width_of(line, size, is_bold) > width:
+            # A word that is wider than a line is broken within.
+            first = fitting(line, width, size, is_bold)
+            words.insert(0, line[len(first) :])
+            line = first
+        lines.append(line)
+    return [*lines, cut(" ".join(words), width, size, is_bold)] if words else lines
+
+
+def short(text: str, most: int = 28) -> str:
+    """A name in a sentence: whole up to so many letters, else cut after a whole word of four letters or more."""
+    if len(text) <= most:
+        return text
+    kept = text[:most].rpartition(" ")[0].split(" ") if " " in text[:most] else [text[: most - 1]]
+    while len(kept) > 1 and len(kept[-1]) < LEAST_WORD:
+        kept.pop()
+    return " ".join(kept).rstrip(",;:-") + CUT
+
+
+def columns_of(names: List[str], size: float, least: float, most: float) -> Tuple[float, bool]:
+    """How wide a column of names is, within limits, and whether one of them is wider."""
+    widest = max((width_of(name, size, True) for name in names), default=least)
+    return min(max(widest, least), most), widest > most

@@ -1,0 +1,85 @@
+"""The words that results are said in: nothing that no result says stands on a page, in a picture or in a document."""
+import ast
+import re
+import unittest
+
+from common import PACKAGES, ROOT
+
+from clearing_tools import wording
+
+TOOLS = PACKAGES / "clearing_tools"
+SEEN = ("report", "drawing", "desk", "labels.py", "wording.py", "money.py")
+
+
+def files(*kinds):
+    """The files of the rooms whose texts stand on a page or in a picture."""
+    for name in SEEN:
+        place = TOOLS / name
+        for path in [place] if place.is_file() else sorted(place.rglob("*")):
+            if path.suffix in kinds and path.name != "wording.py":
+                yield path
+
+
+def texts_of(path):
+    """The texts of a Python file that people may read: constants and the fixed parts of others, without what
+    documents the code."""
+    tree = ast.parse(path.read_text(encoding="utf-8"))
+    documents = {
+        id(node.body[0].value)
+        for node in ast.walk(tree)
+        if isinstance(node, (ast.Module, ast.ClassDef, ast.FunctionDef))
+        and node.body
+        and isinstance(node.body[0], ast.Expr)
+    }
+    for node in ast.walk(tree):
+        if isinstance(node, ast.JoinedStr):
+            yield "X".join(part.value if isinstance(part, ast.Constant) else "" for part in node.values)
+        elif isinstance(node, ast.Constant) and isinstance(node.value, str) and id(node) not in documents:
+            yield node.value
+
+
+class Words(unittest.TestCase):
+    def test_what_no_result_says_is_found(self):
+        for text in (
+            "what creditors lose",
+            "Others lose",
+            "Lost by banks",
+            "Contagion from Isar",
+            "Birk and Elbe fall because those do not",
+            "by another cause",
+            "it brings down 3",
+            "brought down by it",
+        ):
+            self.assertTrue(wording.faults_in(text), text)
+        self.assertFalse(
+            wording.faults_in("Contagion is a label, not a cause: no debtor is named. Kemi and Havel lose their cash.")
+        )
+        for text in ("The cause of it", "who brought the bank down", "it falls, because"):
+            self.assertTrue(wording.faults_in(text, on_page=True), text)
+        for pattern, instead in wording.ON_PAGES:
+            self.assertFalse(wording.faults_in(instead, on_page=True), pattern)
+
+    def test_pages_and_pictures_say_nothing_of_it(self):
+        found = []
+        for path in files(".html", ".mjs"):
+            # What stands behind // says what the script does.
+            text = re.sub(r"(?m)^\s*//.*$|/\*\*.*?\*/", "", path.read_text(encoding="utf-8"))
+            found += [(path.name, fault) for fault in wording.faults_in(text, on_page=True)]
+        for path in [*files(".py"), *sorted((TOOLS / "analysis").glob("*.py"))]:
+            found += [(path.name, fault) for text in texts_of(path) for fault in wording.faults_in(text, on_page=True)]
+        self.assertEqual(found, [])
+
+    def test_documents_and_helps_say_nothing_of_it(self):
+        found = []
+        for path in [
+            ROOT / "README.md",
+            *sorted((ROOT / "docs").glob("*.md")),
+            *sorted((ROOT / "examples").rglob("*.md")),
+        ]:
+            found += [
+                (path.name, fault) for fault in wording.faults_in(" ".join(path.read_text(encoding="utf-8").split()))
+            ]
+        for path in sorted(TOOLS.rglob("*.py")):
+            if path.name != "wording.py":
+                found += [(path.name, fault) for fault in wording.faults_in(path.read_text(encoding="utf-8"))]
+        self.assertEqual(found, [])
