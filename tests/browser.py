@@ -39,7 +39,7 @@ REASON = reason()
 class Browsing(unittest.TestCase):
     """A browser without a window, which logs what is asked and what its console says."""
 
-    WAIT = 120
+    WAIT = float(os.environ.get("WAIT", "120"))
 
     @classmethod
     def setUpClass(cls):
@@ -55,6 +55,7 @@ class Browsing(unittest.TestCase):
             options.add_argument(word)
         options.set_capability("goog:loggingPrefs", {"browser": "ALL", "performance": "ALL"})
         cls.driver = webdriver.Chrome(service=Service(shutil.which("chromedriver")), options=options)
+        cls.driver.set_script_timeout(cls.WAIT)
         cls.addClassCleanup(cls.driver.quit)
 
     def setUp(self):

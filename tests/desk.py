@@ -13,7 +13,7 @@ from common import ROOT, python_with
 
 PYTHON = python_with("bottle")
 REASON = "" if PYTHON else "no Python here has bottle (Debian's package python3-bottle)"
-LINK = re.compile(r"http://127\.0\.0\.1:([0-9]+)/\?token=([A-Za-z0-9_-]{22})")
+LINK = re.compile(r"http://127\.0\.0\.1:([0-9]+)/([A-Za-z0-9_-]{22})/")
 
 
 class Running:
@@ -34,9 +34,8 @@ class Running:
         found = LINK.search(line)
         if not found:
             raise AssertionError(f"no link: {line!r} {self.process.communicate()}")
-        self.link, self.port, self.token = found[0], int(found[1]), found[2]
+        self.link, self.port, self.ticket = found[0], int(found[1]), found[2]
         self.host = f"127.0.0.1:{self.port}"
-        self.cookie = None
 
     def end(self, number=signal.SIGTERM):
         """The status and messages of the end; it is asked to end where it still runs."""
@@ -67,27 +66,39 @@ class Running:
         finally:
             connection.close()
 
-    def enter(self):
-        """Takes the link for the cookie."""
-        status, headers, _ = self.ask("GET", f"/?token={self.token}")
-        assert status == 200, status
-        self.cookie = headers["Set-Cookie"].partition(";")[0]
-        return self
+    def at(self, path):
+        """A path of the page as it is asked for: behind the ticket."""
+        return f"/{self.ticket}{path}"
 
     def own(self):
         """The headers that the page's own script sends."""
-        return {"Cookie": self.cookie, "Origin": f"http://{self.host}", "Content-Type": "application/json", "Sec-Fetch-Site": "same-origin"}
+        return {"Origin": f"http://{self.host}", "Content-Type": "application/json", "Sec-Fetch-Site": "same-origin"}
 
     def see(self, path, status=200):
         """What is there at a path."""
-        got, headers, body = self.ask("GET", path, {"Cookie": self.cookie})
+        got, headers, body = self.ask("GET", self.at(path))
         if got != status:
             raise AssertionError(f"{path}: {got} {body[:300]}")
         return json.loads(body) if headers["Content-Type"].startswith("application/json") else body
 
+    def post(self, path, status=200, **what):
+        """What a request with an object answers."""
+        got, _, body = self.ask("POST", self.at(path), self.own(), json.dumps(what).encode())
+        if got != status:
+            raise AssertionError(f"{path} {what}: {got} {body[:300]}")
+        return json.loads(body)
+
     def change(self, start, status=200, **what):
         """The state that a change of another leads to, or the fault."""
-        got, _, body = self.ask("POST", "/change", self.own(), json.dumps({"from": start, **what}).encode())
-        if got != status:
-            raise AssertionError(f"{what}: {got} {body[:300]}")
-        return json.loads(body)
+        return self.post("/change", status, **{"from": start, **what})
+
+    def answer(self, state, what, bank=None, case=0):
+        """The pieces of a question, once all of them have come."""
+        number = self.post("/ask", state=state, what=what, bank=bank, case=case)["question"]
+        while True:
+            found = self.see(f"/question/{number}/0")
+            if found["ended"]:
+                if found["fault"]:
+                    raise AssertionError(found["fault"])
+                return found["pieces"]
+            time.sleep(0.02)

@@ -7,8 +7,9 @@ import { fileURLToPath, pathToFileURL } from "node:url";
 const here = path.dirname(fileURLToPath(import.meta.url));
 const folder = process.env.DESK ?? path.join(here, "../../python/src/clearing_tools/desk/script");
 const load = (name) => import(pathToFileURL(path.join(folder, `${name}.mjs`)).href);
-const { apart, listed, many, money, number, signed, word } = await load("numbers");
-const { atGreatest, changedBanks, fallen, rows, saved, soundAtGreatest, sums, told } = await load("compare");
+const { Money, apart, cut, listed, many, minus, number, signed, word } = await load("numbers");
+const { aligned, atGreatest, changedBanks, differs, fallen, rows, saved, sorted, soundAtGreatest, sums, told } = await load("compare");
+const { Pairs, flowsOf } = await load("pairs");
 const { Line } = await load("line");
 const { matches } = await load("find");
 const { newest } = await load("newest");
@@ -26,14 +27,45 @@ const NAMES = ["A", "B", "C", "D"];
 test("amounts are written to the last digit", () => {
   assert.equal(number(1_000_000_000_000_001), "1,000,000,000,000,001");
   assert.equal(number(0), "0");
-  assert.equal(money(1), "1 unit");
-  assert.equal(money(1234), "1,234 units");
+  assert.equal(minus(-1234), "−1,234");
+  assert.equal(minus(-0), "0");
   assert.equal(many(1, "bank"), "1 bank");
   assert.equal(many(2000, "bank"), "2,000 banks");
 });
 
 test("a difference has its sign", () => {
-  assert.deepEqual([5, -1234567, 0].map(signed), ["+5", "−1,234,567", "±0"]);
+  assert.deepEqual([5, -1234567, 0].map(signed), ["+5", "−1,234,567", "0"]);
+});
+
+test("amounts are exact in the currency of a case", () => {
+  const plain = (text) => text.replaceAll("\u00a0", " ");
+  const thousand = new Money("1000", "EUR", true), cents = new Money("0.01", "EUR", true), units = new Money(), third = new Money("20000", "EUR", true);
+  assert.deepEqual([6_078_334, 10_000, 1, 0, -150_000].map((amount) => plain(thousand.say(amount))),
+    ["EUR 6.08 billion", "EUR 10 million", "EUR 1,000", "EUR 0", "EUR −150 million"]);
+  assert.deepEqual([thousand.whole.words, thousand.whole.number(1_831_667), thousand.whole.number(-10_000)], ["EUR thousand", "1,831,667", "−10,000"]);
+  assert.deepEqual([9_007_199_254_740_991, 5, -105].map((amount) => cents.exact(amount)), ["90,071,992,547,409.91", "0.05", "−1.05"]);
+  assert.equal(cents.whole.number(123_456), "1,234.56");
+  assert.equal(third.exact(3), "60,000");
+  // An account is to the last unit, in the largest scale in which that is short.
+  const accounts = [["100000", -11_761, "EUR million", "−1,176.1"], ["20000", 3, "EUR million", "0.06"], ["200000", 5, "EUR million", "1.0"], ["1000000", 7, "EUR million", "7"],
+    ["1", 1234, "EUR", "1,234"], ["10", -5, "EUR thousand", "−0.05"], ["2.5", 3, "EUR", "7.5"], ["1000000000", 2, "EUR billion", "2"]];
+  for (const [unit, units_, words, text] of accounts) {
+    const { whole } = new Money(unit, "EUR", true);
+    assert.deepEqual([whole.words, whole.number(units_)], [words, text], unit);
+  }
+  assert.deepEqual([units.whole.words, units.whole.number(-1234)], ["units", "−1,234"]);
+  assert.deepEqual([units.say(1), units.say(1234)].map(plain), ["1 unit", "1,234 units"]);
+  const table = thousand.scale(7_572_000);
+  assert.deepEqual([table.words, table.number(113_333), table.number(-890_000), table.number(400), table.number(-1), table.number(0)],
+    ["EUR million", "113", "−890", "<1", "−<1", "0"]);
+  assert.deepEqual([thousand.figures(7_572_000).words, thousand.figures(7_572_000).number(1_256_002)].map(plain), ["EUR bn", "1.26"]);
+});
+
+test("a long name is cut after a whole word of four letters or more", () => {
+  assert.equal(cut("Alster"), "Alster");
+  assert.equal(cut("Société Générale de Crédit Industriel et Commercial"), "Société Générale de Crédit…");
+  assert.equal(cut("Landesbank für Handel und Gewerbe"), "Landesbank für Handel…");
+  assert.equal(cut("W".repeat(40)), `${"W".repeat(27)}…`);
 });
 
 test("counts are words as far as twelve", () => {
@@ -61,18 +93,41 @@ test("where default costs there are both ends", () => {
   assert.deepEqual(soundAtGreatest(costly), [1]);
   assert.deepEqual([sums(costly).defaults, sums(costly).lost, sums(costly).pays], [2, 4, 11]);
   assert.deepEqual([sums(atGreatest(costly)).defaults, sums(atGreatest(costly)).lost, sums(atGreatest(costly)).pays], [1, 0, 17]);
-  assert.equal(told(BASE, costly, NAMES), "All is as it is. At the greatest payments that clear, one of those in default is sound: \u2068B\u2069.");
-  assert.equal(told(NOW, costly, NAMES), "One bank falls: \u2068B\u2069. One bank is saved: \u2068A\u2069. At the greatest payments that clear, one of those in default"
-    + " is sound: \u2068B\u2069.");
 });
 
-test("the rows are those that differ: fallen, saved, then the most", () => {
-  assert.deepEqual(rows(BASE, NOW).map((row) => row.bank), [0, 1, 2]);
-  const [first, second, third] = rows(BASE, NOW);
-  assert.deepEqual([first.pays, first.paysMore, first.keeps, first.keepsMore], [1, -4, 0, -5]);
-  assert.deepEqual([second.paysMore, second.keepsMore], [5, 1]);
-  assert.deepEqual([third.paysMore, third.keepsMore], [0, -4]);
-  assert.deepEqual(rows(BASE, BASE), []);
+test("a row says what is unpaid and kept, before and now", () => {
+  const found = rows(BASE, NOW);
+  assert.deepEqual(found.map((row) => [row.unpaidBefore, row.unpaid, row.unpaidMore, row.keepsMore]), [[0, 4, 4, -5], [5, 0, -5, 1], [0, 0, 0, -4], [6, 6, 0, 0]]);
+  assert.deepEqual(found.filter(differs).map((row) => row.bank), [0, 1, 2]);
+  assert.equal(rows(BASE, BASE).some(differs), false);
+  assert.deepEqual(sorted(found, "unpaidMore").map((row) => row.bank), [0, 3, 2, 1]);
+  assert.deepEqual(sorted(found, "unpaidMore", true).map((row) => row.bank), [1, 3, 2, 0]);
+  assert.deepEqual(sorted(found, "state").map((row) => row.bank), [0, 3, 1, 2]);
+});
+
+test("the debts of two states are held against one another pair by pair", () => {
+  const network = { names: NAMES, debtors: [0, 0, 1], creditors: [1, 1, 2], claims: [5, 4, 9] };
+  const pairs = new Pairs(network), listed_ = ({ claims, paid, counts }) => [...claims].map((claim, at) => [claim, paid[at], counts[at]]);
+  const before = pairs.sums({ flows: [5, 4, 9], keys: null, changedDebts: [] });
+  const now = pairs.sums({ flows: [1, 2, 3], keys: [0, 2, 3], changedDebts: [[1, 0, 1, 1, 4, null], [3, 2, 3, 1, null, 3], [2, 1, 2, 1, 9, 8]] });
+  assert.deepEqual(listed_(before), [[9, 9, 2], [9, 9, 1]]);
+  assert.deepEqual(listed_(now), [[5, 1, 1], [8, 2, 1], [3, 3, 1]]);
+  const flows = flowsOf(pairs, before, now, false).map((flow) => [flow.debtor, flow.creditor, flow.unpaid, flow.more]);
+  assert.deepEqual(flows, [[0, 1, 4, 4], [1, 2, 6, 6], [2, 3, 0, 0]]);
+  assert.deepEqual(flowsOf(pairs, now, before, false).map((flow) => [flow.debtor, flow.creditor, flow.more]), [[0, 1, -4], [1, 2, -6], [2, 3, 0]]);
+  assert.deepEqual(flowsOf(pairs, before, now, true).map((flow) => flow.more), [4, 6, 0]);
+  // Where nothing of the debts is changed all has the claims of the files, and each state sums of its own.
+  const cut_ = pairs.sums({ flows: [0, 4, 2], keys: null, changedDebts: [] });
+  assert.deepEqual([listed_(cut_), listed_(before)], [[[9, 4, 2], [9, 2, 1]], [[9, 9, 2], [9, 9, 1]]]);
+  // A claim that is struck is there no more, and its pair has no debt where it was the only one.
+  const struck = pairs.sums({ flows: [5, 4], keys: [0, 1], changedDebts: [[2, 1, 2, 1, 9, null]] });
+  assert.deepEqual(flowsOf(pairs, before, struck, true).map((flow) => [flow.debtor, flow.creditor]), [[0, 1]]);
+  assert.deepEqual(flowsOf(pairs, before, struck, false).map((flow) => [flow.claim, flow.more]), [[9, 0], [0, 0]]);
+});
+
+test("a state of another case stands over the banks of this one", () => {
+  const other = { ...BASE, estate: [1, 2, 3, 4], wave: [0, 0, 0, 0] }, found = aligned(other, ["D", "X", "A"], NAMES);
+  assert.deepEqual([found.state, found.left, found.owed], [["fundamental", "absent", "sound"], [2, 0, 10], [8, 0, 5]]);
 });
 
 test("what is paid outside is paid, and what is owed there is owed", () => {
@@ -84,14 +139,15 @@ test("the sums add up", () => {
   assert.deepEqual(sums(BASE), { defaults: 2, cash: 16, owes: 22, pays: 11, unpaid: 11, keeps: 12, lost: 0 });
 });
 
-test("what is told says who falls and is saved, in words", () => {
-  const strip = (text) => text.replace(/[\u2068\u2069]/g, "");
-  assert.equal(strip(told(BASE, NOW, NAMES)), "One bank falls: A. One bank is saved: B.");
-  assert.equal(told(BASE, BASE, NAMES), "All is as it is.");
-  const three = view(["contagion", 0, 5, 1, 0], ["contagion", 1, 9, 4, 0], ["contagion", 3, 0, 0, 7], ["fundamental", 2, 8, 2, 0]);
-  assert.equal(strip(told(BASE, three, NAMES)), "Two banks fall: A and C.");
+test("the title says who joins those in default, and what more is unpaid", () => {
+  const say = (units) => `${units}`, title = (before, now, isSame = false) => told(before, now, isSame, (bank) => NAMES[bank], say);
+  assert.equal(title(BASE, NOW), "A joins those in default; B is in default no more; 1 less stays unpaid");
+  assert.equal(title(BASE, BASE, true), "Two of four banks are in default; 11 stays unpaid");
+  assert.equal(title(BASE, BASE), "Nothing differs");
+  const three = view(["contagion", 0, 5, 1, 0], ["contagion", 1, 9, 4, 0], ["contagion", 3, 4, 0, 7], ["fundamental", 2, 8, 2, 0]);
+  assert.equal(title(BASE, three), "A and C join those in default; 8 more stays unpaid");
   const less = view(["sound", 10, 5, 5, 4], ["contagion", 1, 9, 4, 0], ["sound", 3, 0, 0, 7], ["fundamental", 2, 8, 2, 0]);
-  assert.equal(told(BASE, less, NAMES), "No bank falls and none is saved; payments change.");
+  assert.equal(title(BASE, less), "The same banks are in default; as much stays unpaid");
 });
 
 test("what was changed of the banks", () => {

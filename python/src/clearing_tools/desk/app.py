@@ -1,192 +1,266 @@
 """The pages of the desk. Each state has a number; none is altered, so that two tabs do not disturb one another."""
 import json
 import pathlib
-import threading
-from typing import Any, Callable, Dict, List, NamedTuple, Optional
+from typing import Any, Callable, Dict, Optional, Sequence
 
 from .. import runner
 from ..drawing import web
-from ..report import page
+from ..drawing.tokens import LIGHT
 from . import state as states
 from . import takeaway, view
+from .questions import KINDS, Questions
 from .runs import Desk, Refused
 from .state import State
+from .steps import MOST_NOTE, Shelf, Steps
 
 HERE = pathlib.Path(__file__).resolve().parent
-MOST_STATES = 10_000
 SCRIPTS = sorted(path.name for path in (HERE / "script").glob("*.mjs"))
-ASKS = {"rescue", "breaking", "ruin"}
+SHARED = {  # modules that the report has too
+    name: text for one in ("amounts.mjs", "files.mjs", "player.mjs") for name, text in web.needed(one).items()
+}
 NUMBER = "re:[0-9]{1,7}"
+MOST_NAME = 64
 ICON = (
-    '<svg xmlns="http://www.w3.org/2000/svg" viewBox="0 0 20 20"><rect x="2" y="2" width="16" height="16" fill="#ffffff" stroke="#920c0c" stroke-width="3"/>'
-    '<rect x="3.5" y="9" width="13" height="7.5" fill="#1f66b0"/></svg>'
+    '<svg xmlns="http://www.w3.org/2000/svg" viewBox="0 0 20 20"><rect x="2" y="2" width="16" height="16"'
+    f' fill="{LIGHT["unpaid"]}" stroke="{LIGHT["fundamental"]}" stroke-width="3"/></svg>'
 )
 
-
-class Step(NamedTuple):
-    """A state, and the number of the one that it was changed from."""
-
-    state: State
-    before: Optional[int]
-
-
-class Steps:
-    """The states of a session by their numbers, from 0, which is as it is."""
-
-    def __init__(self) -> None:
-        self.steps: List[Step] = [Step(states.AS_IT_IS, None)]
-        self.lock = threading.Lock()
-
-    def add(self, state: State, before: int) -> int:
-        """The number of a state that was reached from another; the same where nothing is changed."""
-        with self.lock:
-            if self.steps[before].state == state:
-                return before
-            if len(self.steps) >= MOST_STATES:
-                raise runner.Failed(f"a desk has {MOST_STATES:,} states at most; begin another")
-            self.steps.append(Step(state, before))
-            return len(self.steps) - 1
-
-    def line(self, number: int) -> List[int]:
-        """The states from the first one to this."""
-        line = [number]
-        while (before := self.steps[line[-1]].before) is not None:
-            line.append(before)
-        return line[::-1]
+Route = Callable[..., Any]
 
 
 def page_text(has_d3: bool) -> str:
     """The page, with the player of the report in it."""
     text = (HERE / "page/page.html").read_text(encoding="utf-8")
     text = text.replace("<!-- player -->", web.player_markup())
-    return text if has_d3 else text.replace('<script src="/script/d3.js" defer></script>\n', "")
+    return text if has_d3 else text.replace('<script src="script/d3.js" defer></script>\n', "")
 
 
 def style_text() -> str:
-    """The style: the colours and drawings of all pictures, that of the report, and what the desk has beside."""
-    return page.tokens() + web.style() + (HERE / "style/desk.css").read_text(encoding="utf-8")
+    """The style: the tokens, charts and the player of all pages, and what the desk has of its own."""
+    own = (HERE / "style/desk.css").read_text(encoding="utf-8")
+    return web.tokens() + web.charts() + web.player_style() + own
 
 
-def application(bottle: Any, desk: Desk, d3: Optional[bytes]) -> Callable[..., Any]:
-    """The WSGI application."""
-    app, steps = bottle.Bottle(), Steps()
-    pages(bottle, app, d3)
-    app.route("/network", callback=lambda: sent(bottle, view.network_view(desk.base, desk.full, d3 is not None)))
-    answers(bottle, app, desk, steps)
-    app.default_error_handler = lambda error: error.body if isinstance(error.body, str) else "Not to be had.\n"
-    return app
+class Application:
+    """The WSGI application of a session: its states, those kept under names, and the questions that go on."""
 
+    def __init__(self, bottle: Any, desk: Desk, d3: Optional[bytes], others: Sequence[Desk] = ()) -> None:
+        self.bottle, self.desk, self.others, self.has_d3 = bottle, desk, others, d3 is not None
+        self.steps, self.shelf, self.questions = Steps(), Shelf(), Questions(desk)
+        self.at_first = 0  # the state that is shown first
+        self.app = bottle.Bottle()
+        self.app.default_error_handler = lambda error: error.body if isinstance(error.body, str) else "Not to be had.\n"
+        self.fix_pages(d3)
+        self.route_answers()
 
-def pages(bottle: Any, app: Any, d3: Optional[bytes]) -> None:
-    """What never changes: the page, its style and its scripts, each by a name that is known."""
+    def __call__(self, environ: Dict[str, Any], respond: Any) -> Any:
+        return self.app(environ, respond)
 
-    def fixed(path: str, kind: str, content: bytes) -> None:
+    # What never changes: the page, its style and its scripts, each by a name that is known.
+
+    def fix_pages(self, d3: Optional[bytes]) -> None:
+        """The pages that are as they are."""
+        self.fix("/", "text/html", page_text(self.has_d3).encode())
+        self.fix("/style/desk.css", "text/css", style_text().encode())
+        for name in SCRIPTS:
+            self.fix(f"/script/{name}", "text/javascript", (HERE / "script" / name).read_bytes())
+        for name, text in SHARED.items():
+            self.fix(f"/script/{name}", "text/javascript", text.encode())
+        self.fix("/favicon.svg", "image/svg+xml", ICON.encode())
+        if d3 is not None:
+            self.fix("/script/d3.js", "text/javascript", d3)
+
+    def fix(self, path: str, kind: str, content: bytes) -> None:
+        """A page of a path."""
+
         def give() -> bytes:
-            bottle.response.content_type = f"{kind}; charset=utf-8"
+            self.bottle.response.content_type = f"{kind}; charset=utf-8"
             return content
 
-        app.route(path, callback=give)
+        self.app.route(path, callback=give)
 
-    fixed("/", "text/html", page_text(d3 is not None).encode())
-    fixed("/style/desk.css", "text/css", style_text().encode())
-    for name in SCRIPTS:
-        fixed(f"/script/{name}", "text/javascript", (HERE / "script" / name).read_bytes())
-    fixed("/script/player.mjs", "text/javascript", web.player_module().encode())
-    fixed("/favicon.ico", "image/svg+xml", ICON.encode())
-    if d3 is not None:
-        fixed("/script/d3.js", "text/javascript", d3)
+    # What is asked of a state, and the ways to another.
 
+    def route_answers(self) -> None:
+        """The paths that are answered anew each time."""
+        get: Dict[str, Route] = {
+            "/network": self.network,
+            "/kept": self.kept,
+            f"/state/<number:{NUMBER}>": self.one_state,
+            f"/bank/<number:{NUMBER}>/<bank:{NUMBER}>": self.one_bank,
+            f"/other/<case:{NUMBER}>": self.other_state,
+            f"/other/<case:{NUMBER}>/<bank:{NUMBER}>": self.other_bank,
+            f"/question/<number:{NUMBER}>/<after:{NUMBER}>": self.one_question,
+            f"/journal/<number:{NUMBER}>": self.journal,
+            f"/take/<number:{NUMBER}>/<what:re:[a-z]+>": self.download,
+        }
+        post: Dict[str, Route] = {
+            "/change": self.change,
+            "/keep": self.keep,
+            "/drop": self.drop,
+            "/scenario": self.add_scenario,
+            "/ask": self.ask,
+            "/stop": self.stop,
+        }
+        for path, work in get.items():
+            self.app.route(path, callback=self.guarded(work))
+        for path, work in post.items():
+            self.app.route(path, method="POST", callback=self.guarded(work))
 
-def sent(bottle: Any, value: Any, status: int = 200) -> Any:
-    """A value as JSON."""
-    body = json.dumps(value, ensure_ascii=False, separators=(",", ":")).encode("utf-8", "replace")
-    return bottle.HTTPResponse(body, status, {"Content-Type": "application/json; charset=utf-8"})
+    def guarded(self, work: Route) -> Route:
+        """A route that tells faults: what the program refuses is 422 with the field, a change that is none 400, and
+        what fails 502."""
 
+        def answer(**words: str) -> Any:
+            try:
+                given = work(**words)
+                return given if isinstance(given, self.bottle.HTTPResponse) else self.sent(given)
+            except Refused as fault:
+                return self.sent({"said": fault.said, "meaning": fault.meaning, "field": fault.field}, 422)
+            except states.Untyped as fault:
+                return self.sent({"said": runner.shown(fault.said), "meaning": "", "field": fault.field}, 422)
+            except states.Misformed as fault:
+                return self.sent({"said": str(fault), "meaning": "", "field": ""}, 400)
+            except (runner.Failed, OSError) as fault:
+                return self.sent({"said": str(fault), "meaning": "", "field": ""}, 502)
 
-def guarded(bottle: Any, work: Callable[[], Any]) -> Any:
-    """What the work answers. What the program refuses is 422 with the field, a change that is none 400, and what fails 502."""
-    try:
-        return work()
-    except Refused as fault:
-        return sent(bottle, {"said": fault.said, "meaning": fault.meaning, "field": fault.field}, 422)
-    except states.Misformed as fault:
-        return sent(bottle, {"said": str(fault), "meaning": "", "field": ""}, 400)
-    except (runner.Failed, OSError) as fault:
-        return sent(bottle, {"said": str(fault), "meaning": "", "field": ""}, 502)
+        return answer
 
+    def sent(self, value: Any, status: int = 200) -> Any:
+        """A value as JSON."""
+        body = json.dumps(value, ensure_ascii=False, separators=(",", ":")).encode("utf-8", "replace")
+        return self.bottle.HTTPResponse(body, status, {"Content-Type": "application/json; charset=utf-8"})
 
-def answers(bottle: Any, app: Any, desk: Desk, steps: Steps) -> None:
-    """What is asked of a state, and the one way to another."""
+    # States.
 
-    def step_of(number: str) -> Step:
-        if int(number) >= len(steps.steps):
-            raise bottle.HTTPError(404, "There is no such state.\n")
-        return steps.steps[int(number)]
+    def state_of(self, number: str) -> State:
+        """The state of a number that there is."""
+        if int(number) >= len(self.steps):
+            raise self.bottle.HTTPError(404, "There is no such state.\n")
+        return self.steps.state(self.desk.base, int(number))
 
-    def place_of(bank: str) -> int:
+    def place_of(self, bank: str, desk: Desk) -> int:
+        """The place of a bank that there is."""
         if int(bank) >= len(desk.base.banks):
-            raise bottle.HTTPError(404, "There is no such bank.\n")
+            raise self.bottle.HTTPError(404, "There is no such bank.\n")
         return int(bank)
 
-    def view_of(number: int, state: State, found: Any) -> Dict[str, Any]:
-        return {"id": number, "line": steps.line(number), **view.state_view(desk.base, state, found, desk.full)}
+    def view_of(self, number: int, state: State, found: Any) -> Dict[str, Any]:
+        """A state for the page."""
+        return {"id": number, "line": self.steps.line(number), **view.state_view(self.desk, state, found)}
 
-    def one_state(number: str) -> Any:
-        state = step_of(number).state
-        return guarded(bottle, lambda: sent(bottle, view_of(int(number), state, desk.cleared(state))))
+    def network(self) -> Any:
+        return {**view.network_view(self.desk, self.others, self.has_d3), "atFirst": self.at_first}
 
-    def one_bank(number: str, bank: str) -> Any:
-        state, place = step_of(number).state, place_of(bank)
-        return guarded(bottle, lambda: sent(bottle, view.bank_view(desk.base, desk.cleared(state), place)))
+    def one_state(self, number: str) -> Any:
+        state = self.state_of(number)
+        return self.view_of(int(number), state, self.desk.cleared(state))
 
-    def one_ask(number: str, bank: str, what: str) -> Any:
-        state, place = step_of(number).state, place_of(bank)
-        if what not in ASKS:
-            raise bottle.HTTPError(404, "There is no such question.\n")
-        return guarded(bottle, lambda: sent(bottle, getattr(desk, what)(state, place)))
+    def one_bank(self, number: str, bank: str) -> Any:
+        state, place = self.state_of(number), self.place_of(bank, self.desk)
+        return view.bank_view(self.desk.base, self.desk.cleared(state), place)
 
-    def one_journal(number: str) -> Any:
-        state = step_of(number).state
-        return guarded(bottle, lambda: sent(bottle, view.journal_view(desk, state)))
+    def other(self, case: str) -> Desk:
+        """Another case that there is, by its place from 1."""
+        if not 1 <= int(case) <= len(self.others):
+            raise self.bottle.HTTPError(404, "There is no such case.\n")
+        return self.others[int(case) - 1]
 
-    def one_download(number: str, what: str) -> Any:
-        state = step_of(number).state
+    def other_state(self, case: str) -> Any:
+        desk = self.other(case)
+        found = desk.cleared(states.AS_IT_IS)
+        return {"id": -int(case), "line": [-int(case)], **view.state_view(desk, states.AS_IT_IS, found)}
+
+    def other_bank(self, case: str, bank: str) -> Any:
+        desk = self.other(case)
+        return view.bank_view(desk.base, desk.cleared(states.AS_IT_IS), self.place_of(bank, desk))
+
+    def change(self) -> Any:
+        wanted = self.posted()
+        start = states.placed(wanted, "from", len(self.steps))
+        before = self.steps.state(self.desk.base, start)
+        state = states.changed(self.desk.base, before, wanted)
+        found = self.desk.cleared(state, wanted)
+        return self.view_of(self.steps.add(state, start, wanted, state == before), state, found)
+
+    # States under names, and scenarios.
+
+    def kept(self) -> Any:
+        return view.kept_view(self.shelf.kept)
+
+    def keep(self) -> Any:
+        wanted = self.posted()
+        number = states.placed(wanted, "state", len(self.steps))
+        name, note = text_of(wanted, "name", MOST_NAME).strip(), text_of(wanted, "note", MOST_NOTE)
+        if not name:
+            raise states.Untyped("a state that is kept has a name", "keep-name")
+        self.shelf.keep(name, number, note)
+        return view.kept_view(self.shelf.kept)
+
+    def drop(self) -> Any:
+        self.shelf.drop(text_of(self.posted(), "name", MOST_NAME))
+        return view.kept_view(self.shelf.kept)
+
+    def add_scenario(self) -> Any:
+        number = self.desk.add_scenario(self.posted())
+        return {"number": number, "scenarios": view.scenarios_view(self.desk)}
+
+    # Questions that take time.
+
+    def ask(self) -> Any:
+        wanted = self.posted()
+        if wanted.get("what") not in KINDS:
+            raise states.Misformed("there is no such question")
+        what, case = str(wanted["what"]), states.placed({"case": wanted.get("case", 0)}, "case", len(self.others) + 1)
+        if case:
+            return {"question": self.questions.ask(what, states.AS_IT_IS, None, self.others[case - 1])}
+        state = self.steps.state(self.desk.base, states.placed(wanted, "state", len(self.steps)))
+        bank = None if wanted.get("bank") is None else states.placed(wanted, "bank", len(self.desk.base.banks))
+        return {"question": self.questions.ask(what, state, bank)}
+
+    def one_question(self, number: str, after: str) -> Any:
+        question = self.questions.question(int(number))
+        if question is None:
+            raise self.bottle.HTTPError(404, "There is no such question.\n")
+        return question.view(int(after))
+
+    def stop(self) -> Any:
+        question = self.questions.question(states.placed(self.posted(), "question", 10**9))
+        if question is not None:
+            question.stop()
+        return {}
+
+    # What is taken away.
+
+    def journal(self, number: str) -> Any:
+        return view.journal_view(self.desk, self.state_of(number))
+
+    def download(self, number: str, what: str) -> Any:
+        state = self.state_of(number)
         if what not in takeaway.KINDS:
-            raise bottle.HTTPError(404, "There is no such download.\n")
+            raise self.bottle.HTTPError(404, "There is no such download.\n")
+        name, kind = takeaway.KINDS[what]
+        content = takeaway.Taken(self.desk, self.steps, self.shelf).content(int(number), state, what)
+        headers = {"Content-Type": kind, "Content-Disposition": f'attachment; filename="{name}"'}
+        return self.bottle.HTTPResponse(content, 200, headers)
 
-        def give() -> Any:
-            content, name, kind = takeaway.taken(desk, state, what)
-            return bottle.HTTPResponse(content, 200, {"Content-Type": kind, "Content-Disposition": f'attachment; filename="{name}"'})
-
-        return guarded(bottle, give)
-
-    def change() -> Any:
-        def work() -> Any:
-            wanted = change_of(bottle, len(steps.steps))
-            state = states.changed(desk.base, steps.steps[wanted["from"]].state, wanted)
-            found = desk.cleared(state, wanted)
-            return sent(bottle, view_of(steps.add(state, wanted["from"]), state, found))
-
-        return guarded(bottle, work)
-
-    app.route(f"/state/<number:{NUMBER}>", callback=one_state)
-    app.route(f"/bank/<number:{NUMBER}>/<bank:{NUMBER}>", callback=one_bank)
-    app.route(f"/ask/<number:{NUMBER}>/<bank:{NUMBER}>/<what:re:[a-z]+>", callback=one_ask)
-    app.route(f"/journal/<number:{NUMBER}>", callback=one_journal)
-    app.route(f"/take/<number:{NUMBER}>/<what:re:[a-z]+>", callback=one_download)
-    app.route("/change", method="POST", callback=change)
+    def posted(self) -> Dict[str, Any]:
+        """The object that a request has as JSON."""
+        environ = self.bottle.request.environ
+        if environ.get("CONTENT_TYPE", "").partition(";")[0].strip() != "application/json":
+            raise states.Misformed("a change is JSON")
+        try:
+            wanted = json.loads(environ["wsgi.input"].read(int(environ.get("CONTENT_LENGTH") or 0)))
+        except (ValueError, RecursionError) as fault:
+            raise states.Misformed("a change is JSON") from fault
+        if not isinstance(wanted, dict):
+            raise states.Misformed("a change is an object")
+        return wanted
 
 
-def change_of(bottle: Any, count: int) -> Dict[str, Any]:
-    """The change that a request has: an object with the number of a state that there is."""
-    environ = bottle.request.environ
-    if environ.get("CONTENT_TYPE", "").partition(";")[0].strip() != "application/json":
-        raise states.Misformed("a change is JSON")
-    try:
-        wanted = json.loads(environ["wsgi.input"].read(int(environ.get("CONTENT_LENGTH") or 0)))
-    except (ValueError, RecursionError) as fault:
-        raise states.Misformed("a change is JSON") from fault
-    if not isinstance(wanted, dict):
-        raise states.Misformed("a change is an object")
-    states.placed(wanted, "from", count)
-    return wanted
+def text_of(wanted: Dict[str, Any], key: str, most: int) -> str:
+    """A text of a request."""
+    text = wanted.get(key, "")
+    if not isinstance(text, str) or len(text) > most or set(text) & {"\x00"}:
+        raise states.Misformed(f"{key} is no text of at most {most} letters")
+    return text

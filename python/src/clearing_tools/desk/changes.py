@@ -61,11 +61,15 @@ def of_debts(base: Base, state: State) -> Iterator[str]:
     for key, claim in sorted(state.claims.items()):
         debt = base.debts[key]
         what = f"{labels.apart(debt.debtor)} to {labels.apart(debt.creditor)}, class {debt.class_}"
-        yield f"{what}: the debt of {debt.claim:,} is struck." if claim is None else f"{what}: the debt is {number(claim)} in place of {debt.claim:,}."
+        if claim is None:
+            yield f"{what}: the debt of {debt.claim:,} is struck."
+        else:
+            yield f"{what}: the debt is {number(claim)} in place of {debt.claim:,}."
     for record in state.added:
         if record is not None:
             debtor, creditor, rank, claim = record
-            yield f"{labels.apart(debtor)} to {labels.apart(creditor)}, class {rank}: a debt of {number(claim)} is added."
+            what = f"{labels.apart(debtor)} to {labels.apart(creditor)}, class {rank}"
+            yield f"{what}: a debt of {number(claim)} is added."
 
 
 def in_words(base: Base, state: State) -> List[str]:
@@ -75,5 +79,5 @@ def in_words(base: Base, state: State) -> List[str]:
 
 def text_of(base: Base, state: State, originals: Mapping[str, Original]) -> str:
     """What was changed, a line each, and against which files."""
-    files = [f"Before the changes {what}.csv has the SHA-256 {original.digest}." for what, original in originals.items()]
+    files = [f"Before the changes {what}.csv has the SHA-256 {one.digest}." for what, one in originals.items()]
     return "".join(line + "\n" for line in [*in_words(base, state), *files])

@@ -1,17 +1,27 @@
 """What to do about a change that the program refuses: the hints of `lint` for the field in which it was typed."""
 import re
+from decimal import Decimal
 from typing import Any, Mapping
 
 from clearing_client.format import MAX_CASH, MAX_CLAIM, MAX_CUT, MAX_KEEP, MAX_OUTSIDE, MAX_OWED
 
 from ..checks import lint
+from ..money import Money
 
-MOST = {"cash": MAX_CASH, "outside": MAX_OUTSIDE, "claim": MAX_CLAIM, "add": MAX_CLAIM, "cut": MAX_CUT, "keep": MAX_KEEP}
+MOST = {
+    "cash": MAX_CASH,
+    "outside": MAX_OUTSIDE,
+    "claim": MAX_CLAIM,
+    "add": MAX_CLAIM,
+    "cut": MAX_CUT,
+    "keep": MAX_KEEP,
+}
 PERCENT = re.compile(r"([0-9]{1,3})(?:[.,]([0-9]))? ?%")
 
 
-def hint_of(change: Mapping[str, Any], kind: str) -> str:
-    """What to do, in some words; empty where nothing is known. The kind is that of the program's fault, empty where a word is refused."""
+def hint_of(change: Mapping[str, Any], kind: str, money: Money) -> str:
+    """What to do, in some words; empty where nothing is known. The kind is that of the program's fault, empty where a
+    word is refused."""
     word = str(change.get("set"))
     field = str(change.get("field")) if word == "bank" else word
     text = str(change.get("claim" if word == "add" else "value", "")).strip(" \t")
@@ -24,8 +34,17 @@ def hint_of(change: Mapping[str, Any], kind: str) -> str:
     if kind == "class":
         return str(lint.class_hint(str(change.get("class", "")).encode("utf-8", "replace")))
     if kind == "total":
-        return f"all that banks owe is at most {MAX_OWED:,}"
-    return f"it is at most {MOST[field]:,}" if kind == "limit" and field in MOST else ""
+        return f"all that banks owe is at most {MAX_OWED:,}; {larger_unit(money)}"
+    if kind == "limit" and field in MOST:
+        return f"it is at most {MOST[field]:,}" + (f"; {larger_unit(money)}" if field in ("claim", "add") else "")
+    return ""
+
+
+def larger_unit(money: Money) -> str:
+    """What to do where amounts meet a limit: import them anew by a unit ten times as large."""
+    unit = (money.unit or Decimal(1)) * 10
+    worth = f"{money.currency} {unit:,f}" if money.currency else f"{unit:,f}"
+    return f"a unit of account of {worth} has room for ten times as much: import the sheets again with --unit {unit:f}"
 
 
 def of_share(text: str, most: int) -> str:

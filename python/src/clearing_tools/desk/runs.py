@@ -10,16 +10,17 @@ from typing import Any, Callable, Dict, Iterator, List, Mapping, NamedTuple, Opt
 from clearing_client import errors
 from clearing_client import program as client
 from clearing_client import texts as parser
+from clearing_client.case import Case
+from clearing_client.format import MAX_SCENARIOS
 from clearing_client.records import Payment
-from clearing_client.results import Bounds, Breaking, Check, CostBounds, Impact, Rescues, Stress
+from clearing_client.results import Bounds, Check, CostBounds, Stress
 from clearing_client.table import Table
 
-from .. import runner, texts
+from .. import cases, runner, texts
 from ..analysis import asking as ask
-from ..analysis import breaking
 from ..checks.why import faults_of
-from ..evidence import shock
-from ..fullnames import FullNames
+from ..evidence import audit, shock
+from ..money import Money
 from . import state as states
 from .changes import Original
 from .hints import hint_of
@@ -38,16 +39,17 @@ class Refused(Exception):
 
 
 class End(NamedTuple):
-    """How the banks stand at the least or the greatest payments that clear, and what of their estates costs of default take; lists over
-    the banks, in file order."""
+    """How the banks stand at the least or the greatest payments that clear, and what of their estates costs of default
+    take; lists over the banks, in file order."""
 
     banks: List[texts.Bank]
     lost: List[int]
 
 
 class Cleared(NamedTuple):
-    """A state as the program clears it, at the least payments that clear. `keys` are those of the debts, `left` is what the shock leaves
-    of the cash, `lost` what costs of default take; lists are over the banks or the debts, in file order."""
+    """A state as the program clears it, at the least payments that clear. `keys` are those of the debts, `left` is what
+    the shock leaves of the cash, `lost` what costs of default take; lists are over the banks or the debts, in file
+    order."""
 
     keys: List[int]
     payments: Table[Payment]
@@ -60,7 +62,7 @@ class Cleared(NamedTuple):
 
 
 class Runs(runner.Asking):
-    """Runs of the program, of which at most four go on at once, and the folder in which their inputs are for so long."""
+    """Runs of the program, at most four at once, and the folder in which their inputs are for so long."""
 
     def __init__(self, folder: str) -> None:
         super().__init__()
@@ -84,7 +86,8 @@ class Runs(runner.Asking):
                     self.room.release()
 
     def all(self, work: Callable[[Any], Any], given: Any, what: str) -> List[Any]:
-        """What the work gives for each item, side by side. Nothing is said on a terminal, and a fault ends no other run."""
+        """What the work gives for each item, side by side. Nothing is said on a terminal, and a fault ends no other
+        run."""
         with ThreadPoolExecutor(AT_ONCE) as pool:
             return list(pool.map(work, given))
 
@@ -128,7 +131,7 @@ def base_of(runs: Runs, banks: str, debts: str, scenarios: Optional[str]) -> Bas
     chosen: Sequence[shock.Scenario] = ()
     if scenarios is not None:
         runs.answer(["stress", *files, f"--scenarios={scenarios}"])
-        known = [shock.audit.Bank(bank.name.encode(), bank.cash, bank.rule, bank.outside) for bank in check.banks]
+        known = [audit.Bank(bank.name.encode(), bank.cash, bank.rule, bank.outside) for bank in check.banks]
         try:
             chosen = shock.read_scenarios(pathlib.Path(scenarios).read_bytes(), known)
         except shock.Failed as fault:
@@ -139,8 +142,11 @@ def base_of(runs: Runs, banks: str, debts: str, scenarios: Optional[str]) -> Bas
 class Desk:
     """The network, and the clearings of its states that were asked for last."""
 
-    def __init__(self, runs: Runs, base: Base, full: FullNames, originals: Optional[Mapping[str, Original]] = None) -> None:
-        self.runs, self.base, self.full, self.originals = runs, base, full, originals or {}
+    def __init__(self, runs: Runs, base: Base, case: Case, originals: Optional[Mapping[str, Original]] = None) -> None:
+        self.runs, self.base, self.case, self.originals = runs, base, case, originals or {}
+        self.full, self.money = cases.names_of(case), cases.money_of(case)
+        self.files_given: Dict[str, bytes] = {}  # the files of the case by their names
+        self.given = len(base.scenarios)  # of the file; those behind them were built here
         self.kept: "OrderedDict[Any, Cleared]" = OrderedDict()
         self.debts: Tuple[Any, Any] = (None, None)  # the debts that were asked for last: while a slider moves they stay
         self.lock = threading.Lock()
@@ -155,7 +161,7 @@ class Desk:
         try:
             found = self.ask(state)
         except errors.ClearingError as fault:
-            raise refusal(fault, state, change or {}) from fault
+            raise refusal(fault, state, change or {}, self.money) from fault
         with self.lock:
             self.kept[mark] = found
             while len(self.kept) > MOST_KEPT:
@@ -170,9 +176,11 @@ class Desk:
         with Place(self.runs) as place:
             debts_file = place.put("debts.csv", debts_text)
             words = [f"--banks={place.put('banks.csv', states.banks_csv(self.base, rows))}", f"--debts={debts_file}"]
-            jobs: List[Any] = [(["stress", *words, f"--scenarios={place.put('shock.toml', states.shock_toml(self.base, state))}"], Stress)]
+            shock_file = place.put("shock.toml", states.shock_toml(self.base, state))
+            jobs: List[Any] = [(["stress", *words, f"--scenarios={shock_file}"], Stress)]
             if left is not None:
-                after = [f"--banks={place.put('left.csv', states.left_csv(self.base, state, left))}", f"--debts={debts_file}"]
+                left_file = place.put("left.csv", states.left_csv(self.base, state, left))
+                after = [f"--banks={left_file}", f"--debts={debts_file}"]
                 jobs.append((["bounds", *after], Bounds))
                 if state.keep != states.AS_IT_IS.keep:
                     jobs.append((["cost-bounds", *after, f"--keep={state.keep}"], CostBounds))
@@ -202,48 +210,20 @@ class Desk:
             self.debts = mark, found
         return found[0], found[1]
 
-    # What the program says of one bank.
-
-    def asked(self, state: State, task: str, kind: Any) -> Any:
-        """What a task says of a state."""
-        with Place(self.runs) as place:
-            return ask.answer_of(self.runs, [task, *self.files(place, state)], kind)
-
-    def rescue(self, state: State, bank: int) -> Dict[str, Any]:
-        """The least cash that makes a bank pay all it owes, and the other banks that it saves."""
-        found, name, place = self.asked(state, "rescues", Rescues), self.base.banks[bank].name, states.names_of(self.base)
-        added = dict(zip(found.banks.column("bank"), found.banks.column("added")))
-        return {"added": added.get(name, 0), "saved": [place[pair.saves] for pair in found.saved if pair.bank == name]}
-
-    def breaking(self, state: State, bank: int) -> Dict[str, Any]:
-        """The least cut of all cash at which a bank is not sound, and how it stands then. All else is as the state has it."""
-        whole = state._replace(cut="0", losses=())
-        if not state.losses:
-            _, cut, how = self.asked(whole, "breaking", Breaking).cuts[bank]
-            return {"cut": cut if cut <= breaking.MAX_CUT else None, "state": how}
-        # What a scenario takes is taken after the cut, which the task does not know.
-        losses = [(self.base.banks[place].name, amount) for place, amount in state.losses]
-        with Place(self.runs) as place:
-            ranges = breaking.find(
-                self.runs, str(place.path), self.files(place, whole), 1, breaking.MAX_CUT, lambda cut: ask.scenario_text(cut, losses),
-                states_of=lambda standings: [standings.column("state")[bank]], count=STEPS,
-            )
-        return {"cut": ranges.high[0] if ranges.high[0] <= breaking.MAX_CUT else None, "state": ranges.state[0]}
-
-    def ruin(self, state: State, bank: int) -> Dict[str, Any]:
-        """What the banks keep less where a bank loses all its cash, and who falls by it."""
-        found, place = self.asked(state, "impact", Impact), states.names_of(self.base)
-        name, cash, own, others, _ = found.banks[bank]
-        fallen = [place[pair.of] for pair in found.pairs if pair.bank == name and pair.falls and pair.of != name]
-        return {"cash": cash, "own": own, "others": others, "fallen": fallen}
-
-
-STEPS = 16  # cuts in one run on the way to the one that breaks a bank
+    def add_scenario(self, wanted: Mapping[str, Any]) -> int:
+        """Takes a scenario into the list, and gives its number. The program judges it as a file of one."""
+        with self.lock:
+            made = states.scenario_of(self.base, wanted)
+            if len(self.base.scenarios) >= MAX_SCENARIOS:
+                raise states.Untyped(f"a file has {MAX_SCENARIOS} scenarios at most", "scenario-name")
+            self.base = self.base._replace(scenarios=(*self.base.scenarios, made))
+            return len(self.base.scenarios)
 
 
 def mark_of(state: State) -> Any:
     """A state as a key of a dict."""
-    return (*state[:4], tuple(sorted(state.banks.items())), tuple(sorted(state.claims.items(), key=lambda pair: pair[0])), state.added)
+    claims = tuple(sorted(state.claims.items(), key=lambda pair: pair[0]))
+    return (*state[:4], tuple(sorted(state.banks.items())), claims, state.added)
 
 
 def outcome_of(runs: Runs, words: Sequence[str], kind: Any) -> Any:
@@ -254,40 +234,53 @@ def outcome_of(runs: Runs, words: Sequence[str], kind: Any) -> Any:
         return fault
 
 
-def refusal(fault: errors.ClearingError, state: State, change: Mapping[str, Any]) -> Exception:
+def refusal(fault: errors.ClearingError, state: State, change: Mapping[str, Any], money: Money) -> Exception:
     """A fault of the program, told at a field."""
     if isinstance(fault, errors.RefusedError):
         said = f"{fault.file} row {fault.row}: {fault.kind} ({fault.number})"
-        meaning = "; ".join(filter(None, [fault.meaning, hint_of(change, fault.kind)]))
+        meaning = "; ".join(filter(None, [fault.meaning, hint_of(change, fault.kind, money)]))
         return Refused(said, meaning, states.field_of(change, fault.file, fault.kind))
     if isinstance(fault, errors.UsageError):
         words = ["cost-bounds", "--banks=b", "--debts=d", f"--keep={state.keep}"]
         said = "; ".join(what for _, what in faults_of(words)) or str(fault)
-        return Refused(said, hint_of(change, ""), states.field_of(change, "", ""))
+        return Refused(said, hint_of(change, "", money), states.field_of(change, "", ""))
     return runner.Failed(str(fault))
 
 
-def joined(keys: List[int], outside: List[int], left: List[int], stress: Stress, bounds: Bounds, costs: Optional[CostBounds] = None) -> Cleared:
-    """What the program's answers are together. What the shock leaves of the cash must be so by the program's own standings."""
+def joined(
+    keys: List[int],
+    outside: List[int],
+    left: List[int],
+    stress: Stress,
+    bounds: Bounds,
+    costs: Optional[CostBounds] = None,
+) -> Cleared:
+    """What the program's answers are together. What the shock leaves of the cash must be so by the program's own
+    standings."""
     after = stress.scenarios[0]
+    if len(after.payments) != len(keys):
+        raise runner.Failed("the program read another number of debts than there are")
     check_left(after, left)
     if bounds.payments.column("least") != after.payments.column("paid"):
         raise runner.Failed("`clearing bounds` says other least payments than `clearing stress`")
-    waves, more = bounds.waves.column("wave"), sum(bounds.payments.column("greatest")) - sum(bounds.payments.column("least"))
+    waves = bounds.waves.column("wave")
+    more = sum(bounds.payments.column("greatest")) - sum(bounds.payments.column("least"))
     if costs is None:
         banks = [
-            texts.Bank(one.bank, one.estate, due, one.outside_paid, one.paid, one.owed, one.equity, "gridlock" if stuck else one.state)
+            texts.Bank(one.bank, one.estate, due, one.outside_paid, one.paid, one.owed, one.equity,
+                       "gridlock" if stuck else one.state)
             for one, due, stuck in zip(after.standings, outside, bounds.waves.column("gridlock"))
         ]
         return Cleared(keys, after.payments, banks, left, [0] * len(banks), waves, more)
-    least, greatest = (end_at(costs, which, left, after.standings.column("owed"), outside) for which in ("least", "greatest"))
-    payments = Table(Payment, [costs.payments.column(word) for word in ("debtor", "creditor", "class", "claim", "least")])
+    owed, columns = after.standings.column("owed"), ("debtor", "creditor", "class", "claim", "least")
+    least, greatest = (end_at(costs, which, left, owed, outside) for which in ("least", "greatest"))
+    payments = Table(Payment, [costs.payments.column(word) for word in columns])
     return Cleared(keys, payments, least.banks, left, least.lost, waves, 0, greatest)
 
 
 def end_at(costs: CostBounds, which: str, left: Sequence[int], owed: Sequence[int], outside: Sequence[int]) -> End:
-    """One end where default costs. A bank's estate is its cash and its receipts; what of it is not lost, kept or paid to banks is paid
-    outside."""
+    """One end where default costs. A bank's estate is its cash and its receipts; what of it is not lost, kept or paid
+    to banks is paid outside."""
     names = costs.standings.column("bank")
     paid, received = dict.fromkeys(names, 0), dict.fromkeys(names, 0)
     for debtor, creditor, units in zip(*(costs.payments.column(word) for word in ("debtor", "creditor", which))):

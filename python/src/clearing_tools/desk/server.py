@@ -1,23 +1,30 @@
 """A desk to try things at: the network in a browser, cleared anew at every change by the program.
 
-In:   --banks, --debts   the two files of the network; they are read, and never written
+In:   FOLDER             the case; or --banks and --debts, the two files of the network; they are never written
       --scenarios        the scenarios file, whose scenarios can be chosen
-      --labels           a CSV file `code,name`: the full names of banks, shown beside the names of the files
+      --labels           a CSV file `code,name`: the full names of banks, behind which those of the files stand
+      --unit, --currency what a unit of account is worth, and in which currency, where the case does not say it
+      --title            the title of the case
+      --against          another case, such as that of another date, with which states are compared; may be said again
+      --session          a session that was saved at a desk, in place of a case
       --no-browser       opens no browser: the link is printed alone
       --idle             ends after so many minutes without a request (60)
 Out:  on standard output a line with the link to the page, which this machine alone can open
 
-In the page all cash is cut, the cash, the rule and the debts of banks are changed, a scenario is chosen, and what default keeps is set,
-which shows both ends of what clears; at each change the program clears the network again. The page adds and subtracts what the program says, and computes nothing else. Files,
-the changes as a scenario, a report and a folder of evidence are downloads.
+In the page all cash is cut, the cash, the rule and the debts of banks are changed, a scenario is chosen or built, and
+what default keeps is set, which shows both ends of what clears; at each change the program clears the network again.
+States are kept under names and compared with one another. The page adds and subtracts what the program says, and
+computes nothing else. The session, a state as a case, files, the changes as a scenario, a report and a folder of
+evidence are downloads.
 
-The link has a token of 128 bits; who does not have it is refused. The server ends at an interrupt, and leaves nothing behind. It wants
-the library bottle, Debian's package python3-bottle; the journal is played by d3, Debian's package node-d3.
+The link has a ticket of 128 bits; who does not have it is refused. The server ends at an interrupt, and leaves nothing
+behind. It wants the library bottle, Debian's package python3-bottle; the journal is played by d3, Debian's package
+node-d3.
 
 The environment variable CLEARING names the program, the repository's where it is not set.
 
-Ends with 0 at an interrupt (Ctrl-C), a request to end, and after an idle hour; 1 where the program fails; 2 where the words are not understood,
-or bottle is missing; 3 where a file cannot be read; 4 where one is refused.
+Ends with 0 at an interrupt (Ctrl-C), a request to end, and after an idle hour; 1 where the program fails; 2 where the
+words are not understood, or bottle is missing; 3 where a file cannot be read; 4 where one is refused.
 
 Example:
     tools/desk.py --banks examples/twelve-banks/banks.csv --debts examples/twelve-banks/debts.csv \\
@@ -25,34 +32,72 @@ Example:
 """
 import argparse
 import contextlib
+import importlib
+import io
 import os
 import pathlib
 import signal
+import socket
 import socketserver
-import sys
 import threading
 import time
 import webbrowser
-from typing import Any, Optional
+from typing import Any, Dict, Optional, Tuple
 from wsgiref.simple_server import WSGIRequestHandler, WSGIServer
 
-from .. import cli, runner
+from clearing_client.case import Case
+from clearing_client.errors import ClearingError
+
+from .. import cases, cli, runner
 from ..fullnames import add_labels, read_labels
+from ..money import add_money
 from ..report.gather import D3
-from ..runner import Failed, command, work_folder
-from .app import application
+from ..runner import Failed, command, lacking, work_folder
+from . import session, takeaway
+from .app import Application
 from .changes import original_of
 from .guard import Guard
 from .runs import Desk, Runs, base_of
 
-MOST_CONNECTIONS = 32
-SECONDS_OF_A_REQUEST = 20  # without a byte
+MOST_CONNECTIONS = 64
+SECONDS_OF_A_REQUEST = 10.0  # until the whole of it is there
+SECONDS_OF_A_WRITE = 20.0  # without a byte that is taken
+
+
+class Until(io.RawIOBase):
+    """What comes by a connection until a moment, however slowly it comes; then it fails."""
+
+    def __init__(self, connection: socket.socket, seconds: float) -> None:
+        self.connection, self.ends = connection, time.monotonic() + seconds
+
+    def readable(self) -> bool:
+        return True
+
+    def readinto(self, buffer: Any) -> int:
+        left = self.ends - time.monotonic()
+        if left <= 0:
+            raise socket.timeout("the request is not there in time")
+        self.connection.settimeout(left)
+        try:
+            return self.connection.recv_into(buffer)
+        finally:
+            self.connection.settimeout(SECONDS_OF_A_WRITE)
 
 
 class Handler(WSGIRequestHandler):
-    """A request. Nothing is said of it, and one that stands still ends."""
+    """A request. Nothing is said of it, and one that is not there in time ends."""
 
-    timeout = SECONDS_OF_A_REQUEST
+    timeout = SECONDS_OF_A_WRITE
+
+    def setup(self) -> None:
+        super().setup()
+        self.rfile = io.BufferedReader(Until(self.connection, SECONDS_OF_A_REQUEST))
+
+    def get_environ(self) -> Dict[str, Any]:
+        # Its head is there: it does not wait any more.
+        assert isinstance(self.server, Server)
+        self.server.is_read(self.connection)
+        return super().get_environ()
 
     def log_message(self, *_: Any) -> None:
         pass
@@ -62,14 +107,17 @@ class Handler(WSGIRequestHandler):
 
 
 class Server(socketserver.ThreadingMixIn, WSGIServer):
-    """A server for this machine alone, with room for some requests at once."""
+    """A server for this machine alone, with room for some requests at once. Where it is full, the one that has waited
+    longest for the rest of its head makes room, so that slow ones keep nobody out."""
 
     daemon_threads = True
     block_on_close = False
     request_queue_size = 128
 
     def __init__(self) -> None:
-        self.room, self.is_ending = threading.BoundedSemaphore(MOST_CONNECTIONS), False
+        self.lock = threading.Lock()
+        self.waiting: Dict[socket.socket, None] = {}  # whose head is not there yet, the oldest first
+        self.open = 0
         super().__init__(("127.0.0.1", 0), Handler)
 
     def server_bind(self) -> None:
@@ -78,18 +126,38 @@ class Server(socketserver.ThreadingMixIn, WSGIServer):
         self.server_name, self.server_port = "127.0.0.1", self.server_address[1]
         self.setup_environ()
 
+    def is_read(self, connection: socket.socket) -> None:
+        """The head of a request is there."""
+        with self.lock:
+            self.waiting.pop(connection, None)
+
+    def has_room(self, connection: socket.socket) -> bool:
+        """Whether there is room for one more, which then waits. The oldest that waits may have to end for it."""
+        with self.lock:
+            if self.open >= MOST_CONNECTIONS:
+                if not self.waiting:
+                    return False
+                oldest = next(iter(self.waiting))
+                del self.waiting[oldest]
+                with contextlib.suppress(OSError):
+                    oldest.shutdown(socket.SHUT_RDWR)
+            self.open += 1
+            self.waiting[connection] = None
+            return True
+
     def process_request(self, request: Any, client_address: Any) -> None:
-        while not self.room.acquire(timeout=0.2):
-            if self.is_ending:
-                self.shutdown_request(request)
-                return
-        super().process_request(request, client_address)
+        if self.has_room(request):
+            super().process_request(request, client_address)
+        else:
+            self.shutdown_request(request)
 
     def process_request_thread(self, request: Any, client_address: Any) -> None:
         try:
             super().process_request_thread(request, client_address)
         finally:
-            self.room.release()
+            with self.lock:
+                self.waiting.pop(request, None)
+                self.open -= 1
 
     def handle_error(self, request: Any, client_address: Any) -> None:
         """One that goes away is no fault of the desk."""
@@ -98,12 +166,9 @@ class Server(socketserver.ThreadingMixIn, WSGIServer):
 def bottle_of() -> Any:
     """The library bottle. Where it is missing the tool fails with 2 and says for which Python."""
     try:
-        import bottle
+        return importlib.import_module("bottle")
     except ImportError as fault:
-        raise Failed(
-            f"bottle is missing for {sys.executable} (Python {sys.version.split()[0]}); Debian's package python3-bottle is for"
-            " /usr/bin/python3, and for a virtual environment that was made of it with --system-site-packages", 2) from fault
-    return bottle
+        raise lacking("bottle", "desk", ", which serves the desk") from fault
 
 
 def library() -> Optional[bytes]:
@@ -122,20 +187,28 @@ def minutes(word: str) -> float:
     raise argparse.ArgumentTypeError(f"{word!r} is no number of minutes above 0")
 
 
-def words() -> argparse.Namespace:
-    parser = cli.files_parser(__doc__)
+def words() -> Tuple[argparse.ArgumentParser, argparse.Namespace]:
+    """The parser, and the words of the command line."""
+    parser = cli.case_parser(__doc__)
     parser.add_argument("--scenarios", metavar="FILE", help="the scenarios file")
     add_labels(parser)
+    add_money(parser)
+    parser.add_argument("--title", metavar="TEXT", help="the title of the case")
+    parser.add_argument("--against", metavar="FOLDER", action="append", default=[],
+                        help="another case, such as of another date, to compare with")
+    parser.add_argument("--session", metavar="FILE", help="a session that was saved, in place of a case")
     parser.add_argument("--no-browser", action="store_true", help="open no browser")
-    parser.add_argument("--idle", metavar="MINUTES", type=minutes, default=60.0, help="end after so many minutes without a request (60)")
-    return parser.parse_args()
+    parser.add_argument("--idle", metavar="MINUTES", type=minutes, default=60.0,
+                        help="end after so many minutes without a request (60)")
+    return parser, parser.parse_args()
 
 
 def open_browser(link: str, folder: str) -> None:
     """Opens the browser by a file that leads on to the link, so that the link is among no process's words."""
     path = pathlib.Path(folder) / "open.html"
     with open(os.open(path, os.O_WRONLY | os.O_CREAT | os.O_EXCL, 0o600), "w", encoding="utf-8") as file:
-        file.write(f'<!DOCTYPE html><meta charset="utf-8"><meta http-equiv="refresh" content="0;url={link}"><title>The desk</title>')
+        file.write('<!DOCTYPE html><meta charset="utf-8"><title>The desk</title>'
+                   f'<meta http-equiv="refresh" content="0;url={link}">')
     threading.Thread(target=webbrowser.open, args=(path.as_uri(),), daemon=True).start()
 
 
@@ -150,20 +223,66 @@ class Clock:
         self.last = time.monotonic()
 
 
+def desk_of(runs: Runs, case: Case) -> Desk:
+    """The desk of a case: its network as the program reads it."""
+    banks, debts = case.paths["banks"], case.paths["debts"]
+    base = base_of(runs, banks, debts, case.paths.get("scenarios"))
+    originals = {what: original_of(path) for what, path in (("banks", banks), ("debts", debts)) if os.path.isfile(path)}
+    desk = Desk(runs, base, case, originals)
+    desk.full.check((bank.name for bank in base.banks), 4)
+    for what in {"banks", "debts"} - set(originals):
+        # What can be read but once stands in the session as the program has printed it.
+        case.paths[what] = takeaway.printed_file(desk, what, runs.folder)
+    desk.files_given = {**described_files(case), **takeaway.given_files(case)}
+    return desk
+
+
+def described_files(case: Case) -> Dict[str, bytes]:
+    """The files of a case beside the network's: what it says of itself, and what its banks are called."""
+    if case.paths.get("scenarios") is not None:
+        case.scenarios = takeaway.bytes_of(case.paths["scenarios"])
+    try:
+        made = case.files()
+    except ClearingError:
+        return {}
+    return {name: data for name, data in made.items() if name not in ("banks.csv", "debts.csv")}
+
+
+def application_of(
+    bottle: Any, runs: Runs, parser: argparse.ArgumentParser, asked: argparse.Namespace, folder: str
+) -> Application:
+    """The application of the case or the session that was asked for, and of the cases beside it."""
+    document = None
+    if asked.session is not None:
+        if asked.case is not None or asked.banks is not None or asked.debts is not None:
+            parser.error("a session has its case: --session stands without FOLDER, --banks and --debts")
+        place = pathlib.Path(folder) / "session"
+        place.mkdir()
+        document = session.unpacked(asked.session, place)
+        asked.case = str(place)
+    read_labels(asked.labels, 4)  # its faults have the status of a refusal
+    desk = desk_of(runs, cases.take_case(parser, asked))
+    others = [desk_of(runs, cases.read_case(name)) for name in asked.against]
+    for name, other in zip(asked.against, others):
+        if (other.case.unit, other.case.currency) != (desk.case.unit, desk.case.currency):
+            raise Failed(f"{name}: its amounts are in another unit or currency than those of the case", 4)
+    application = Application(bottle, desk, library(), others)
+    if document is not None:
+        application.at_first = session.opened(desk, document, application.steps, application.shelf, asked.session)
+    return application
+
+
 @command("desk.py")
 def main() -> int:
-    asked = words()
+    parser, asked = words()
     bottle = bottle_of()
     # Runs go on in folders of their own.
     os.environ["CLEARING"] = runner.program()
-    full = read_labels(asked.labels, 4)
     with work_folder() as folder:
         runs = Runs(folder)
-        base = base_of(runs, asked.banks, asked.debts, asked.scenarios)
-        full.check((bank.name for bank in base.banks), 4)
-        originals = {what: original_of(path) for what, path in (("banks", asked.banks), ("debts", asked.debts)) if os.path.isfile(path)}
+        application = application_of(bottle, runs, parser, asked, folder)
         server, clock = Server(), Clock()
-        guard = Guard(application(bottle, Desk(runs, base, full, originals), library()), server.server_port, clock.asked)
+        guard = Guard(application, server.server_port, clock.asked)
         server.set_app(guard)
         serving = threading.Thread(target=server.serve_forever, args=(0.1,), daemon=True)
         try:
@@ -179,8 +298,8 @@ def main() -> int:
             # What is asked now is on its way already.
             for number in (signal.SIGINT, signal.SIGTERM):
                 signal.signal(number, signal.SIG_IGN)
+            application.questions.stop()
             runs.stop()
-            server.is_ending = True
             server.shutdown()
             server.server_close()
     return 0

@@ -1,4 +1,5 @@
-"""A state of the desk: what was changed of the network as it is, as a value that is never altered, and the files that it makes.
+"""A state of the desk: what was changed of the network as it is, as a value that is never altered, and the files that
+it makes.
 
 What is typed stands in the files as it was typed, so that the program judges it. Amounts are whole units of account."""
 import csv
@@ -6,13 +7,14 @@ import io
 import re
 from typing import Any, Dict, Iterator, List, Mapping, NamedTuple, Optional, Sequence, Tuple
 
-from clearing_client.format import MAX_CUT, MAX_KEEP
+from clearing_client.format import MAX_CUT, MAX_KEEP, MAX_LOSS, is_name
 from clearing_client.records import Bank, Debt
 from clearing_client.scenarios import Scenario, Scenarios
 
 from ..evidence import shock
 
 GROUPED = re.compile("[0-9]{1,3}(,[0-9]{3})+")
+NO_LINE = re.compile("[\x00\r\n\ud800-\udfff]")  # what no field of one line has
 MOST_LETTERS = 200  # of a field that is typed: more than any field that the program takes
 
 
@@ -25,7 +27,8 @@ class Base(NamedTuple):
 
 
 class State(NamedTuple):
-    """What was changed. `cut` and `keep` are per mille; `losses` are those of the scenario of this number, by the bank's place."""
+    """What was changed. `cut` and `keep` are per mille; `losses` are those of the scenario of this number, by the
+    bank's place."""
 
     cut: str = "0"
     keep: str = str(MAX_KEEP)
@@ -33,19 +36,28 @@ class State(NamedTuple):
     losses: Tuple[Tuple[int, int], ...] = ()
     banks: Mapping[int, Tuple[str, str, str]] = {}  # cash, rule and what is owed outside, by the bank's place
     claims: Mapping[int, Optional[str]] = {}  # of debts of the file, by their place; None where the debt is struck
-    added: Tuple[Optional[Tuple[str, str, str, str]], ...] = ()  # debtor, creditor, class, claim; None where it was struck again
+    # Debtor, creditor, class and claim of debts more; None where one was struck again.
+    added: Tuple[Optional[Tuple[str, str, str, str]], ...] = ()
 
 
 class Misformed(ValueError):
     """A change that is none: the page does not ask for such a thing."""
 
 
+class Untyped(ValueError):
+    """What was typed cannot be taken, and the program is not asked: what is said of it, and the field of the page."""
+
+    def __init__(self, said: str, field: str) -> None:
+        super().__init__(said)
+        self.said, self.field = said, field
+
+
 AS_IT_IS = State()
 
 
 def plain(text: str) -> str:
-    """A field as the program prints it, where it is a number, with or without the commas between thousands with which the page shows it; else
-    as it was typed."""
+    """A field as the program prints it, where it is a number, with or without the commas between thousands with which
+    the page shows it; else as it was typed."""
     inner = text.strip(" \t")
     if GROUPED.fullmatch(inner):
         inner = inner.replace(",", "")
@@ -63,7 +75,7 @@ def number_of(text: str) -> Optional[int]:
 def typed(change: Mapping[str, Any], name: str) -> str:
     """A text of a change, as it was typed in a field of one line."""
     value = change.get(name)
-    if not isinstance(value, str) or len(value) > MOST_LETTERS or set(value) & {"\r", "\n"}:
+    if not isinstance(value, str) or len(value) > MOST_LETTERS or NO_LINE.search(value):
         raise Misformed(f"{name} is no line of at most {MOST_LETTERS} letters")
     return plain(value)
 
@@ -144,11 +156,19 @@ def with_debt(base: Base, state: State, change: Mapping[str, Any], claim: Option
 def with_added(base: Base, state: State, change: Mapping[str, Any]) -> State:
     """A debt more."""
     debtor, creditor, rank, claim = (typed(change, name) for name in ("debtor", "creditor", "class", "claim"))
+    if not any(field.strip(" \t") for field in (debtor, creditor, rank, claim)):
+        # The program passes over a record of blanks.
+        raise Untyped("a debt has a debtor, a creditor, a class and a claim", "creditor")
     return state._replace(added=(*state.added, (debtor, creditor, rank, claim)))
 
 
 CHANGES = {
-    "cut": with_cut, "keep": with_keep, "scenario": with_scenario, "bank": with_bank, "claim": with_claim, "strike": with_struck,
+    "cut": with_cut,
+    "keep": with_keep,
+    "scenario": with_scenario,
+    "bank": with_bank,
+    "claim": with_claim,
+    "strike": with_struck,
     "add": with_added,
 }
 
@@ -172,9 +192,9 @@ def row_of(base: Base, state: State, place: int) -> Tuple[str, str, str]:
 def debts_of(base: Base, state: State) -> Iterator[Tuple[int, str, str, str, str]]:
     """The debts, each with its key: the place in the file, and behind those the place among the debts added."""
     for key, debt in enumerate(base.debts):
-        claim = state.claims.get(key, "") if state.claims else ""
+        claim = state.claims[key] if key in state.claims else str(debt.claim)
         if claim is not None:
-            yield (key, debt.debtor, debt.creditor, str(debt.class_), claim or str(debt.claim))
+            yield (key, debt.debtor, debt.creditor, str(debt.class_), claim)
     for key, record in enumerate(state.added, len(base.debts)):
         if record is not None:
             yield (key, *record)
@@ -211,7 +231,8 @@ def shock_toml(base: Base, state: State) -> bytes:
 
 
 def left_of(base: Base, state: State) -> Optional[List[int]]:
-    """What the cut and the losses leave of each bank's cash, None where a number is none. The program's word on it is compared."""
+    """What the cut and the losses leave of each bank's cash, None where a number is none. The program's word on it is
+    compared."""
     cut, banks = number_of(state.cut), list(base.banks)
     for place, row in state.banks.items():
         cash = number_of(row[0])
@@ -228,9 +249,11 @@ def left_csv(base: Base, state: State, left: Sequence[int]) -> bytes:
     return banks_csv(base, [(units, *row_of(base, state, place)[1:]) for place, units in enumerate(left)])
 
 
-def as_scenario(base: Base, state: State, left: Optional[List[int]]) -> Optional[Scenario]:
-    """The changes as one scenario, None where they are none: a scenario cuts all cash and takes cash from single banks, no more. `left`
-    is what is left of the cash."""
+def as_scenario(
+    base: Base, state: State, left: Optional[List[int]], name: str = "tried at the desk"
+) -> Optional[Scenario]:
+    """The changes as one scenario of a name, None where they are none: a scenario cuts all cash and takes cash from
+    single banks, no more. `left` is what is left of the cash."""
     touched = state.claims or any(record is not None for record in state.added) or state.keep != AS_IT_IS.keep
     if touched or any(row[1:] != row_of(base, AS_IT_IS, place)[1:] for place, row in state.banks.items()):
         return None
@@ -238,7 +261,7 @@ def as_scenario(base: Base, state: State, left: Optional[List[int]]) -> Optional
     if left is None or cut is None or any(after > before for before, after in zip(cut, left)):
         return None
     losses = {bank.name: before - after for bank, before, after in zip(base.banks, cut, left) if before != after}
-    return Scenario("tried at the desk", int(state.cut), losses) if int(state.cut) or losses else None
+    return Scenario(name, int(state.cut), losses) if int(state.cut) or losses else None
 
 
 def field_of(change: Mapping[str, Any], file: str, kind: str) -> str:
@@ -256,3 +279,106 @@ def field_of(change: Mapping[str, Any], file: str, kind: str) -> str:
 def names_of(base: Base) -> Dict[str, int]:
     """The place of each bank, by its name."""
     return {bank.name: place for place, bank in enumerate(base.banks)}
+
+
+# Scenarios that are built at the desk.
+
+
+def scenario_of(base: Base, wanted: Mapping[str, Any]) -> shock.Scenario:
+    """A scenario as the page sends it: a name, a cut, and losses as pairs of a bank's place and an amount. What the
+    program refuses of it it refuses itself; here stands what it would read as something else."""
+    name, cut, losses = typed(wanted, "name").strip(" \t"), typed(wanted, "cut"), wanted.get("losses")
+    if not is_name(name):
+        raise Untyped("a scenario has a name of 1 to 64 bytes, without comma and quote", "scenario-name")
+    if any(name == one.name for one in base.scenarios):
+        raise Untyped("there is a scenario of this name; give this one another", "scenario-name")
+    if number_of(cut) is None or int(cut) > MAX_CUT:
+        raise Untyped(f"a cut is a whole number from 0 to {MAX_CUT:,}, per mille", "scenario-cut")
+    if not isinstance(losses, list) or len(losses) > len(base.banks):
+        raise Misformed("losses are pairs of a bank and an amount")
+    found: Dict[int, int] = {}
+    for pair in losses:
+        if not isinstance(pair, list) or len(pair) != 2:
+            raise Misformed("losses are pairs of a bank and an amount")
+        place = placed({"bank": pair[0]}, "bank", len(base.banks))
+        amount = number_of(typed({"amount": pair[1]}, "amount"))
+        if place in found:
+            raise Untyped(f"{base.banks[place].name} stands there twice", "scenario-losses")
+        if amount is None or amount > MAX_LOSS:
+            raise Untyped(f"a loss is a whole number from 0 to {MAX_LOSS:,}", "scenario-losses")
+        found[place] = amount
+    if not int(cut) and not any(found.values()):
+        raise Untyped("a scenario takes cash: a cut, or a loss of a bank", "scenario-losses")
+    return shock.Scenario(name, int(cut), found)
+
+
+def scenarios_toml(base: Base, scenarios: Sequence[shock.Scenario]) -> bytes:
+    """The scenarios file of some scenarios."""
+    named = [
+        Scenario(one.name, one.cut, {base.banks[place].name: units for place, units in sorted(one.losses.items())})
+        for one in scenarios
+    ]
+    return Scenarios(named).to_toml(plain=True).encode()
+
+
+# A state as a value of JSON, for a session that is saved.
+
+
+def as_json(state: State) -> Dict[str, Any]:
+    """A state as a value of JSON; what is not changed is left out."""
+    whole = {
+        "cut": state.cut,
+        "keep": state.keep,
+        "scenario": state.scenario,
+        "losses": [list(pair) for pair in state.losses],
+        "banks": {str(place): list(row) for place, row in sorted(state.banks.items())},
+        "claims": {str(key): claim for key, claim in sorted(state.claims.items())},
+        "added": [None if record is None else list(record) for record in state.added],
+    }
+    plain_ = {"cut": "0", "keep": AS_IT_IS.keep, "scenario": 0}
+    return {key: value for key, value in whole.items() if value and value != plain_.get(key)}
+
+
+def from_json(base: Base, value: Any) -> State:
+    """The state of such a value. Fails with `Misformed` where it is none."""
+    keys = {"cut", "keep", "scenario", "losses", "banks", "claims", "added"}
+    if not isinstance(value, dict) or not set(value) <= keys:
+        raise Misformed("a state has other keys")
+    banks, claims = value.get("banks", {}), value.get("claims", {})
+    added, losses = value.get("added", []), value.get("losses", [])
+    if not all(isinstance(part, kind) for part, kind in ((banks, dict), (claims, dict), (added, list), (losses, list))):
+        raise Misformed("a state has a part of another kind")
+    return State(
+        cut=typed({"cut": value.get("cut", "0")}, "cut"),
+        keep=typed({"keep": value.get("keep", AS_IT_IS.keep)}, "keep"),
+        scenario=placed({"scenario": value.get("scenario", 0)}, "scenario", len(base.scenarios) + 1),
+        losses=tuple(pair_of(base, pair) for pair in losses),
+        banks={key_of(place, len(base.banks)): texts_of(row, 3) for place, row in banks.items()},
+        claims={
+            key_of(key, len(base.debts)): None if claim is None else typed({"claim": claim}, "claim")
+            for key, claim in claims.items()
+        },
+        added=tuple(None if record is None else texts_of(record, 4) for record in added),
+    )
+
+
+def pair_of(base: Base, pair: Any) -> Tuple[int, int]:
+    """A loss: the bank's place, and the units."""
+    if not isinstance(pair, list) or len(pair) != 2:
+        raise Misformed("a loss is no pair")
+    return placed({"bank": pair[0]}, "bank", len(base.banks)), placed({"amount": pair[1]}, "amount", MAX_LOSS + 1)
+
+
+def key_of(key: str, count: int) -> int:
+    """A place that stands as a key of JSON."""
+    number = number_of(key)
+    if number is None or number >= count:
+        raise Misformed("a key is no place")
+    return number
+
+
+def texts_of(row: Any, count: int) -> Any:
+    """So many texts, as they were typed."""
+    if not isinstance(row, list) or len(row) != count:
+        raise Misformed("a row has another length")
+    return tuple(typed({"field": field}, "field") for field in row)

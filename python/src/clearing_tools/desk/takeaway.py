@@ -1,93 +1,187 @@
-"""What one takes away from the desk: the two files of a state, the changes as a scenario, the report, and the folder of evidence."""
-import io
+"""What one takes away from the desk: the two files of a state, the changes as a scenario, the scenarios file, the state
+as a case, the session, the report, and the folder of evidence."""
 import pathlib
 import sys
-import zipfile
-from typing import List, Tuple
+import tempfile
+from typing import Any, Callable, Dict, List, Optional
 
+from clearing_client.case import Case
+from clearing_client.description import Origin
+from clearing_client.format import is_name
+from clearing_client.network import Network
 from clearing_client.scenarios import Scenarios
 
 from .. import runner
 from ..fullnames import text_of
-from . import changes
+from . import changes, session, view
 from . import state as states
 from .runs import AT_ONCE, Desk, Place
 from .state import State
+from .steps import Shelf, Steps
 
 SOURCES = str(pathlib.Path(__file__).resolve().parents[2])
+ZIP, CSV, TOML = "application/zip", "text/csv; charset=utf-8", "application/toml; charset=utf-8"
 KINDS = {
-    "banks": ("banks.csv", "text/csv; charset=utf-8"),
-    "debts": ("debts.csv", "text/csv; charset=utf-8"),
-    "scenario": ("changes.toml", "application/toml; charset=utf-8"),
+    "banks": ("banks.csv", CSV),
+    "debts": ("debts.csv", CSV),
+    "scenario": ("changes.toml", TOML),
+    "scenarios": ("scenarios.toml", TOML),
+    "case": ("case.zip", ZIP),
+    "session": ("session.zip", ZIP),
     "report": ("report.html", "text/html; charset=utf-8"),
-    "evidence": ("evidence.zip", "application/zip"),
+    "evidence": ("evidence.zip", ZIP),
 }
 
 
-def taken(desk: Desk, state: State, what: str) -> Tuple[bytes, str, str]:
-    """The content of a download, its name and its kind."""
-    name, kind = KINDS[what]
-    if what == "scenario":
-        scenario = states.as_scenario(desk.base, state, states.left_of(desk.base, state))
+class Taken:
+    """What is taken away from a session."""
+
+    def __init__(self, desk: Desk, steps: Steps, shelf: Shelf) -> None:
+        self.desk, self.steps, self.shelf = desk, steps, shelf
+
+    def content(self, number: int, state: State, what: str) -> bytes:
+        """A download of a state."""
+        if what == "session":
+            return session.saved(self.desk, self.desk.files_given, self.steps, self.shelf, number)
+        if what == "scenario":
+            return self.changes_toml(state)
+        if what == "scenarios":
+            return self.source(None) + states.scenarios_toml(self.desk.base, self.desk.base.scenarios)
+        with Place(self.desk.runs) as place:
+            self.desk.files(place, state)
+            make: Dict[str, Callable[[Place, State], bytes]] = {
+                "case": self.case, "report": self.report, "evidence": self.evidence,
+            }
+            return make[what](place, state) if what in make else (place.path / f"{what}.csv").read_bytes()
+
+    def name_of(self, state: State) -> str:
+        """The name under which a state is kept, or words for one that is not."""
+        named = (one.name for one in self.shelf.kept[1:] if self.steps.state(self.desk.base, one.state) == state)
+        return next(named, "") or ("As it is" if state == states.AS_IT_IS else "Tried at the desk")
+
+    def source(self, state: Optional[State]) -> bytes:
+        """Comments at the head of a file of scenarios: of which program, case and files it is, and of which state where
+        it is of one."""
+        what = [self.desk.case.title or "A network"]
+        if self.desk.case.as_of is not None:
+            what.append(f"as of {self.desk.case.as_of.isoformat()}")
+        if state is not None:
+            what.append(f"the state “{self.name_of(state)}”")
+        lines = [f"Source: {view.program_called()}, the desk. {', '.join(what)}."]
+        lines += [f"{name}.csv has the SHA-256 {one.digest}." for name, one in self.desk.originals.items()]
+        # A title may have lines: here it is in one.
+        head = "".join(f"# {runner.shown(' '.join(line.split()))}\n" for line in lines)
+        return head.encode("utf-8", "backslashreplace")
+
+    def changes_toml(self, state: State) -> bytes:
+        """The changes as a scenario. Fails where they are none."""
+        name = self.name_of(state)
+        scenario = states.as_scenario(self.desk.base, state, states.left_of(self.desk.base, state),
+                                      name if is_name(name) else "tried at the desk")
         if scenario is None:
             raise runner.Failed("the changes are no scenario: a scenario takes cash, and nothing else")
-        return Scenarios([scenario]).to_toml(plain=True).encode(), name, kind
-    with Place(desk.runs) as place:
-        desk.files(place, state)
-        if what == "report":
+        return self.source(state) + Scenarios([scenario]).to_toml(plain=True).encode()
+
+    def case(self, place: Place, state: State) -> bytes:
+        """The state as a case, in an archive: the files with what the shock leaves, and what was changed."""
+        before = self.desk.case
+        title = f"{before.title or 'A network'}: {self.name_of(state)}"
+        hashes = {f"{what}.csv": f"sha256:{original.digest}" for what, original in self.desk.originals.items()}
+        made = Case(
+            Network(str(place.path / "banks.csv"), str(place.path / "debts.csv")),
+            title=title,
+            description=before.description,
+            as_of=before.as_of,
+            test=before.test,
+            currency=before.currency,
+            unit=before.unit,
+            limits=before.limits,
+            keep=int(state.keep) if state.keep != states.AS_IT_IS.keep else before.keep,
+            labels=before.labels,
+            contributors=before.contributors,
+            sources=before.sources,
+            origin=Origin(before.title, hashes, tuple(changes.in_words(self.desk.base, state))),
+        )
+        return session.archive_of({f"case/{name}": data for name, data in made.files().items()})
+
+    def report(self, place: Place, state: State) -> bytes:
+        """The report on the state."""
+        desk, words = self.desk, ["--banks", "banks.csv", "--debts", "debts.csv"]
+        if desk.full.full:
             (place.path / "labels.csv").write_text(text_of(desk.full), encoding="utf-8")
-            labels = ["--labels", "labels.csv"] if desk.full.full else []
-            costs = ["--default-keeps", state.keep] if state.keep != states.AS_IT_IS.keep else []
-            made(desk, place, "report.gather", ["--banks", "banks.csv", "--debts", "debts.csv", *labels, *costs, *told(desk, place, state),
-                                                "--title", "Tried at the desk", "--out", name])
-        if what == "evidence":
-            made(desk, place, "evidence.evidence", ["make", "evidence", *evident(desk, place, state), *told(desk, place, state)])
-            return archive(place.path, "evidence"), name, kind
-        return (place.path / name).read_bytes(), name, kind
+            words += ["--labels", "labels.csv"]
+        if state.keep != states.AS_IT_IS.keep:
+            words += ["--default-keeps", state.keep]
+        if desk.money.unit is not None:
+            words += ["--unit", f"{desk.money.unit:f}"]
+        if desk.money.currency is not None:
+            words += ["--currency", desk.money.currency]
+        title = self.name_of(state)
+        words += ["--title", f"{desk.case.title}: {title}" if desk.case.title else title, "--out", "report.html"]
+        self.made(place, "report.gather", [*words, *self.told(place, state)])
+        return (place.path / "report.html").read_bytes()
+
+    def evidence(self, place: Place, state: State) -> bytes:
+        """The folder of evidence of the state, in an archive."""
+        words = ["make", "evidence", *self.evident(place, state), *self.told(place, state)]
+        self.made(place, "evidence.evidence", words)
+        top = place.path
+        paths = [path for path in sorted((top / "evidence").rglob("*")) if path.is_file()]
+        return session.archive_of({path.relative_to(top).as_posix(): path.read_bytes() for path in paths})
+
+    def told(self, place: Place, state: State) -> List[str]:
+        """The changes in words, as words of a tool; none where nothing was changed."""
+        if not changes.in_words(self.desk.base, state):
+            return []
+        text = changes.text_of(self.desk.base, state, self.desk.originals)
+        place.put("changes.txt", text.encode("utf-8", "backslashreplace"))
+        return ["--changes", "changes.txt"]
+
+    def evident(self, place: Place, state: State) -> List[str]:
+        """The files of the evidence, as words: the files as they were given with the changes as a scenario, where they
+        are one, or where nothing was changed; else those of the state."""
+        desk, files = self.desk, ["--banks", "banks.csv", "--debts", "debts.csv"]
+        scenario = states.as_scenario(desk.base, state, states.left_of(desk.base, state))
+        if scenario is None and changes.in_words(desk.base, state):
+            return files
+        desk.files(place, states.AS_IT_IS)
+        for what, original in desk.originals.items():
+            content = changes.content_of(original)
+            if content is not None:
+                place.put(f"{what}.csv", content)
+        if scenario is None:
+            return files
+        place.put("changes.toml", self.changes_toml(state))
+        return [*files, "--scenarios", "changes.toml"]
+
+    def made(self, place: Place, module: str, words: List[str]) -> None:
+        """Runs one of the tools in the folder of the files, on as many processors as the desk has runs at once."""
+        script = (f"import os; os.sched_setaffinity(0, sorted(os.sched_getaffinity(0))[:{AT_ONCE}]); "
+                  f"from clearing_tools.{module} import main; main()")
+        command = ["env", f"PYTHONPATH={SOURCES}", sys.executable, "-B", "-c", script, *words]
+        status, _, messages = self.desk.runs.alone(command, str(place.path))
+        if status:
+            raise runner.Failed(messages.decode("utf-8", "replace").strip() or f"a tool ended with {status}")
 
 
-def told(desk: Desk, place: Place, state: State) -> List[str]:
-    """The changes in words, as words of a tool; none where nothing was changed."""
-    if not changes.in_words(desk.base, state):
-        return []
-    place.put("changes.txt", changes.text_of(desk.base, state, desk.originals).encode("utf-8", "backslashreplace"))
-    return ["--changes", "changes.txt"]
+def printed_file(desk: Desk, what: str, folder: str) -> str:
+    """The name of a file with the banks or the debts, as the program has read them."""
+    base, path = desk.base, pathlib.Path(tempfile.mkdtemp(dir=folder)) / f"{what}.csv"
+    rows = [states.row_of(base, states.AS_IT_IS, place) for place in range(len(base.banks))]
+    debts = list(states.debts_of(base, states.AS_IT_IS))
+    path.write_bytes(states.banks_csv(base, rows) if what == "banks" else states.debts_csv(debts))
+    return str(path)
 
 
-def evident(desk: Desk, place: Place, state: State) -> List[str]:
-    """The files of the evidence, as words: the files as they were given with the changes as a scenario, where they are one, or where nothing
-    was changed; else those of the state."""
-    files = ["--banks", "banks.csv", "--debts", "debts.csv"]
-    scenario = states.as_scenario(desk.base, state, states.left_of(desk.base, state))
-    if scenario is None and changes.in_words(desk.base, state):
-        return files
-    desk.files(place, states.AS_IT_IS)
-    for what, original in desk.originals.items():
-        content = changes.content_of(original)
-        if content is not None:
-            place.put(f"{what}.csv", content)
-    if scenario is None:
-        return files
-    place.put("changes.toml", Scenarios([scenario]).to_toml(plain=True).encode())
-    return [*files, "--scenarios", "changes.toml"]
+def bytes_of(path: Optional[str]) -> Optional[bytes]:
+    """What a file has, where there is one; None of what can be read but once."""
+    if path is None or not pathlib.Path(path).is_file():
+        return None
+    return pathlib.Path(path).read_bytes()
 
 
-def made(desk: Desk, place: Place, module: str, words: List[str]) -> None:
-    """Runs one of the tools in the folder of the files."""
-    # It runs as many at once as it has processors.
-    script = f"import os; os.sched_setaffinity(0, sorted(os.sched_getaffinity(0))[:{AT_ONCE}]); from clearing_tools.{module} import main; main()"
-    status, _, messages = desk.runs.alone(["env", f"PYTHONPATH={SOURCES}", sys.executable, "-B", "-c", script, *words], str(place.path))
-    if status:
-        raise runner.Failed(messages.decode("utf-8", "replace").strip() or f"a tool ended with {status}")
-
-
-def archive(top: pathlib.Path, folder: str) -> bytes:
-    """A folder as a zip archive, with one date for all its files."""
-    content = io.BytesIO()
-    with zipfile.ZipFile(content, "w", zipfile.ZIP_DEFLATED) as file:
-        for path in sorted((top / folder).rglob("*")):
-            if path.is_file():
-                entry = zipfile.ZipInfo(path.relative_to(top).as_posix(), (1980, 1, 1, 0, 0, 0))
-                entry.compress_type, entry.external_attr = zipfile.ZIP_DEFLATED, 0o644 << 16
-                file.writestr(entry, path.read_bytes())
-    return content.getvalue()
+def given_files(case: Case) -> Dict[str, Any]:
+    """The files of a case by their names, as they are now."""
+    names = {"banks": "banks.csv", "debts": "debts.csv", "scenarios": "scenarios.toml"}
+    found = {name: bytes_of(case.paths.get(what)) for what, name in names.items()}
+    return {name: data for name, data in found.items() if data is not None}

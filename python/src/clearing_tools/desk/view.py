@@ -1,51 +1,105 @@
-"""What the page is sent: a state as the program clears it, a bank with its debts, and why it is in default. All amounts are the program's."""
-import json
-from collections import deque
+"""What the page is sent: the network, a state as the program clears it, and a bank with its debts and its account. All
+amounts are the program's, in units of account."""
+from decimal import Decimal
 from types import SimpleNamespace
-from typing import Any, Dict, List, Optional, Sequence, Tuple
+from typing import Any, Dict, List, Sequence
 
-from clearing_client.format import RULES
+from clearing_client.format import MAX_LOSS, RULES
 
-from .. import texts
+from .. import runner, texts
 from ..drawing import network
-from ..fullnames import FullNames
-from ..money import Money
-from ..report import gather, page
+from ..report import journal, player
+from . import account
 from . import state as states
-from .runs import Cleared, Desk, Place, lines_from
+from .runs import Cleared, Desk, Place
 from .state import Base, State
 
 
-def network_view(base: Base, full: FullNames, has_d3: bool) -> Dict[str, Any]:
-    """What stays as it is while the desk is there."""
+def network_view(desk: Desk, others: Sequence[Desk], has_d3: bool) -> Dict[str, Any]:
+    """What stays as it is while the desk is there. Names that are shown have signs that are not seen as codes."""
+    base, case = desk.base, desk.case
     return {
         "names": [bank.name for bank in base.banks],
-        "labels": [full.of(bank.name) for bank in base.banks],
-        "debts": len(base.debts),
-        "scenarios": [scenario.name for scenario in base.scenarios],
+        "codes": [runner.shown(bank.name) for bank in base.banks],
+        "shown": short_names(desk),
+        "labels": [runner.shown(desk.full.of(bank.name)) for bank in base.banks],
+        "groups": [runner.shown(case.label(bank.name).group) for bank in base.banks],
+        "debtors": places_of(desk, 0),
+        "creditors": places_of(desk, 1),
+        "claims": [debt.claim for debt in base.debts],
+        "scenarios": scenarios_view(desk),
         "rules": list(RULES),
         "player": has_d3,
+        "program": program_called(),
+        "title": runner.shown(case.title),
+        "asOf": case.as_of.isoformat() if case.as_of else "",
+        "test": case.test or "",
+        "unit": f"{desk.money.unit or Decimal(1):f}",
+        "currency": desk.money.currency or "",
+        "hasUnit": desk.money.unit is not None or desk.money.currency is not None,
+        "notes": [runner.shown(note) for note in case.notes],
+        "others": [other_view(other) for other in others],
+        "mostLoss": MAX_LOSS,
     }
 
 
-def drawing_of(found: Cleared, full: FullNames) -> Tuple[str, network.Drawn]:
-    """The network drawn, as the report has it: a graph or a matrix."""
-    place = {bank.name: at for at, bank in enumerate(found.banks)}
-    flows = texts.flows_of(found.payments, found.banks)
-    form = "graph" if network.is_small(flows, found.banks) else "matrix"
-    return form, network.drawing_of(flows, found.banks, Money(), form, lambda bank: f"bank-{place[bank.name]}", full)
+def program_called() -> str:
+    """What the program is called, with its version where that is known."""
+    try:
+        version = (runner.ROOT / "VERSION").read_text(encoding="utf-8").strip()
+    except OSError:
+        version = ""
+    return f"clearing {version}".strip()
 
 
-def picture_of(found: Cleared, full: FullNames) -> Dict[str, Any]:
-    """The network drawn and its legend, for the page."""
-    form, drawn = drawing_of(found, full)
-    return {"form": form, "box": [round(part) for part in drawn.box], "body": drawn.body, "legend": drawn.legend}
+def short_names(desk: Desk) -> List[str]:
+    """What the banks are called in pictures and sentences: by their short labels, where no two are called the same, else
+    by their full names, as in the report."""
+    full = [desk.full(bank.name) for bank in desk.base.banks]
+    short = [desk.case.label(bank.name).short or name for bank, name in zip(desk.base.banks, full)]
+    return [runner.shown(name) for name in (short if len(set(short)) == len(short) else full)]
 
 
-def state_view(base: Base, state: State, found: Cleared, full: FullNames) -> Dict[str, Any]:
+def other_view(desk: Desk) -> Dict[str, Any]:
+    """Another case, which states can be held against: the names of its banks, and what it is called."""
+    return {
+        "title": runner.shown(desk.case.title) or "another case",
+        "asOf": desk.case.as_of.isoformat() if desk.case.as_of else "",
+        "names": [bank.name for bank in desk.base.banks],
+        "shown": [runner.shown(desk.full(bank.name)) for bank in desk.base.banks],
+        "debtors": places_of(desk, 0),
+        "creditors": places_of(desk, 1),
+        "claims": [debt.claim for debt in desk.base.debts],
+        "unit": f"{desk.money.unit or Decimal(1):f}",
+        "currency": desk.money.currency or "",
+    }
+
+
+def places_of(desk: Desk, side: int) -> List[int]:
+    """The place of each debt's debtor, or of its creditor."""
+    places = states.names_of(desk.base)
+    return [places[debt.creditor if side else debt.debtor] for debt in desk.base.debts]
+
+
+def scenarios_view(desk: Desk) -> List[Dict[str, Any]]:
+    """The scenarios of the file, and behind them those that were built here."""
+    return [
+        {
+            "name": runner.shown(one.name),
+            "cut": one.cut,
+            "losses": sorted(one.losses.items()),
+            "isBuilt": at >= desk.given,
+        }
+        for at, one in enumerate(desk.base.scenarios)
+    ]
+
+
+def state_view(desk: Desk, state: State, found: Cleared) -> Dict[str, Any]:
     """A state: what was changed, and a list over the banks for each thing that the program says of them."""
+    base = desk.base
     rows = [states.row_of(base, state, place) for place in range(len(base.banks))]
     scenario = states.as_scenario(base, state, found.left)
+    is_whole = len(found.keys) == len(base.debts) and not state.added and None not in state.claims.values()
     return {
         "cut": int(state.cut),
         "keep": int(state.keep),
@@ -61,9 +115,11 @@ def state_view(base: Base, state: State, found: Cleared, full: FullNames) -> Dic
         "wave": found.waves,
         "more": found.more,
         "debts": len(found.keys),
+        # What is paid of each debt; the keys of the debts where they are not those of the files in order.
+        "keys": None if is_whole else found.keys,
+        "flows": found.payments.column("paid"),
         "changedDebts": changed_debts(base, state),
         "isScenario": scenario is not None,
-        "picture": picture_of(found, full),
     }
 
 
@@ -80,91 +136,46 @@ def end_view(banks: Sequence[texts.Bank], lost: Sequence[int]) -> Dict[str, Any]
 
 
 def changed_debts(base: Base, state: State) -> List[List[Any]]:
-    """The debts that were changed, struck or added: key, debtor, creditor, class, the claim before and now, None where there is none."""
+    """The debts that were changed, struck or added: key, the places of debtor and creditor, class, the claim before and
+    now, None where there is none."""
     found: List[List[Any]] = []
+    places = states.names_of(base)
     for key, claim in sorted(state.claims.items()):
         debt = base.debts[key]
-        found.append([key, debt.debtor, debt.creditor, debt.class_, debt.claim, None if claim is None else int(claim)])
+        now = None if claim is None else int(claim)
+        found.append([key, places[debt.debtor], places[debt.creditor], debt.class_, debt.claim, now])
     for key, record in enumerate(state.added, len(base.debts)):
         if record is not None:
-            found.append([key, record[0], record[1], int(record[2]), None, int(record[3])])
+            debtor, creditor, rank, claim = (field.strip(" \t") for field in record)
+            found.append([key, places[debtor], places[creditor], int(rank), None, int(claim)])
     return found
 
 
 def bank_view(base: Base, found: Cleared, bank: int) -> Dict[str, Any]:
-    """The debts of a bank and those to it, each as key, the other bank's place, class, claim and paid; and why it is in default."""
-    names, name = states.names_of(base), base.banks[bank].name
-    owes, is_owed = [], []
-    for key, debt in lines_from(found):
-        if debt.debtor == name:
-            owes.append([key, names[debt.creditor], debt.class_, debt.claim, debt.paid])
-        if debt.creditor == name:
-            is_owed.append([key, names[debt.debtor], debt.class_, debt.claim, debt.paid])
-    return {"owes": owes, "owed": is_owed, "why": why(found, bank)}
-
-
-# Why a bank is in default.
-
-
-def unpaid_to(found: Cleared) -> Dict[str, List[Tuple[str, int, int]]]:
-    """For each bank the debtors that leave something unpaid to it, with the claim and what is paid, the most unpaid first."""
-    pairs: Dict[Tuple[str, str], Tuple[int, int]] = {}
-    for debt in found.payments:
-        if debt.paid < debt.claim:
-            claim, paid = pairs.get((debt.creditor, debt.debtor), (0, 0))
-            pairs[debt.creditor, debt.debtor] = claim + debt.claim, paid + debt.paid
-    short: Dict[str, List[Tuple[str, int, int]]] = {}
-    for (creditor, debtor), (claim, paid) in sorted(pairs.items(), key=lambda item: item[1][1] - item[1][0]):
-        short.setdefault(creditor, []).append((debtor, claim, paid))
-    return short
-
-
-def why(found: Cleared, bank: int) -> Optional[Dict[str, Any]]:
-    """The unpaid claims from a bank in default back to one that is so by its own fundamentals, a step each: debtor, creditor, claim, paid.
-    Where there is none such, the ring in which each waits for the one before. None for a bank that is sound."""
-    start = found.banks[bank].name
-    state_of = {each.name: each.state for each in found.banks}
-    place = {each.name: at for at, each in enumerate(found.banks)}
-    if state_of[start] in ("sound", "fundamental"):
-        return None if state_of[start] == "sound" else {"kind": "fundamental", "steps": []}
-    short = unpaid_to(found)
-    ways = [("path", lambda name: state_of[name] == "fundamental"), ("ring", lambda name: name == start)]
-    for kind, ends in ways[::-1] if state_of[start] == "gridlock" else ways:
-        steps = path_back(short, start, ends)
-        if steps:
-            return {"kind": kind, "steps": [[place[debtor], place[creditor], claim, paid] for debtor, creditor, claim, paid in steps]}
-    return {"kind": "none", "steps": []}
-
-
-def path_back(short: Dict[str, List[Tuple[str, int, int]]], start: str, ends: Any) -> Sequence[Tuple[str, str, int, int]]:
-    """The shortest path of unpaid claims from a bank back to one at which it ends; of two the larger unpaid claim comes first."""
-    came: Dict[str, Tuple[str, str, int, int]] = {}
-    waiting = deque([start])
-    while waiting:
-        creditor = waiting.popleft()
-        for debtor, claim, paid in short.get(creditor, []):
-            if debtor in came:
-                continue
-            came[debtor] = (debtor, creditor, claim, paid)
-            if ends(debtor):
-                return steps_to(came, debtor, start)
-            waiting.append(debtor)
-    return []
-
-
-def steps_to(came: Dict[str, Tuple[str, str, int, int]], last: str, start: str) -> List[Tuple[str, str, int, int]]:
-    """The steps from the start to the last bank, by the step with which each was reached."""
-    steps = [came[last]]
-    while steps[-1][1] != start:
-        steps.append(came[steps[-1][1]])
-    return steps[::-1]
+    """The debts of a bank and those to it, each as key, the other's place, class, claim and paid; and its account."""
+    owes, owed = account.debts_by(base, found)
+    return {
+        "owes": [[key, creditor, *rest] for key, _, creditor, *rest in owes.get(bank, [])],
+        "owed": [[key, debtor, *rest] for key, debtor, _, *rest in owed.get(bank, [])],
+        "account": account.account_by(base, found, bank, owes, owed.get(bank, [])).view(),
+    }
 
 
 # The journal.
 
 
+def drawing_of(desk: Desk, found: Cleared) -> Any:
+    """The network drawn, as the report has it, for the player: its form, and the drawing."""
+    place = {bank.name: at for at, bank in enumerate(found.banks)}
+    flows = texts.flows_of(found.payments, found.banks)
+    form = "graph" if network.is_small(flows, found.banks) else "matrix"
+    link = lambda bank: f"bank-{place[bank.name]}"  # noqa: E731
+    return form, network.drawing_of(flows, found.banks, desk.money, form, link, desk.full)
+
+
 def journal_view(desk: Desk, state: State) -> Dict[str, Any]:
-    """The journal of a state for the player, and the picture that it plays in. It is that of the clearing without costs of default."""
+    """The journal of a state for the player, and the picture that it plays in. It is that of the clearing without costs
+    of default."""
     state = state._replace(keep=states.AS_IT_IS.keep)
     found = desk.cleared(state)
     with Place(desk.runs) as folder:
@@ -172,8 +183,23 @@ def journal_view(desk: Desk, state: State) -> Dict[str, Any]:
         path = folder.path / "journal.csv"
         path.write_bytes(desk.runs.answer(words))
         keys = {(debt.debtor, debt.creditor, str(debt.class_)): at for at, debt in enumerate(found.payments)}
-        frames = gather.frames_of(gather.read_journal(path, keys))
+        frames = journal.frames_of(journal.read_journal(path, keys))
     place = {bank.name: at for at, bank in enumerate(found.banks)}
     cash = {bank.name: left for bank, left in zip(found.banks, found.left)}
-    matter = SimpleNamespace(money=Money(), place=place, banks=found.banks, cash=cash, debts=found.payments, frames=frames, full=desk.full)
-    return {"picture": picture_of(found, desk.full), "data": json.loads(page.data_of(matter, drawing_of(found, desk.full)[1], []))}
+    form, drawn = drawing_of(desk, found)
+    matter = SimpleNamespace(
+        money=desk.money,
+        place=place,
+        banks=found.banks,
+        cash=cash,
+        debts=found.payments,
+        frames=frames,
+        names=desk.full,
+    )
+    picture = {"form": form, "box": [round(part) for part in drawn.box], "body": drawn.body}
+    return {"picture": picture, "data": player.data_of(matter, drawn)}
+
+
+def kept_view(kept: Sequence[Any]) -> List[Dict[str, Any]]:
+    """The states that are kept under names."""
+    return [one._asdict() for one in kept]

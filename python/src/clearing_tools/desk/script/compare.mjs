@@ -1,7 +1,7 @@
 // A state against another: who falls or is saved, what each pays and keeps more or less. It adds and subtracts, and does nothing else.
-import { apart, listed, word } from "./numbers.mjs";
+import { listed, word } from "./numbers.mjs";
 
-const isSound = (state) => state === "sound";
+export const isSound = (state) => state === "sound" || state === "absent";
 const places = (view) => view.state.map((_, bank) => bank);
 const sum = (values) => values.reduce((all, value) => all + value, 0);
 
@@ -16,6 +16,9 @@ export const paysOf = (view, bank) => view.paid[bank] + view.outsidePaid[bank];
 
 /** All that a bank owes, outside and to banks. */
 export const owesOf = (view, bank) => view.owed[bank] + view.outside[bank];
+
+/** All that a bank owes and leaves unpaid. */
+export const unpaidOf = (view, bank) => owesOf(view, bank) - paysOf(view, bank);
 
 /** The sums of a state. */
 export const sums = (view) => {
@@ -37,40 +40,54 @@ export const atGreatest = (view) => (view.greatest ? { ...view, ...view.greatest
 /** The banks that are in default at the least payments that clear, and sound at the greatest. */
 export const soundAtGreatest = (view) => (view.greatest ? saved(view, atGreatest(view)) : []);
 
-/** A row for each bank that is another than before, those that fall first, then those saved, then by how much is paid more or less. */
-export const rows = (before, now) => {
-  const rank = (bank) => (isSound(before.state[bank]) === isSound(now.state[bank]) ? 2 : isSound(now.state[bank]) ? 1 : 0);
-  return places(now)
-    .map((bank) => ({
-      bank,
-      was: before.state[bank],
-      is: now.state[bank],
-      rank: rank(bank),
-      pays: paysOf(now, bank),
-      paysMore: paysOf(now, bank) - paysOf(before, bank),
-      keeps: now.equity[bank],
-      keepsMore: now.equity[bank] - before.equity[bank],
-    }))
-    .filter((row) => row.was !== row.is || row.paysMore || row.keepsMore)
-    .sort((one, other) => one.rank - other.rank || Math.abs(other.paysMore) - Math.abs(one.paysMore)
-      || Math.abs(other.keepsMore) - Math.abs(one.keepsMore) || one.bank - other.bank);
+/** A row for each bank: how it stood and stands, and what of it is unpaid and kept. */
+export const rows = (before, now) => places(now).map((bank) => ({
+  bank,
+  was: before.state[bank],
+  is: now.state[bank],
+  unpaidBefore: unpaidOf(before, bank),
+  unpaid: unpaidOf(now, bank),
+  unpaidMore: unpaidOf(now, bank) - unpaidOf(before, bank),
+  keepsBefore: before.equity[bank],
+  keeps: now.equity[bank],
+  keepsMore: now.equity[bank] - before.equity[bank],
+}));
+
+const ORDERS = {
+  bank: (row) => row.bank,
+  state: (row) => ["fundamental", "contagion", "gridlock", "sound", "absent"].indexOf(row.is),
+  unpaidBefore: (row) => -row.unpaidBefore,
+  unpaid: (row) => -row.unpaid,
+  unpaidMore: (row) => -row.unpaidMore,
+  keepsBefore: (row) => -row.keepsBefore,
+  keeps: (row) => -row.keeps,
+  keepsMore: (row) => row.keepsMore,
 };
 
-/** A sentence for banks. */
-const sentence = (banks, names, one, several) => {
-  if (!banks.length) return "";
-  const counted = banks.length === 1 ? `one bank ${one}` : `${word(banks.length)} banks ${several}`;
-  return `${counted[0].toUpperCase()}${counted.slice(1)}: ${listed(banks.map((bank) => apart(names[bank])))}.`;
+/** Rows in an order: by a column, from its far end where `turned`; of equal ones that with more of a difference comes first. */
+export const sorted = (found, key, turned) => {
+  const of = ORDERS[key], sign = turned ? -1 : 1;
+  return [...found].sort((one, other) => sign * (of(one) - of(other)) || Math.abs(other.unpaidMore) - Math.abs(one.unpaidMore)
+    || Math.abs(other.unpaid) - Math.abs(one.unpaid) || Math.abs(other.keepsMore) - Math.abs(one.keepsMore) || one.bank - other.bank);
 };
 
-/** What is told of a state against another, for everyone and for screen readers. */
-export const told = (before, now, names) => {
-  const parts = [sentence(fallen(before, now), names, "falls", "fall"), sentence(saved(before, now), names, "is saved", "are saved")];
-  if (!parts.some(Boolean)) parts.push(rows(before, now).length ? "No bank falls and none is saved; payments change." : "All is as it is.");
-  const sound = soundAtGreatest(now);
-  if (sound.length) parts.push(`At the greatest payments that clear, ${word(sound.length)} of those in default ${sound.length === 1 ? "is" : "are"} sound: `
-    + `${listed(sound.map((bank) => apart(names[bank])))}.`);
-  return parts.filter(Boolean).join(" ");
+/** Whether anything of a row is another than before. */
+export const differs = (row) => row.was !== row.is || row.unpaidMore !== 0 || row.keepsMore !== 0;
+
+/** The title of a state against another. `name` gives a bank's name in a sentence, `say` an amount. */
+export const told = (before, now, isSame, name, say) => {
+  const is = sums(now), more = is.unpaid - sums(before).unpaid;
+  if (isSame) {
+    const count = is.defaults ? `${word(is.defaults)} of ${word(now.state.length)} banks` : "No bank";
+    return `${count[0].toUpperCase()}${count.slice(1)} ${is.defaults === 1 || !is.defaults ? "is" : "are"} in default; ${say(is.unpaid)} stays unpaid`;
+  }
+  const falls = fallen(before, now), rises = saved(before, now), parts = [];
+  if (falls.length) parts.push(`${listed(falls.map(name), 3)} ${falls.length === 1 ? "joins" : "join"} those in default`);
+  if (rises.length) parts.push(`${listed(rises.map(name), 3)} ${rises.length === 1 ? "is" : "are"} in default no more`);
+  if (!parts.length && !rows(before, now).some(differs)) return "Nothing differs";
+  if (!parts.length) parts.push(is.defaults ? "The same banks are in default" : "No bank is in default");
+  parts.push(more ? `${say(Math.abs(more))} ${more > 0 ? "more" : "less"} stays unpaid` : "as much stays unpaid");
+  return parts.join("; ");
 };
 
 /** What was changed of the banks: the bank, the field, before and now. */
@@ -85,4 +102,19 @@ export const whyNoScenario = (before, now) => {
     ["what default keeps", before.keep !== now.keep], ["cash that is more than before", now.left.some((units, bank) => units > before.left[bank])]];
   const said = reasons.filter(([, holds]) => holds).map(([words]) => words);
   return said.length ? `No changes.toml: a scenario takes cash and nothing else, and changed here: ${listed(said)}.` : "";
+};
+
+// Two cases.
+
+/** A state of another case as one of this: a list over this case's banks, by their names, and those behind them that it alone has. */
+export const aligned = (view, names, others) => {
+  const place = new Map(others.map((name, at) => [name, at])), from = names.map((name) => place.get(name) ?? -1);
+  const list = (key, none) => from.map((at) => (at < 0 ? none : view[key][at]));
+  return {
+    ...view,
+    state: list("state", "absent"),
+    rule: list("rule", ""),
+    ...Object.fromEntries(["cash", "outside", "left", "owed", "estate", "lost", "paid", "outsidePaid", "equity", "wave"].map((key) => [key, list(key, 0)])),
+    greatest: null,
+  };
 };

@@ -3,23 +3,39 @@
 /** The element of an id. */
 export const by = (id) => document.getElementById(id);
 
-/** An element with its attributes and what stands in it; a function is what a click does. */
-export const make = (tag, attributes = {}, ...inner) => {
-  const element = document.createElement(tag);
+const filled = (element, attributes, inner) => {
   for (const [name, value] of Object.entries(attributes)) {
     if (typeof value === "function") element.addEventListener(name, value);
     else if (value === true) element.setAttribute(name, "");
-    else if (value !== false && value !== null) element.setAttribute(name, value);
+    else if (value !== false && value !== null && value !== undefined) element.setAttribute(name, value);
   }
-  element.append(...inner.filter((part) => part !== null));
+  element.append(...inner.filter((part) => part !== null && part !== undefined));
   return element;
 };
 
+/** An element with its attributes and what stands in it; a function is what an event does. */
+export const make = (tag, attributes = {}, ...inner) => filled(document.createElement(tag), attributes, inner);
+
+/** The same in a drawing. */
+export const draw = (tag, attributes = {}, ...inner) => filled(document.createElementNS("http://www.w3.org/2000/svg", tag), attributes, inner);
+
+const MARKS = {
+  sound: ["circle", { cx: 8, cy: 8, r: 5 }],
+  fundamental: ["rect", { x: 3, y: 3, width: 10, height: 10 }],
+  contagion: ["path", { d: "M8 1l7 7-7 7-7-7z" }],
+  gridlock: ["path", { d: "M8 1l7 13H1z" }],
+  absent: ["path", { d: "M3 8h10" }],
+};
+
+/** The mark of a state beside a name. */
+export const mark = (state) => draw("svg", { class: `mark ${state}`, width: 16, height: 16, viewBox: "0 0 16 16", "aria-hidden": "true" },
+  draw(MARKS[state][0], MARKS[state][1]));
+
 /** A table: its caption, heads (those that begin with = are of text), and rows of cells. */
 export const tableOf = (caption, heads, rows) => {
-  const head = heads.map((text) => make("th", { scope: "col", class: text.startsWith("=") ? "text" : null }, text.replace(/^=/, "")));
-  const body = rows.map((cells) => make("tr", {}, ...cells.map((cell, at) =>
-    make(at ? "td" : "th", { scope: at ? null : "row", class: heads[at].startsWith("=") ? "text" : null }, cell))));
+  const kind = heads.map((text) => (text.startsWith("=") ? "text" : null));
+  const head = heads.map((text, at) => make("th", { scope: "col", class: kind[at] }, text.replace(/^=/, "")));
+  const body = rows.map((cells) => make("tr", {}, ...cells.map((cell, at) => make(at ? "td" : "th", { scope: at ? null : "row", class: kind[at] }, cell))));
   return [make("caption", {}, caption), make("thead", {}, make("tr", {}, ...head)), make("tbody", {}, ...body)];
 };
 
@@ -41,6 +57,47 @@ export const keepingFocus = (work) => {
   const part = held?.closest?.("#bank") ? "bank-name" : held?.closest?.("#changes") ? "changes" : "";
   work();
   if (held?.isConnected && document.activeElement === held) return;
-  const again = (id ? by(id) : within && bank ? document.querySelector(`svg.network-drawing a[data-bank="${bank}"]`) : null) ?? by(part);
+  const again = (id ? by(id) : within && bank ? document.querySelector(`#picture a[data-bank="${bank}"]`) : null) ?? by(part);
   again?.focus({ preventScroll: true });
+};
+
+const canvas = document.createElement("canvas").getContext("2d");
+const MOST_WIDTHS = 20000; // that are held
+const widths = new Map();
+let family = null;
+
+/** How wide a text is, in pixels. Names are measured for each picture anew, so that widths are held. */
+export const widthOf = (text, size, weight = 400) => {
+  const key = `${weight} ${size} ${text}`;
+  let wide = widths.get(key);
+  if (wide === undefined) {
+    if (widths.size >= MOST_WIDTHS) widths.clear();
+    // The font of the page stays; to ask for it each time would lay the page out each time.
+    family ??= getComputedStyle(document.body).fontFamily;
+    canvas.font = `${weight} ${size}px ${family}`;
+    wide = canvas.measureText(text).width;
+    widths.set(key, wide);
+  }
+  return wide;
+};
+
+/** A name in so many lines of at most so many pixels, cut with … behind a whole word of four letters or more. */
+export const linesOf = (name, wide, most, size, weight = 700) => {
+  const fits = (text) => widthOf(text, size, weight) <= wide, lines = [];
+  let words = name.split(" ");
+  while (words.length && lines.length < most) {
+    let count = words.length;
+    while (count > 1 && !fits(words.slice(0, count).join(" "))) count -= 1;
+    let line = words.slice(0, count).join(" ");
+    const isCut = lines.length === most - 1 && count < words.length;
+    if (isCut) {
+      while (count > 1 && (!fits(`${line}…`) || words[count - 1].length < 4)) { count -= 1; line = words.slice(0, count).join(" "); }
+    }
+    while (line.length > 1 && !fits(isCut ? `${line}…` : line)) line = line.slice(0, -1);
+    if (isCut) line = `${line.replace(/[\s,;]+$/, "")}…`;
+    else if (line !== words.slice(0, count).join(" ")) line = `${line.slice(0, -1)}…`;
+    lines.push(line);
+    words = words.slice(count);
+  }
+  return lines;
 };

@@ -1,0 +1,84 @@
+"""The account of a bank: what it would have left with all its cash and all debtors paying, and what is missing of that,
+line by line, so that the lines add up to the unit. All amounts are the program's; here they are added and subtracted
+alone. Units of account."""
+from typing import Any, Dict, List, NamedTuple, Tuple
+
+from .. import runner
+from . import state as states
+from .runs import Cleared
+from .state import Base
+
+
+class Line(NamedTuple):
+    """What one debtor leaves unpaid of its claims, all classes together. `comes_later` is whether all of them are of a
+    class behind another one of the debtor's, which comes first."""
+
+    debtor: int
+    claim: int
+    paid: int
+    comes_later: bool
+
+
+class Account(NamedTuple):
+    """`whole` is all cash of the files and all claims on others, less what the bank owes banks. Of that are gone the
+    cash that is lost in this state, what each debtor leaves unpaid, what is owed outside, and what default costs;
+    `left` is what is left, below 0 what the bank lacks."""
+
+    whole: int
+    loss: int
+    unpaid: List[Line]
+    outside: int
+    lost: int
+    left: int
+
+    def view(self) -> Dict[str, Any]:
+        """The account for the page."""
+        return {**self._asdict(), "unpaid": [list(line) for line in self.unpaid]}
+
+
+def debts_by(base: Base, found: Cleared) -> Tuple[Dict[int, List[Any]], Dict[int, List[Any]]]:
+    """The debts with their keys by the debtor's place, and by the creditor's."""
+    places = states.names_of(base)
+    owes: Dict[int, List[Any]] = {}
+    owed: Dict[int, List[Any]] = {}
+    for key, debt in zip(found.keys, found.payments):
+        entry = (key, places[debt.debtor], places[debt.creditor], debt.class_, debt.claim, debt.paid)
+        owes.setdefault(entry[1], []).append(entry)
+        owed.setdefault(entry[2], []).append(entry)
+    return owes, owed
+
+
+def account_of(base: Base, found: Cleared, bank: int) -> Account:
+    """The account of a bank in a state. Fails where it does not come to what the program says that the bank keeps or
+    leaves unpaid."""
+    owes, owed = debts_by(base, found)
+    return account_by(base, found, bank, owes, owed.get(bank, []))
+
+
+def account_by(base: Base, found: Cleared, bank: int, owes: Dict[int, List[Any]], owed: List[Any]) -> Account:
+    """The same, where the debts are sorted by banks already."""
+    one = found.banks[bank]
+    outside = one.outside or 0
+    claims = sum(debt[4] for debt in owed)
+    whole = base.banks[bank].cash + claims - one.owed
+    loss = base.banks[bank].cash - found.left[bank]
+    unpaid = lines_of(owes, owed)
+    left = whole - loss - sum(line.claim - line.paid for line in unpaid) - outside - found.lost[bank]
+    if left != one.equity - (one.owed - one.paid) - (outside - one.outside_paid):
+        raise runner.Failed(f"the account of {runner.shown(one.name)} does not come to what the program says")
+    return Account(whole, loss, unpaid, outside, found.lost[bank], left)
+
+
+def lines_of(owes: Dict[int, List[Any]], owed: List[Any]) -> List[Line]:
+    """What each debtor leaves unpaid, the most first."""
+    sums: Dict[int, List[int]] = {}
+    for _, debtor, _, class_, claim, paid in owed:
+        one = sums.setdefault(debtor, [0, 0, class_])
+        one[0] += claim
+        one[1] += paid
+        one[2] = min(one[2], class_)
+    lines = [
+        Line(debtor, claim, paid, paid == 0 and any(debt[3] < class_ for debt in owes.get(debtor, [])))
+        for debtor, (claim, paid, class_) in sums.items() if paid < claim
+    ]
+    return sorted(lines, key=lambda line: (line.paid - line.claim, line.debtor))
