@@ -5,7 +5,8 @@ setting `program`, or by
 
     python3 build.py FOLDER PROGRAM
 
-a wheel with the program itself, for Linux on x86-64 and the glibc that it wants.
+a wheel with the program itself, for Linux on x86-64 and the glibc that it wants, and with the repository's script that runs
+many jobs of it.
 """
 import base64
 import gzip
@@ -61,8 +62,10 @@ def sources():
     return {path.relative_to(HERE / "src").as_posix(): path.read_bytes() for path in paths}
 
 
-# Where a wheel has the program.
-PLACE = "clearing_client/bin/clearing"
+# Where a wheel has the program, and the script that runs many jobs of it.
+PLACE, MANY = "clearing_client/bin/clearing", "clearing_tools/many.sh"
+# The commands of these.
+OWN = "clearing = clearing_client.program:main\nclearing-many = clearing_tools.many:main\n"
 
 
 def tag_of(program):
@@ -78,7 +81,7 @@ def write_wheel(folder, files, tag="py3-none-any"):
     info = f"{full_name()}.dist-info"
     files = {name: text.encode() if isinstance(text, str) else text for name, text in files.items()}
     files[f"{info}/METADATA"] = metadata().encode()
-    own = "clearing = clearing_client.program:main\n" if PLACE in files else ""
+    own = OWN if PLACE in files else ""
     files[f"{info}/entry_points.txt"] = f"[console_scripts]\n{own}{commands()}".encode()
     pure = "false" if PLACE in files else "true"
     files[f"{info}/WHEEL"] = f"Wheel-Version: 1.0\nGenerator: clearing_client build\nRoot-Is-Purelib: {pure}\nTag: {tag}\n".encode()
@@ -89,7 +92,8 @@ def write_wheel(folder, files, tag="py3-none-any"):
         for name, data in files.items():
             # One date for all, so that the same sources make the same wheel.
             entry = zipfile.ZipInfo(name, (1980, 1, 1, 0, 0, 0))
-            entry.compress_type, entry.external_attr = zipfile.ZIP_DEFLATED, (0o100755 if name == PLACE else 0o100644) << 16
+            mode = 0o100755 if name in (PLACE, MANY) else 0o100644
+            entry.compress_type, entry.external_attr = zipfile.ZIP_DEFLATED, mode << 16
             archive.writestr(entry, data)
     return wheel
 
@@ -106,8 +110,8 @@ def build_wheel(wheel_directory, config_settings=None, metadata_directory=None):
     named = (config_settings or {}).get("program")
     if named is None:
         return write_wheel(wheel_directory, sources())
-    program = pathlib.Path(named).read_bytes()
-    return write_wheel(wheel_directory, {**sources(), PLACE: program}, tag_of(program))
+    program, many = pathlib.Path(named).read_bytes(), (HERE.parent / "tools/many.sh").read_bytes()
+    return write_wheel(wheel_directory, {**sources(), PLACE: program, MANY: many}, tag_of(program))
 
 
 def build_editable(wheel_directory, config_settings=None, metadata_directory=None):

@@ -1,11 +1,14 @@
 """The package installs by the line of its pages into a fresh virtual environment, without a network."""
+import ast
 import json
 import os
 import pathlib
+import re
 import subprocess
 import sys
 import unittest
 import zipfile
+from typing import Iterator
 
 from common import CHAIN, PACKAGES, ROOT, Case, python_with
 
@@ -24,14 +27,31 @@ def has_venv():
 
 # The kinds of files of a wheel, by the folders that have others than Python's alone.
 KINDS = {
-    "clearing_client": {".py", ".typed"},
+    "clearing_client": {".py", ".typed", ".json"},
     "clearing_tools/report/templates": {".html"},
-    "clearing_tools/report/script": {".js"},
-    "clearing_tools/drawing/web": {".py", ".html", ".js", ".css"},
+    "clearing_tools/drawing/web": {".py", ".html", ".css"},
+    "clearing_tools/drawing/web/script": {".mjs"},
     "clearing_tools/desk/page": {".html"},
     "clearing_tools/desk/script": {".mjs"},
     "clearing_tools/desk/style": {".css"},
 }
+
+# What has a module, where it has another name. Markupsafe is Jinja2's own.
+DISTRIBUTIONS = {"docx": "python-docx", "markdown_it": "markdown-it-py", "markupsafe": "jinja2", "odf": "odfpy"}
+
+
+def imported(path: pathlib.Path) -> Iterator[str]:
+    """The packages that a file of Python imports, also those that it names in a call that imports or wants them."""
+    for node in ast.walk(ast.parse(path.read_bytes())):
+        if isinstance(node, ast.Import):
+            yield from (each.name.partition(".")[0] for each in node.names)
+        elif isinstance(node, ast.ImportFrom) and not node.level:
+            yield (node.module or "").partition(".")[0]
+        elif isinstance(node, ast.Call) and isinstance(node.func, (ast.Name, ast.Attribute)):
+            called = node.func.id if isinstance(node.func, ast.Name) else node.func.attr
+            if called in ("import_module", "lacking", "package") and node.args and isinstance(node.args[0], ast.Constant):
+                yield str(node.args[0].value).partition(".")[0]
+
 
 # Pip may reach no index.
 OFFLINE = {**os.environ, "PIP_NO_INDEX": "1", "PIP_DISABLE_PIP_VERSION_CHECK": "1"}
@@ -126,6 +146,19 @@ class Install(Case):
         self.assertEqual(build.commands(), "".join(f"{name} = {function}\n" for name, function in scripts.items()))
         tools = {path.stem for path in (ROOT / "tools").glob("*.py")}
         self.assertEqual({name.removeprefix("clearing-").replace("-", "_") for name in scripts}, tools)
+
+    @unittest.skipUnless(hasattr(sys, "stdlib_module_names"), "without the names of Python's own modules (Python 3.10)")
+    def test_the_extras_are_what_the_sources_import(self):
+        import build
+
+        found = {name: path for path in PACKAGES.rglob("*.py") for name in imported(path)}
+        own = {"clearing_client", "clearing_tools", "__future__", *sys.stdlib_module_names}
+        wanted = {DISTRIBUTIONS.get(name, name) for name in found if name not in own}
+        self.assertEqual(set(build.extras()["all"]), wanted, found)
+        # A tool names an extra that has what it lacks.
+        for path in PACKAGES.rglob("*.py"):
+            for name, extra in re.findall(r'lacking\("(\w+)", "(\w+)"', path.read_text(encoding="utf-8")):
+                self.assertIn(DISTRIBUTIONS.get(name, name), build.extras()[extra], path.name)
 
     def test_a_source_archive_installs(self):
         import build

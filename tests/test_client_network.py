@@ -3,7 +3,7 @@ import os
 import pathlib
 import unittest
 
-from common import CHAIN, EXAMPLES, HUB, ROOT, TWELVE, Case, files_of, printed
+from common import CHAIN, EXAMPLES, HUB, ROOT, TWELVE, Case, files_of, needs_checkout, printed
 
 import clearing_client as cc
 from clearing_client import Network, Scenario, Scenarios, TableError
@@ -255,6 +255,7 @@ class Tables(Case):
 
 
 class Program(Case):
+    @needs_checkout
     def test_where_the_program_is_found(self):
         before, path = os.environ["CLEARING"], os.environ["PATH"]
         self.addCleanup(os.environ.__setitem__, "CLEARING", before)

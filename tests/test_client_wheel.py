@@ -39,7 +39,8 @@ class Wheel(Case):
             entry = archive.getinfo(build.PLACE)
             self.assertEqual((archive.read(entry), oct(entry.external_attr >> 16)), (b"\x7fELFGLIBC_2.34", "0o100755"))
             told = archive.read(f"{build.full_name()}.dist-info/entry_points.txt").decode()
-            self.assertIn("\nclearing = clearing_client.program:main\n", told)
+            self.assertIn("\nclearing = clearing_client.program:main\nclearing-many = clearing_tools.many:main\n", told)
+            self.assertEqual(oct(archive.getinfo(build.MANY).external_attr >> 16), "0o100755")
             metadata = archive.read(f"{build.full_name()}.dist-info/METADATA").decode()
             for line in ("Provides-Extra: desk", "Requires-Dist: bottle; extra == 'desk'", "Provides-Extra: all"):
                 self.assertIn(line + "\n", metadata)
@@ -47,7 +48,7 @@ class Wheel(Case):
         # The plain one has neither program nor command, and the same program makes the same bytes.
         with zipfile.ZipFile(self.folder / build.build_wheel(self.folder)) as archive:
             self.assertNotIn(build.PLACE, archive.namelist())
-            self.assertNotIn("program:main", archive.read(f"{build.full_name()}.dist-info/entry_points.txt").decode())
+            self.assertNotIn("many:main", archive.read(f"{build.full_name()}.dist-info/entry_points.txt").decode())
         before = name.read_bytes()
         self.assertEqual(self.wheel(self.folder / "program").read_bytes(), before)
 
@@ -73,8 +74,51 @@ class Wheel(Case):
         self.assertEqual(done.stdout.decode(), f"{packed}\n" * 2, done.stderr)
         done = run(place / "bin/clearing-breaking", *FILES)
         self.assertEqual((done.returncode, done.stdout.decode()), (0, printed("breaking", *FILES)), done.stderr)
+        # Each command tells its words.
+        commands = sorted(path.name for path in (place / "bin").glob("clearing-*"))
+        self.assertEqual(len(commands), len(list((ROOT / "tools").glob("*.py"))) + 1)
+        for name in commands:
+            done = run(place / "bin" / name, "--help")
+            self.assertEqual((done.returncode, done.stderr), (0, b""), name)
+            self.assertIn(b"In:" if name != "clearing-why" else b"usage:", done.stdout, name)
+        # Many jobs of it, and the batch script for a cluster, name the program itself.
+        line = "\t".join(map(str, ["clear", *FILES, "--workers", 1]))
+        self.file("jobs.tsv", f"a\t{line}\nb\t{line}\n")
+        done = run(place / "bin/clearing-many", "run", "jobs.tsv", "results")
+        self.assertEqual((done.returncode, done.stdout, done.stderr), (0, b"2 done, 0 failed\n", b""))
+        self.assertEqual((self.folder / "results/b.out").read_text(), printed("clear", *FILES, "--workers", 1))
+        done = run(place / "bin/clearing-many", "slurm", "jobs.tsv", "results")
+        self.assertIn(f"CLEARING='{packed}' exec '{packed.parents[2] / build.MANY}' one ".encode(), done.stdout)
         environment["CLEARING"] = "/none/clearing"
         self.assertNotEqual(run(place / "bin/clearing", "check", *FILES).returncode, 0)
+
+    @unittest.skipUnless(has_venv(), "without venv (Debian's package python3-venv)")
+    def test_tests_run_against_a_wheel_and_find_what_is_wrong_in_it(self):
+        program = executable()
+        if program.read_bytes()[:4] != b"\x7fELF":
+            self.skipTest("the tested program is a script")
+        self.file("wrong", None).mkdir()
+        altered = {**build.sources(), build.PLACE: program.read_bytes(), build.MANY: b""}
+        altered["clearing_tools/imports/generated.py"] = b"raise SystemExit(9)\n"
+        wrong = self.folder / "wrong" / build.write_wheel(self.folder / "wrong", altered, build.tag_of(altered[build.PLACE]))
+        for wheel, status, line in (
+            (self.wheel(program), 0, "[1-9][0-9]* passed, 0 failed"),
+            (wrong, 1, "0 passed, [1-9][0-9]* failed"),
+        ):
+            run = [str(ROOT / "tools/test.sh"), "--wheel", str(wheel), "test_gen_files"]
+            environment = {**OFFLINE, "PYTHON": sys.executable}
+            done = subprocess.run(run, env=environment, stdin=subprocess.DEVNULL, capture_output=True, encoding="utf-8")
+            self.assertEqual(done.returncode, status, done.stdout + done.stderr)
+            self.assertRegex(done.stdout.splitlines()[-1], line)
+
+    def test_each_module_that_is_left_out_is_there_and_has_a_reason(self):
+        text = (ROOT / "tests/wheel.txt").read_text(encoding="utf-8")
+        lines = [line.split(None, 1) for line in text.splitlines() if not line.startswith("#")]
+        names = [line[0] for line in lines]
+        self.assertEqual([name for name in names if not (ROOT / f"tests/{name}.py").is_file()], [])
+        self.assertEqual({len(line) for line in lines}, {2})
+        self.assertEqual(names, sorted(set(names)))
+        self.assertNotIn("test_lint", names)
 
 
 if __name__ == "__main__":

@@ -8,7 +8,7 @@ import sys
 import tempfile
 import unittest
 
-from common import PROGRAM, ROOT, Case
+from common import PROGRAM, ROOT, Case, needs
 
 sys.path.insert(0, str(ROOT / "python"))
 import build  # noqa: E402
@@ -118,7 +118,8 @@ class Release(Case):
         done = cls.release("--gate", cls.log, folder)
         full = build.full_name()
         wheel = f"{full}-{build.tag_of((cls.checkout / 'crates/clear_main/out/clear_main').read_bytes())}.whl"
-        names = ["clearing-7.8.9-x86_64.tar.gz", "clearing_7.8.9_amd64.deb", wheel, f"{full}-py3-none-any.whl", f"{full}.tar.gz", "clearing-7.8.9.RECORD", "SHA256SUMS"]
+        names = ["clearing-7.8.9-x86_64.tar.gz", "clearing_7.8.9_amd64.deb", wheel, f"{full}-py3-none-any.whl", f"{full}.tar.gz",
+                 "clearing_1.0.0.tar.gz", "clearing-7.8.9.RECORD", "SHA256SUMS"]
         wanted = (0, "", [f"{folder}/{name}" for name in names])
         if (done.returncode, done.stderr, done.stdout.split()) != wanted:
             raise AssertionError(done)
@@ -217,6 +218,18 @@ class Release(Case):
         self.assertEqual(ran(*dpkg, "--force-script-chrootless", "--remove", "clearing").returncode, 0)
         self.assertEqual([path for path in (root / "usr").rglob("*") if not path.is_dir()], [])
         self.assertFalse((root / "usr/share/clearing").exists())
+
+    @needs("lintian")
+    def test_lintian_finds_no_error_in_the_package(self):
+        done = ran("lintian", "--allow-root", "--fail-on", "error", "--tag-display-limit", "0", self.one[1])
+        self.assertEqual(done.returncode, 0, done.stdout + done.stderr)
+
+    @needs("R")
+    def test_the_package_for_r_installs(self):
+        archive, = [path for path in self.one if re.fullmatch(r"clearing_[0-9.]+\.tar\.gz", path.name)]
+        done = ran("R", "CMD", "INSTALL", "--no-docs", f"--library={self.folder}", archive)
+        self.assertEqual(done.returncode, 0, done.stdout + done.stderr)
+        self.assertTrue((self.folder / "clearing/R/clearing.rdb").is_file())
 
     def refused(self, message, *words, status=1, **more):
         folder = self.folder / "none"

@@ -1,5 +1,6 @@
 #!/bin/sh
-# Makes a release of the program that was built and proved: an archive, a Debian package, wheels for Python, and their checksums.
+# Makes a release of the program that was built and proved: an archive, a Debian package, wheels for Python, the package for R, and their
+# checksums.
 #
 #   tools/release.sh [--draft] [--gate LOG] FOLDER
 #
@@ -8,8 +9,8 @@
 #       the environment variable CLEARING may name another program; the record says then that it is a draft.
 # Out:  FOLDER/clearing-VERSION-x86_64.tar.gz and FOLDER/clearing_VERSION_amd64.deb, which have the program, the tools, manual pages,
 #       completions for bash, zsh and fish, the documents as HTML, examples, and the record of the gate; the wheel of the package for
-#       Python with the program, the one without it, and its sources; FOLDER/clearing-VERSION.RECORD, the same record; and
-#       FOLDER/SHA256SUMS. Their names on standard output. The same checkout and program make the same bytes.
+#       Python with the program, the one without it, and its sources; the package for R; FOLDER/clearing-VERSION.RECORD, the same
+#       record; and FOLDER/SHA256SUMS. Their names on standard output. The same checkout and program make the same bytes.
 #
 # Wants pandoc and dpkg-deb (Debian's packages pandoc and dpkg).
 # Ends with 0, with 1 and a message where something is not as it must be, and with 2 where the words are not understood.
@@ -20,7 +21,7 @@ PATH=${path#:} && export PATH; unset IFS; set +f
 
 case "${1:-}" in
 --help | -h)
-    sed -n '2,18s/^# \{0,1\}//p' "$0" || exit 1
+    sed -n '2,16s/^# \{0,1\}//p' "$0" || exit 1
     exit 0
     ;;
 esac
@@ -130,7 +131,7 @@ function Link(link)
   return link
 end
 LUA
-pages="GUIDE DATA INTERPRETING GLOSSARY FORMATS THEORY PROVED CLAUSES REFERENCES"
+pages="GUIDE DATA INTERPRETING PYTHON GLOSSARY FORMATS THEORY PROVED CLAUSES REFERENCES"
 printf 'PAGES = {%s}\n' "$(for page in $pages; do printf '%s = true, ' "$page"; done)" >"$work/pages.lua"
 cat "$work/pages.lua" "$work/links.lua" >"$work/filter.lua"
 for page in $pages; do
@@ -159,7 +160,7 @@ No licence has been chosen.
 RECORD
 cat >"$docs/INSTALL" <<INSTALL
 From the archive:   tar -xzf clearing-$version-x86_64.tar.gz --strip-components=1 -C PREFIX
-From the package:   dpkg -i clearing_${version}_amd64.deb
+From the package:   apt install ./clearing_${version}_amd64.deb
 Without either:     the program is bin/clearing and wants nothing beside it. The tools want Python 3.
 RECORD says what was built and proved; guide.html is where to begin.
 INSTALL
@@ -179,16 +180,40 @@ tar -C "$work" --sort=name --mtime="@$SOURCE_DATE_EPOCH" --owner=0 --group=0 --n
 tree=$work/tree
 mkdir -p "$tree/usr" "$tree/DEBIAN" && cp -a "$stage/." "$tree/usr/" && gzip -9n "$tree"/usr/share/man/man1/*.1 || exit 1
 rm "$tree/usr/share/doc/clearing/INSTALL"
+# Of Debian a script names the interpreter by its place.
+find "$tree/usr/share/clearing/tools" -type f -exec sed -i '1s|^#!/usr/bin/env python3$|#!/usr/bin/python3|' {} +
+maintainer="Zemdalup maintainers <maintainers@zemdalup.example>"
+date=$(LC_ALL=C TZ=UTC date -R -d "@$SOURCE_DATE_EPOCH")
+gzip -9n >"$tree/usr/share/doc/clearing/changelog.gz" <<CHANGES
+clearing ($version) unstable; urgency=medium
+
+  * CHANGELOG.md says what changed.
+  * From the commit $commit.
+
+ -- $maintainer  $date
+CHANGES
+cat >"$tree/usr/share/doc/clearing/copyright" <<COPYRIGHT
+Copyright $(date -u -d "@$SOURCE_DATE_EPOCH" +%Y) Zemdalup maintainers
+
+No licence has been chosen. All rights are reserved by the Zemdalup maintainers.
+COPYRIGHT
+# The program is the one whose checksum the record has.
+mkdir -p "$tree/usr/share/lintian/overrides"
+cat >"$tree/usr/share/lintian/overrides/clearing" <<OVERRIDES
+# The program is released as it was proved and built, and the record has its checksum.
+clearing: unstripped-binary-or-object [usr/bin/clearing]
+OVERRIDES
+chmod 644 "$tree/usr/share/doc/clearing/copyright" "$tree/usr/share/doc/clearing/changelog.gz" "$tree/usr/share/lintian/overrides/clearing"
 size=$(du -sk "$tree/usr" | cut -f 1)
 cat >"$tree/DEBIAN/control" <<CONTROL
 Package: clearing
 Version: $version
 Architecture: amd64
-Maintainer: The authors of clearing <root@localhost>
+Maintainer: $maintainer
 Installed-Size: $size
-Depends: libc6 (>= $glibc)
-Recommends: python3
-Suggests: node-d3, chromium, python3-matplotlib
+Depends: libc6 (>= $glibc), python3 (>= 3.9)
+Recommends: node-d3, python3-bottle, python3-jinja2
+Suggests: chromium, python3-docx, python3-markdown-it, python3-matplotlib, python3-networkx, python3-numpy, python3-odf, python3-openpyxl
 Section: science
 Priority: optional
 Description: proved settlement simulator for networks of banks
@@ -198,6 +223,7 @@ CONTROL
 # Python keeps what it read of the tools beside them, where it may.
 cat >"$tree/DEBIAN/prerm" <<'PRERM'
 #!/bin/sh
+set -e
 find "${DPKG_ROOT:-}/usr/share/clearing" -name __pycache__ -prune -exec rm -rf {} +
 PRERM
 chmod 755 "$tree/DEBIAN/prerm"
@@ -209,11 +235,16 @@ wheel=$(cd "$root/python" && python3 -IB build.py "$work" "$(realpath -- "$progr
 others=$(cd "$root/python" && python3 -B -c '
 import build, sys
 print(build.build_wheel(sys.argv[1]), build.build_sdist(sys.argv[1]))' "$work") || fail "the package for Python cannot be written"
+# The package for R, as its R CMD INSTALL takes it.
+of_r=clearing_$(sed -n 's/^Version: //p' "$root/r/DESCRIPTION").tar.gz
+mkdir "$work/r" && cp -R "$root/r" "$work/r/clearing" && find "$work/r" -exec touch -h -d "@$SOURCE_DATE_EPOCH" {} + || exit 1
+tar -C "$work/r" --sort=name --mtime="@$SOURCE_DATE_EPOCH" --owner=0 --group=0 --numeric-owner --mode=u=rwX,go=rX --format=gnu -cf - clearing |
+    gzip -9n >"$work/$of_r" || fail "the package for R cannot be written"
 # What was built and proved, beside the files; tools/dev/check_record.sh compares it with a build of one'"'"'s own.
 cp "$docs/RECORD" "$work/clearing-$version.RECORD" || exit 1
 # shellcheck disable=SC2086
-(cd "$work" && sha256sum "$archive" "$package" "$wheel" $others "clearing-$version.RECORD" >SHA256SUMS) || exit 1
-for name in "$archive" "$package" "$wheel" $others "clearing-$version.RECORD" SHA256SUMS; do
+(cd "$work" && sha256sum "$archive" "$package" "$wheel" $others "$of_r" "clearing-$version.RECORD" >SHA256SUMS) || exit 1
+for name in "$archive" "$package" "$wheel" $others "$of_r" "clearing-$version.RECORD" SHA256SUMS; do
     mv -fT -- "$work/$name" "$folder/$name" 2>/dev/null || fail "$folder cannot be written"
     echo "$folder/$name"
 done

@@ -1,1 +1,2 @@
-"""The tools round the program `clearing`: files in and out, what would break a network, pictures, a report, checks, and evidence."""
+"""The tools round the program `clearing`: files in and out, what would break a network, pictures, a report, checks,
+and evidence."""
