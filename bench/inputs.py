@@ -123,9 +123,9 @@ def hub(claim, cash=1):
     return [("hub", cash, "order"), *((f"edge {i}", 0, "order") for i in range(1, 1000))], debts
 
 
-def beside_leak(banks, claim):
-    """Two banks between which one unit goes to and fro, and banks with cash that owe nothing."""
-    pair = [("to", 1, "order"), ("fro", 0, "order")]
+def beside_leak(banks, claim, cash=1):
+    """Two banks between which the cash of one goes to and fro, one unit here, and banks with cash that owe nothing."""
+    pair = [("to", cash, "order"), ("fro", 0, "order")]
     return pair + [(f"idle {i}", 1, "order") for i in range(banks)], [("to", "fro", 1, claim), ("fro", "to", 1, claim)]
 
 
@@ -183,6 +183,7 @@ NETWORKS = {
     "hub": partial(hub, 11),
     "hub-with-cash": partial(hub, 11, 98901),
     "beside-leak": partial(beside_leak, 40, 100000),
+    "beside-leak-with-cash": partial(beside_leak, 40, 100000, 100000),
 }
 # Debts files as long as a file may be, all of one piece.
 FULL = {"full-empty-lines": "\n", "full-blank-records": " \n", "full-commas": ",", "full-comma-records": ",\n"}

@@ -10,6 +10,7 @@ TABLE is one of
   workers  `clear` by 1, 2 and 4 workers beside `central`
   rounds   one round and all of them beside reading alone; and a round that moves one unit, with 19,990 debts at rest beside it
            and without: of `clear` (INPUT `unit`) and of `bounds` (INPUT `fall`)
+  units    the hardest lawful networks: a unit goes to and fro in each round. Beside `clear` of the same network with cash enough
   reading  files read, and a journal of a million raises printed and replayed (INPUT `journal`), beside `wc` of the same bytes
   peer     everything beside an unverified peer, plain Rust that reads the same files and prints the same texts: payments of a
            network, files of 8 MB (INPUT `full`), payments with their journal (`both`), a journal replayed and a hundred
@@ -43,6 +44,7 @@ HARDEST = """largest-order largest-mixed tight-order tight-mixed core-order core
     dry-ring-100-forward dry-ring-100-reverse dry-ring-1000-forward dry-ring-1000-reverse linked-1 linked-20""".split()
 OF_THE_PEER = """largest-order largest-webster largest-mixed ordinary tight-order tight-mixed core-order core-mixed star-order
     star-webster ring-10-forward ring-10-reverse ring-1000-forward ring-1000-reverse""".split()
+OF_UNITS = ["hub", "beside-leak"]
 OF_OTHERS = "ordinary largest-order tight-order core-order star-order ring-10-forward ring-1000-forward".split()
 # The programs of bench/others, and the modules that they want.
 OTHERS = {"fictitious": "numpy", "iteration": "numpy", "graph": "networkx"}
@@ -173,6 +175,15 @@ def rounds(program, options):
     for kind, what, task, more in (("unit", "100,000 rounds of clear", "clear", ONE), ("fall", "9,000,000 rounds of bounds", "bounds", ())):
         if kind in chosen:
             table.row(what, {rest: program.words(task, f"{kind}-{rest.replace(' ', '-')}", *more) for rest in ("alone", "at rest")})
+
+
+def units(program, options):
+    """Each network stands beside itself with so much cash that all is paid in a few rounds."""
+    tasks = ["clear", "impact", "rescues", "breaking"]
+    table = Table(options, "a unit to and fro", "with cash", tasks, memory=tasks)
+    for name in options.inputs or OF_UNITS:
+        jobs = {"with cash": program.words("clear", f"{name}-with-cash", *ONE), "clear": program.words("clear", name, *ONE)}
+        table.row(name, jobs | {task: program.words(task, name) for task in tasks[1:]})
 
 
 def reading(program, options):
@@ -313,9 +324,11 @@ def others(program, options):
         table.row(name, jobs, ends={"fictitious": (0, 1)}, more=[lambda _, jobs=jobs: distance(jobs)])
 
 
-TABLES = {"tasks": tasks, "rules": rules, "workers": workers, "rounds": rounds, "reading": reading, "peer": peer, "others": others}
+TABLES = {"tasks": tasks, "rules": rules, "workers": workers, "rounds": rounds, "units": units, "reading": reading,
+          "peer": peer, "others": others}
 # Inputs that are no networks.
-KINDS = {"rules": {"largest", "star"}, "rounds": {*inputs.NETWORKS, "unit", "fall"}, "reading": {*inputs.NETWORKS, *inputs.FULL, "journal"},
+KINDS = {"rules": {"largest", "star"}, "rounds": {*inputs.NETWORKS, "unit", "fall"}, "units": {*OF_UNITS},
+         "reading": {*inputs.NETWORKS, *inputs.FULL, "journal"},
          "peer": {*inputs.NETWORKS, "full", "both", "stress"}}
 
 

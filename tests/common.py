@@ -83,6 +83,10 @@ def needs_modules(*modules):
     return unittest.skipUnless(python_with(*modules), f"no Python here has {', '.join(modules)}")
 
 
+# Skips a test of what an installed wheel has not.
+needs_checkout = unittest.skipUnless((ROOT / "crates.txt").is_file(), "of a checkout, and not of a wheel")
+
+
 def there(name):
     """Whether a package is there, and not hidden by `run.py --without`."""
     try:

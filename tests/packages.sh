@@ -28,6 +28,8 @@ apt() { # its words
 }
 
 try_to_install() { # the number of the try
+    # What an earlier try was ended in, by its limit or a signal, stands in the way of all that follow.
+    DEBIAN_FRONTEND=noninteractive dpkg --configure -a >"$log" 2>&1 </dev/null
     apt update
     # shellcheck disable=SC2046
     if [ "$1" -lt 3 ]; then

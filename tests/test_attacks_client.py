@@ -228,10 +228,12 @@ class Ending(Case):
             (self.folder / "seen").unlink()
 
     def test_no_file_of_a_run_has_a_name(self):
-        """In the whole package no file is written but by a name that was given, or one that has none."""
+        """In the whole package no file is written but by a name that was given, or one that has none. A case is written whole beside
+        the place where it goes, and a workbook is read from a folder of its own."""
         named = [f"{path.name}: {line.strip()}" for path in (ROOT / "python/src/clearing_client").glob("*.py") for line in path.read_text().splitlines()
                  if any(word in line for word in ("NamedTemporaryFile", "mkstemp", "mkdtemp", "TemporaryDirectory"))]
-        self.assertEqual(named, ['sheets.py: with tempfile.TemporaryDirectory(prefix="clearing-") as name:'])
+        self.assertEqual(sorted(named), ['case.py: with tempfile.TemporaryDirectory(prefix=".part-", dir=place.parent) as name:',
+                                         'sheets.py: with tempfile.TemporaryDirectory(prefix="clearing-") as name:'])
 
     def test_output_without_an_end_is_not_held(self):
         self.program("exec cat /dev/zero\n")

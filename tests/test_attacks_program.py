@@ -13,7 +13,7 @@ PLANTED = "#!/bin/sh\ntouch {}\necho planted\n"
 # Commands that scripts and tools call, each of which is planted.
 COMMANDS = ["rt", "git", "sh", "python3", "awk", "basename", "cat", "chmod", "cp", "cut", "date", "dirname", "find", "flock", "getconf", "grep", "head", "id",
             "ln", "mkdir", "mktemp", "mv", "nproc", "realpath", "rm", "sed", "seq", "setsid", "sha256sum", "sleep", "sort", "stat", "tail", "touch", "tr",
-            "uname", "wc", "xargs"]
+            "uname", "wc", "xargs", "chromium", "chromium-browser", "google-chrome", "chrome"]
 # What finds or starts a program, by the modules of Python.
 STARTERS = {"Popen", "run", "call", "check_call", "check_output", "getoutput", "getstatusoutput", "system", "popen", "execv", "execve", "execvp", "execvpe",
             "execl", "execle", "execlp", "spawnv", "spawnvp", "spawnl", "spawnlp", "posix_spawn", "posix_spawnp", "create_subprocess_exec",
@@ -24,6 +24,8 @@ PLACES = {
     ("clearing_tools/runner.py", "on_path"): "finds", ("clearing_client/program.py", "on_path"): "finds",
     ("clearing_tools/runner.py", "run_on"): "the program, or Python", ("clearing_tools/runner.py", "said_by"): "what on_path finds",
     ("clearing_tools/runner.py", "built"): "the repository's script", ("clearing_tools/evidence/source.py", "run_tool"): "Python", ("clearing_client/program.py", "started"): "the program",
+    ("clearing_tools/report/document.py", "in_browser"): "the browser that on_path finds",
+    ("clearing_tools/many.py", "main"): "the wheel's own script, by the system's shell",
     ("clearing_client/program.py", "find_program"): "a file that CLEARING names", ("clearing_client/program.py", "main"): "the program",
 }
 GUARD = """# Of the path the absolute entries alone count: no command is one that the working folder has.
@@ -140,7 +142,7 @@ class Planted(Case):
         script = self.folder / "script"
         script.mkdir()
         for name, words, statuses in [
-            ("report.py", [*net, "--out", "OUT.html"], [0]), ("evidence.sh", ["make", "OUT-evidence", *net], [0]), ("many.sh", ["run", jobs, "OUT-many", 1], [0]),
+            ("report.py", [*net, "--out", "OUT.html"], [0]), ("report.py", [*net, "--out", "OUT.pdf"], [0, 2]), ("evidence.sh", ["make", "OUT-evidence", *net], [0]), ("many.sh", ["run", jobs, "OUT-many", 1], [0]),
             ("install.sh", ["OUT-prefix"], [0]), ("../first-look", ["check"], [8]), ("clean.sh", ["--dry-run"], [0, 1]), ("quick.sh", [], [2]),
             ("test.sh", ["--help"], [0]), ("release.sh", [], [2]), ("evidence.sh", ["check", "OUT-evidence"], [0]),
         ]:

@@ -18,7 +18,8 @@ import tempfile
 from common import PROGRAM, ROOT, Case
 
 PAGES = ["docs/GUIDE.md", "docs/DATA.md", "docs/INTERPRETING.md", "examples/README.md"]
-# The last author of what is cited, and the year: `Eisenberg and Noe (2001)`, or the same all in brackets; a line may end between.
+# The last author of what is cited, and the year: `Eisenberg and Noe (2001)`, or the same all in brackets; a line may
+# end between.
 CITED = re.compile(r"([A-Z][^\W\d_]+),?\s(?:\s*//[/!]? )?\(?((?:18|19|20)[0-9]{2})\)")
 BLOCK = re.compile(r"(?<=^```console\n).*?(?=^```$)", re.MULTILINE | re.DOTALL)
 
@@ -31,8 +32,15 @@ HEAD = 'head() { command head "$@"; local status=$?; cat >/dev/null; return $sta
 def output_of(command, folder):
     run = ["bash", "-c", f"{HEAD}\n{command}"]
     environment = {**os.environ, "LC_ALL": "C.UTF-8", "PYTHONDONTWRITEBYTECODE": "1"}
-    return subprocess.run(run, cwd=folder, env=environment, stdin=subprocess.DEVNULL,
-                          stdout=subprocess.PIPE, stderr=subprocess.STDOUT, encoding="utf-8").stdout
+    return subprocess.run(
+        run,
+        cwd=folder,
+        env=environment,
+        stdin=subprocess.DEVNULL,
+        stdout=subprocess.PIPE,
+        stderr=subprocess.STDOUT,
+        encoding="utf-8",
+    ).stdout
 
 
 def block_run(block, folder):
@@ -51,7 +59,7 @@ def page_run(text):
         for part in ("examples", "python", "tools"):
             shutil.copytree(ROOT / part, folder / part)
         script = folder / "clearing"
-        script.write_text(f"#!/bin/sh\nexec {shlex.quote(PROGRAM)} \"$@\"\n")
+        script.write_text(f'#!/bin/sh\nexec {shlex.quote(PROGRAM)} "$@"\n')
         script.chmod(0o755)
         return BLOCK.sub(lambda block: block_run(block[0], folder), text)
 
@@ -71,10 +79,13 @@ class Pages(Case):
                 self.assertEqual(page_run(text).splitlines(), text.splitlines())
 
     def test_no_command_closes_the_pipe_into_which_the_program_writes(self):
-        """A program whose reader has gone says that it cannot write, or does not, as the two happen to run. `sed -n` reads to the end."""
+        """A program whose reader has gone says that it cannot write, or does not, as the two happen to run. `sed -n`
+        reads to the end."""
         for path in [*ROOT.glob("*.md"), *(ROOT / "docs").glob("*.md"), ROOT / "examples/README.md"]:
             lines = [line for block in BLOCK.findall(path.read_text(encoding="utf-8")) for line in block.splitlines()]
-            self.assertEqual([line for line in lines if re.search(r"clearing .*\| *(head|grep -[a-zA-Z]*[qm])", line)], [], path.name)
+            self.assertEqual(
+                [line for line in lines if re.search(r"clearing .*\| *(head|grep -[a-zA-Z]*[qm])", line)], [], path.name
+            )
 
     def test_the_page_of_examples_names_each(self):
         text = (ROOT / "examples/README.md").read_text(encoding="utf-8")
@@ -83,15 +94,26 @@ class Pages(Case):
                 self.assertIn(f"`{folder.name}`", text)
 
     def test_what_is_cited_stands_among_the_references(self):
-        listed = [" ".join(entry.split()) for entry in (ROOT / "docs/REFERENCES.md").read_text(encoding="utf-8").split("\n- ")[1:]]
+        listed = [
+            " ".join(entry.split())
+            for entry in (ROOT / "docs/REFERENCES.md").read_text(encoding="utf-8").split("\n- ")[1:]
+        ]
         cited = set()
-        for pattern in ("*.md", "docs/*.md", "python/src/clearing_tools/**/*.py", "crates/*/src/**/*.rt", "python/src/**/*.py"):
+        for pattern in (
+            "*.md",
+            "docs/*.md",
+            "python/src/clearing_tools/**/*.py",
+            "crates/*/src/**/*.rt",
+            "python/src/**/*.py",
+        ):
             for path in ROOT.glob(pattern):
                 if path.name != "REFERENCES.md":
                     cited |= set(CITED.findall(path.read_text(encoding="utf-8")))
         self.assertIn(("Herings", "2018"), cited)
         for name, year in sorted(cited):
-            self.assertTrue(any(name in entry.partition(")")[0] and f"({year})" in entry for entry in listed), (name, year))
+            self.assertTrue(
+                any(name in entry.partition(")")[0] and f"({year})" in entry for entry in listed), (name, year)
+            )
 
 
 if __name__ == "__main__":

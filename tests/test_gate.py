@@ -58,7 +58,8 @@ class Machine(Case):
         super().setUp()
         self.calls, self.installed = self.file("calls", ""), self.file("installed", "sea\n")
         (self.folder / "commands").mkdir()
-        for name, text in (("apt-get", APT), ("dpkg-query", QUERY), ("rt", RT), ("sleep", "#!/bin/sh\n"),
+        dpkg = "#!/bin/sh\necho \"dpkg $*\" >>\"$CALLS\"\n"
+        for name, text in (("apt-get", APT), ("dpkg-query", QUERY), ("dpkg", dpkg), ("rt", RT), ("sleep", "#!/bin/sh\n"),
                            ("id", "#!/bin/sh\necho ${WHO:-0}\n")):
             self.file(f"commands/{name}", text).chmod(0o755)
         self.root = self.folder / "repository"
@@ -95,7 +96,9 @@ class Packages(Machine):
         self.assertEqual((status, self.names()), (0, ["moon", "sea", "star"]))
         installs = [re.sub(r".* install( -\S+)*", "install", call) for call in self.called if " install " in call]
         self.assertEqual(installs, ["install moon star"])
-        self.assertEqual([call for call in self.called if call.endswith(" update")], self.called[:1])
+        # What an earlier try was ended in is gone on with first.
+        self.assertEqual(self.called[0], "dpkg --configure -a")
+        self.assertEqual([call for call in self.called if call.endswith(" update")], self.called[1:2])
         self.assertEqual((self.ran("tests/packages.sh", "install")[0], self.called), (0, []))
 
     def test_three_tries_are_made(self):

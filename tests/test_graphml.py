@@ -17,7 +17,7 @@ class Texts(Case):
         texts = [self.file(task, clearing(task, *TWELVE).stdout) for task in ("clear", "defaults")]
         done = tool("to_graphml.py", *texts, "--out", self.folder / "out", python=str(script))
         self.assertEqual((done.returncode, done.stdout), (2, ""))
-        self.assertRegex(done.stderr, r"to_graphml: /.* has no networkx \(Debian's package python3-networkx is for /usr/bin/python3\)")
+        self.assertRegex(done.stderr, r"to_graphml: /.* has no networkx \(Debian's package python3-networkx is for /usr/bin/python3 .*FILE\.whl\[all\]'\)")
 
     def test_texts_of_other_networks_and_forms_are_refused(self):
         payments, defaults = (self.file(task, clearing(task, *TWELVE).stdout) for task in ("clear", "defaults"))

@@ -64,9 +64,10 @@ def laws_of(crate):
 
 
 def anchors_of(path):
-    """The anchors that GitHub makes of the headings of a page."""
-    heads = re.findall(r"^#+ (.*)$", prose_of(path.read_text(encoding="utf-8")), re.MULTILINE)
-    return {re.sub(r"[^\w\- ]", "", head.lower()).replace(" ", "-") for head in heads}
+    """The anchors of a page: those that GitHub makes of its headings, and those that it names."""
+    text = path.read_text(encoding="utf-8")
+    heads = re.findall(r"^#+ (.*)$", prose_of(text), re.MULTILINE)
+    return {re.sub(r"[^\w\- ]", "", head.lower()).replace(" ", "-") for head in heads} | set(re.findall(r'<a id="([\w-]+)"></a>', text))
 
 
 def is_name(token):
@@ -147,12 +148,13 @@ def commands_of(text):
 
 
 @functools.cache
-def options_in(file):
-    """A text with the options of a tool: its help where it calls the package, else what it is. A shell script that starts a Python one of
-    its name has the options of both."""
+def options_in(file, task=""):
+    """A text with the options of a tool: its help, and that of a task of it, where it calls the package, else what it is. A shell script
+    that starts a Python one of its name has the options of both."""
     parts = [part for part in (file, file.with_suffix(".py")) if part.is_file()]
     texts = [part.read_text(encoding="utf-8") for part in parts]
-    helps = [tool(part.name, "--help").stdout for part, text in zip(parts, texts) if "from clearing_tools." in text]
+    called = [part.name for part, text in zip(parts, texts) if "from clearing_tools." in text]
+    helps = [tool(name, *words, "--help").stdout for name in called for words in ([], [task]) if words != [""]]
     return "".join(helps + texts)
 
 
@@ -164,7 +166,8 @@ def wrong_commands(text):
         if "/" in first and not (ROOT / first).exists() or "/" not in first and first not in PROGRAMS:
             lost.append(command)
         for name, rest in re.findall(r"((?:tools|bench|tests)/[\w./]+)([^|;>]*)", command):
-            known = options_in(ROOT / name)
+            task = rest.split()[0] if name == "tools/case.py" and rest.split() else ""
+            known = options_in(ROOT / name, task if task.isalpha() else "")
             lost += [f"{name} {option}" for option in re.findall(r"(?<!\S)--[a-z-]+", rest) if option not in known]
             lost += [] if known else [name]
     return lost
@@ -197,6 +200,10 @@ class Names(unittest.TestCase):
                          ["docs/NO.md", "docs/GUIDE.md#no", "tools/no.sh a"])
         self.assertEqual(wrong_commands("```console\n$ tools/no.sh x\n$ python3 tools/lint.py --nonsense\n$ nothing\n```\n"),
                          ["tools/no.sh x", "tools/no.sh", "tools/lint.py --nonsense", "nothing"])
+        self.assertEqual(wrong_commands("```console\n$ tools/case.py scenarios a b --amounts-in 10\n$ tools/case.py show a --amounts-in 10\n```\n"),
+                         ["tools/case.py --amounts-in"])
+        self.assertEqual(missing_paths(ROOT / "README.md", "[a](docs/GLOSSARY.md#one-unit) [b](docs/GLOSSARY.md#two-units)"),
+                         ["docs/GLOSSARY.md#two-units"])
 
     def test_the_laws_that_are_tried_at_networks_are_counted(self):
         laws = sum(len(re.findall(r"^pub fn ", path.read_text(), re.MULTILINE)) for path in ROOT.glob("crates/*/src/laws.rt"))

@@ -5,7 +5,7 @@ import re
 import subprocess
 import sys
 
-from common import ODD_NAMES, PROGRAM, ROOT, Case, all_names, tool
+from common import ODD_NAMES, PROGRAM, ROOT, Case, all_names, needs_checkout, tool
 
 from clearing_tools.checks import why  # noqa: E402
 
@@ -95,6 +95,7 @@ class Why(Case):
             lines += [[task, *whole, f"--{option}={GOOD.get(option, 'none.csv')}"] for option in why.OPTIONS if option not in required]
         self.compare(lines)
 
+    @needs_checkout
     def test_the_table_is_that_of_the_program(self):
         """The tasks and options in the program's own source."""
         source = (ROOT / "crates/clear_words/src/task.rt").read_text(encoding="utf-8")

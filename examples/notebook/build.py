@@ -69,7 +69,8 @@ def printed(notebook):
         outputs = cell.get("outputs", [])
         texts = [output.get("text") or output.get("data", {}).get("text/plain") for output in outputs]
         pictures = sum("image/png" in output.get("data", {}) for output in outputs)
-        yield cell.cell_type, cell.source, [text for text in texts if text and not text.startswith("<Figure")], pictures
+        # What a cell prints may come in one piece or in several.
+        yield cell.cell_type, cell.source, "".join(text for text in texts if text and not text.startswith("<Figure")), pictures
 
 
 def compare(notebook, there):

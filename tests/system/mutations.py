@@ -462,7 +462,7 @@ class Folders(Reader):
 
     def files(self):
         words = types.SimpleNamespace(folder=str(self.folder / "evidence"), banks=str(HUB / "banks.csv"), debts=str(HUB / "debts.csv"), scenarios=None, bank="South",
-                                      source=None, changes=None)
+                                      source=None, changes=None, case=None)
         with contextlib.redirect_stdout(io.TextIOWrapper(io.BytesIO())):
             evidence.make(words)
         folder = self.folder / "evidence"
