@@ -70,9 +70,18 @@ known_creditors net noted network are x = elim (cases_lt x (length noted)) [
 pub stay_in : (old new : List ℕ) (more : ℕ → Bool) → ((b : ℕ) → is_in new b ≡ (is_in old b || more b)) → StayIn old new
 stay_in old new more e b h = e b ∙ ap (λ v. v || more b) h
 
--- and it has those
-pub has_too : (old more new : List ℕ) → ((b : ℕ) → is_in new b ≡ (is_in old b || is_in more b)) → StayIn more new
-has_too old more new e b h = e b ∙ or_right (is_in old b) (is_in more b) h
+-- what was in a set stays in it where the banks of another are added up to a word
+pub stay_in_part : (old more new : List ℕ) (last : ℕ) → ((b : ℕ) → b / 64 ≤ last / 64 → is_in new b ≡ (is_in old b || is_in more b))
+    → ((b : ℕ) → last / 64 < b / 64 → is_in new b ≡ is_in old b) → StayIn old new
+stay_in_part old more new last added others b h = elim (cases_lt (last / 64) (b / 64)) [
+  | inl l ↦ others b l ∙ h
+  | inr g ↦ added b g ∙ ap (λ v. v || is_in more b) h
+]
+
+-- and those of the other are in it, up to the last bank
+pub has_part : (old more new : List ℕ) (last : ℕ) → ((b : ℕ) → b / 64 ≤ last / 64 → is_in new b ≡ (is_in old b || is_in more b))
+    → (b : ℕ) → b ≤ last → is_in more b ≡ true → is_in new b ≡ true
+has_part old more new last added b le h = added b (omega (arith, le)) ∙ or_right (is_in old b) (is_in more b) h
 
 -- and this one
 pub now_in : (old new : List ℕ) (c : ℕ) → ((b : ℕ) → is_in new b ≡ (is_in old b || (b == c))) → is_in new c ≡ true

@@ -1,20 +1,35 @@
 -- Words of a set of banks: one bit more or less, and the first bit in two sets.
 use Rattle.std.proofs.Common.{◌≡◌, ◌≢◌, ℕ, ◌+◌, ◌*◌, ◌-◌, ◌/◌, ◌%◌, ◌^◌, ◌<◌, ◌≤◌, ◌==◌, Bool, true, false, not, List, length, get_or, replicate, set, min, max, inl, inr, refl, sym, ap, ◌∙◌, arith, eqb-true, eq-eqb, ne_eqb, get_or-set_same, get_or-set_other, w64}
-use Rattle.std.specs.Prelude.{◌&&◌, ◌||◌, bit_and, bit_or}
+use Rattle.std.specs.Prelude.{◌&&◌, ◌||◌, Option, Some, None, IfNone, IfSome, bit_and, bit_or}
 use Rattle.std.specs.Int.{bit_at, bit_not, trailing_zeros}
 use Rattle.std.proofs.lemmas.Bool.{cases_eq}
-use Rattle.std.proofs.lemmas.Nat.{and_le_r}
+use Rattle.std.proofs.lemmas.Nat.{and_le_r, and_mask, le_or_l, le_or_r}
+use Rattle.std.proofs.Math.Nat.{mod-eq_of_lt}
+use Rattle.clr_net.specs.declared.debt.BankId.{BankId}
 use Rattle.std.proofs.lemmas.Nat.Bits.{bit_at-trailing_zeros, bit_at-lt, bit_at-zero, bit_at_and, bit_at_or, bit_at_clear_same, bit_at_clear_other, bit_at_mask_below, bit_at_mask_inside, bit_at_ones, bit_at_set_same, bit_at_set_other, ones_shl}
 use Rattle.std.proofs.lemmas.Bool.{cases_lt}
-use Rattle.std.proofs.lemmas.List.{get_or-replicate}
+use Rattle.std.proofs.lemmas.List.{get_or-replicate, get_or_past, length-replicate}
 use Rattle.bank_worker.specs.BankSets.{HaveNoneInBoth, is_in}
 use mathlib.Core.Bool.{or-false, or-true, and-true, and-false}
 use Rattle.std.proofs.lemmas.Bool.Decides.{nat_tests}
 
+-- no bit of 0 is set
+unset : (i : ℕ) → (bit_at 0 i == 1) ≡ false
+unset i = ne_eqb (bit_at 0 i) 1 (λ e. absurd (omega (arith, e, bit_at-zero i)))
+
+-- no bank is in a set of words that have no bit
+pub none_in : (n b : ℕ) → is_in (replicate n 0) b ≡ false
+none_in n b =
+    let none : get_or (replicate n 0) (b / 64) 0 ≡ 0 = elim (cases_lt (b / 64) n) [
+      | inl l ↦ get_or-replicate n (b / 64) 0 0 l
+      | inr g ↦ get_or_past (replicate n 0) (b / 64) 0 (omega (arith, g, length-replicate {A = ℕ} n 0))
+    ] in
+    ap (λ w. bit_at w (b % 64) == 1) none ∙ unset (b % 64)
+
 -- each bank is in a set of words that have all bits
-pub all_in : (b : ℕ) → b / 64 < 16 → is_in (replicate 16 (2 ^ 64 - 1)) b ≡ true
-all_in b l =
-    ap (λ n. bit_at n (b % 64) == 1) (get_or-replicate 16 (b / 64) (2 ^ 64 - 1) 0 l)
+pub all_in : (n b : ℕ) → b / 64 < n → is_in (replicate n (2 ^ 64 - 1)) b ≡ true
+all_in n b l =
+    ap (λ w. bit_at w (b % 64) == 1) (get_or-replicate n (b / 64) (2 ^ 64 - 1) 0 l)
     ∙ eq-eqb (bit_at (2 ^ 64 - 1) (b % 64)) 1 (bit_at_ones 64 (b % 64) (omega arith))
 
 -- a word was edited at the bit of one bank alone
@@ -65,10 +80,10 @@ first_mask from mask e =
       off = λ i l lt. ap (λ m. bit_at m i) is ∙ bit_at_mask_below (from % 64) 64 i (omega arith);
     }
 
--- the mask of the words after it
-pub whole_mask : (from k : ℕ) → from / 64 < k → IsMask from k (2 ^ 64 - 1)
-whole_mask from k lt = record {
-  on = λ i l le. bit_at_ones 64 i l;
+-- the mask of a word after that bank
+pub whole_mask : (from k : ℕ) → from ≤ k * 64 → IsMask from k (2 ^ 64 - 1)
+whole_mask from k le = record {
+  on = λ i l _. bit_at_ones 64 i l;
   off = λ i l less. absurd (omega arith);
 }
 
@@ -124,6 +139,75 @@ found_in_word xs ys from k mask w m before e fits some =
       ),
       none_more xs ys from k mask t m before (omega arith) (λ i l. ap (λ n. bit_at n i) (sym e) ∙ h.2 i l),
     )
+
+-- what two words have in common, as the common word of a mask that leaves out no bank
+pub common_all : (xs ys : List ℕ) (k : ℕ) → bit_and (get_or xs k 0) (get_or ys k 0) < 2 ^ 64
+    → bit_and (get_or xs k 0) (get_or ys k 0) ≡ common xs ys k (2 ^ 64 - 1)
+unfolding common
+common_all xs ys k fits =
+    let both = bit_and (get_or xs k 0) (get_or ys k 0) in
+    sym (and_mask both 64 ∙ mod-eq_of_lt fits)
+
+-- no bank is in both sets where their words, in turn, have nothing in common
+pub none_in_words : (xs ys : List ℕ) (from to : ℕ)
+    → ((k : ℕ) → from ≤ k → k < to → bit_and (get_or xs k 0) (get_or ys k 0) ≡ 0)
+    → HaveNoneInBoth xs ys (from * 64) (to * 64)
+none_in_words xs ys from to none b ge lt e =
+    let k = b / 64 in
+    let i = b % 64 in
+    let x = eqb-true (bit_at (get_or xs k 0) i) 1 e in
+    let unset = ap (λ n. bit_at n i) (none k (omega arith) (omega arith)) ∙ bit_at-zero i in
+    ne_eqb (bit_at (get_or ys k 0) i) 1 (λ y. absurd (omega (arith, bit_at_and (get_or xs k 0) (get_or ys k 0) i, unset, x, y)))
+
+-- four numbers that have no bit together are 0
+none_of_four : (a b c d : ℕ) → bit_or (bit_or (bit_or a b) c) d ≡ 0 → (a ≡ 0) × (b ≡ 0) × (c ≡ 0) × (d ≡ 0)
+none_of_four a b c d e =
+    let three : bit_or (bit_or a b) c ≡ 0 = omega (arith, e, le_or_l (bit_or (bit_or a b) c) d) in
+    let two : bit_or a b ≡ 0 = omega (arith, three, le_or_l (bit_or a b) c) in (
+      omega (arith, two, le_or_l a b),
+      omega (arith, two, le_or_r a b),
+      omega (arith, three, le_or_r (bit_or a b) c),
+      omega (arith, e, le_or_r (bit_or (bit_or a b) c) d),
+    )
+
+-- what is 0 at four numbers in a row is 0 at each of them
+zero_at_four : (f : ℕ → ℕ) (k j : ℕ) → f k ≡ 0 → f (k + 1) ≡ 0 → f (k + 2) ≡ 0 → f (k + 3) ≡ 0 → k ≤ j → j < k + 4 → f j ≡ 0
+zero_at_four f k j a b c d ge lt = elim (cases_lt j (k + 1)) [
+  | inl l ↦ (let e : j ≡ k = omega (arith, ge, l) in ap f e ∙ a)
+  | inr g ↦ elim (cases_lt j (k + 2)) [
+    | inl l ↦ (let e : j ≡ k + 1 = omega (arith, g, l) in ap f e ∙ b)
+    | inr h ↦ elim (cases_lt j (k + 3)) [
+      | inl l ↦ (let e : j ≡ k + 2 = omega (arith, h, l) in ap f e ∙ c)
+      | inr m ↦ (let e : j ≡ k + 3 = omega (arith, m, lt) in ap f e ∙ d)
+    ]
+  ]
+]
+
+-- no bank of four words is in both sets where what they have in common has no bit together
+pub none_in_four : (xs ys : List ℕ) (k : ℕ)
+    → bit_or (bit_or (bit_or (bit_and (get_or xs k 0) (get_or ys k 0)) (bit_and (get_or xs (k + 1) 0) (get_or ys (k + 1) 0)))
+    (bit_and (get_or xs (k + 2) 0) (get_or ys (k + 2) 0))) (bit_and (get_or xs (k + 3) 0) (get_or ys (k + 3) 0)) ≡ 0
+    → HaveNoneInBoth xs ys (k * 64) ((k + 4) * 64)
+none_in_four xs ys k e =
+    let z = none_of_four (bit_and (get_or xs k 0) (get_or ys k 0)) (bit_and (get_or xs (k + 1) 0) (get_or ys (k + 1) 0))
+    (bit_and (get_or xs (k + 2) 0) (get_or ys (k + 2) 0)) (bit_and (get_or xs (k + 3) 0) (get_or ys (k + 3) 0)) e in
+    none_in_words xs ys k (k + 4) (λ j ge lt. zero_at_four (λ n. bit_and (get_or xs n 0) (get_or ys n 0)) k j z.0 z.1 z.2 z.3 ge lt)
+
+-- none is in both up to a bank where none is up to an earlier one, and none from that one on
+pub none_further : (xs ys : List ℕ) (from between to : ℕ) → HaveNoneInBoth xs ys from between → HaveNoneInBoth xs ys between to
+    → HaveNoneInBoth xs ys from to
+none_further xs ys from between to before after b ge lt e = elim (cases_lt b between) [
+  | inl l ↦ before b ge l e
+  | inr g ↦ after b g lt e
+]
+
+-- the same of what is found from that bank on, or of all banks up to an end where nothing is found
+pub found_later : (xs ys : List ℕ) (from between to end : ℕ) (r : Option BankId) → HaveNoneInBoth xs ys from between
+    → IfSome r (λ bank. HaveNoneInBoth xs ys between bank.0) → IfNone r (HaveNoneInBoth xs ys between to) → end ≤ to
+    → IfSome r (λ bank. HaveNoneInBoth xs ys from bank.0) × IfNone r (HaveNoneInBoth xs ys from end)
+found_later xs ys from between to end (Some bank) before none_before none le = (none_further xs ys from between bank.0 before none_before, tt)
+found_later xs ys from between to end None before none_before none le =
+    (tt, λ b ge lt e. none_further xs ys from between to before none b ge (omega (arith, lt, le)) e)
 
 -- a bit of two words together is set where it is in one of them
 pub bit_of_either : (x y i : ℕ) → (bit_at (bit_or x y) i == 1) ≡ ((bit_at x i == 1) || (bit_at y i == 1))

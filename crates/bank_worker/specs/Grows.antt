@@ -1,6 +1,6 @@
 -- What a visit, a sweep, a round and a run all keep, and what only grows; and what a round does.
 use Rattle.std.specs.Prelude.{◌≡◌, ℕ, ◌+◌, ◌*◌, ◌<◌, ◌≤◌, length, slice_index}
-use Rattle.clr_net.specs.declared.TheConstants.{MAX_OWED}
+use Rattle.clr_net.specs.declared.TheConstants.{MAX_BANKS, MAX_OWED}
 use Rattle.pay_words.specs.declared.view.Shown.{Shown}
 use Rattle.pay_words.specs.Views.{OwesNoRing, took}
 use Rattle.bank_worker.specs.declared.visit.Visit.{Visit}
@@ -65,10 +65,14 @@ pub record IsStopped (sweeps : ℕ) (old new : Crew) : Type 0 where
   pub known : place < length before.desks
   pub last : new ≡ with_a_visit_refused before (desk_at before.desks place).bank
 
+-- the most visits of a round: a thousand sweeps over the most banks
+abbrev pub MAX_VISITS : ℕ
+MAX_VISITS = 1000 * MAX_BANKS
+
 -- a round of at most so many sweeps that answered so
 pub record MakesRound (sweeps : ℕ) (answer : Visit) (old new : Crew) : Type 0 where
   pub same : IsSameCrew old new
   pub visits : VisitsByBells sweeps old new
   pub raised : WhenRaised answer (λ n. IsRounded n old new)
-  pub few : WhenRaised answer (λ n. n ≤ 1000000 * MAX_OWED)
+  pub few : WhenRaised answer (λ n. n ≤ MAX_VISITS * MAX_OWED)
   pub mem : WhenMem answer (IsStopped sweeps old new)

@@ -270,10 +270,11 @@ impl Worker {
     {
         let desks = self.desks();
         prove!(desks <= MAX_BANKS as usize);
+        let last = self.last();
         let mut units = 0;
         for _ in 0..sweeps {
             let visits = self.visits;
-            call_anew(called, anew);
+            call_anew(called, anew, last);
             match self.sweep(board, gate, called) {
                 Visit::Raised(more) => units += more,
                 Visit::Mem => return Visit::Mem,
@@ -329,7 +330,9 @@ impl Worker {
         if from == banks.len() {
             return from;
         }
-        match self.office.banks().first_in_both(called, banks[from]) {
+        let last = self.bank(banks.len() - 1);
+        let mine = self.office.banks();
+        match mine.first_in_both(called, banks[from], last.0) {
             Some(bank) => (bank.0 / self.office.workers()) as usize,
             None => banks.len(),
         }
@@ -357,6 +360,17 @@ impl Worker {
         BankId(banks[place])
     }
 
+    // The bank of the last desk, or the first bank of all where there is no desk.
+    fn last(&self) -> BankId
+        ensures { result.0 < MAX_BANKS }
+    {
+        let desks = self.desks();
+        if desks == 0 {
+            return BankId(0);
+        }
+        self.bank(desks - 1)
+    }
+
     // Takes the bell of a desk's bank, and answers whether it was up.
     #[tactic(auto, using(crate::proofs::Staffed::staffed_taken))]
     fn take(&mut self, board: &Board, place: usize) -> bool
@@ -377,15 +391,17 @@ impl Worker {
     }
 }
 
-// Calls these banks, if any.
-#[tactic(auto, using(crate::proofs::Calling::stay_in, crate::proofs::Calling::has_too))]
-fn call_anew(called: &mut BankSet, anew: Option<&BankSet>)
+// Calls these banks, if any, up to the last one.
+#[tactic(auto, using(crate::proofs::Calling::stay_in_part, crate::proofs::Calling::has_part))]
+fn call_anew(called: &mut BankSet, anew: Option<&BankSet>, last: BankId)
+    requires { last.0 < MAX_BANKS }
     ensures kept { StayIn called.old called.new }
-    ensures anew { IfSome anew.entry (λ banks. StayIn banks.now called.new) }
+    ensures anew { IfSome anew.entry (λ banks. (b : ℕ) → b ≤ last.0
+        → is_in banks.now b ≡ true → is_in called.new b ≡ true) }
     ensures none { IfNone anew.entry (called.new ≡ called.old) }
 {
     if let Some(banks) = anew {
-        called.add_all(banks);
+        called.add_up_to(banks, last);
     }
 }
 

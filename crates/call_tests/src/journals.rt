@@ -5,9 +5,9 @@ ghost use Rattle.std.specs.Prelude.{◌≡◌, ◌<◌, All, length};
 use clear_core::{Journal, Raise, Scratch};
 use clear_report::journal_text;
 use clr_net::{Amounts, BankId, DebtId, Mem, Network};
-use net_check::ReadNet;
+use net_check::{Limits, ReadNet};
 use net_samples::chain;
-use raise_journal::{Verdict, gather, read_journal, replay, replay_with};
+use raise_journal::{Verdict, gather, read_journal, read_journal_within, replay, replay_with};
 use std::alloc::Global;
 use std::test::Fail;
 
@@ -31,9 +31,14 @@ fn verdicts(alloc: Global, net: &Network, journal: &[Raise]) -> Result<(Verdict,
     Ok((anew, kept))
 }
 
-// The verdicts on the journal of a text.
-fn verdicts_on(alloc: Global, net: &Network, text: &str) -> Result<(Verdict, Verdict), ReadNet> {
-    let journal = read_journal(alloc, net, text.as_bytes())?;
+// The verdicts on the journal of a text that is read by these limits.
+fn verdicts_on(
+    alloc: Global,
+    by: Limits,
+    net: &Network,
+    text: &str,
+) -> Result<(Verdict, Verdict), ReadNet> {
+    let journal = read_journal_within(alloc, by, net, text.as_bytes())?;
     verdicts(alloc, net, journal.as_slice()).or(Err(ReadNet::Mem))
 }
 
@@ -76,10 +81,12 @@ const JUDGED: [(&str, Verdict); 5] = [
 fn journals_are_judged_alike_both_ways(rt: HostRuntime) -> Result<(), Fail> {
     let net = chain(rt.alloc())?;
     for (text, verdict) in &JUDGED {
-        assert!(rt;
-            verdicts_on(rt.alloc(), &net, text) == Ok((*verdict, *verdict)),
-            "at {text}"
-        );
+        for by in [Limits::Standard, Limits::Wide] {
+            assert!(rt;
+                verdicts_on(rt.alloc(), by, &net, text) == Ok((*verdict, *verdict)),
+                "at {text}"
+            );
+        }
     }
     Ok(())
 }

@@ -2,3 +2,4 @@ pub mod Between
 pub mod Tabled
 pub mod Counting
 pub mod Broken
+pub mod Shocked

@@ -10,6 +10,7 @@
 mod breaking;
 mod ruins;
 mod savings;
+mod shocks;
 mod stand;
 mod sums;
 mod tables;

@@ -3,7 +3,7 @@ ghost use Rattle.cascade.specs.Standings.{standings};
 ghost use Rattle.clear_core.specs.Clearing.{least};
 ghost use Rattle.clear_report.specs.Impact.{hurt_lines, impact_line, impact_text};
 ghost use Rattle.clear_many.specs.Texts.{text_of};
-ghost use Rattle.impact.specs.Halves.{IsDescentOf};
+ghost use Rattle.impact.specs.Ruined.{IsDescentByRuins};
 ghost use Rattle.std.specs.Prelude.{◌≡◌, IfOk, length};
 
 use crate::stand::{is_network, least_stand};
@@ -11,7 +11,8 @@ use crate::tables::laid_below;
 use cascade::Standing;
 use clear_report::{Piece, impact_begun, impact_piece};
 use clr_net::{BankId, Mem, Network};
-use impact::Descent;
+use descent::Descent;
+use impact::impact_of;
 use shares::{Made, Piecework, THREADS, in_shares};
 use std::alloc::Global;
 use std::thread::Threads;
@@ -58,7 +59,7 @@ impl<'a> Piecework<Piece, Descent> for Ruins<'a> {
     ghost is_piece = { λ w j p. (p.upper.items ≡ impact_line w.net.now j)
         × (p.lower.items ≡ hurt_lines w.net.now j) };
 
-    ghost has_done = { λ w low high descent. IsDescentOf w.net.now descent };
+    ghost has_done = { λ w low high descent. IsDescentByRuins w.net.now descent };
 
     fn desk(&self) -> Result<Descent, Mem> {
         Descent::of(self.alloc, self.net)
@@ -68,7 +69,7 @@ impl<'a> Piecework<Piece, Descent> for Ruins<'a> {
         is_network(self.net);
         let mut descent = desk;
         let bank = BankId(place as u32);
-        let impact = descent.impact_of(self.alloc, self.net, self.before, bank)?;
+        let impact = impact_of(self.alloc, self.net, &mut descent, self.before, bank)?;
         let piece = impact_piece(self.alloc, self.net, bank, &impact)?;
         Ok((piece, descent))
     }

@@ -1,31 +1,38 @@
 //! Scenarios in sums, a share of them to each thread.
-ghost use Rattle.cascade.specs.MoreCash.{IsOfOtherCash};
 ghost use Rattle.cascade.specs.Standings.{standings as standings_of};
 ghost use Rattle.clear_core.specs.Clearing.{least};
 ghost use Rattle.clear_report.specs.Outcomes.{falls_text as falls_text_of, outcomes_header as header};
 ghost use Rattle.clear_report.specs.Outcomes.{outcome_line as outcome_line_of, outcomes_text, scenario_sums};
 ghost use Rattle.clear_report.specs.Words.{one_above_other};
 ghost use Rattle.clear_many.specs.Between.{between};
+ghost use Rattle.clear_many.specs.Shocked.{cash_rows};
 ghost use Rattle.clear_many.specs.Texts.{text_of};
+ghost use Rattle.clr_net.specs.Limits.{IsNetwork};
+ghost use Rattle.descent.specs.Cashes.{cash_in_row, lowest};
+ghost use Rattle.descent.specs.Halves.{IsDescentOf};
 ghost use Rattle.std.specs.Prelude.{◌≡◌, ◌++◌, ◌≤◌, All, IfOk, OnOk, length, slice_index_or};
 ghost use Rattle.stress.specs.Outcomes.{AreWithin, added, sums as sums_of, tally as tally_of, tally_of_one};
 ghost use Rattle.stress.specs.Shocks.{IsScenarioOf};
 ghost use Rattle.stress.specs.declared.TheConstants.{MAX_SCENARIOS};
 ghost use Rattle.stress.specs.declared.scenario.Scenario.{Scenario};
 
-use crate::stand::least_stand;
+use crate::shocks::{cash_left, standings_in};
+use crate::stand::is_network;
+use cascade::Standing;
 use clear_report::{falls_text, outcome_line, outcomes_header};
 use clr_net::{Mem, Name, Network};
+use descent::{Descent, Table};
 use shares::{Made, Piecework, THREADS, in_shares};
 use std::alloc::Global;
 use std::thread::Threads;
-use stress::{Falls, Scenario, Tally, outcome_of, shock_again};
+use stress::{Falls, Scenario, Tally, outcome_of};
 
 /// The text of what each scenario comes to in sums, and of how often each bank falls in them, in
 /// pieces. `Mem` for want of memory alone.
 ///
-/// Costs a clearing from nothing paid for each scenario. Each thread has one copy of the network,
-/// and keeps of a scenario its line alone.
+/// Costs a clearing for each scenario, which goes on from one with the least cash of twice as many,
+/// and a walk over the debts. Each thread has one copy of the network, and a list over the debts for
+/// each halving of the scenarios, and keeps of a scenario its line alone.
 pub fn tell_outcomes<R: Threads + Sync>(
     rt: &R,
     alloc: Global,
@@ -36,10 +43,13 @@ pub fn tell_outcomes<R: Threads + Sync>(
     requires few { length scenarios.now ≤ MAX_SCENARIOS }
     ensures { IfOk result (λ all. text_of all.items ≡ outcomes_text net.now scenarios.now) }
 {
+    is_network(net);
+    let table = cash_left(alloc, net, scenarios)?;
     let sums = Sums {
         alloc,
         net,
         scenarios,
+        table: &table,
     };
     let Made { pieces, desk } = in_shares(rt, alloc, &sums, scenarios.len(), THREADS)?;
     summed_up(alloc, net, pieces, desk.tally.as_slice())
@@ -65,50 +75,63 @@ fn summed_up(
     Ok(all)
 }
 
-// The scenarios of a network.
+// The scenarios of a network, with the cash that each leaves.
 #[derive(Drop)]
 struct Sums<'a> {
     alloc: Global,
     net: &'a Network,
     scenarios: &'a [Scenario],
+    table: &'a Table,
 }
 
-// The desk at which scenarios are summed up: a copy of the network, and how often each bank falls
-// in those that are done.
+// The desk at which scenarios are summed up: a descent through halves of them, and how often each
+// bank falls in those that are done.
 #[derive(Drop)]
 struct Counting {
-    copy: Network,
+    descent: Descent,
     tally: Tally,
 }
 
 impl<'a> Piecework<Vec<u8>, Counting> for Sums<'a> {
     ghost can = { λ w. All (IsScenarioOf w.net.now) w.scenarios.now
-        × (length w.scenarios.now ≤ MAX_SCENARIOS) };
+        × (length w.scenarios.now ≤ MAX_SCENARIOS)
+        × (w.table.now.rows.items ≡ cash_rows w.net.now w.scenarios.now)
+        × IsNetwork w.net.now };
 
     ghost size = { λ w. length w.scenarios.now };
 
     ghost is_piece = { λ w k text. (d : Scenario)
         → text.items ≡ scenario_sums w.net.now (slice_index_or w.scenarios.now k d) };
 
-    ghost has_done = { λ w low high desk. (low ≤ high) × IsOfOtherCash w.net.now desk.copy
+    ghost has_done = { λ w low high desk. (low ≤ high)
+        × IsDescentOf w.net.now (length w.table.now.rows.items)
+        (λ a b i. lowest (cash_in_row w.table.now.rows.items i) a b) desk.descent
         × (desk.tally ≡ tally_of w.net.now (between w.scenarios.now low high)) };
 
     fn desk(&self) -> Result<Counting, Mem> {
         Ok(Counting {
-            copy: self.net.copy(self.alloc)?,
+            descent: Descent::of(self.alloc, self.net)?,
             tally: Tally::empty(self.alloc, self.net)?,
         })
     }
 
     fn piece(&self, desk: Counting, place: usize) -> Result<(Vec<u8>, Counting), Mem> {
         let Counting {
-            mut copy,
+            mut descent,
             mut tally,
         } = desk;
-        let scenario = &self.scenarios[place];
-        shock_again(self.net, scenario, &mut copy);
-        let text = counted(self.alloc, &copy, &scenario.name, &mut tally)?;
-        Ok((text, Counting { copy, tally }))
+        let standings = standings_in(
+            self.alloc,
+            self.net,
+            self.scenarios,
+            self.table,
+            &mut descent,
+            place,
+        )?;
+        let name = &self.scenarios[place].name;
+        let left = descent.cleared();
+        let text = counted(self.alloc, left, standings.as_slice(), name, &mut tally)?;
+        Ok((text, Counting { descent, tally }))
     }
 
     fn merged(&self, front: Counting, back: Counting) -> Counting {
@@ -119,7 +142,14 @@ impl<'a> Piecework<Vec<u8>, Counting> for Sums<'a> {
 }
 
 // The line of a scenario of this name, which left this network. How its banks stand is counted.
-fn counted(alloc: Global, left: &Network, name: &Name, tally: &mut Tally) -> Result<Vec<u8>, Mem>
+fn counted(
+    alloc: Global,
+    left: &Network,
+    standings: &[Standing],
+    name: &Name,
+    tally: &mut Tally,
+) -> Result<Vec<u8>, Mem>
+    requires standings { standings.now ≡ standings_of left.now (least left.now) }
     requires over { length tally.old ≡ length left.now.banks }
     requires fits { AreWithin MAX_SCENARIOS tally.old }
     ensures text { IfOk result (λ text.
@@ -127,8 +157,6 @@ fn counted(alloc: Global, left: &Network, name: &Name, tally: &mut Tally) -> Res
     ensures tally { OnOk result (tally.new
         ≡ added tally.old (tally_of_one (standings_of left.now (least left.now)))) }
 {
-    let stand = least_stand(alloc, left)?;
-    let standings = stand.standings.as_slice();
     tally.note(standings);
     outcome_line(alloc, name, &outcome_of(left, standings))
 }

@@ -1,5 +1,7 @@
 -- The text of some claims is the debts file of the network with these claims.
-use Rattle.std.proofs.Common.{◌≡◌, ℕ, suc, ◌+◌, List, [], ◌∷◌, ◌++◌, length, get_or, slice_get, Option, Some, None, refl, sym, ap, ◌∙◌, subst, arith, Ok}
+use Rattle.std.proofs.Common.{◌≡◌, ℕ, suc, ◌+◌, List, [], ◌∷◌, ◌++◌, length, get_or, slice_get, sum}
+use Rattle.std.proofs.Common.{Option, Some, None, refl, sym, ap, ◌∙◌, subst, arith, Ok}
+use Rattle.std.proofs.lemmas.List.Sums.{sum-map}
 use Rattle.std.specs.List.{flat_map, range_with_len}
 use Rattle.std.specs.Option.{option_map}
 use Rattle.clr_net.specs.Amounts.{IsAtMost}
@@ -8,9 +10,12 @@ use Rattle.clr_net.specs.Limits.{IsNetwork}
 use Rattle.clr_net.specs.Lines.{line}
 use Rattle.clr_net.specs.Net.{Net}
 use Rattle.clr_net.specs.declared.debt.Debt.{Debt}
-use Rattle.clr_net.proofs.LowerClaims.{claim_set, length-of_claims, lower_is_network}
+use Rattle.clr_net.proofs.Lists.{sum-le}
+use Rattle.clr_net.proofs.LowerClaims.{claim_set, length-of_claims, lower_is_network, lower_claims}
+use Rattle.net_check.specs.Within.{IsWithin}
+use Rattle.net_check.specs.declared.limits.Limits.{Limits}
 use Rattle.net_csv.specs.Printing.{KeepsNames, banks_text, debt_line, debts_text}
-use Rattle.net_csv.specs.Reading.{debts_header, network_of}
+use Rattle.net_csv.specs.Reading.{debts_header, network_within}
 use Rattle.net_csv.proofs.ReadBack.{printed_is_read_back}
 use Rattle.clear_report.specs.Compression.{claim_line, claims_text}
 
@@ -42,10 +47,28 @@ claims_text_is net C l =
     (λ k e at. ap (claim_line net C) (omega arith)
     ∙ line_of net C k (slice_get net.debts k) e refl (sym (claim_set C net.debts k l) ∙ at)))
 
--- and it is read as that network
-pub claims_read_back : (net : Net) (C : List ℕ) → IsNetwork net → KeepsNames net
+-- lower claims are within the limits that claims are within
+lower_is_within : (by : Limits) (net : Net) (C : List ℕ) → IsNetwork net → IsWithin by net
     → length C ≡ length net.debts → IsAtMost C (all_claims net)
-    → network_of (banks_text net) (claims_text net C) ≡ Ok (with_claims net C)
-claims_read_back net C network names l within =
-    ap (network_of (banks_text net)) (claims_text_is net C l)
-    ∙ printed_is_read_back (with_claims net C) (lower_is_network net C network l within) names
+    → IsWithin by (with_claims net C)
+lower_is_within by net C network small l low = record {
+  banks = small.banks;
+  debts = omega (arith, length-of_claims C net.debts, small.debts);
+  owed = omega (
+    arith,
+    sum-map (λ d. d.claim) (of_claims C net.debts),
+    ap sum (lower_claims net C network l low).1,
+    sum-le C (all_claims net) low,
+    sum-map (λ d. d.claim) net.debts,
+    small.owed,
+  );
+}
+
+-- and it is read as that network
+pub claims_read_back : (by : Limits) (net : Net) (C : List ℕ) → IsNetwork net → IsWithin by net
+    → KeepsNames net → length C ≡ length net.debts → IsAtMost C (all_claims net)
+    → network_within by (banks_text net) (claims_text net C) ≡ Ok (with_claims net C)
+claims_read_back by net C network small names l low =
+    ap (network_within by (banks_text net)) (claims_text_is net C l)
+    ∙ printed_is_read_back by (with_claims net C) (lower_is_network net C network l low)
+    (lower_is_within by net C network small l low) names

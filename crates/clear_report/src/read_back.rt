@@ -5,8 +5,10 @@ ghost use Rattle.clr_net.specs.Amounts.{IsAtMost};
 ghost use Rattle.clr_net.specs.Claims.{all_claims, with_claims};
 ghost use Rattle.clr_net.specs.Limits.{IsNetwork};
 ghost use Rattle.clr_net.specs.Net.{Net};
+ghost use Rattle.net_check.specs.Within.{IsWithin};
+ghost use Rattle.net_check.specs.declared.limits.Limits.{Limits};
 ghost use Rattle.net_csv.specs.Printing.{KeepsNames, banks_text, debts_text};
-ghost use Rattle.net_csv.specs.Reading.{network_of};
+ghost use Rattle.net_csv.specs.Reading.{network_within};
 ghost use Rattle.std.specs.Prelude.{◌≡◌, ℕ, List, Ok, length};
 
 /// The claims are written as the debts file of the network with these claims.
@@ -16,9 +18,9 @@ pub fn claims_are_a_debts_file()
 {}
 
 /// So, beside the network's own banks file, they are read as that network, where no claim was raised
-/// and no name begins or ends with a space.
+/// and no name begins or ends with a space, by any limits that the network is within.
 pub fn claims_are_read_back()
-    ensures { (net : Net) (C : List ℕ) → IsNetwork net → KeepsNames net
-        → length C ≡ length net.debts → IsAtMost C (all_claims net)
-        → network_of (banks_text net) (claims_text net C) ≡ Ok (with_claims net C) }
+    ensures { (by : Limits) (net : Net) (C : List ℕ) → IsNetwork net → IsWithin by net
+        → KeepsNames net → length C ≡ length net.debts → IsAtMost C (all_claims net)
+        → network_within by (banks_text net) (claims_text net C) ≡ Ok (with_claims net C) }
 {}

@@ -51,9 +51,9 @@ third_is s job k is = absurd (cc)
 pub stops_at : (files mid : Option Files) (before middle after : List ℕ → ℕ) (job : Job) (k : FileKind) (name : List ℕ)
     (why : Status) → has_files (source_of job.task) ≡ true → mid ≡ files → NoneFalls before middle
     → name_in job k ≡ Some name → IfTold files (λ told. AreThereBefore told job k)
-    → ((told : Files) (f : Fault) → files ≡ Some told → whole told k name ≡ Some (Err f)
+    → ((told : Files) (f : Fault) → files ≡ Some told → whole job.limits told k name ≡ Some (Err f)
     → reading told job ≡ Some (Err f))
-    → StopsFetch (shelf_call mid middle after) k name why → Stops (shelf_call files before after) job why
+    → StopsFetch job.limits (shelf_call mid middle after) k name why → Stops (shelf_call files before after) job why
 stops_at files mid before middle after job k name (status.ReadFault other) has same no_fall named there faulty (is, risen) =
     let at : IsUnread (shelf_call files before after) job k =
     ((name, named, risen_since (before name) (middle name) (after name) (no_fall name) risen), there) in

@@ -21,6 +21,10 @@ use Rattle.clr_net.specs.declared.bank.Bank.{Bank}
 use Rattle.clr_net.specs.declared.debt.Debt.{Debt}
 use Rattle.net_check.proofs.Fields.{trimmed_end-stops, trimmed_start-stops}
 use Rattle.net_check.specs.Field.{is_space_or_tab, trimmed_field, trimmed_start}
+use Rattle.net_check.proofs.Within.{standard_is_within}
+use Rattle.net_check.specs.Within.{IsWithin}
+use Rattle.net_check.specs.declared.limits.Limits.{Limits}
+use Rattle.net_check.specs.declared.limits.Limits.TheVariants as limits
 use Rattle.net_csv.proofs.ReadBack.{printed_is_read_back}
 use Rattle.net_csv.specs.Printing.{KeepsNames}
 use Rattle.net_gen.proofs.Names.{named, new_name_at}
@@ -157,8 +161,25 @@ module _ (seed size tries : ℕ) (some : 1 ≤ size) (few : size ≤ 1000) (few_
         ∙ made_name seed size i below in
         subst (λ n. trimmed_field n ≡ n) (sym name) (name_kept i (omega (arith, below, few)))
 
+    -- it is within the standard limits
+    generated_is_within : IsWithin limits.Standard (generated seed size tries)
+    generated_is_within =
+        let small = small_after seed size tries in record {
+          banks = omega (arith, small.banks, few);
+          debts = omega (arith, small.debts, few_tries);
+          owed = omega (arith, small.owed, few_tries);
+        }
+
     -- and what is printed of it is read back
-    pub generated_is_read_back : IsReadBack (generated seed size tries)
-    generated_is_read_back =
-        printed_is_read_back (generated seed size tries)
-        (tries_network seed size tries some few few_tries) generated_keeps_names
+    generated_is_read_back : (by : Limits) → IsReadBack by (generated seed size tries)
+    generated_is_read_back by =
+        printed_is_read_back by (generated seed size tries)
+        (tries_network seed size tries some few few_tries)
+        (standard_is_within by (generated seed size tries) generated_is_within)
+        generated_keeps_names
+
+-- what is printed of a generated network is read back by either limits
+pub generated_back : (by : Limits) (seed size tries : ℕ) → 1 ≤ size → size ≤ 1000 → tries ≤ 20000
+    → IsReadBack by (generated seed size tries)
+generated_back by seed size tries some few few_tries =
+    generated_is_read_back seed size tries some few few_tries by

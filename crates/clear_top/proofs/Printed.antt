@@ -35,9 +35,9 @@ pub prints_least : (files : Files) (job : Job) (o : Outcome) → ShowsPayments j
 prints_least files job o (clears, shows) (on, given, comes) =
     let is_read : reading_by source.Files files job ≡ Some (Ok on) =
     subst (λ t. reading_by (source_of t) files job ≡ Some (Ok on)) clears given in
-    let found = two_files (both_whole files job) on is_read in
+    let found = two_files job.limits (both_whole files job) on is_read in
     let made : Settles on.net (plan_of job) (clear_text job.show on.net) o = subst (λ t. ComesTo t job on o) clears comes in
-    let network : IsNetwork on.net = network_of_ok found.both.0 found.both.1 on.net found.net_is in
+    let network : IsNetwork on.net = network_of_ok job.limits found.both.0 found.both.1 on.net found.net_is in
     let P = least on.net in
     let begin = front job.show on.net made.settled.sealed.journal made.settled.rounds shows in
     record {

@@ -5,11 +5,13 @@ use Rattle.clr_net.specs.Limits.{IsBankOf, IsNetwork}
 use Rattle.clr_net.specs.Name.{is_name}
 use Rattle.clr_net.specs.Net.{Net}
 use Rattle.net_check.specs.Field.{trimmed_field}
+use Rattle.net_check.specs.Within.{IsWithin}
+use Rattle.net_check.specs.declared.limits.Limits.{Limits}
 use Rattle.net_csv.proofs.KeptNames.{network_of_names}
-use Rattle.net_csv.proofs.Networks.{network_of_ok}
+use Rattle.net_csv.proofs.Networks.{network_is_within, network_of_ok}
 use Rattle.net_csv.proofs.ReadBack.{printed_is_read_back}
 use Rattle.net_csv.specs.Printing.{KeepsNames}
-use Rattle.net_csv.specs.Reading.{network_of}
+use Rattle.net_csv.specs.Reading.{network_within}
 use Rattle.stress.proofs.Kept.{keeps_all_but_cash, leaves_cash}
 use Rattle.stress.specs.Shocks.{KeepsAllButCash, shocked}
 use Rattle.stress.specs.declared.scenario.Scenario.{Scenario}
@@ -51,6 +53,14 @@ module _ (net : Net) (s : Scenario) where
     };
   }
 
+  -- and within the same limits
+  shocked_is_within : (by : Limits) → IsWithin by net → IsWithin by (shocked net s)
+  shocked_is_within by within = record {
+    banks = omega (arith, kept.banks, within.banks);
+    debts = within.debts;
+    owed = within.owed;
+  }
+
   -- with the same names
   pub shocked_keeps_names : KeepsNames net → KeepsNames (shocked net s)
   shocked_keeps_names names i l =
@@ -58,14 +68,20 @@ module _ (net : Net) (s : Scenario) where
       (names i (omega (arith, kept.banks)))
 
   -- and what is printed of it is read back
-  pub shocked_is_read_back : IsNetwork net → KeepsNames net → IsReadBack (shocked net s)
-  shocked_is_read_back network names =
-      printed_is_read_back (shocked net s) (shocked_is_network network)
-      (shocked_keeps_names names)
+  shocked_is_read_back : (by : Limits) → IsNetwork net → IsWithin by net → KeepsNames net
+      → IsReadBack by (shocked net s)
+  shocked_is_read_back by network within names =
+      printed_is_read_back by (shocked net s) (shocked_is_network network)
+      (shocked_is_within by within) (shocked_keeps_names names)
+
+-- what is printed of the network that a scenario leaves is read back
+pub shocked_back : (by : Limits) (net : Net) (s : Scenario) → IsNetwork net → IsWithin by net
+    → KeepsNames net → IsReadBack by (shocked net s)
+shocked_back by net s = shocked_is_read_back net s by
 
 -- also of what was read
-pub shocked_after_reading : (banks debts : List ℕ) (net : Net) (s : Scenario)
-    → network_of banks debts ≡ Ok net → IsReadBack (shocked net s)
-shocked_after_reading banks debts net s read =
-    shocked_is_read_back net s (network_of_ok banks debts net read)
-    (network_of_names banks debts net read)
+pub shocked_after_reading : (by : Limits) (banks debts : List ℕ) (net : Net) (s : Scenario)
+    → network_within by banks debts ≡ Ok net → IsReadBack by (shocked net s)
+shocked_after_reading by banks debts net s read =
+    shocked_is_read_back net s by (network_of_ok by banks debts net read)
+    (network_is_within by banks debts net read) (network_of_names by banks debts net read)

@@ -10,6 +10,7 @@ use Rattle.clear_words.specs.declared.task.Task.TheVariants as task
 use Rattle.net_check.specs.Record.{fault_at}
 use Rattle.net_check.specs.declared.fault.FileKind.TheVariants as file
 use Rattle.net_check.specs.declared.fault.FaultKind.TheVariants as fault
+use Rattle.net_check.specs.declared.limits.Limits.TheVariants as limits
 use Rattle.net_csv.specs.Reading.{is_within_limit}
 use Rattle.net_csv.specs.Cases.{chain_banks, chain_debts, reading_on_literals}
 use Rattle.clear_top.specs.Reading.{Files, alone, reading}
@@ -51,7 +52,8 @@ pub unread_without_debts : reading (two_files (Some (codes "no header")) None) o
 unread_without_debts = refl
 
 -- but a banks file that is too long is refused before the debts file is looked for
-pub long_banks_are_refused : (banks : List ℕ) → is_within_limit file.Banks banks ≡ false
+pub long_banks_are_refused : (banks : List ℕ)
+    → is_within_limit limits.Standard file.Banks banks ≡ false
     → reading (two_files (Some banks) None) on_files
     ≡ Some (Err (fault_at file.Banks 0 fault.FileSize))
 long_banks_are_refused banks long = rw long refl

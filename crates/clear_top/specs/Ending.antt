@@ -10,6 +10,7 @@ use Rattle.clear_words.specs.declared.task.Task.TheVariants as task
 use Rattle.net_check.specs.declared.fault.Fault.{Fault}
 use Rattle.net_check.specs.declared.fault.FileKind.{FileKind}
 use Rattle.net_check.specs.declared.fault.FileKind.TheVariants as file
+use Rattle.net_check.specs.declared.limits.Limits.{Limits}
 use Rattle.raise_journal.specs.Verdicts.{judged}
 use Rattle.raise_journal.specs.declared.verdict.Verdict.{Verdict}
 use Rattle.raise_journal.specs.declared.verdict.Verdict.TheVariants as verdict
@@ -74,7 +75,7 @@ NoneRose shelf job = (k : FileKind) → ¬ (RoseAt shelf job k)
 abbrev pub IsThere : Files → Job → FileKind → Type 0
 IsThere files job k =
     (name : List ℕ) × (bytes : List ℕ) × (name_in job k ≡ Some name)
-    × (whole files k name ≡ Some (Ok bytes))
+    × (whole job.limits files k name ≡ Some (Ok bytes))
 
 -- the banks file and the debts file of the job are
 abbrev pub AreBothThere : Files → Job → Type 0
@@ -92,9 +93,9 @@ AreThereBefore files job file.Words = Unit {0}
 abbrev pub IfTold : Option Files → (Files → Type 0) → Type 0
 IfTold files P = (told : Files) → files ≡ Some told → P told
 
--- where the shelf tells its files, this is what a file gives
-abbrev pub GivesWhole : Option Files → FileKind → List ℕ → Result (List ℕ) Fault → Type 0
-GivesWhole files k name read = IfTold files (λ told. whole told k name ≡ Some read)
+-- where the shelf tells its files, this is what a file gives by these limits
+abbrev pub GivesWhole : Limits → Option Files → FileKind → List ℕ → Result (List ℕ) Fault → Type 0
+GivesWhole by files k name read = IfTold files (λ told. whole by told k name ≡ Some read)
 
 -- the files on which a task of this source works: those that the shelf tells; of a source without
 -- files, any
@@ -113,8 +114,8 @@ Gives files job read = OnFiles files job (λ told. reading told job ≡ Some rea
 -- where the shelf tells its files, the banks file and the debts file of the job are these
 abbrev pub GivesBoth : Option Files → Job → List ℕ → List ℕ → Type 0
 GivesBoth files job banks debts =
-    GivesWhole files file.Banks job.banks (Ok banks)
-    × GivesWhole files file.Debts job.debts (Ok debts)
+    GivesWhole job.limits files file.Banks job.banks (Ok banks)
+    × GivesWhole job.limits files file.Debts job.debts (Ok debts)
 
 -- what a job works on can be worked on: its scenarios, of which there are not too many, its journal
 -- or its bank are of its network
@@ -131,13 +132,13 @@ IsUsable source.Generated on = Unit {0}
 abbrev pub IsUnread : ShelfCall → Job → FileKind → Type 0
 IsUnread shelf job k = RoseAt shelf job k × IfTold shelf.files (λ told. AreThereBefore told job k)
 
--- why a file of a kind is not fetched: by the status with which the run then ends
-abbrev pub StopsFetch : ShelfCall → FileKind → List ℕ → Status → Type 0
-StopsFetch shelf k name (status.ReadFault other) =
+-- why a file of a kind is not fetched by these limits: by the status with which the run then ends
+abbrev pub StopsFetch : Limits → ShelfCall → FileKind → List ℕ → Status → Type 0
+StopsFetch by shelf k name (status.ReadFault other) =
     (other ≡ k) × HasRisen (shelf.before name) (shelf.after name)
-StopsFetch shelf k name (status.Refused f) = GivesWhole shelf.files k name (Err f)
-StopsFetch shelf k name status.Mem = Unit {0}
-StopsFetch shelf k name s = ⊥
+StopsFetch by shelf k name (status.Refused f) = GivesWhole by shelf.files k name (Err f)
+StopsFetch by shelf k name status.Mem = Unit {0}
+StopsFetch by shelf k name s = ⊥
 
 -- why there is nothing to work on: by the status with which the run then ends
 abbrev pub Stops : ShelfCall → Job → Status → Type 0

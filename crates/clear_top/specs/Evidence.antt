@@ -15,11 +15,12 @@ use Rattle.clear_top.specs.Outcome.{Outcome}
 abbrev pub ShowsJournal : Job → Type 0
 ShowsJournal job = (job.task ≡ task.Clear) × (job.show ≡ show.Journal)
 
--- the second job replays a file of this text, with the two files of the first
+-- the second job replays a file of this text, with the two files and the limits of the first
 abbrev pub ReplaysText : Files → Job → Files → Job → List ℕ → Type 0
 ReplaysText files job later again text =
-    (again.task ≡ task.Replay) × (later again.banks ≡ files job.banks)
-    × (later again.debts ≡ files job.debts) × (later again.third ≡ Some text)
+    (again.task ≡ task.Replay) × (again.limits ≡ job.limits)
+    × (later again.banks ≡ files job.banks) × (later again.debts ≡ files job.debts)
+    × (later again.third ≡ Some text)
 
 -- what the first job showed is read by the second as the journal of the record, and there is one
 -- answer to it: that it is lawful, how many raises it has, and the least payments

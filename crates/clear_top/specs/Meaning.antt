@@ -29,6 +29,8 @@ use Rattle.clear_words.specs.declared.task.Task.TheVariants as task
 use Rattle.compress.specs.Compression.{Compression}
 use Rattle.costs.specs.Costs.{cost_greatest, cost_least}
 use Rattle.costs.specs.CostStandings.{cost_standings}
+use Rattle.net_check.specs.Within.{IsWithin}
+use Rattle.net_check.specs.declared.limits.Limits.{Limits}
 use Rattle.net_csv.specs.Printing.{banks_text, banks_text_2, debts_text}
 use Rattle.raise_journal.specs.Texts.{verdict_line}
 use Rattle.raise_journal.specs.ReadBack.{IsInLimits}
@@ -52,15 +54,16 @@ IsPlain text o = o ≡ record { status = status.Done; sealed = None; text = text
 
 -- a journal of raises that clears a network, each lawful where it stands, as it may be shown after
 -- so many rounds: it replays to the least list, its raises differ and stand in order, no stamp is
--- above the units paid, it is within the limits of a journal file, a run can go on from it, and the
--- rounds are at most the units owed, at most the units paid, and at most the raises, and one more
+-- above the units paid, it is within the limits of a journal file by which the network may be read,
+-- a run can go on from it, and the rounds are at most the units owed, at most the units paid, and
+-- at most the raises, and one more
 pub record IsRun (net : Net) (journal : List Raise) (rounds : ℕ) : Type 0 where
   pub lawful : (judged net journal).verdict ≡ verdict.Lawful
   pub replays : (judged net journal).paid ≡ least net
   pub traced : IsTraced net journal
   pub in_order : ordered journal ≡ journal
   pub low_stamps : All (λ r. r.stamp ≤ sum (least net)) journal
-  pub in_limits : IsInLimits net journal
+  pub in_limits : (by : Limits) → IsWithin by net → IsInLimits by net journal
   pub can_go_on : CanGoOn net journal
   pub some_round : 1 ≤ rounds
   pub few_rounds : rounds ≤ units_owed net + 1
@@ -105,7 +108,7 @@ answer_to net journal v = record {
 abbrev pub least_standings : Net → List Standing
 least_standings net = standings net (least net)
 
--- who defaults under the least payments, and why
+-- who defaults under the least payments, and with which label
 abbrev pub defaults_report : Net → List ℕ
 defaults_report net = defaults_text net (least_standings net)
 

@@ -19,9 +19,11 @@ ghost use Rattle.clear_words.specs.declared.task.Task.{Task};
 ghost use Rattle.pay_words.specs.Sealed.{Sealed};
 ghost use Rattle.clr_net.specs.Limits.{IsNetwork};
 ghost use Rattle.clr_net.specs.Net.{Net};
+ghost use Rattle.net_check.specs.Within.{IsWithin};
 ghost use Rattle.net_check.specs.declared.fault.Fault.{Fault};
+ghost use Rattle.net_check.specs.declared.limits.Limits.{Limits};
 ghost use Rattle.net_csv.specs.Printing.{KeepsNames};
-ghost use Rattle.net_csv.specs.Reading.{network_of};
+ghost use Rattle.net_csv.specs.Reading.{network_within};
 ghost use Rattle.net_gen.specs.Generated.{generated};
 ghost use Rattle.raise_journal.specs.declared.verdict.Verdict.{Verdict};
 ghost use Rattle.std.specs.Prelude.{◌≡◌, ◌≢◌, ◌≤◌, ◌⊎◌, ◌↔◌, ℕ, List, Option, IsSome};
@@ -117,30 +119,31 @@ pub fn printed_payments_are_the_least_and_add_up()
         → ShowsPayments job → Means files job o → PrintsLeast files job o }
 {}
 
-/// The journal that clearing shows, saved as it was written and read with the same two files, is
-/// the journal of the record; to its replay there is one answer: that it is lawful, how many
-/// raises it has, and the least payments.
+/// The journal that clearing shows, saved as it was written and read with the same two files by the
+/// same limits, is the journal of the record; to its replay there is one answer: that it is lawful,
+/// how many raises it has, and the least payments.
 pub fn a_shown_journal_is_evidence()
     ensures { (files later : Files) (job again : Job) (o : Outcome)
         → ShowsJournal job → Means files job o → ReplaysText files job later again o.text
         → IsEvidence files job o later again }
 {}
 
-/// What is printed of the network that a scenario leaves is read back as that network, where no
-/// name begins or ends with a space.
+/// What is printed of the network that a scenario leaves is read back as that network by each
+/// limits that the network is within, where no name begins or ends with a space.
 pub fn a_shocked_network_is_read_back()
-    ensures { (net : Net) (s : Scenario) → IsNetwork net → KeepsNames net
-        → IsReadBack (shocked net s) }
+    ensures { (by : Limits) (net : Net) (s : Scenario) → IsNetwork net → IsWithin by net
+        → KeepsNames net → IsReadBack by (shocked net s) }
 {}
 
-/// So it is, whatever the scenario, of every network that is read from files.
+/// So it is, whatever the scenario, of every network that is read from files, by the limits by
+/// which it is read.
 pub fn a_shock_of_what_is_read_is_read_back()
-    ensures { (banks debts : List ℕ) (net : Net) (s : Scenario)
-        → network_of banks debts ≡ Ok net → IsReadBack (shocked net s) }
+    ensures { (by : Limits) (banks debts : List ℕ) (net : Net) (s : Scenario)
+        → network_within by banks debts ≡ Ok net → IsReadBack by (shocked net s) }
 {}
 
-/// What is printed of a generated network is read back as that network.
+/// What is printed of a generated network is read back as that network, by either limits.
 pub fn a_generated_network_is_read_back()
-    ensures { (seed size tries : ℕ) → 1 ≤ size → size ≤ 1000 → tries ≤ 20000
-        → IsReadBack (generated seed size tries) }
+    ensures { (by : Limits) (seed size tries : ℕ) → 1 ≤ size → size ≤ 1000 → tries ≤ 20000
+        → IsReadBack by (generated seed size tries) }
 {}

@@ -17,10 +17,10 @@ use clear_core::Journal;
 use clear_words::Job;
 use clr_edge::{FetchFault, Shelf};
 use clr_net::{BankId, Network};
-use net_check::{Fault, FaultKind, FileKind};
-use net_csv::read_network;
+use net_check::{Fault, FaultKind, FileKind, Limits};
+use net_csv::read_network_within;
 use net_gen::generate;
-use raise_journal::read_journal;
+use raise_journal::read_journal_within;
 use std::alloc::Global;
 use std::marker::Model;
 use stress::{Scenario, read_scenarios};
@@ -101,7 +101,7 @@ fn load_network<F: Shelf>(alloc: Global, job: &Job, files: &mut F) -> Result<Inp
         (Stops (shelf_call (F.files files.old) (F.faults files.old) (F.faults files.new)) job.now) }
 {
     let (banks, debts) = fetch_both(alloc, job, files)?;
-    let net = read_network(alloc, banks.as_slice(), debts.as_slice())?;
+    let net = read_network_within(alloc, job.limits, banks.as_slice(), debts.as_slice())?;
     Ok(of_network(alloc, net))
 }
 
@@ -115,7 +115,7 @@ fn load_scenarios<F: Shelf>(alloc: Global, job: &Job, files: &mut F) -> Result<I
         (Stops (shelf_call (F.files files.old) (F.faults files.old) (F.faults files.new)) job.now) }
 {
     let (banks, debts, third) = fetch_all(alloc, job, FileKind::Scenarios, files)?;
-    let net = read_network(alloc, banks.as_slice(), debts.as_slice())?;
+    let net = read_network_within(alloc, job.limits, banks.as_slice(), debts.as_slice())?;
     let scenarios = read_scenarios(alloc, &net, third.as_slice())?;
     Ok(Input {
         net,
@@ -135,8 +135,8 @@ fn load_journal<F: Shelf>(alloc: Global, job: &Job, files: &mut F) -> Result<Inp
         (Stops (shelf_call (F.files files.old) (F.faults files.old) (F.faults files.new)) job.now) }
 {
     let (banks, debts, third) = fetch_all(alloc, job, FileKind::Journal, files)?;
-    let net = read_network(alloc, banks.as_slice(), debts.as_slice())?;
-    let journal = read_journal(alloc, &net, third.as_slice())?;
+    let net = read_network_within(alloc, job.limits, banks.as_slice(), debts.as_slice())?;
+    let journal = read_journal_within(alloc, job.limits, &net, third.as_slice())?;
     Ok(Input {
         net,
         scenarios: Vec::new(alloc),
@@ -155,7 +155,7 @@ fn load_bank<F: Shelf>(alloc: Global, job: &Job, files: &mut F) -> Result<Input,
         (Stops (shelf_call (F.files files.old) (F.faults files.old) (F.faults files.new)) job.now) }
 {
     let (banks, debts) = fetch_both(alloc, job, files)?;
-    let net = read_network(alloc, banks.as_slice(), debts.as_slice())?;
+    let net = read_network_within(alloc, job.limits, banks.as_slice(), debts.as_slice())?;
     match net.bank_named(job.bank.as_str().as_bytes()) {
         Some(bank) => Ok(Input {
             net,
@@ -185,8 +185,9 @@ fn fetch_both<F: Shelf>(
     ensures stopped { IfErr result
         (Stops (shelf_call (F.files files.old) (F.faults files.old) (F.faults files.new)) job.now) }
 {
-    let banks = fetch_whole(alloc, files, FileKind::Banks, job.banks.as_str())?;
-    let debts = fetch_whole(alloc, files, FileKind::Debts, job.debts.as_str())?;
+    let by = job.limits;
+    let banks = fetch_whole(alloc, by, files, FileKind::Banks, job.banks.as_str())?;
+    let debts = fetch_whole(alloc, by, files, FileKind::Debts, job.debts.as_str())?;
     Ok((banks, debts))
 }
 
@@ -202,18 +203,19 @@ fn fetch_all<F: Shelf>(
     ensures both { IfOk result (λ all.
         GivesBoth (F.files files.old) job.now all.0.items all.1.items) }
     ensures third { IfOk result (λ all.
-        GivesWhole (F.files files.old) kind job.now.third (Ok all.2.items)) }
+        GivesWhole job.now.limits (F.files files.old) kind job.now.third (Ok all.2.items)) }
     ensures stopped { IfErr result
         (Stops (shelf_call (F.files files.old) (F.faults files.old) (F.faults files.new)) job.now) }
 {
     let (banks, debts) = fetch_both(alloc, job, files)?;
-    let third = fetch_whole(alloc, files, kind, job.third.as_str())?;
+    let third = fetch_whole(alloc, job.limits, files, kind, job.third.as_str())?;
     Ok((banks, debts, third))
 }
 
-// The bytes of a file, which are no more than a file of its kind may have.
+// The bytes of a file, which are no more than a file of its kind may have by these limits.
 fn fetch_whole<F: Shelf>(
     alloc: Global,
+    by: Limits,
     files: &mut F,
     kind: FileKind,
     name: &str,
@@ -221,12 +223,12 @@ fn fetch_whole<F: Shelf>(
     ensures files { F.files files.new ≡ F.files files.old }
     ensures faults { NoneFalls (F.faults files.old) (F.faults files.new) }
     ensures file { IfOk result (λ bytes.
-        GivesWhole (F.files files.old) kind name.now (Ok bytes.items)) }
+        GivesWhole by (F.files files.old) kind name.now (Ok bytes.items)) }
     ensures stopped { IfErr result
-        (StopsFetch (shelf_call (F.files files.old) (F.faults files.old) (F.faults files.new))
+        (StopsFetch by (shelf_call (F.files files.old) (F.faults files.old) (F.faults files.new))
         kind name.now) }
 {
-    let limit = kind.limit();
+    let limit = by.bytes(kind);
     match files.fetch(alloc, name, limit) {
         Ok(bytes) if bytes.len() as u64 <= limit => Ok(bytes),
         Ok(_) => Err(Status::Refused(Fault {

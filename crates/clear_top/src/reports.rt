@@ -107,7 +107,7 @@ fn stand(alloc: Global, net: &Network, paid: &[u64]) -> Result<Vec<Standing>, Me
     defaults(alloc, net, paid)
 }
 
-/// The text of who defaults under the least payments, and why.
+/// The text of who defaults under the least payments, and with which label.
 pub fn defaults_of(alloc: Global, net: &Network, paid: &[u64]) -> Result<Vec<u8>, Mem>
     requires { paid.now ≡ least net.now }
     ensures { IfOk result (λ text. text.items ≡ defaults_report net.now) }

@@ -6,14 +6,17 @@ use Rattle.std.specs.Str.{chars, is_utf8}
 use Rattle.clap.specs.Faults.{defaults_fault, flags_fault, walk_fault}
 use Rattle.clap.specs.Walk.{bundle_met, walked}
 use Rattle.net_check.specs.Field.{number_after}
+use Rattle.net_check.specs.declared.limits.Limits.TheVariants as limits
 use Rattle.clear_words.specs.Command.{command}
 use Rattle.clear_words.specs.Job.{bare, job_of, on_both_files}
 use Rattle.clear_words.specs.Options.{fits, kind_of}
+use Rattle.clear_words.specs.Tasks.{use_in, uses_of}
 use Rattle.clear_words.specs.declared.job.Job.{Job}
 use Rattle.clear_words.specs.declared.option.JobOption.TheVariants as option
 use Rattle.clear_words.specs.declared.show.Show.TheVariants as show
 use Rattle.clear_words.specs.declared.task.Task.{Task}
 use Rattle.clear_words.specs.declared.task.Task.TheVariants as task
+use Rattle.clear_words.specs.declared.task.Use.TheVariants.{Allowed}
 
 -- what is opened to compute the job of words that are written out
 unfoldable on_words : ⊤
@@ -120,6 +123,40 @@ pub option_wanting :
     ≡ replicate 8 None
 unfolding on_words
 option_wanting = refl
+
+-- the limits by which files are read, of a task that reads files
+pub limits_told :
+    asked (
+    with_files (codes "clear") (codes "--limits" ∷ codes "wide" ∷ [])
+    ∷ with_files (codes "check") (codes "--limits=standard" ∷ [])
+    ∷ with_files (codes "replay") (codes "--limits=wide" ∷ codes "--journal=j.csv" ∷ []) ∷ [])
+    ≡ Some (record (on_files task.Clear) { limits = limits.Wide })
+    ∷ Some (on_files task.Check)
+    ∷ Some (record (on_files task.Replay) { third = codes "j.csv"; limits = limits.Wide }) ∷ []
+unfolding on_words
+limits_told = refl
+
+-- they are told once, by one of two words, and not where no file is read
+pub limits_not_allowed :
+    asked (
+    (codes "gen" ∷ codes "--seed=7" ∷ codes "--size=3" ∷ codes "--tries=5" ∷ codes "--limits=wide"
+    ∷ [])
+    ∷ with_files (codes "clear") (codes "--limits=big" ∷ [])
+    ∷ with_files (codes "clear") (codes "--limits=Wide" ∷ [])
+    ∷ with_files (codes "clear") (codes "--limits" ∷ [])
+    ∷ with_files (codes "clear") (codes "--limits=wide" ∷ codes "--limits=wide" ∷ []) ∷ [])
+    ≡ replicate 5 None
+unfolding on_words
+limits_not_allowed = refl
+
+-- each task that reads files allows them
+pub limits_allowed :
+    map (λ t. use_in (uses_of t) option.Limits)
+    (task.Check ∷ task.Clear ∷ task.Central ∷ task.Defaults ∷ task.Stress ∷ task.Replay
+    ∷ task.Convert ∷ task.Bounds ∷ task.Rescue ∷ task.Compress ∷ task.Costs ∷ task.Breaking
+    ∷ task.Impact ∷ task.Rescues ∷ task.Outcomes ∷ task.CostBounds ∷ [])
+    ≡ replicate 16 Allowed
+limits_allowed = refl
 
 -- the options may stand in any order, before the task too, and with their values in one word; after
 -- two dashes there are no options

@@ -5,6 +5,9 @@ use Rattle.std.specs.Borrow.{Bor}
 use Rattle.std.specs.List.{list_all}
 use Rattle.std.specs.Option.{unwrap_or}
 use Rattle.clap.specs.Words.{Row, Text, first_of, matches_of}
+use Rattle.net_check.specs.Within.{limits_named}
+use Rattle.net_check.specs.declared.limits.Limits.{Limits}
+use Rattle.net_check.specs.declared.limits.Limits.TheVariants as limits
 use Rattle.clear_words.specs.declared.job.Job.{Job}
 use Rattle.clear_words.specs.declared.option.JobOption.{JobOption}
 use Rattle.clear_words.specs.declared.option.JobOption.TheVariants as option
@@ -57,6 +60,7 @@ number_of (kind.Number least most) text = number_between least most text
 number_of kind.File text = None
 number_of kind.Show text = None
 number_of kind.Bank text = None
+number_of kind.Limits text = None
 
 -- the number that an option gives, or the one that stands for it without it
 abbrev pub number_or : ℕ → List Row → JobOption → ℕ
@@ -66,6 +70,11 @@ number_or otherwise rows o =
 -- what is shown, the payments without the option
 abbrev pub show_in : List Row → Show
 show_in rows = unwrap_or (option_and_then show_named (value_of rows option.Show)) show.Payments
+
+-- the limits by which the files are read, the standard ones without the option
+abbrev pub limits_in : List Row → Limits
+limits_in rows =
+    unwrap_or (option_and_then limits_named (value_of rows option.Limits)) limits.Standard
 
 -- the job of a task on what the command found
 abbrev pub job_on : List Row → Task → Job
@@ -82,6 +91,7 @@ job_on rows t = record {
   size = number_or 0 rows option.Size;
   tries = number_or 0 rows option.Tries;
   keep = number_or 0 rows option.Keep;
+  limits = limits_in rows;
 }
 
 -- the job of a task, where each option is as the task wants it
@@ -118,6 +128,7 @@ bare t = record {
   size = 0;
   tries = 0;
   keep = 0;
+  limits = limits.Standard;
 }
 
 -- the job of a task with both files, and with no other option

@@ -6,10 +6,11 @@ use Rattle.std.specs.Prelude.{Option, Some, None, option_and_then, is_some, if�
 use Rattle.std.specs.Str.{bytes_eq}
 use Rattle.clr_net.specs.Name.{is_name}
 use Rattle.net_check.specs.Field.{number_in}
+use Rattle.net_check.specs.Within.{limits_named}
 use Rattle.clear_words.specs.declared.option.JobOption.{JobOption}
 use Rattle.clear_words.specs.declared.option.JobOption.TheVariants as option
 use Rattle.clear_words.specs.declared.option.Kind.{Kind}
-use Rattle.clear_words.specs.declared.option.Kind.TheVariants.{File, Number, Show, Bank}
+use Rattle.clear_words.specs.declared.option.Kind.TheVariants.{File, Number, Show, Bank, Limits}
 use Rattle.clear_words.specs.declared.show.Show.{Show as Shown}
 use Rattle.clear_words.specs.declared.show.Show.TheVariants as show
 
@@ -17,7 +18,8 @@ use Rattle.clear_words.specs.declared.show.Show.TheVariants as show
 abbrev pub all_options : List JobOption
 all_options =
     option.Banks ∷ option.Debts ∷ option.Scenarios ∷ option.Journal ∷ option.Bank ∷ option.Workers
-    ∷ option.Sweeps ∷ option.Show ∷ option.Seed ∷ option.Size ∷ option.Tries ∷ option.Keep ∷ []
+    ∷ option.Sweeps ∷ option.Show ∷ option.Seed ∷ option.Size ∷ option.Tries ∷ option.Keep
+    ∷ option.Limits ∷ []
 
 -- the name of an option, without its dashes
 abbrev pub name_of : JobOption → List ℕ
@@ -33,9 +35,10 @@ name_of option.Seed = codes "seed"
 name_of option.Size = codes "size"
 name_of option.Tries = codes "tries"
 name_of option.Keep = codes "keep"
+name_of option.Limits = codes "limits"
 
 -- what its value must be: the name of a file, the name of a bank, a number from the first to the
--- second, or a word for what is shown
+-- second, a word for what is shown, or a word for limits
 abbrev pub kind_of : JobOption → Kind
 kind_of option.Banks = File
 kind_of option.Debts = File
@@ -49,6 +52,7 @@ kind_of option.Seed = Number 0 18446744073709551615
 kind_of option.Size = Number 1 1000
 kind_of option.Tries = Number 0 20000
 kind_of option.Keep = Number 0 1000
+kind_of option.Limits = Limits
 
 -- a text that may name a file: it is not empty and does not begin with a dash (45)
 abbrev pub may_name_a_file : List ℕ → Bool
@@ -76,6 +80,7 @@ fits File text = may_name_a_file text
 fits (Number least most) text = is_some (number_between least most text)
 fits Show text = is_some (show_named text)
 fits Bank text = is_name text && may_name_a_file text
+fits Limits text = is_some (limits_named text)
 
 -- the greatest number of this kind
 abbrev pub greatest : Kind → ℕ
@@ -83,3 +88,4 @@ greatest (Number least most) = most
 greatest File = 0
 greatest Show = 0
 greatest Bank = 0
+greatest Limits = 0

@@ -28,11 +28,12 @@ nothing = record {
   size = Refused;
   tries = Refused;
   keep = Refused;
+  limits = Refused;
 }
 
--- the files of a network, and no other option
+-- the files of a network, and no other option but the limits by which they are read
 abbrev pub both_files : Uses
-both_files = record nothing { banks = Required; debts = Required }
+both_files = record nothing { banks = Required; debts = Required; limits = Allowed }
 
 -- these options, for a task that a number of workers carries out
 abbrev pub on_workers : Uses → Uses
@@ -115,6 +116,7 @@ use_in uses option.Seed = uses.seed
 use_in uses option.Size = uses.size
 use_in uses option.Tries = uses.tries
 use_in uses option.Keep = uses.keep
+use_in uses option.Limits = uses.limits
 
 -- the option has to be there
 abbrev pub is_required : Use → Bool

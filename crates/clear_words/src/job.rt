@@ -1,7 +1,7 @@
 ghost use Rattle.clap.specs.Words.{first_of, found_of, matches_of, rows_of};
 ghost use Rattle.clear_words.specs.Command.{command as the_command, is_taken};
 ghost use Rattle.clear_words.specs.Job.{is_welcome, is_well, job_in, job_of, job_on, number_of, number_or};
-ghost use Rattle.clear_words.specs.Job.{show_in, task_in, text_in, the_words, third_in};
+ghost use Rattle.clear_words.specs.Job.{limits_in, show_in, task_in, text_in, the_words, third_in};
 ghost use Rattle.clear_words.specs.Limits.{IsJob};
 ghost use Rattle.clear_words.specs.Options.{all_options, greatest, kind_of};
 ghost use Rattle.std.specs.List.{list_all};
@@ -16,6 +16,7 @@ use crate::show::Show;
 use crate::task::{Task, Use, Uses};
 use clap::ArgMatches;
 use clr_net::Mem;
+use net_check::Limits;
 use std::alloc::Global;
 
 /// What the program is to do, and what to do it on.
@@ -47,6 +48,8 @@ pub struct Job {
     pub tries: u32,
     /// What is kept of an estate at a default, in thousandths, at most 1000.
     pub keep: u32,
+    /// The limits by which the files are read; the standard ones where none are told.
+    pub limits: Limits,
 }
 
 /// Reads the words after the program's name.
@@ -142,6 +145,7 @@ fn job_from(alloc: Global, matches: &ArgMatches, task: Task) -> Result<Job, Mem>
         size: number_from(matches, JobOption::Size, 0) as u32,
         tries: number_from(matches, JobOption::Tries, 0) as u32,
         keep: number_from(matches, JobOption::Keep, 0) as u32,
+        limits: limits_of(matches),
     })
 }
 
@@ -190,5 +194,15 @@ fn show_of(matches: &ArgMatches) -> Show
     match value(matches, JobOption::Show.name()) {
         Some(word) => Show::named(word).unwrap_or(Show::Payments),
         None => Show::Payments,
+    }
+}
+
+// The limits by which the files are read, the standard ones without the option.
+fn limits_of(matches: &ArgMatches) -> Limits
+    ensures { result ≡ limits_in (rows_of (found_of matches.now)) }
+{
+    match value(matches, JobOption::Limits.name()) {
+        Some(word) => Limits::named(word).unwrap_or(Limits::Standard),
+        None => Limits::Standard,
     }
 }

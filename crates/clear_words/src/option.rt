@@ -5,7 +5,7 @@ ghost use Rattle.std.specs.Prelude.{◌≡◌};
 use crate::file_name::may_name_file;
 use crate::show::Show;
 use clr_net::Name;
-use net_check::number;
+use net_check::{Limits, number};
 
 // The options of the command line.
 #[derive(Clone, Copy, Debug, PartialEq, Eq)]
@@ -22,6 +22,7 @@ pub(crate) enum JobOption {
     Size,
     Tries,
     Keep,
+    Limits,
 }
 
 // What the value of an option must be.
@@ -35,10 +36,12 @@ pub(crate) enum Kind {
     Show,
     // The name of a bank.
     Bank,
+    // A word that names limits.
+    Limits,
 }
 
 // Every option, in the order in which the command has them.
-pub(crate) const OPTIONS: [JobOption; 12] = [
+pub(crate) const OPTIONS: [JobOption; 13] = [
     JobOption::Banks,
     JobOption::Debts,
     JobOption::Scenarios,
@@ -51,6 +54,7 @@ pub(crate) const OPTIONS: [JobOption; 12] = [
     JobOption::Size,
     JobOption::Tries,
     JobOption::Keep,
+    JobOption::Limits,
 ];
 
 impl JobOption {
@@ -71,6 +75,7 @@ impl JobOption {
             JobOption::Size => "size",
             JobOption::Tries => "tries",
             JobOption::Keep => "keep",
+            JobOption::Limits => "limits",
         }
     }
 
@@ -106,6 +111,7 @@ impl JobOption {
                 least: 0,
                 most: 1000,
             },
+            JobOption::Limits => Kind::Limits,
         }
     }
 }
@@ -120,6 +126,7 @@ impl Kind {
             Kind::Number { least, most } => number_within(least, most, text).is_some(),
             Kind::Show => Show::named(text).is_some(),
             Kind::Bank => Name::accepts(text.as_bytes()) && may_name_file(text),
+            Kind::Limits => Limits::named(text).is_some(),
         }
     }
 }

@@ -67,6 +67,7 @@ pub(crate) struct Uses {
     size: Use,
     tries: Use,
     keep: Use,
+    limits: Use,
 }
 
 impl Uses {
@@ -87,16 +88,18 @@ impl Uses {
             size: Use::Refused,
             tries: Use::Refused,
             keep: Use::Refused,
+            limits: Use::Refused,
         }
     }
 
-    // The files of a network, and no other option.
+    // The files of a network, and no other option but the limits by which they are read.
     fn both_files() -> Uses
         ensures { result ≡ both_files }
     {
         Uses {
             banks: Use::Required,
             debts: Use::Required,
+            limits: Use::Allowed,
             ..Uses::nothing()
         }
     }
@@ -129,6 +132,7 @@ impl Uses {
             JobOption::Size => self.size,
             JobOption::Tries => self.tries,
             JobOption::Keep => self.keep,
+            JobOption::Limits => self.limits,
         }
     }
 }

@@ -30,10 +30,10 @@ use std::error::Error;
 use std::fmt;
 
 /// The most banks of a network.
-pub const MAX_BANKS: u32 = 1_000;
+pub const MAX_BANKS: u32 = 10_000;
 
 /// The most debts of a network.
-pub const MAX_DEBTS: u32 = 20_000;
+pub const MAX_DEBTS: u32 = 1_000_000;
 
 /// The most bytes of a bank's name.
 pub const MAX_NAME_BYTES: usize = 64;
@@ -45,7 +45,7 @@ pub const MAX_CLASS: u8 = 9;
 pub const MAX_CLAIM: u64 = rule_unit::MAX_CLAIM;
 
 /// The most units of all claims together.
-pub const MAX_OWED: u64 = 10_000_000;
+pub const MAX_OWED: u64 = 25_000_000;
 
 /// The most cash of one bank, in units.
 pub const MAX_CASH: u64 = 1_000_000_000_000;

@@ -13,6 +13,6 @@ pub struct CostStanding {
     pub paid: u64,
     /// What is left of its estate.
     pub equity: u64,
-    /// Whether it has all that it owes, and why not.
+    /// Whether it has all that it owes, and else its label.
     pub health: Health,
 }

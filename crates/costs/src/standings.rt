@@ -59,7 +59,7 @@ fn standing_of(net: &Network, keep: u32, bank: BankId, paid: &[u64]) -> CostStan
     }
 }
 
-// Whether a bank has all that it owes with such an estate, and why not.
+// Whether a bank has all that it owes with such an estate, and else its label.
 fn health_of(net: &Network, bank: BankId, estate: u64) -> Health
     requires network { IsNetwork net.now }
     requires bank { bank.0 < length net.now.banks }

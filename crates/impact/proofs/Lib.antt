@@ -1,4 +1,3 @@
 pub mod Others
 pub mod Hurts
 pub mod Ruined
-pub mod GoingOn

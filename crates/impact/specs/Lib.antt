@@ -1,4 +1,3 @@
 pub mod Ruined
 pub mod Impact
-pub mod Halves
 pub mod Cases

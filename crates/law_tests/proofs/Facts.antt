@@ -33,6 +33,8 @@ use Rattle.net_csv.specs.Cases.{reading_on_literals}
 use Rattle.net_csv.specs.Printing.{KeepsNames}
 use Rattle.net_csv.specs.Reading.{network_of}
 use Rattle.net_check.specs.Field.{trimmed_start}
+use Rattle.net_check.specs.Within.{IsWithin as IsWithinLimits}
+use Rattle.net_check.specs.declared.limits.Limits.TheVariants as limits
 use Rattle.raise_journal.specs.Cases.{verdict_on_literals}
 use Rattle.raise_journal.specs.ReadBack.{IsInLimits}
 use Rattle.raise_journal.specs.Verdicts.{judged}
@@ -229,7 +231,10 @@ keeps (suc zero) l = refl
 keeps (suc (suc zero)) l = refl
 keeps (suc (suc (suc i))) l = absurd (omega arith)
 
-pub in_limits : IsInLimits chain two_ordered
+pub chain_is_small : IsWithinLimits limits.Standard chain
+chain_is_small = record { banks = lit≤ tt; debts = lit≤ tt; owed = lit≤ tt }
+
+pub in_limits : IsInLimits limits.Standard chain two_ordered
 in_limits = record {
   few = lit≤ tt;
   debts = search rules;

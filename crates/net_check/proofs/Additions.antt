@@ -1,5 +1,7 @@
 -- A bank or a debt that a record gives may be added to the network read so far.
-use Rattle.std.proofs.Common.{◌≡◌, ℕ, ◌+◌, ◌<◌, ◌==◌, not, true, false, List, [], ◌∷◌, length, Option, Some, None, Result, Ok, Err, IfOk, refl, sym, ap, ◌∙◌, subst, eq-eqb}
+use Rattle.std.proofs.Common.{◌≡◌, ℕ, ◌+◌, ◌<◌, ◌≤◌, ◌==◌, not, true, false, List, [], ◌∷◌, length}
+use Rattle.std.proofs.Common.{Option, Some, None, Result, Ok, Err, IfOk}
+use Rattle.std.proofs.Common.{refl, sym, ap, ◌∙◌, subst, eq-eqb, arith}
 use Rattle.std.specs.List.{list_any}
 use Rattle.std.specs.Option.{ok_or}
 use Rattle.std.proofs.lemmas.Bool.{leb-true, not-true, true≢false}
@@ -7,17 +9,20 @@ use Rattle.clr_net.proofs.OfKind.{new_kind}
 use Rattle.clr_net.specs.Name.{is_name}
 use Rattle.clr_net.specs.Net.{Net, units_owed, has_name, is_debt_of}
 use Rattle.clr_net.specs.Limits.{IsNewBank, IsNewDebt}
-use Rattle.clr_net.specs.declared.TheConstants.{MAX_BANKS, MAX_DEBTS, MAX_CASH, MAX_CLAIM, MAX_OWED}
+use Rattle.clr_net.specs.declared.TheConstants.{MAX_BANKS, MAX_DEBTS, MAX_CASH, MAX_CLAIM}
 use Rattle.clr_net.specs.declared.bank.Bank.{Bank}
 use Rattle.clr_net.specs.declared.debt.Debt.{Debt}
 use Rattle.clr_net.specs.declared.rule.RuleKind.{RuleKind}
 use Rattle.net_check.specs.Checks.{and_then, fault_unless}
 use Rattle.net_check.specs.Field.{class_in, rule_in}
 use Rattle.net_check.specs.Record.{number_up_to, outside_in, as_bank, new_bank, bank_from, debt_from, in_row}
+use Rattle.net_check.specs.Within.{most_owed}
 use Rattle.net_check.specs.declared.fault.Fault.{Fault}
 use Rattle.net_check.specs.declared.fault.FileKind.{FileKind}
 use Rattle.net_check.specs.declared.fault.FaultKind.{FaultKind}
 use Rattle.net_check.specs.declared.fault.FaultKind.TheVariants as fault
+use Rattle.net_check.specs.declared.limits.Limits.{Limits}
+use Rattle.net_check.proofs.Within.{units_allowed}
 use Rattle.net_check.proofs.Passed.{fault_unless-ok, and_then-ok, ok_or-ok, number_up_to-ok, outside_in-ok, bank_in-ok, class_in-some, new_name}
 
 -- what the fields of a record passed that give a bank
@@ -70,12 +75,17 @@ bank_from-ok net (name ∷ cash ∷ rule ∷ []) b h l = new_bank-ok net name ca
 bank_from-ok net (name ∷ cash ∷ rule ∷ outside ∷ []) b h l = new_bank-ok net name cash rule (Some outside) b h l
 bank_from-ok net fields b h l = cc
 
--- a debt that a record gives is new, within the limits
-pub debt_from-ok : (net : Net) (fields : List (List ℕ)) (d : Debt) → debt_from net fields ≡ Ok d → length net.debts < MAX_DEBTS
-    → IsNewDebt net d
-debt_from-ok net (debtor ∷ creditor ∷ class ∷ claim ∷ []) d h l =
-    let made : ℕ → ℕ → ℕ → ℕ → Debt =
-    λ a b c n. record { debtor = record { 0 = a }; creditor = record { 0 = b }; class = c; claim = n } in
+-- a debt that a record gives by some limits is new, and all units owed are within them then
+pub debt_from-ok : (by : Limits) (net : Net) (fields : List (List ℕ)) (d : Debt)
+    → debt_from by net fields ≡ Ok d → length net.debts < MAX_DEBTS
+    → IsNewDebt net d × (units_owed net + d.claim ≤ most_owed by)
+debt_from-ok by net (debtor ∷ creditor ∷ class ∷ claim ∷ []) d h l =
+    let made : ℕ → ℕ → ℕ → ℕ → Debt = λ a b c n. record {
+      debtor = record { 0 = a };
+      creditor = record { 0 = b };
+      class = c;
+      claim = n;
+    } in
     let the_debtor = and_then-ok _ _ d h in
     let a = the_debtor.0 in
     let the_creditor = and_then-ok _ _ d the_debtor.2 in
@@ -89,24 +99,28 @@ debt_from-ok net (debtor ∷ creditor ∷ class ∷ claim ∷ []) d h l =
     let in_total = fault_unless-ok _ _ _ d is_new.1 in
     let same : made a b c n ≡ d = cc in
     let in_class = class_in-some class c (ok_or-ok (class_in class) fault.Class c the_class.1) in
-    subst (IsNewDebt net) {x = made a b c n} same (record {
-      debts_in_limit = l;
-      owed_in_limit = leb-true (units_owed net + n) MAX_OWED in_total.0;
-      debtor_known = bank_in-ok net debtor a the_debtor.1;
-      creditor_known = bank_in-ok net creditor b the_creditor.1;
-      between_two_banks = λ e. true≢false (sym (eq-eqb a b e) ∙ not-true (a == b) two_banks.0);
-      class_at_least_1 = in_class.0;
-      class_in_limit = in_class.1;
-      claim_in_limit = number_up_to-ok MAX_CLAIM claim n the_claim.1;
-      only_of_its_kind = new_kind net a b c false (sym (not-true (list_any (is_debt_of a b c) net.debts) is_new.0));
-    })
-debt_from-ok net fields d h l = cc
+    let within = leb-true (units_owed net + n) (most_owed by) in_total.0 in
+    subst (λ d. IsNewDebt net d × (units_owed net + d.claim ≤ most_owed by))
+    {x = made a b c n} same (
+      record {
+        debts_in_limit = l;
+        owed_in_limit = omega (arith, within, units_allowed by);
+        debtor_known = bank_in-ok net debtor a the_debtor.1;
+        creditor_known = bank_in-ok net creditor b the_creditor.1;
+        between_two_banks = λ e. true≢false (sym (eq-eqb a b e) ∙ not-true (a == b) two_banks.0);
+        class_at_least_1 = in_class.0;
+        class_in_limit = in_class.1;
+        claim_in_limit = number_up_to-ok MAX_CLAIM claim n the_claim.1;
+        only_of_its_kind = new_kind net a b c false
+            (sym (not-true (list_any (is_debt_of a b c) net.debts) is_new.0));
+      },
+      within,
+    )
+debt_from-ok by net fields d h l = cc
 
--- so is the debt of a row
-pub debt_in_row-ok : (net : Net) (fields : List (List ℕ)) (f : FileKind) (row : ℕ) (r : Result Debt Fault)
-    → r ≡ in_row f row (debt_from net fields) → length net.debts < MAX_DEBTS → IfOk r (λ d. IsNewDebt net d)
-debt_in_row-ok net fields f row r e l = rw e (by_debt (debt_from net fields) refl)
-  where
-    by_debt : (q : Result Debt FaultKind) → debt_from net fields ≡ q → IfOk (in_row f row q) (λ d. IsNewDebt net d)
-    by_debt (Ok d) h = debt_from-ok net fields d h l
-    by_debt (Err k) h = tt
+-- so is the debt of a row: what holds of each debt that a record gives holds of it
+pub debt_in_row-keeps : (P : Debt → Type 0) (from : Result Debt FaultKind)
+    → ((d : Debt) → from ≡ Ok d → P d)
+    → (f : FileKind) (row : ℕ) (r : Result Debt Fault) → r ≡ in_row f row from → IfOk r P
+debt_in_row-keeps P (Ok d) each f row r e = rw e (each d refl)
+debt_in_row-keeps P (Err k) each f row r e = rw e tt

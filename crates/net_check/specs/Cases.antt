@@ -3,11 +3,15 @@ use Rattle.std.specs.Prelude.{◌≡◌, ⊤, ℕ, List, [], ◌∷◌, codes, r
 use Rattle.std.specs.Result.{result_map_both}
 use Rattle.std.specs.Str.{is_utf8, chars}
 use lib.Utf8.{encode}
+use Rattle.clr_net.specs.Net.{Net}
 use Rattle.clr_net.specs.Samples.{chain}
 use Rattle.net_check.specs.Field.{trimmed_start, trimmed_field, number_after, number_in}
 use Rattle.net_check.specs.Record.{bank_from, debt_from}
 use Rattle.net_check.specs.declared.fault.FaultKind.{FaultKind}
+use Rattle.net_check.specs.Within.{limits_named}
 use Rattle.net_check.specs.declared.fault.FaultKind.TheVariants as fault
+use Rattle.net_check.specs.declared.limits.Limits.{Limits}
+use Rattle.net_check.specs.declared.limits.Limits.TheVariants as limits
 
 -- what a case unfolds to compute on literals
 unfoldable fields_on_literals : ⊤
@@ -78,7 +82,8 @@ outside_of_banks = refl
 -- a debt of these fields
 abbrev debt : List ℕ → List ℕ → List ℕ → List ℕ → Result ℕ FaultKind
 debt debtor creditor class claim =
-    told (debt_from chain (map trimmed_field (debtor ∷ creditor ∷ class ∷ claim ∷ [])))
+    let fields = map trimmed_field (debtor ∷ creditor ∷ class ∷ claim ∷ []) in
+    told (debt_from limits.Standard chain fields)
 
 -- debts of the first and the last class, of nothing and of the limit, and of another class between
 -- the same banks
@@ -113,3 +118,35 @@ pub faults_of_debts :
     ∷ Err fault.Number ∷ Err fault.Limit ∷ Err fault.DoubleDebt ∷ []
 unfolding fields_on_literals
 faults_of_debts = refl
+
+-- two words name limits, in lower case
+pub limits_have_names : map limits_named (
+    codes "standard" ∷ codes "wide" ∷ codes "Wide" ∷ codes "big" ∷ codes "" ∷ [])
+    ≡ Some limits.Standard ∷ Some limits.Wide ∷ None ∷ None ∷ None ∷ []
+limits_have_names = refl
+
+-- a debt of A to C by some limits, where A owes B so much
+abbrev debt_beside : Limits → ℕ → List ℕ → Result ℕ FaultKind
+debt_beside by owed claim =
+    let net : Net = record {
+      banks = chain.banks;
+      debts = record {
+        debtor = record { 0 = 0 };
+        creditor = record { 0 = 1 };
+        class = 1;
+        claim = owed;
+      } ∷ [];
+    } in
+    told (debt_from by net (codes "A" ∷ codes "C" ∷ codes "1" ∷ claim ∷ []))
+
+-- all claims together are within the limits that are asked for
+pub totals_by_limits :
+    debt_beside limits.Standard 9000000 (codes "1000000")
+    ∷ debt_beside limits.Standard 9000001 (codes "1000000")
+    ∷ debt_beside limits.Standard 10000001 (codes "0")
+    ∷ debt_beside limits.Wide 9000001 (codes "1000000")
+    ∷ debt_beside limits.Wide 24000000 (codes "1000000")
+    ∷ debt_beside limits.Wide 24000001 (codes "1000000") ∷ []
+    ≡ Ok 0 ∷ Err fault.Total ∷ Err fault.Total ∷ Ok 0 ∷ Ok 0 ∷ Err fault.Total ∷ []
+unfolding fields_on_literals
+totals_by_limits = refl

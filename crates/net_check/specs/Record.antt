@@ -6,16 +6,18 @@ use Rattle.std.specs.Option.{ok_or}
 use Rattle.std.specs.Result.{result_map_both}
 use Rattle.clr_net.specs.Name.{is_name}
 use Rattle.clr_net.specs.Net.{Net, units_owed, has_name, is_debt_of}
-use Rattle.clr_net.specs.declared.TheConstants.{MAX_CASH, MAX_CLAIM, MAX_OWED, MAX_OUTSIDE}
+use Rattle.clr_net.specs.declared.TheConstants.{MAX_CASH, MAX_CLAIM, MAX_OUTSIDE}
 use Rattle.clr_net.specs.declared.bank.Bank.{Bank}
 use Rattle.clr_net.specs.declared.debt.Debt.{Debt}
 use Rattle.clr_net.specs.declared.rule.RuleKind.{RuleKind}
 use Rattle.net_check.specs.Checks.{and_then, fault_unless}
 use Rattle.net_check.specs.Field.{number_in, class_in, rule_in}
+use Rattle.net_check.specs.Within.{most_owed}
 use Rattle.net_check.specs.declared.fault.Fault.{Fault}
 use Rattle.net_check.specs.declared.fault.FileKind.{FileKind}
 use Rattle.net_check.specs.declared.fault.FaultKind.{FaultKind}
 use Rattle.net_check.specs.declared.fault.FaultKind.TheVariants as fault
+use Rattle.net_check.specs.declared.limits.Limits.{Limits}
 
 -- the number in a field, if it is at most the limit
 abbrev pub number_up_to : ℕ → List ℕ → Result ℕ FaultKind
@@ -54,23 +56,23 @@ bank_from net (name ∷ cash ∷ rule ∷ []) = new_bank net name cash rule None
 bank_from net (name ∷ cash ∷ rule ∷ outside ∷ []) = new_bank net name cash rule (Some outside)
 bank_from net fields = Err fault.Fields
 
--- the debt of the fields debtor, creditor, class and claim
-abbrev pub debt_from : Net → List (List ℕ) → Result Debt FaultKind
-debt_from net (debtor ∷ creditor ∷ class ∷ claim ∷ []) =
+-- the debt of the fields debtor, creditor, class and claim, which may be added by these limits
+abbrev pub debt_from : Limits → Net → List (List ℕ) → Result Debt FaultKind
+debt_from by net (debtor ∷ creditor ∷ class ∷ claim ∷ []) =
     and_then (bank_in net debtor) (λ a.
     and_then (bank_in net creditor) (λ b.
     fault_unless (not (a == b)) fault.SelfDebt (
     and_then (ok_or (class_in class) fault.Class) (λ c.
     and_then (number_up_to MAX_CLAIM claim) (λ n.
     fault_unless (not (list_any (is_debt_of a b c) net.debts)) fault.DoubleDebt (
-    fault_unless (nat_le (units_owed net + n) MAX_OWED) fault.Total (
+    fault_unless (nat_le (units_owed net + n) (most_owed by)) fault.Total (
     Ok (record {
       debtor = record { 0 = a };
       creditor = record { 0 = b };
       class = c;
       claim = n;
     }))))))))
-debt_from net fields = Err fault.Fields
+debt_from by net fields = Err fault.Fields
 
 -- a fault of a row: the header's is 0
 abbrev pub fault_at : FileKind → ℕ → FaultKind → Fault

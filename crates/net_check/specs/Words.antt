@@ -1,6 +1,5 @@
--- The word and the number of each kind of fault, and the word and the limit of each file.
+-- The word and the number of each kind of fault, and the word of each file.
 use Rattle.std.specs.Prelude.{ℕ, List, codes}
-use Rattle.net_check.specs.declared.TheConstants.{MAX_FILE_BYTES, MAX_JOURNAL_BYTES}
 use Rattle.net_check.specs.declared.fault.FileKind.{FileKind}
 use Rattle.net_check.specs.declared.fault.FileKind.TheVariants as file
 use Rattle.net_check.specs.declared.fault.FaultKind.{FaultKind}
@@ -13,14 +12,6 @@ file_word file.Debts = codes "debts"
 file_word file.Scenarios = codes "scenarios"
 file_word file.Journal = codes "journal"
 file_word file.Words = codes "words"
-
--- the most bytes of a file. The words of a command line are no file
-abbrev pub file_limit : FileKind → ℕ
-file_limit file.Banks = MAX_FILE_BYTES
-file_limit file.Debts = MAX_FILE_BYTES
-file_limit file.Scenarios = MAX_FILE_BYTES
-file_limit file.Journal = MAX_JOURNAL_BYTES
-file_limit file.Words = 0
 
 -- the word by which a message names a kind of fault
 abbrev pub kind_word : FaultKind → List ℕ

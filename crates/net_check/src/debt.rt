@@ -1,17 +1,21 @@
 ghost use Rattle.clr_net.specs.Limits.{IsNewDebt};
+ghost use Rattle.clr_net.specs.Net.{units_owed};
 ghost use Rattle.clr_net.specs.declared.TheConstants.{MAX_DEBTS};
 ghost use Rattle.net_check.specs.Field.{trimmed_field};
 ghost use Rattle.net_check.specs.Record.{bank_in, debt_from, in_row};
+ghost use Rattle.net_check.specs.Within.{most_owed};
 ghost use Rattle.net_check.specs.declared.fault.FileKind.TheVariants as file;
+ghost use Rattle.net_check.specs.declared.limits.Limits.TheVariants as limits;
 ghost use Rattle.std.specs.Result.{result_map_both};
-ghost use Rattle.std.specs.Prelude.{◌≡◌, ◌<◌, [], ◌∷◌, length, map, IfOk};
+ghost use Rattle.std.specs.Prelude.{◌≡◌, ◌+◌, ◌<◌, ◌≤◌, [], ◌∷◌, length, map, IfOk};
 
 use crate::fault::{Fault, FaultKind, FileKind};
 use crate::field::{class, number_up_to, trimmed};
-use clr_net::{BankId, Debt, MAX_CLAIM, MAX_OWED, Name, Network};
+use crate::limits::Limits;
+use clr_net::{BankId, Debt, MAX_CLAIM, Name, Network};
 
-/// The debt of a record with these fields, which may then be added to the network; `Fault` is the
-/// first fault of the record, with its row. The claim is in units.
+/// The debt of a record with these fields, which may then be added to a network within the standard
+/// limits; `Fault` is the first fault of the record, with its row. The claim is in units.
 ///
 /// Spaces and tabs at the ends of the fields are dropped. Takes no memory.
 pub fn check_debt(
@@ -25,10 +29,30 @@ pub fn check_debt(
     requires { length net.now.debts < MAX_DEBTS }
     ensures exact { let given = debtor.now ∷ creditor.now ∷ class.now ∷ claim.now ∷ [] in
         let fields = map trimmed_field given in
-        result ≡ in_row file.Debts row (debt_from net.now fields) }
+        result ≡ in_row file.Debts row (debt_from limits.Standard net.now fields) }
     ensures new { IfOk result (λ d. IsNewDebt net.now d) }
 {
+    check_debt_within(Limits::Standard, net, row, debtor, creditor, class, claim)
+}
+
+/// The same by these limits: all claims together may come to as many units as they allow.
+pub fn check_debt_within(
+    by: Limits,
+    net: &Network,
+    row: u32,
+    debtor: &[u8],
+    creditor: &[u8],
+    class: &[u8],
+    claim: &[u8],
+) -> Result<Debt, Fault>
+    requires { length net.now.debts < MAX_DEBTS }
+    ensures exact { let given = debtor.now ∷ creditor.now ∷ class.now ∷ claim.now ∷ [] in
+        result ≡ in_row file.Debts row (debt_from by net.now (map trimmed_field given)) }
+    ensures new { IfOk result (λ d. IsNewDebt net.now d) }
+    ensures within { IfOk result (λ d. units_owed net.now + d.claim ≤ most_owed by) }
+{
     debt_of(
+        by,
         net,
         trimmed(debtor),
         trimmed(creditor),
@@ -44,6 +68,7 @@ pub fn check_debt(
 
 // The debt of a record with these fields, or the first fault of the record.
 fn debt_of(
+    by: Limits,
     net: &Network,
     debtor: &[u8],
     creditor: &[u8],
@@ -51,8 +76,9 @@ fn debt_of(
     claim: &[u8],
 ) -> Result<Debt, FaultKind>
     ensures { let fields = debtor.now ∷ creditor.now ∷ class_digit.now ∷ claim.now ∷ [] in
-        result ≡ debt_from net.now fields }
+        result ≡ debt_from by net.now fields }
 {
+    prove!(net.banks() <= clr_net::MAX_BANKS);
     let debtor = bank_of(net, debtor)?;
     let creditor = bank_of(net, creditor)?;
     if debtor == creditor {
@@ -63,7 +89,7 @@ fn debt_of(
     if net.has_debt(debtor, creditor, class) {
         return Err(FaultKind::DoubleDebt);
     }
-    if net.owed() > MAX_OWED - claim {
+    if net.owed() + claim > by.owed() {
         return Err(FaultKind::Total);
     }
     Ok(Debt {

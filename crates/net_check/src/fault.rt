@@ -1,8 +1,7 @@
 ghost use Rattle.net_check.specs.FaultText.{fault_text, kind_text, read_net_text};
-ghost use Rattle.net_check.specs.Words.{file_limit, file_word, kind_word, kind_number};
+ghost use Rattle.net_check.specs.Words.{file_word, kind_word, kind_number};
 ghost use Rattle.std.specs.Prelude.{◌≡◌, Some};
 
-use crate::{MAX_FILE_BYTES, MAX_JOURNAL_BYTES};
 use std::error::Error;
 use std::fmt;
 
@@ -27,17 +26,6 @@ impl FileKind {
             FileKind::Scenarios => "scenarios",
             FileKind::Journal => "journal",
             FileKind::Words => "words",
-        }
-    }
-
-    /// The most bytes of such a file. The words of a command line are no file: 0.
-    pub fn limit(self) -> u64
-        ensures { result ≡ file_limit self }
-    {
-        match self {
-            FileKind::Banks | FileKind::Debts | FileKind::Scenarios => MAX_FILE_BYTES,
-            FileKind::Journal => MAX_JOURNAL_BYTES,
-            FileKind::Words => 0,
         }
     }
 }

@@ -1,5 +1,6 @@
 -- What is printed of one bank and of one debt is read back as that bank and that debt.
-use Rattle.std.proofs.Common.{◌≡◌, ◌≤◌, ◌+◌, ◌*◌, ℕ, false, List, [], ◌∷◌, ◌++◌, length, map, Some, Ok, refl, sym, ap, ◌∙◌, arith, sum_by}
+use Rattle.std.proofs.Common.{◌≡◌, ◌<◌, ◌≤◌, ◌+◌, ◌*◌, ℕ, false, List, [], ◌∷◌, ◌++◌, length, map}
+use Rattle.std.proofs.Common.{Some, Ok, refl, sym, ap, ◌∙◌, arith, sum_by}
 use Rattle.std.specs.Prelude.{codes}
 use Rattle.std.specs.List.{AllByRecursion, flat_map}
 use Rattle.std.specs.Fmt.{decimal}
@@ -7,21 +8,26 @@ use Rattle.std.proofs.lemmas.Bool.{lt-ltb, le-leb, ne_eqb}
 use Rattle.std.proofs.lemmas.List.{length-append}
 use Rattle.std.proofs.lemmas.List.Concat.{flat_map-cons}
 use Rattle.std.proofs.lemmas.Fmt.{length-decimal-le}
-use Rattle.clr_net.specs.Net.{Net, name_of}
+use Rattle.clr_net.specs.Net.{Net, name_of, units_owed}
 use Rattle.clr_net.specs.Limits.{IsNewBank, IsNewDebt}
-use Rattle.clr_net.specs.declared.TheConstants.{MAX_BANKS, MAX_CASH, MAX_OUTSIDE, MAX_DEBTS, MAX_CLAIM, MAX_OWED}
+use Rattle.clr_net.specs.declared.TheConstants.{MAX_CASH, MAX_OUTSIDE, MAX_CLAIM}
 use Rattle.clr_net.specs.declared.bank.Bank.{Bank}
 use Rattle.clr_net.specs.declared.debt.Debt.{Debt}
 use Rattle.clr_net.specs.declared.rule.RuleKind.{RuleKind}
 use Rattle.clr_net.specs.declared.rule.RuleKind.TheVariants as kind
 use Rattle.csv.specs.Reading.{strip_bom}
+use Rattle.net_check.specs.Within.{most_banks, most_debts, most_owed}
+use Rattle.net_check.specs.declared.limits.Limits.{Limits}
 use Rattle.net_check.specs.Field.{trimmed_start, trimmed_field, rule_in}
 use Rattle.clr_net.specs.Lines.{line}
 use Rattle.net_csv.specs.Printing.{rule_word, bank_fields, debt_fields}
 use Rattle.net_csv.specs.declared.layout.Version.{Version}
 use Rattle.net_csv.specs.declared.layout.Version.TheVariants as version
-use Rattle.net_csv.specs.Reading.{Fields, trimmed_fields, is_blank, records_of, bank_in_row, debt_in_row}
-use Rattle.net_csv.proofs.PlainFields.{IsPlain, IsKeptField, kept_word, kept_name, kept_decimal, name_has_byte, name_is_short, number_in-decimal, class_back}
+use Rattle.net_csv.specs.Reading.{Fields, trimmed_fields, is_blank, records_of, bank_in_row}
+use Rattle.net_csv.specs.Reading.{debt_in_row}
+use Rattle.net_csv.proofs.PlainFields.{IsPlain, IsKeptField, kept_word, kept_name, kept_decimal}
+use Rattle.net_csv.proofs.PlainFields.{name_has_byte, name_is_short, number_in-decimal}
+use Rattle.net_csv.proofs.PlainFields.{class_back}
 use Rattle.net_csv.proofs.PrintedRecords.{IsRow, read_printed}
 use Rattle.net_csv.proofs.BackFacts.{with_debts, no_name, no_kind, IsBackName}
 
@@ -119,18 +125,20 @@ abbrev pub SaysAll : Version → Bank → Type 0
 SaysAll version.One b = b.outside ≡ 0
 SaysAll version.Two b = Unit {0}
 
-pub bank_read_back : (v : Version) (net : Net) (row : ℕ) (b : Bank) → IsNewBank net b → SaysAll v b
-    → bank_in_row v net (row, bank_fields v b) ≡ Ok b
-bank_read_back version.One net row b new none = rw (
-  lt-ltb (length net.banks) MAX_BANKS new.banks_in_limit,
+-- the row of a bank is read back, where these limits allow one bank more
+pub bank_read_back : (by : Limits) (v : Version) (net : Net) (row : ℕ) (b : Bank)
+    → length net.banks < most_banks by → IsNewBank net b → SaysAll v b
+    → bank_in_row by v net (row, bank_fields v b) ≡ Ok b
+bank_read_back by version.One net row b room new none = rw (
+  lt-ltb (length net.banks) (most_banks by) room,
   new.named,
   no_name net b.name new.only_of_its_name,
   number_in-decimal b.cash (omega arith),
   le-leb b.cash MAX_CASH new.cash_in_limit,
   (is_rule_word b.rule).back,
 ) (ap (λ (n : ℕ). Ok (record b { outside = n })) (sym none))
-bank_read_back version.Two net row b new all = rw (
-  lt-ltb (length net.banks) MAX_BANKS new.banks_in_limit,
+bank_read_back by version.Two net row b room new all = rw (
+  lt-ltb (length net.banks) (most_banks by) room,
   new.named,
   no_name net b.name new.only_of_its_name,
   number_in-decimal b.cash (omega arith),
@@ -153,12 +161,14 @@ debt_row net done d new debtor creditor =
     )
     (rw (name_has_byte (name_of net d.debtor.0) debtor.named) refl) (simp length-append (omega arith))
 
-pub debt_read_back : (net : Net) (done : List Debt) (row : ℕ) (d : Debt)
+-- and the row of a debt, where these limits allow it
+pub debt_read_back : (by : Limits) (net : Net) (done : List Debt) (row : ℕ) (d : Debt)
+    → length done < most_debts by → units_owed (with_debts net done) + d.claim ≤ most_owed by
     → IsNewDebt (with_debts net done) d
     → IsBackName net d.debtor.0 → IsBackName net d.creditor.0
-    → debt_in_row (with_debts net done) (row, debt_fields net d) ≡ Ok d
-debt_read_back net done row d new debtor creditor = rw (
-  lt-ltb (length done) MAX_DEBTS new.debts_in_limit,
+    → debt_in_row by (with_debts net done) (row, debt_fields net d) ≡ Ok d
+debt_read_back by net done row d room low new debtor creditor = rw (
+  lt-ltb (length done) (most_debts by) room,
   debtor.named,
   debtor.place,
   creditor.named,
@@ -168,5 +178,5 @@ debt_read_back net done row d new debtor creditor = rw (
   number_in-decimal d.claim (omega arith),
   le-leb d.claim MAX_CLAIM new.claim_in_limit,
   no_kind (with_debts net done) d.debtor.0 d.creditor.0 d.class new.only_of_its_kind,
-  le-leb (sum_by (λ d. d.claim) done + d.claim) MAX_OWED new.owed_in_limit,
+  le-leb (sum_by (λ d. d.claim) done + d.claim) (most_owed by) low,
 ) refl

@@ -1,19 +1,21 @@
 -- What a file of banks and a file of debts mean together: a network, or the first fault.
-use Rattle.std.specs.Prelude.{ℕ, ◌==◌, nat_le, nat_lt, not, Bool, List, [], ◌∷◌, length, map, filter, codes, Result, Ok, Err, if◌then◌else◌}
+use Rattle.std.specs.Prelude.{ℕ, ◌==◌, nat_le, nat_lt, not, Bool, List, [], ◌∷◌, length, map}
+use Rattle.std.specs.Prelude.{filter, codes, Result, Ok, Err, if◌then◌else◌}
 use Rattle.std.specs.List.{list_all, enumerate_from}
 use Rattle.csv.specs.Reading.{records, default_config, strip_bom}
 use Rattle.clr_net.specs.Net.{Net, empty_net, with_bank, with_debt}
-use Rattle.clr_net.specs.declared.TheConstants.{MAX_BANKS, MAX_DEBTS}
 use Rattle.clr_net.specs.declared.bank.Bank.{Bank}
 use Rattle.clr_net.specs.declared.debt.Debt.{Debt}
 use Rattle.net_check.specs.Checks.{and_then, fault_unless}
 use Rattle.net_check.specs.Field.{trimmed_field, are_words}
-use Rattle.net_check.specs.Words.{file_limit}
+use Rattle.net_check.specs.Within.{file_limit, most_banks, most_debts}
 use Rattle.net_check.specs.Record.{bank_from, debt_from, fault_at, in_row}
 use Rattle.net_check.specs.declared.fault.Fault.{Fault}
 use Rattle.net_check.specs.declared.fault.FileKind.{FileKind}
 use Rattle.net_check.specs.declared.fault.FileKind.TheVariants as file
 use Rattle.net_check.specs.declared.fault.FaultKind.TheVariants as fault
+use Rattle.net_check.specs.declared.limits.Limits.{Limits}
+use Rattle.net_check.specs.declared.limits.Limits.TheVariants as limits
 use Rattle.net_csv.specs.declared.layout.Layout.{Layout}
 use Rattle.net_csv.specs.declared.layout.Layout.TheVariants as layout
 use Rattle.net_csv.specs.declared.layout.Version.{Version}
@@ -63,29 +65,31 @@ abbrev pub file_of : Layout → FileKind
 file_of (layout.Banks v) = file.Banks
 file_of layout.Debts = file.Debts
 
--- the bank of a row, which has as many fields as the header and may be added to a network, or the
--- fault of the row
-abbrev pub bank_in_row : Version → Net → ℕ × Fields → Result Bank Fault
-bank_in_row v net r = in_row file.Banks r.0 (
-    fault_unless (nat_lt (length net.banks) MAX_BANKS) fault.TooMany (
+-- the bank of a row, which has as many fields as the header and may be added to a network by these
+-- limits, or the fault of the row
+abbrev pub bank_in_row : Limits → Version → Net → ℕ × Fields → Result Bank Fault
+bank_in_row by v net r = in_row file.Banks r.0 (
+    fault_unless (nat_lt (length net.banks) (most_banks by)) fault.TooMany (
     fault_unless (length r.1 == length (banks_header v)) fault.Fields (
     bank_from net r.1)))
 
--- the debt of a row, which may be added to a network, or the fault of the row
-abbrev pub debt_in_row : Net → ℕ × Fields → Result Debt Fault
-debt_in_row net r = in_row file.Debts r.0 (
-    fault_unless (nat_lt (length net.debts) MAX_DEBTS) fault.TooMany (
-    debt_from net r.1))
+-- the debt of a row, which may be added to a network by these limits, or the fault of the row
+abbrev pub debt_in_row : Limits → Net → ℕ × Fields → Result Debt Fault
+debt_in_row by net r = in_row file.Debts r.0 (
+    fault_unless (nat_lt (length net.debts) (most_debts by)) fault.TooMany (
+    debt_from by net r.1))
 
 -- the network with the bank or the debt of a row, or the fault of the row
-abbrev pub with_row : Layout → Net → ℕ × Fields → Result Net Fault
-with_row (layout.Banks v) net r = and_then (bank_in_row v net r) (λ b. Ok (with_bank net b))
-with_row layout.Debts net r = and_then (debt_in_row net r) (λ d. Ok (with_debt net d))
+abbrev pub with_row : Limits → Layout → Net → ℕ × Fields → Result Net Fault
+with_row by (layout.Banks v) net r =
+    and_then (bank_in_row by v net r) (λ b. Ok (with_bank net b))
+with_row by layout.Debts net r = and_then (debt_in_row by net r) (λ d. Ok (with_debt net d))
 
 -- the network with the banks or the debts of some rows, one after the other, or the first fault
-unfoldable pub read_rows : Layout → Net → List (ℕ × Fields) → Result Net Fault
-read_rows l net [] = Ok net
-read_rows l net (r ∷ rest) = and_then (with_row l net r) (λ next. read_rows l next rest)
+unfoldable pub read_rows : Limits → Layout → Net → List (ℕ × Fields) → Result Net Fault
+read_rows by l net [] = Ok net
+read_rows by l net (r ∷ rest) =
+    and_then (with_row by l net r) (λ next. read_rows by l next rest)
 
 -- the records below the header, which is the first record
 abbrev pub below_header : FileKind → Fields → List Fields → Result (List Fields) Fault
@@ -99,9 +103,9 @@ rows_in_file f header bytes =
     and_then (below_header f header (records_of bytes)) (λ below. Ok (rows_of below))
 
 -- the network with the banks or the debts of a file, or the first fault of the file
-abbrev pub with_file : Layout → List ℕ → Net → Result Net Fault
-with_file l bytes net =
-    and_then (rows_in_file (file_of l) (header l) bytes) (λ rows. read_rows l net rows)
+abbrev pub with_file : Limits → Layout → List ℕ → Net → Result Net Fault
+with_file by l bytes net =
+    and_then (rows_in_file (file_of l) (header l) bytes) (λ rows. read_rows by l net rows)
 
 -- the version of a banks file: the second where its first record is that header, and otherwise the
 -- first
@@ -111,21 +115,26 @@ version_of (first ∷ below) =
     if are_words (banks_header version.Two) first then version.Two else version.One
 
 -- the network with the banks of a file, or the first fault of the file
-abbrev pub with_banks_of : List ℕ → Net → Result Net Fault
-with_banks_of bytes net = with_file (layout.Banks (version_of (records_of bytes))) bytes net
+abbrev pub with_banks_of : Limits → List ℕ → Net → Result Net Fault
+with_banks_of by bytes net =
+    with_file by (layout.Banks (version_of (records_of bytes))) bytes net
 
 -- the network with the debts of a file, or the first fault of the file
-abbrev pub with_debts_of : List ℕ → Net → Result Net Fault
-with_debts_of bytes net = with_file layout.Debts bytes net
+abbrev pub with_debts_of : Limits → List ℕ → Net → Result Net Fault
+with_debts_of by bytes net = with_file by layout.Debts bytes net
 
 -- whether a file is within the limit of its kind
-abbrev pub is_within_limit : FileKind → List ℕ → Bool
-is_within_limit f bytes = nat_le (length bytes) (file_limit f)
+abbrev pub is_within_limit : Limits → FileKind → List ℕ → Bool
+is_within_limit by f bytes = nat_le (length bytes) (file_limit by f)
 
--- the network that two files give, or their first fault: both sizes are checked first, and then all
--- of the banks
+-- the network that two files give by these limits, or their first fault: both sizes are checked
+-- first, and then all of the banks
+abbrev pub network_within : Limits → List ℕ → List ℕ → Result Net Fault
+network_within by banks debts =
+    fault_unless (is_within_limit by file.Banks banks) (fault_at file.Banks 0 fault.FileSize) (
+    fault_unless (is_within_limit by file.Debts debts) (fault_at file.Debts 0 fault.FileSize) (
+    and_then (with_banks_of by banks empty_net) (λ net. with_debts_of by debts net)))
+
+-- the network that they give by the standard limits
 abbrev pub network_of : List ℕ → List ℕ → Result Net Fault
-network_of banks debts =
-    fault_unless (is_within_limit file.Banks banks) (fault_at file.Banks 0 fault.FileSize) (
-    fault_unless (is_within_limit file.Debts debts) (fault_at file.Debts 0 fault.FileSize) (
-    and_then (with_banks_of banks empty_net) (λ net. with_debts_of debts net)))
+network_of banks debts = network_within limits.Standard banks debts

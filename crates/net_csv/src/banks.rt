@@ -7,49 +7,51 @@ ghost use Rattle.std.specs.Prelude.{◌≡◌, ◌↔◌, Ok, Err, IfOk, OnOk, I
 
 use crate::layout::Version;
 use crate::records::{fault, four_fields, three_fields};
-use clr_net::{Bank, MAX_BANKS, Network};
+use clr_net::{Bank, Network};
 use csv::ByteRecord;
-use net_check::{FaultKind, FileKind, ReadNet, check_bank};
+use net_check::{FaultKind, FileKind, Limits, ReadNet, check_bank};
 use std::alloc::Global;
 
-/// Adds the bank of a record that is not blank to a network. `Refused` comes exactly where there is
-/// a fault, `Mem` only where there is none.
+/// Adds the bank of a record that is not blank to a network, by these limits. `Refused` comes
+/// exactly where there is a fault, `Mem` only where there is none.
 pub(crate) fn add_bank(
     alloc: Global,
+    by: Limits,
     net: &mut Network,
     version: Version,
     row: u32,
     fields: &ByteRecord,
 ) -> Result<(), ReadNet>
     ensures read { let said = trimmed_fields (fields_of fields.now) in
-        OnOk result (with_row (Layout.Banks version) net.old (row, said) ≡ Ok net.new) }
+        OnOk result (with_row by (Layout.Banks version) net.old (row, said) ≡ Ok net.new) }
     ensures refused { let said = trimmed_fields (fields_of fields.now) in
         (f : Fault) → IsErrOf result (ReadNet.Refused f)
-        ↔ (with_row (Layout.Banks version) net.old (row, said) ≡ Err f) }
+        ↔ (with_row by (Layout.Banks version) net.old (row, said) ≡ Err f) }
 {
-    let bank = bank_of(alloc, net, version, row, fields)?;
+    let bank = bank_of(alloc, by, net, version, row, fields)?;
     match net.add_bank(bank) {
         Ok(_) => Ok(()),
         Err(_) => Err(ReadNet::Mem),
     }
 }
 
-// The bank of a record that is not blank.
+// The bank of a record that is not blank, by these limits.
 fn bank_of(
     alloc: Global,
+    by: Limits,
     net: &Network,
     version: Version,
     row: u32,
     fields: &ByteRecord,
 ) -> Result<Bank, ReadNet>
     ensures bank { let said = trimmed_fields (fields_of fields.now) in
-        IfOk result (λ b. bank_in_row version net.now (row, said) ≡ Ok b) }
+        IfOk result (λ b. bank_in_row by version net.now (row, said) ≡ Ok b) }
     ensures new { IfOk result (IsNewBank net.now) }
     ensures refused { let said = trimmed_fields (fields_of fields.now) in
         (f : Fault) → IsErrOf result (ReadNet.Refused f)
-        ↔ (bank_in_row version net.now (row, said) ≡ Err f) }
+        ↔ (bank_in_row by version net.now (row, said) ≡ Err f) }
 {
-    if net.banks() >= MAX_BANKS {
+    if net.banks() >= by.banks() {
         return Err(ReadNet::Refused(fault(FileKind::Banks, row, FaultKind::TooMany)));
     }
     match version {

@@ -12,4 +12,4 @@ mod read;
 pub mod records;
 
 pub use print::{print_banks, print_banks_2, print_debts};
-pub use read::read_network;
+pub use read::{read_network, read_network_within};

@@ -1,5 +1,7 @@
-ghost use Rattle.net_csv.specs.Printing.{bank_line, banks_text, banks_text_2, banks_text_in, debt_line, debts_text, rule_word as word_of_rule};
-ghost use Rattle.net_csv.specs.Reading.{network_of};
+ghost use Rattle.net_csv.specs.Printing.{bank_line, banks_text, banks_text_2, banks_text_in};
+ghost use Rattle.net_csv.specs.Printing.{debt_line, debts_text, rule_word as word_of_rule};
+ghost use Rattle.net_check.specs.declared.limits.Limits.{Limits};
+ghost use Rattle.net_csv.specs.Reading.{network_within};
 ghost use Rattle.std.specs.Prelude.{◌≡◌, ◌<◌, ◌++◌, ℕ, List, Ok, length, IfOk, OnOk};
 
 use crate::layout::Version;
@@ -26,8 +28,9 @@ pub fn print_banks_2(alloc: Global, net: &Network) -> Result<Vec<u8>, Mem>
     ensures text { IfOk result (λ text. text.items ≡ banks_text_2 net.now) }
 
     // With the debts file that gave the network it gives the same network.
-    ensures read_back { (banks debts : List ℕ) → network_of banks debts ≡ Ok net.now
-        → IfOk result (λ text. network_of text.items debts ≡ Ok net.now) }
+    ensures read_back { (by : Limits) (banks debts : List ℕ)
+        → network_within by banks debts ≡ Ok net.now
+        → IfOk result (λ text. network_within by text.items debts ≡ Ok net.now) }
 {
     banks_file(alloc, net, Version::Two)
 }

@@ -1,8 +1,12 @@
+ghost use Rattle.net_samples.specs.declared.large.TheConstants.{MAX_WOVEN};
 ghost use Rattle.std.specs.Prelude.{◌<◌, ◌≤◌};
 
 use crate::{add_classed, add_ruled};
-use clr_net::{MAX_BANKS, Mem, Network, RuleKind};
+use clr_net::{Mem, Network, RuleKind};
 use std::alloc::Global;
+
+// The most banks round a circle: their names have three digits.
+const MAX_WOVEN: u32 = 1_000;
 
 // The six rules, in turn.
 const RULES: [RuleKind; 6] = [
@@ -24,7 +28,7 @@ fn add_debts(net: &mut Network, debts: &[(u32, u32, u8, u64)]) -> Result<(), Mem
 
 // Adds so many banks, which owe round a circle.
 pub(crate) fn add_woven(alloc: Global, net: &mut Network, banks: u32) -> Result<(), Mem> {
-    if banks < 8 || banks > MAX_BANKS {
+    if banks < 8 || banks > MAX_WOVEN {
         return Err(Mem);
     }
     for number in 0..banks {
@@ -47,7 +51,7 @@ fn add_woven_bank(alloc: Global, net: &mut Network, number: u32) -> Result<(), M
 
 // The debts of one of these banks.
 fn woven_debts(number: u32, banks: u32) -> [(u32, u32, u8, u64); 3]
-    requires few { banks ≤ 1000 }
+    requires few { banks ≤ MAX_WOVEN }
     requires enough { 8 ≤ banks }
     requires bank { number < banks }
 {

@@ -5,9 +5,10 @@ ghost use Rattle.clear_core.specs.declared.event.Raise.{Raise};
 ghost use Rattle.clr_net.specs.Limits.{IsNetwork};
 ghost use Rattle.clr_net.specs.Net.{Net};
 ghost use Rattle.net_check.specs.declared.TheConstants.{MAX_DIGITS};
+ghost use Rattle.net_check.specs.declared.limits.Limits.{Limits};
 ghost use Rattle.net_csv.specs.Printing.{KeepsNames};
 ghost use Rattle.raise_journal.specs.ReadBack.{IsInLimits};
-ghost use Rattle.raise_journal.specs.ReadJournal.{journal_of};
+ghost use Rattle.raise_journal.specs.ReadJournal.{journal_within};
 ghost use Rattle.raise_journal.specs.Texts.{journal_text, rounds_line};
 ghost use Rattle.raise_journal.specs.Verdicts.{judged};
 ghost use Rattle.raise_journal.specs.declared.verdict.Verdict.TheVariants as verdict;
@@ -30,15 +31,15 @@ pub fn lawful_journals_pay_the_least()
 {}
 
 /// What is printed of a journal is read back as that journal, where no name begins or ends with a
-/// space.
+/// space, by any limits that the journal is within.
 pub fn printed_journals_are_read_back()
-    ensures { (net : Net) (rs : List Raise) → IsNetwork net → KeepsNames net → IsInLimits net rs
-        → journal_of net (journal_text net rs) ≡ Ok rs }
+    ensures { (by : Limits) (net : Net) (rs : List Raise) → IsNetwork net → KeepsNames net
+        → IsInLimits by net rs → journal_within by net (journal_text net rs) ≡ Ok rs }
 {}
 
 /// So it is with a line of how many rounds there were after it, whatever number a file can have.
 pub fn closed_journals_are_read_back()
-    ensures { (net : Net) (rs : List Raise) (rounds : ℕ) → IsNetwork net → KeepsNames net
-        → IsInLimits net rs → rounds < 10 ^ MAX_DIGITS
-        → journal_of net (journal_text net rs ++ rounds_line rounds) ≡ Ok rs }
+    ensures { (by : Limits) (net : Net) (rs : List Raise) (rounds : ℕ) → IsNetwork net
+        → KeepsNames net → IsInLimits by net rs → rounds < 10 ^ MAX_DIGITS
+        → journal_within by net (journal_text net rs ++ rounds_line rounds) ≡ Ok rs }
 {}

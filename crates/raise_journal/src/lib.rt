@@ -14,7 +14,7 @@ mod verdict;
 
 pub use gathering::{gather, in_order, merge_in};
 pub use printing::{journal_head, print_journal, print_raises};
-pub use reading::read_journal;
+pub use reading::{read_journal, read_journal_within};
 pub use replaying::{replay, replay_with};
 pub use verdict::Verdict;
 
@@ -23,9 +23,6 @@ pub const MAX_AT_ONCE: usize = 256;
 
 /// The bytes of a room for the lines of so many raises.
 pub const ROOM: usize = 65_536;
-
-/// The most raises of a journal that is read.
-pub const MAX_RAISES: usize = 10_000_000;
 
 /// The greatest stamp of a journal that is read.
 pub const MAX_STAMP: u64 = 4_294_967_295;

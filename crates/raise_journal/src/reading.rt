@@ -3,14 +3,17 @@ ghost use Rattle.clr_net.specs.Net.{is_debt_of, is_of_kind, numbers};
 ghost use Rattle.csv.specs.Records.{fields_of};
 ghost use Rattle.net_check.specs.Field.{trimmed_field};
 ghost use Rattle.net_check.specs.Record.{fault_at};
+ghost use Rattle.net_check.specs.Within.{file_limit};
 ghost use Rattle.net_check.specs.declared.fault.Fault.{Fault};
 ghost use Rattle.net_check.specs.declared.fault.FaultKind.TheVariants as kind;
 ghost use Rattle.net_check.specs.declared.fault.FileKind.TheVariants as file;
+ghost use Rattle.net_check.specs.declared.limits.Limits.TheVariants as limits;
 ghost use Rattle.net_csv.specs.Left.{IsReading, records_left, trimmed_left};
 ghost use Rattle.net_csv.specs.Reading.{is_blank as are_blank, rows_from, trimmed_fields};
-ghost use Rattle.raise_journal.specs.ReadJournal.{added, closed_early_at};
-ghost use Rattle.raise_journal.specs.ReadJournal.{is_closing as are_closing, journal_of};
-ghost use Rattle.raise_journal.specs.ReadJournal.{raise_from, raise_in_row, raises_in_file, read_raises};
+ghost use Rattle.raise_journal.specs.ReadJournal.{added, closed_early_at, journal_of};
+ghost use Rattle.raise_journal.specs.ReadJournal.{journal_within, is_closing as are_closing};
+ghost use Rattle.raise_journal.specs.ReadJournal.{raise_from, raise_in_row, raises_in_file};
+ghost use Rattle.raise_journal.specs.ReadJournal.{read_raises};
 ghost use Rattle.net_check.specs.declared.TheConstants.{MAX_JOURNAL_BYTES};
 ghost use Rattle.std.specs.List.{list_all, list_any};
 ghost use Rattle.std.specs.Option.{option_map};
@@ -18,18 +21,18 @@ ghost use Rattle.std.specs.Prelude.{◌≡◌, ◌≢◌, ◌<◌, ◌≤◌, �
 ghost use Rattle.std.specs.Prelude.{All, Ok, Err};
 ghost use Rattle.std.specs.Prelude.{IfErr, IfNone, IfOk, IfSome, OnOk, IsErrOf, MatchOption};
 
-use crate::{MAX_RAISES, MAX_STAMP};
+use crate::MAX_STAMP;
 use clear_core::{Journal, Raise};
 use clr_net::{BankId, DebtId, MAX_CLAIM, Network};
 use csv::{ByteRecord, Reader};
 use net_check::{
-    Fault, FaultKind, FileKind, ReadNet, bank_of, class, number, number_up_to, trimmed,
+    Fault, FaultKind, FileKind, Limits, ReadNet, bank_of, class, number, number_up_to, trimmed,
 };
 use net_csv::records::{fault, field, is_blank, read_header, read_next, reader_of};
 use std::alloc::Global;
 
-/// Reads a journal of raises on the debts of a network: amounts in units, and each debt by the
-/// names of its banks and its class.
+/// Reads a journal of raises on the debts of a network by the standard limits: amounts in units,
+/// and each debt by the names of its banks and its class.
 ///
 /// `Refused` names the first fault of the file, in the order of its records: a file too long, a
 /// header that is another, a record of another number of fields, a raise too many, or a field that
@@ -41,24 +44,43 @@ pub fn read_journal(alloc: Global, net: &Network, bytes: &[u8]) -> Result<Journa
     ensures journal { IfOk result (λ journal. journal_of net.now bytes.now ≡ Ok journal.raises) }
     ensures refused { (f : Fault) → IsErrOf result (ReadNet.Refused f)
         → journal_of net.now bytes.now ≡ Err f }
-    ensures size { MAX_JOURNAL_BYTES < length bytes.now
+    ensures size { file_limit limits.Standard file.Journal < length bytes.now
         → IsErrOf result (ReadNet.Refused (fault_at file.Journal 0 kind.FileSize)) }
     ensures debts { IfOk result
         (λ journal. All (λ r. r.debt.0 < length net.now.debts) journal.raises) }
 {
-    if bytes.len() as u64 > FileKind::Journal.limit() {
-        return Err(ReadNet::Refused(fault(FileKind::Journal, 0, FaultKind::FileSize)));
-    }
-    read_rows(alloc, net, bytes)
+    read_journal_within(alloc, Limits::Standard, net, bytes)
 }
 
-// Reads a journal file of the allowed size, or names its first fault.
-fn read_rows(alloc: Global, net: &Network, bytes: &[u8]) -> Result<Journal, ReadNet>
+/// The same by these limits, on the size of the file and the raises.
+pub fn read_journal_within(
+    alloc: Global,
+    by: Limits,
+    net: &Network,
+    bytes: &[u8],
+) -> Result<Journal, ReadNet>
+    ensures journal { IfOk result
+        (λ journal. journal_within by net.now bytes.now ≡ Ok journal.raises) }
+    ensures refused { (f : Fault) → IsErrOf result (ReadNet.Refused f)
+        → journal_within by net.now bytes.now ≡ Err f }
+    ensures size { file_limit by file.Journal < length bytes.now
+        → IsErrOf result (ReadNet.Refused (fault_at file.Journal 0 kind.FileSize)) }
+    ensures debts { IfOk result
+        (λ journal. All (λ r. r.debt.0 < length net.now.debts) journal.raises) }
+{
+    if bytes.len() as u64 > by.bytes(FileKind::Journal) {
+        return Err(ReadNet::Refused(fault(FileKind::Journal, 0, FaultKind::FileSize)));
+    }
+    read_rows(alloc, by, net, bytes)
+}
+
+// Reads a journal file of the allowed size by these limits, or names its first fault.
+fn read_rows(alloc: Global, by: Limits, net: &Network, bytes: &[u8]) -> Result<Journal, ReadNet>
     requires { length bytes.now ≤ MAX_JOURNAL_BYTES }
     ensures journal { IfOk result
-        (λ journal. raises_in_file net.now bytes.now ≡ Ok journal.raises) }
+        (λ journal. raises_in_file by net.now bytes.now ≡ Ok journal.raises) }
     ensures refused { (f : Fault) → IsErrOf result (ReadNet.Refused f)
-        → raises_in_file net.now bytes.now ≡ Err f }
+        → raises_in_file by net.now bytes.now ≡ Err f }
     ensures debts { IfOk result
         (λ journal. All (λ r. r.debt.0 < length net.now.debts) journal.raises) }
 {
@@ -67,13 +89,15 @@ fn read_rows(alloc: Global, net: &Network, bytes: &[u8]) -> Result<Journal, Read
     let words = ["stamp", "debtor", "creditor", "class", "to"];
     read_header(&mut reader, &mut fields, FileKind::Journal, &words)?;
     let mut journal = Journal::empty(alloc);
-    add_raises(net, &mut reader, &mut fields, &mut journal)?;
+    add_raises(by, net, &mut reader, &mut fields, &mut journal)?;
     Ok(journal)
 }
 
-// Adds the raises that are left below the header to a journal without raises, or names the first
-// fault. What must be dropped stands behind references, so that no step has to drop it.
+// Adds the raises that are left below the header to a journal without raises by these limits, or
+// names the first fault. What must be dropped stands behind references, so that no step has to drop
+// it.
 fn add_raises(
+    by: Limits,
     net: &Network,
     reader: &mut Reader<&[u8]>,
     fields: &mut ByteRecord,
@@ -82,10 +106,10 @@ fn add_raises(
     requires reading { IsReading reader.old }
     requires few { length (records_left reader.old) ≤ MAX_JOURNAL_BYTES }
     requires empty { journal.old.raises ≡ [] }
-    ensures read { OnOk result (read_raises net.now [] (rows_from 1 (trimmed_left reader.old))
+    ensures read { OnOk result (read_raises by net.now [] (rows_from 1 (trimmed_left reader.old))
         ≡ Ok journal.new.raises) }
     ensures refused { (f : Fault) → IsErrOf result (ReadNet.Refused f)
-        → read_raises net.now [] (rows_from 1 (trimmed_left reader.old)) ≡ Err f }
+        → read_raises by net.now [] (rows_from 1 (trimmed_left reader.old)) ≡ Err f }
     ensures debts { OnOk result (All (λ r. r.debt.0 < length net.now.debts) journal.new.raises) }
 {
     let mut row = 0;
@@ -95,10 +119,10 @@ fn add_raises(
             if is_rest_blank(reader, fields)? {
                 return Ok(());
             }
-            let early = closed_early(journal.as_slice().len(), row);
+            let early = closed_early(by, journal.as_slice().len(), row);
             return Err(ReadNet::Refused(early));
         }
-        add_raise(net, row, fields, journal)?;
+        add_raise(by, net, row, fields, journal)?;
     }
     Ok(())
 }
@@ -129,29 +153,30 @@ fn is_rest_blank(reader: &mut Reader<&[u8]>, fields: &mut ByteRecord) -> Result<
 }
 
 // The fault of a closing record that is not the last, after so many raises.
-fn closed_early(raises: usize, row: u32) -> Fault
-    ensures { result ≡ closed_early_at raises row }
+fn closed_early(by: Limits, raises: usize, row: u32) -> Fault
+    ensures { result ≡ closed_early_at by raises row }
 {
-    if raises < MAX_RAISES {
+    if raises < by.raises() {
         fault(FileKind::Journal, row, FaultKind::Fields)
     } else {
         fault(FileKind::Journal, row, FaultKind::TooMany)
     }
 }
 
-// Adds the raise of one record to a journal. A blank record has none. `Refused` comes exactly where
-// there is a fault.
+// Adds the raise of one record to a journal, by these limits. A blank record has none. `Refused`
+// comes exactly where there is a fault.
 fn add_raise(
+    by: Limits,
     net: &Network,
     row: u32,
     fields: &ByteRecord,
     journal: &mut Journal,
 ) -> Result<(), ReadNet>
     ensures read { OnOk result
-        (added net.now journal.old.raises row (trimmed_fields (fields_of fields.now))
+        (added by net.now journal.old.raises row (trimmed_fields (fields_of fields.now))
         ≡ Ok journal.new.raises) }
     ensures refused { (f : Fault) → IsErrOf result (ReadNet.Refused f)
-        ↔ (added net.now journal.old.raises row (trimmed_fields (fields_of fields.now))
+        ↔ (added by net.now journal.old.raises row (trimmed_fields (fields_of fields.now))
         ≡ Err f) }
     ensures debts { All (λ r. r.debt.0 < length net.now.debts) journal.old.raises
         → OnOk result (All (λ r. r.debt.0 < length net.now.debts) journal.new.raises) }
@@ -159,7 +184,7 @@ fn add_raise(
     if is_blank(fields) {
         return Ok(());
     }
-    match raise_of(net, journal.as_slice().len(), row, fields) {
+    match raise_of(by, net, journal.as_slice().len(), row, fields) {
         Ok(raise) => match journal.push(raise) {
             Ok(_) => Ok(()),
             Err(_) => Err(ReadNet::Mem),
@@ -168,13 +193,19 @@ fn add_raise(
     }
 }
 
-// The raise of a record that is not blank, after so many raises.
-fn raise_of(net: &Network, raises: usize, row: u32, fields: &ByteRecord) -> Result<Raise, Fault>
+// The raise of a record that is not blank, after so many raises, by these limits.
+fn raise_of(
+    by: Limits,
+    net: &Network,
+    raises: usize,
+    row: u32,
+    fields: &ByteRecord,
+) -> Result<Raise, Fault>
     ensures raise { result
-        ≡ raise_in_row net.now raises (row, trimmed_fields (fields_of fields.now)) }
+        ≡ raise_in_row by net.now raises (row, trimmed_fields (fields_of fields.now)) }
     ensures debt { IfOk result (λ r. r.debt.0 < length net.now.debts) }
 {
-    if raises >= MAX_RAISES {
+    if raises >= by.raises() {
         return Err(fault(FileKind::Journal, row, FaultKind::TooMany));
     }
     match five_fields(fields) {

@@ -55,7 +55,8 @@ fn level_between(low: u64, high: u64, below: u64, above: u64) -> u64
 {
     let width = high - low;
     let all = below.saturating_add(above).max(1);
-    // Half of the greatest width times the greatest units is within 64 bits.
+    // Half of the greatest width times 18,000,000 units is within 64 bits. Of more units the level
+    // is nearer to the first, and still between.
     let far = ((width / 2).saturating_mul(below) / all).saturating_mul(2);
     low + far.min(width - 1).max(1)
 }

@@ -1,4 +1,5 @@
 ghost use Rattle.clr_net.specs.Net.{of_cash};
+ghost use Rattle.clr_net.specs.declared.TheConstants.{MAX_BANKS};
 ghost use Rattle.std.specs.Prelude.{◌≡◌, ◌≤◌, map};
 
 use clear_least::central;
@@ -14,7 +15,7 @@ use std::thread::Threads;
 // than before, of some it is more, and of one it is nothing.
 fn cash_in(turn: u32, bank: u32) -> u64
     requires turn { turn ≤ 3 }
-    requires bank { bank ≤ 1000 }
+    requires bank { bank ≤ MAX_BANKS }
     ensures { result ≤ 55 }
 {
     5 * u64::from((bank * 7 + turn * 5) % 12)

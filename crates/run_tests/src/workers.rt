@@ -326,8 +326,8 @@ fn a_visit_without_memory_leaves_all_as_it_was(rt: HostRuntime) -> Result<(), Fa
     Ok(())
 }
 
-// Whether from each place on, up to one past all words, the first bank in both sets is the first of
-// these, which stand in order.
+// Whether from each of these places on, among all banks that there may be, the first bank in both
+// sets is the first of these, which stand in order.
 fn finds(one: &BankSet, other: &BankSet, banks: &[u32]) -> bool {
     for from in 0..1_100 {
         let mut wanted = None;
@@ -336,7 +336,7 @@ fn finds(one: &BankSet, other: &BankSet, banks: &[u32]) -> bool {
                 wanted = Some(BankId(*bank));
             }
         }
-        if one.first_in_both(other, from) != wanted {
+        if one.first_in_both(other, from, MAX_BANKS - 1) != wanted {
             return false;
         }
     }
@@ -348,22 +348,34 @@ fn the_first_bank_in_two_sets_is_found_from_each_place_on(rt: HostRuntime) -> Re
     let all = BankSet::all();
     let mut called = BankSet::none();
     let none = finds(&called, &all, &[]);
+    called.add(BankId(9_999));
     called.add(BankId(999));
     called.add(BankId(64));
     called.add(BankId(0));
     called.add(BankId(127));
     called.add(BankId(63));
     called.add(BankId(64));
-    let added = finds(&called, &all, &[0, 63, 64, 127, 999]);
+    let added = finds(&called, &all, &[0, 63, 64, 127, 999, 9_999]);
     let mut mine = BankSet::all();
     mine.remove(BankId(63));
     mine.remove(BankId(999));
-    let mine_alone = finds(&called, &mine, &[0, 64, 127]);
+    let mine_alone = finds(&called, &mine, &[0, 64, 127, 9_999]);
     called.remove(BankId(64));
     called.remove(BankId(0));
     called.remove(BankId(1));
-    let removed = finds(&called, &all, &[63, 127, 999]);
+    let removed = finds(&called, &all, &[63, 127, 999, 9_999]);
     let in_one_alone = finds(&called, &BankSet::none(), &[]);
     assert_eq!(rt; [none, added, mine_alone, removed, in_one_alone], [true; 5]);
+    // The word of the last bank is looked at, and none past it.
+    let up_to = (
+        called.first_in_both(&all, 64, 63),
+        called.first_in_both(&all, 64, 127),
+    );
+    assert_eq!(rt; up_to, (None, Some(BankId(127))));
+    let later = (
+        called.first_in_both(&all, 128, 959),
+        called.first_in_both(&all, 128, 960),
+    );
+    assert_eq!(rt; later, (None, Some(BankId(999))));
     Ok(())
 }

@@ -7,6 +7,7 @@ use Rattle.std.proofs.lemmas.List.FromFn.{length-range_with_len}
 use Rattle.std.proofs.lemmas.List.Sums.{get_or-le-sum_by, sum-map, sum_by-cons, sum_by-le-sum_by}
 use Rattle.clear_core.specs.Clearing.{least}
 use Rattle.clr_net.specs.Amounts.{IsAtMost}
+use Rattle.clr_net.specs.declared.TheConstants.{MAX_BANKS}
 use Rattle.clr_net.specs.Net.{Net, row, debtor_of, creditor_of}
 use Rattle.clr_net.proofs.Lists.{same_from_sum, sum_rises, sums_agree}
 use Rattle.bank_desk.specs.Desks.{desk_of}
@@ -68,7 +69,7 @@ module _ (board : Panel) (net : Net) (s : Shown) (w sweeps n : ℕ) (news : List
       let lt : i < w = omega (arith, li, as_many) in
       let m = made_round i lt in
       let desks = few_desks (handed w i s) (desks_held (handed w i s)) refl in
-      let banks : length s.net.banks ≤ 1000 = omega (arith, between.network.banks_in_limit, ap (λ (m : Net). length m.banks) between.net_is) in
+      let banks : length s.net.banks ≤ MAX_BANKS = omega (arith, between.network.banks_in_limit, ap (λ (m : Net). length m.banks) between.net_is) in
       record {
         at = (m.same.table, net_of i lt ∙ here);
         worker = m.same.worker;

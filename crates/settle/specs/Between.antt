@@ -13,7 +13,7 @@ use Rattle.raise_journal.specs.Gathered.{HasGrownBy}
 use Rattle.settle.specs.declared.plan.Plan.{Plan}
 use Rattle.settle.specs.Rounds.{AreRounded, crew_at}
 use Rattle.bank_worker.specs.Views.{Crew, Divides, desks_held}
-use Rattle.bank_worker.specs.Grows.{SeatGrows}
+use Rattle.bank_worker.specs.Grows.{MAX_VISITS, SeatGrows}
 
 -- between two rounds the master holds all banks, and nothing is pending or owes a ring; each bank
 -- is fresh or pays its division at what was last seen; and the floor is what is paid
@@ -61,7 +61,7 @@ pub record IsOfBoard (board : Panel) (i : ℕ) (w : Crew) : Type 0 where
       ≡ tabled (length board.net.banks) (is_of_worker board.table.workers i)
   pub no_rings : OwesNoRing w.seat.shows
   pub by_bells : w.visits ≡ w.seat.shows.taken
-  pub few_visits : w.visits ≤ 1000000
+  pub few_visits : w.visits ≤ MAX_VISITS
 
 -- so is each of these, in the order of their numbers
 abbrev pub AreOfBoard : Panel → List Crew → Type 0

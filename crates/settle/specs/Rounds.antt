@@ -3,7 +3,7 @@ use Rattle.std.specs.Prelude.{◌≡◌, ℕ, ◌+◌, ◌*◌, ◌^◌, ◌<◌
 use Rattle.clr_net.specs.declared.TheConstants.{MAX_OWED}
 use Rattle.pay_words.specs.Views.{Panel, Place, IsAt, OwesNoRing, opening}
 use Rattle.bank_worker.specs.Views.{Crew, paid_by_all}
-use Rattle.bank_worker.specs.Grows.{IsRounded, VisitsByBells}
+use Rattle.bank_worker.specs.Grows.{IsRounded, MAX_VISITS, VisitsByBells}
 use Rattle.bank_worker.specs.Visits.{IsAllCalm, IsSameCrew, MayRest}
 
 -- the worker may make a round on the board
@@ -64,4 +64,4 @@ pub record AreRounded (sweeps n : ℕ) (olds news : List Crew) : Type 0 where
   pub as_many : length news ≡ length olds
   pub each : (i : ℕ) → i < length olds → MadeRound sweeps (crew_at olds i) (crew_at news i)
   pub rose : sum_by paid_by_crew news ≡ sum_by paid_by_crew olds + n
-  pub few : n ≤ length olds * (1000000 * MAX_OWED)
+  pub few : n ≤ length olds * (MAX_VISITS * MAX_OWED)

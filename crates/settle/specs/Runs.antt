@@ -9,6 +9,8 @@ use Rattle.pay_words.specs.Sealed.{Sealed}
 use Rattle.pay_words.specs.Traces.{start_of}
 use Rattle.pay_words.specs.Views.{opening}
 use Rattle.pay_words.specs.declared.view.Shown.{Shown}
+use Rattle.net_check.specs.Within.{IsWithin as IsWithinLimits}
+use Rattle.net_check.specs.declared.limits.Limits.{Limits}
 use Rattle.raise_journal.specs.ReadBack.{IsInLimits}
 use Rattle.raise_journal.specs.Verdicts.{judged}
 use Rattle.raise_journal.specs.declared.verdict.Verdict.TheVariants as verdict
@@ -70,8 +72,9 @@ pub record HasComeToRest (net : Net) (past : List Raise) (plan : Plan) (paid : L
   pub journal_is : journal ≡ ordered (past ++ master.raises)
 
 -- what a run that went on from a past came to: the least list that clears is paid; its journal is a
--- lawful history of it, in order, within the limits of a journal file and one to go on from; its
--- record begins with the past; and it came to rest in few rounds and visits
+-- lawful history of it, in order, within the limits of a journal file by which the network may be
+-- read, and one to go on from; its record begins with the past; and it came to rest in few rounds
+-- and visits
 pub record IsSettled (net : Net) (past : List Raise) (plan : Plan) (s : Settled) : Type 0 where
   pub paid : s.paid ≡ least net
   pub verdict : (judged net s.sealed.journal).verdict ≡ verdict.Lawful
@@ -79,7 +82,7 @@ pub record IsSettled (net : Net) (past : List Raise) (plan : Plan) (s : Settled)
   pub replays : replayed net s.sealed.journal ≡ s.paid
   pub in_order : ordered s.sealed.journal ≡ s.sealed.journal
   pub low_stamps : All (λ r. r.stamp ≤ sum s.paid) s.sealed.journal
-  pub within_limits : IsInLimits net s.sealed.journal
+  pub within_limits : (by : Limits) → IsWithinLimits by net → IsInLimits by net s.sealed.journal
   pub can_go_on : CanGoOn net s.sealed.journal
   pub record_is : IsRecordAfter net past plan s.rounds s.sealed
   pub bounds : IsWithinAfter net past plan s.rounds s.visits s.sealed.made

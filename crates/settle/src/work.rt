@@ -1,3 +1,4 @@
+ghost use Rattle.bank_worker.specs.Grows.{MAX_VISITS};
 ghost use Rattle.bank_worker.specs.Visits.{WhenRaised};
 ghost use Rattle.clr_net.specs.declared.TheConstants.{MAX_OWED};
 ghost use Rattle.settle.specs.Calls.{AllCalledOrAtRest, AreApart};
@@ -96,8 +97,8 @@ fn work<R: Threads + Sync, G: Gate + Sync>(
 
 // The units of two visits, or want of memory where one of them met it.
 fn added(a: Visit, b: Visit) -> Visit
-    requires { WhenRaised a (λ n. n ≤ 64 * (1000000 * MAX_OWED))
-        × WhenRaised b (λ n. n ≤ 64 * (1000000 * MAX_OWED)) }
+    requires { WhenRaised a (λ n. n ≤ 64 * (MAX_VISITS * MAX_OWED))
+        × WhenRaised b (λ n. n ≤ 64 * (MAX_VISITS * MAX_OWED)) }
     ensures { WhenRaised result (λ n. (k : ℕ) × (m : ℕ)
         × (a ≡ Visit.Raised k) × (b ≡ Visit.Raised m) × (n ≡ k + m)) }
 {

@@ -10,7 +10,7 @@ use Rattle.clr_net.specs.Name.{is_name}
 use Rattle.clr_net.specs.Net.{Net, has_name}
 use Rattle.net_check.specs.Checks.{and_then, fault_unless}
 use Rattle.net_check.specs.Record.{fault_at, in_row}
-use Rattle.net_check.specs.Words.{file_limit}
+use Rattle.net_check.specs.declared.TheConstants.{MAX_SCENARIOS_BYTES}
 use Rattle.net_check.specs.declared.fault.Fault.{Fault}
 use Rattle.net_check.specs.declared.fault.FaultKind.{FaultKind}
 use Rattle.net_check.specs.declared.fault.FaultKind.TheVariants as fault
@@ -89,6 +89,6 @@ document_of bytes = if is_utf8 bytes then parse_document bytes else None
 -- the scenarios that a file gives beside a network, or its first fault
 abbrev pub scenarios_of : Net → List ℕ → Result (List Scenario) Fault
 scenarios_of net bytes =
-    fault_unless (nat_le (length bytes) (file_limit file.Scenarios)) (fault_in 0 fault.FileSize) (
+    fault_unless (nat_le (length bytes) MAX_SCENARIOS_BYTES) (fault_in 0 fault.FileSize) (
     and_then (ok_or (document_of bytes) (fault_in 0 fault.Toml)) (λ document.
     scenarios_in net document))

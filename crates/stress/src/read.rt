@@ -1,5 +1,5 @@
 ghost use Rattle.net_check.specs.Record.{fault_at};
-ghost use Rattle.net_check.specs.declared.TheConstants.{MAX_FILE_BYTES};
+ghost use Rattle.net_check.specs.declared.TheConstants.{MAX_SCENARIOS_BYTES};
 ghost use Rattle.net_check.specs.declared.fault.Fault.{Fault};
 ghost use Rattle.net_check.specs.declared.fault.FaultKind.{FaultKind};
 ghost use Rattle.net_check.specs.declared.fault.FaultKind.TheVariants as kind;
@@ -19,7 +19,7 @@ use crate::scenario::{Loss, Losses, Scenario};
 use crate::shape::{Parts, has_only, loss_parts, parts_of, up_to};
 use crate::{MAX_CUT, MAX_LOSS, MAX_SCENARIOS};
 use clr_net::{Name, Network};
-use net_check::{FaultKind, FileKind, ReadNet};
+use net_check::{FaultKind, MAX_SCENARIOS_BYTES, ReadNet};
 use std::alloc::Global;
 use toml::{Table, Value};
 
@@ -33,13 +33,13 @@ pub fn read_scenarios(alloc: Global, net: &Network, bytes: &[u8]) -> Result<Vec<
     ensures read { IfOk result (λ all. scenarios_of net.now bytes.now ≡ Ok all.items) }
     ensures refused { (f : Fault) → IsErrOf result (ReadNet.Refused f)
         → scenarios_of net.now bytes.now ≡ Err f }
-    ensures size { MAX_FILE_BYTES < length bytes.now
+    ensures size { MAX_SCENARIOS_BYTES < length bytes.now
         → IsErrOf result (ReadNet.Refused (fault_at file.Scenarios 0 kind.FileSize)) }
     ensures lawful { IfOk result (λ all. All (IsScenarioOf net.now) all.items) }
     ensures in_limit { IfOk result (λ all. All HasLossesInLimit all.items) }
     ensures few { IfOk result (λ all. length all.items ≤ MAX_SCENARIOS) }
 {
-    if bytes.len() as u64 > FileKind::Scenarios.limit() {
+    if bytes.len() as u64 > MAX_SCENARIOS_BYTES {
         return Err(ReadNet::Refused(fault(0, FaultKind::FileSize)));
     }
     let document = document_of(alloc, bytes)?;

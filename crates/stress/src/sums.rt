@@ -34,7 +34,7 @@ pub fn outcome_of(net: &Network, standings: &[Standing]) -> Outcome
     ensures sums { result ≡ sums net.now (least net.now) }
     ensures adds_up { result.cash ≡ result.outside_paid + result.equity }
 {
-    prove!(net.banks() <= 1000);
+    prove!(net.banks() <= clr_net::MAX_BANKS);
     let mut all = Outcome {
         cash: net.cash_total(),
         paid: 0,

@@ -1,5 +1,6 @@
 mod fifteen_banks;
 mod hostile;
+mod limits;
 mod many;
 mod records;
 mod sinks;
@@ -47,12 +48,6 @@ const CHAIN_BANKS_2: &str = "name,cash,rule,outside\nA,7,order,0\nB,1,order,0\nC
 const CHAIN_OUTSIDE: &str = "name,cash,rule,outside\nA,7,order,3\nB,1,order,0\nC,0,order,2\n";
 
 const TWO_BANKS: &str = "name,cash,rule\nA,0,order\nB,0,order\n";
-
-// The most that may be owed, and a debt of one unit more.
-const TOTAL_AND_ONE_MORE: &str =
-    "debtor,creditor,class,claim\nA,B,1,1000000\nA,B,2,1000000\nA,B,3,1000000\n\
-A,B,4,1000000\nA,B,5,1000000\nA,B,6,1000000\nA,B,7,1000000\nA,B,8,1000000\n\
-A,B,9,1000000\nB,A,1,1000000\nB,A,2,1\n";
 
 // The most that may be owed, and a debt of no unit more.
 const TOTAL_AND_NO_MORE: &str =
@@ -204,6 +199,19 @@ fn check<R: Threads + Sync + Abort>(
     ends(rt, alloc, line, &mut files, ending)
 }
 
+// Runs a line on three files by the limits that it has without words for them, and by the wide ones.
+fn check_by_both<R: Threads + Sync + Abort>(
+    rt: &R,
+    alloc: Global,
+    line: &str,
+    texts: [&str; 3],
+    ending: (u8, &str, &str),
+) -> Result<(), Fail> {
+    check(rt, alloc, line, texts, ending)?;
+    let wide = format!(in alloc; "{line} --limits wide")?;
+    check(rt, alloc, wide.as_str(), texts, ending)
+}
+
 // A line, the two files, and the text of a run that ends well.
 type Done<'a> = (&'a str, &'a str, &'a str, &'a str);
 
@@ -213,7 +221,7 @@ fn all_done<R: Threads + Sync + Abort>(
     rows: &[Done<'_>],
 ) -> Result<(), Fail> {
     for (line, banks, debts, text) in rows {
-        check(rt, alloc, line, [banks, debts, ""], (0, text, ""))?;
+        check_by_both(rt, alloc, line, [banks, debts, ""], (0, text, ""))?;
     }
     Ok(())
 }
@@ -227,7 +235,7 @@ fn all_refused<R: Threads + Sync + Abort>(
     rows: &[Refused<'_>],
 ) -> Result<(), Fail> {
     for (banks, debts, message) in rows {
-        check(rt, alloc, CLEAR, [banks, debts, ""], (4, "", message))?;
+        check_by_both(rt, alloc, CLEAR, [banks, debts, ""], (4, "", message))?;
     }
     Ok(())
 }
@@ -311,7 +319,7 @@ fn payments_of_small_networks(rt: HostRuntime) -> Result<(), Fail> {
     all_done(&rt, rt.alloc(), &PAYMENTS)
 }
 
-const FAULTS: [Refused<'static>; 18] = [
+const FAULTS: [Refused<'static>; 17] = [
     (
         "name,cash,rule\nA,1000000000000,order\nB,0,order\n",
         "debtor,creditor,class,claim\nA,B,1,1000001\n",
@@ -353,11 +361,6 @@ const FAULTS: [Refused<'static>; 18] = [
         "name,cash,rule,outside\nA,7,order,100000000001\n",
         "debtor,creditor,class,claim\n",
         "clearing: banks row 1: limit (6)\n",
-    ),
-    (
-        TWO_BANKS,
-        TOTAL_AND_ONE_MORE,
-        "clearing: debts row 11: total (13)\n",
     ),
     (
         "name,cash,rule\nA,7,order\nB,1,order\nA,x,order\n",
@@ -406,12 +409,15 @@ fn faults_of_files_are_named(rt: HostRuntime) -> Result<(), Fail> {
     all_refused(&rt, rt.alloc(), &FAULTS)
 }
 
-const NO_JOBS: [&str; 5] = [
+const NO_JOBS: [&str; 8] = [
     "",
     "--help",
     "clear --banks b.csv",
     "clear --banks b.csv --debts d.csv --workers 65",
     "central --banks b.csv --debts d.csv --sweeps 2",
+    "gen --seed 7 --size 3 --tries 5 --limits wide",
+    "clear --banks b.csv --debts d.csv --limits big",
+    "clear --banks b.csv --debts d.csv --limits wide --limits wide",
 ];
 
 #[test]
@@ -484,5 +490,11 @@ fn banks_files_that_are_no_text(rt: HostRuntime) -> Result<(), Fail> {
         long.as_slice(),
         "other.csv",
         "clearing: banks row 0: file size (14)\n",
-    )
+    )?;
+    // By the wide limits the debts file is missed.
+    let mut files = MemShelf::make(alloc);
+    files.add("b.csv", long.as_slice())?;
+    let wide = format!(in alloc; "{CLEAR} --limits wide")?;
+    let no_debts = (3, "", "clearing: cannot read d.csv\n");
+    ends(&rt, alloc, wide.as_str(), &mut files, no_debts)
 }

@@ -185,7 +185,11 @@ const GENERATED: [Done<'static>; 3] = [
 
 #[test]
 fn a_generated_network_is_summed_up(rt: HostRuntime) -> Result<(), Fail> {
-    all_done(&rt, rt.alloc(), &GENERATED)
+    // There are no files, and so no limits for them.
+    for (line, banks, debts, text) in &GENERATED {
+        check(&rt, rt.alloc(), line, [banks, debts, ""], (0, text, ""))?;
+    }
+    Ok(())
 }
 
 // A journal on the chain after its header, and its verdict.

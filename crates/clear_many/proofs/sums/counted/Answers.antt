@@ -7,5 +7,5 @@ use Rattle.clear_many.proofs.sums.counted.Goals as goal
 pub note-requires-clause-over : goal.note-requires-clause-over
 note-requires-clause-over c =
     let left = c.args.left.now in
-    ap length (c.as_slice-standings.ensures.value ∙ c.in_ok-stand.ensures.standings)
+    ap length c.requires.standings
     ∙ length-map-range_with_len (standing left (least left)) 0 (length left.banks) ∙ sym c.requires.over

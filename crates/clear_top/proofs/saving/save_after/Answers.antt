@@ -1,5 +1,6 @@
 use Rattle.clear_top.specs.declared.status.Status.TheVariants as status
 use Rattle.std.proofs.Common.{rules, ◌<◌, ◌≡◌, [], All, Some, length, sym, ap, ap₂, ◌∙◌, subst}
+use Rattle.clear_core.proofs.Lawful.{stands_in_range}
 use Rattle.pay_words.specs.Traces.{start_of}
 use Rattle.rescue.proofs.MoreCash.{belongs_added}
 use Rattle.rescue.specs.Rescue.{added}
@@ -26,7 +27,8 @@ pub with_record-requires : goal.with_record-requires
 with_record-requires g c =
     let settled = c.in_ok-paid.ensures.settled in
     subst (λ n. All (λ r. r.debt.0 < length n.debts) c.in_ok-paid.field-0.sealed.journal)
-    (sym settled.record_is.net_is) settled.within_limits.debts
+    (sym settled.record_is.net_is)
+    (stands_in_range c.in_ok-saved.saved c.in_ok-paid.field-0.sealed.journal settled.lawful.0)
 
 -- a run, and one that goes on from its journal once the bank is saved
 pub returns : goal.returns

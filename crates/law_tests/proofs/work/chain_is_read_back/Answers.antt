@@ -1,6 +1,8 @@
 use Rattle.clr_net.specs.Samples.{chain}
-use Rattle.law_tests.proofs.Facts.{keeps}
+use Rattle.net_check.specs.declared.limits.Limits.TheVariants as limits
+use Rattle.law_tests.proofs.Facts.{chain_is_small, keeps}
 use Rattle.law_tests.proofs.work.chain_is_read_back.Goals as goal
 
 pub returns : goal.returns
-returns c = c.printing_is_read_back.ensures chain c.chain_is_network.ensures keeps
+returns c = c.printing_is_read_back.ensures limits.Standard chain c.chain_is_network.ensures
+    chain_is_small keeps

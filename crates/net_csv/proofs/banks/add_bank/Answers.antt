@@ -9,7 +9,8 @@ pub returns-in_err-bank-clause-refused : goal.returns-in_err-bank-clause-refused
 returns-in_err-bank-clause-refused c = λ f.
     let net = c.args.net.now in
     let said = trimmed_fields (fields_of c.args.fields.now) in
-    let same = fault_of_row (bank_in_row c.args.version net (c.args.row, said)) (with_bank net) f in
+    let read = bank_in_row c.args.by c.args.version net (c.args.row, said) in
+    let same = fault_of_row read (with_bank net) f in
     let exact = c.in_err-bank.ensures.refused f in
     let p = err_from_is_err_and c.from_residual.result c.from_residual.ensures.1 in
     let told = p.1 in

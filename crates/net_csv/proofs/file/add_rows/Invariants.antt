@@ -9,8 +9,8 @@ abbrev pub invariant-rows : goal.invariant-rows
 invariant-rows l = record {
   reading : IsReading l.reader;
   few : l.row + length (records_left l.reader) ≤ MAX_FILE_BYTES;
-  same : read_rows l.fn.layout l.fn.net (rows_of (trimmed_left l.fn.reader))
-      ≡ read_rows l.fn.layout l.net (rows_from (l.row + 1) (trimmed_left l.reader));
+  same : read_rows l.fn.by l.fn.layout l.fn.net (rows_of (trimmed_left l.fn.reader))
+      ≡ read_rows l.fn.by l.fn.layout l.net (rows_from (l.row + 1) (trimmed_left l.reader));
 }
 
 abbrev pub decreases-rows : goal.decreases-rows

@@ -10,8 +10,8 @@ abbrev pub invariant-rows : goal.invariant-rows
 invariant-rows l = record {
   reading : IsReading l.reader;
   few : l.row + length (records_left l.reader) ≤ MAX_JOURNAL_BYTES;
-  same : read_raises l.net [] (rows_from 1 (trimmed_left l.fn.reader))
-      ≡ read_raises l.net l.journal.raises (rows_from (l.row + 1) (trimmed_left l.reader));
+  same : read_raises l.fn.by l.net [] (rows_from 1 (trimmed_left l.fn.reader))
+      ≡ read_raises l.fn.by l.net l.journal.raises (rows_from (l.row + 1) (trimmed_left l.reader));
   debts : All (λ r. r.debt.0 < length l.net.debts) l.journal.raises;
 }
 

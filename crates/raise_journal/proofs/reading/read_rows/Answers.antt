@@ -17,7 +17,7 @@ add_raises-requires-clause-few c =
 
 pub returns-clause-journal : goal.returns-clause-journal
 returns-clause-journal c =
-    raises-below c.args.net.now c.args.bytes.now (trimmed_left c.reader_of-reader.result)
+    raises-below c.args.by c.args.net.now c.args.bytes.now (trimmed_left c.reader_of-reader.result)
     (trimmed_left c.read_header.new.reader)
     (ap (map trimmed_fields) c.reader_of-reader.ensures.all) c.in_ok-read_header.ensures.below
     ∙ c.in_ok-add_raises.ensures.read
@@ -26,7 +26,7 @@ pub returns-in_err-add_raises-clause-refused : goal.returns-in_err-add_raises-cl
 returns-in_err-add_raises-clause-refused c = λ f e.
     let p = err_from_is_err_and c.from_residual-in_err-add_raises.result
     c.from_residual-in_err-add_raises.ensures.1 in
-    raises-below c.args.net.now c.args.bytes.now (trimmed_left c.reader_of-reader.result)
+    raises-below c.args.by c.args.net.now c.args.bytes.now (trimmed_left c.reader_of-reader.result)
     (trimmed_left c.read_header.new.reader)
     (ap (map trimmed_fields) c.reader_of-reader.ensures.all) c.in_ok-read_header.ensures.below
     ∙ c.in_err-add_raises.ensures.refused f (let told = p.1 in let same = p.2 in cc e)

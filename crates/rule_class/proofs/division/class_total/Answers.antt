@@ -1,4 +1,5 @@
 use Rattle.std.proofs.Common.{rules, ◌≤◌, ◌+◌, ap, arith, cond, eq-eqb, ne_eqb, get_or}
+use Rattle.clr_net.specs.declared.TheConstants.{MAX_OWED}
 use Rattle.rule_class.proofs.ClassTotal.{rest_of_class_after, rest_of_class_past, class_total_le}
 use Rattle.rule_class.proofs.division.class_total.Goals.{then-classes-debt, else-classes-debt}
 use Rattle.rule_class.proofs.division.class_total.Goals as goal
@@ -10,7 +11,7 @@ overflow_add-total c =
     let debt = c.loop-debt.debt in
     let step = rest_of_class_after c.args.class claims classes debt c.requires.a_class_each (omega arith) in
     let here = ap (λ b. cond b (get_or claims debt 0) 0) (eq-eqb (get_or classes debt 0) c.args.class c.if-classes-debt.true) in
-    let bounded : c.loop-debt.total + get_or claims debt 0 ≤ 10000000 =
+    let bounded : c.loop-debt.total + get_or claims debt 0 ≤ MAX_OWED =
     omega (arith, step, here, c.loop-debt.invariant, class_total_le c.args.class claims classes, c.requires.total) in
     search rules
 

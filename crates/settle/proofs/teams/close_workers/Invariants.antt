@@ -1,4 +1,5 @@
 use Rattle.std.proofs.Common.{◌≡◌, ◌+◌, ◌-◌, ◌*◌, ◌≤◌, ◌++◌, drop, length, sum_by}
+use Rattle.bank_worker.specs.Grows.{MAX_VISITS}
 use Rattle.settle.specs.Between.{HaveGrownAlike, IsBack, raises_of_all}
 use Rattle.settle.specs.Calls.{HaveCalledFrom}
 use Rattle.settle.specs.Offices.{AreOffices}
@@ -16,7 +17,7 @@ invariant-loop-worker g l = record {
   visits : l.master.shows.taken ≡ l.fn.master.shows.taken + l.visits;
   sum : l.visits + sum_by (λ w. w.visits) l.workers.items ≡ sum_by (λ w. w.visits) l.fn.workers.items;
   made : l.master.shows.raises ≡ l.fn.master.shows.raises ++ raises_of_all (drop (length l.workers.items) l.fn.workers.items);
-  low : l.visits + 1000000 * length l.workers.items ≤ 1000000 * length l.fn.workers.items;
+  low : l.visits + MAX_VISITS * length l.workers.items ≤ MAX_VISITS * length l.fn.workers.items;
 }
 
 abbrev pub decreases-loop-worker : goal.decreases-loop-worker

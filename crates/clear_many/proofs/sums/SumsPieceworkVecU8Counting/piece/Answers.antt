@@ -1,20 +1,36 @@
 -- One scenario more is told and counted.
-use Rattle.std.proofs.Common.{◌+◌, ◌≤◌, get_or, length, sym, ap, ◌∙◌, arith}
-use Rattle.std.proofs.lemmas.List.{get_or_default, length-map}
+use Rattle.std.proofs.Common.{◌≡◌, ◌+◌, ◌≤◌, get_or, length, sym, ap, ◌∙◌, arith}
+use Rattle.std.proofs.lemmas.List.{get_or_default}
 use Rattle.std.proofs.lemmas.List.Edits.{between_more}
+use Rattle.clear_core.specs.Clearing.{least}
 use Rattle.clear_report.specs.Outcomes.{scenario_sums}
-use Rattle.clr_net.specs.Net.{of_cash}
+use Rattle.clr_net.specs.Net.{Net}
+use Rattle.cascade.specs.Standings.{standings}
+use Rattle.stress.specs.Shocks.{shocked}
+use Rattle.stress.proofs.Kept.{length-shocked_from}
 use Rattle.stress.proofs.Outcomes.{one_scenario_more}
 use Rattle.clear_many.specs.Between.{between}
 use Rattle.clear_many.proofs.Counting.{as_many_counted, counted_within}
 use Rattle.clear_many.proofs.sums.SumsPieceworkVecU8Counting.piece.Goals as goal
 
+pub counted-requires-clause-standings : goal.counted-requires-clause-standings
+counted-requires-clause-standings c =
+    let w = c.args.self.now in
+    let first = c.index-self-place.result in
+    let left : c.cleared-left.result.now ≡ shocked w.net.now (get_or w.scenarios.now c.args.place first) =
+    c.cleared-left.ensures ∙ c.in_ok-standings.ensures.cleared first in
+    c.as_slice.ensures.value ∙ c.in_ok-standings.ensures.all first
+    ∙ sym (λ at. standings (left at) (least (left at)))
+
 pub counted-requires-clause-over : goal.counted-requires-clause-over
 counted-requires-clause-over c =
     let w = c.args.self.now in
-    let alike = c.shock_again.ensures.alike in
+    let first = c.index-self-place.result in
+    let s = get_or w.scenarios.now c.args.place first in
+    let left : c.cleared-left.result.now ≡ shocked w.net.now s =
+    c.cleared-left.ensures ∙ c.in_ok-standings.ensures.cleared first in
     as_many_counted w.net.now w.scenarios.now c.requires.desk.0 c.args.place c.args.desk.tally c.requires.desk.1.2
-    ∙ sym (sym (length-map c.shock_again.new.left.banks (of_cash 0)) ∙ ap length alike.0 ∙ length-map w.net.now.banks (of_cash 0))
+    ∙ sym (ap (λ (n : Net). length n.banks) left ∙ length-shocked_from s.cut 0 s.losses w.net.now.banks)
 
 pub counted-requires-clause-fits : goal.counted-requires-clause-fits
 counted-requires-clause-fits c =
@@ -24,18 +40,23 @@ counted-requires-clause-fits c =
 pub returns-clause-piece : goal.returns-clause-piece
 returns-clause-piece c = λ d.
     let w = c.args.self.now in
-    let line = rw c.shock_again.ensures.left at c.in_ok-text.ensures.text in
-    line ∙ ap (scenario_sums w.net.now) (get_or_default w.scenarios.now c.args.place c.index-self-place.result d c.requires.place)
+    let first = c.index-self-place.result in
+    let left : c.cleared-left.result.now ≡ shocked w.net.now (get_or w.scenarios.now c.args.place first) =
+    c.cleared-left.ensures ∙ c.in_ok-standings.ensures.cleared first in
+    let line = rw left at c.in_ok-text.ensures.text in
+    line ∙ ap (scenario_sums w.net.now) (get_or_default w.scenarios.now c.args.place first d c.requires.place)
 
 pub returns-clause-desk : goal.returns-clause-desk
 returns-clause-desk c = λ low so_far.
     let w = c.args.self.now in
     let first = c.index-self-place.result in
+    let left : c.cleared-left.result.now ≡ shocked w.net.now (get_or w.scenarios.now c.args.place first) =
+    c.cleared-left.ensures ∙ c.in_ok-standings.ensures.cleared first in
     let grown = between_more w.scenarios.now low c.args.place first so_far.0 c.requires.place in
     let more : low ≤ c.args.place + 1 = omega (arith, so_far.0) in (
       more,
-      c.shock_again.ensures.alike,
-      rw (c.in_ok-text.ensures.tally, c.shock_again.ensures.left, so_far.2, grown)
+      c.in_ok-standings.ensures.descent,
+      rw (c.in_ok-text.ensures.tally, left, so_far.2, grown)
           (sym (one_scenario_more w.net.now (between w.scenarios.now low c.args.place)
           (get_or w.scenarios.now c.args.place first))),
     )

@@ -1,4 +1,5 @@
 use Rattle.std.proofs.Common.{◌<◌, All, Some, length, sym, ap, ◌∙◌, subst, []}
+use Rattle.clear_core.proofs.Lawful.{stands_in_range}
 use Rattle.clear_core.specs.Clearing.{least}
 use Rattle.clear_top.specs.Meaning.{shown_of}
 use Rattle.clear_top.specs.Outcome.{with_journal}
@@ -17,7 +18,8 @@ pub with_record-requires : goal.with_record-requires
 with_record-requires g c =
     let settled = c.in_ok-paid.ensures.settled in
     subst (λ n. All (λ r. r.debt.0 < length n.debts) c.in_ok-paid.field-0.sealed.journal)
-    (sym c.in_ok-paid.ensures.record_is.net_is) settled.within_limits.debts
+    (sym c.in_ok-paid.ensures.record_is.net_is)
+    (stands_in_range c.args.net c.in_ok-paid.field-0.sealed.journal settled.lawful.0)
 
 pub returns : goal.returns
 returns g c =

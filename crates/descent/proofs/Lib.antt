@@ -1,0 +1,3 @@
+pub mod Cashes
+pub mod GoingOn
+pub mod Lowest

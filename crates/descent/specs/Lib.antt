@@ -1,0 +1,2 @@
+pub mod Cashes
+pub mod Halves
