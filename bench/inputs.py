@@ -1,9 +1,9 @@
 #!/usr/bin/env python3
 """The networks that bench/measure.py measures. Each is made from fixed numbers, so that two runs make the same files.
 
-    bench/inputs.py FOLDER [NAME ..]    all networks, or those named
+    bench/inputs.py FOLDER [NAME ..]    all networks within the standard limits, or those named
 
-Writes NAME-banks.csv and NAME-debts.csv into the folder for each network, and cuts.toml with a hundred scenarios.
+Writes NAME-banks.csv and NAME-debts.csv into the folder for each network, and cuts.toml with a hundred scenarios for any of them.
 """
 import functools
 import os
@@ -185,6 +185,60 @@ NETWORKS = {
     "beside-leak": partial(beside_leak, 40, 100000),
     "beside-leak-with-cash": partial(beside_leak, 40, 100000, 100000),
 }
+
+
+# Networks of the wide limits. They are made where they are named, as each has some megabytes.
+
+def spread(count, owed, cash, rule):
+    """So many banks, each of which owes as many others up to 48 units each; cash is what `cash` says of a bank."""
+    debts = [
+        (f"W{i}", f"W{(i + 1 + k * 97) % count}", 1 + k % 3, 1 + (i * 7919 + k * 104729) % 48)
+        for i in range(count)
+        for k in range(owed)
+    ]
+    return [(f"W{i}", cash(i), rule_of(rule, i)) for i in range(count)], debts
+
+
+def dense(rule):
+    """10,000 banks and 1,000,000 debts. Each bank has up to half of what it owes in cash."""
+    return spread(10_000, 100, lambda bank: bank * 7919 % 1250, rule)
+
+
+def scarce(rule):
+    """10,000 banks and 1,000,000 debts, where one bank of fifty has cash, so that units go round for long."""
+    return spread(10_000, 100, lambda bank: 20_000 if bank % 50 == 0 else 0, rule)
+
+
+def complete(rule):
+    """1,000 banks that each owe nearly all others, 990,000 debts, where one bank of fifty has cash."""
+    banks, debts = spread(1_000, 990, lambda bank: 200_000 if bank % 50 == 0 else 0, rule)
+    keys = ((i, (i + 1 + k) % 1_000) for i in range(1_000) for k in range(990))
+    return banks, [(f"W{i}", f"W{j}", *debt[2:]) for (i, j), debt in zip(keys, debts)]
+
+
+def tiered(rule):
+    """4,500 banks and 150,000 debts: 45 at the core that all owe each other in three classes, and 4,455 round them."""
+    rng = random.Random(4500)
+    debts = {(a, b, rank): rng.randint(500, 2000) for a in range(45) for b in range(45) for rank in (1, 2, 3) if a != b}
+    while len(debts) < 150_000:
+        a, b = rng.randrange(45), rng.randrange(45, 4500)
+        if rng.random() < 0.5:
+            a, b = b, a
+        if rng.random() < 0.3:
+            a, b = rng.randrange(45, 4500), rng.randrange(45, 4500)
+        if a != b:
+            debts.setdefault((a, b, rng.randint(1, 9)), rng.randint(1, 200))
+    rows = [(f"W{a}", f"W{b}", rank, claim) for (a, b, rank), claim in debts.items()]
+    rng.shuffle(rows)
+    cash = [rng.randint(20_000, 120_000) if i < 45 else rng.choice([0, 200, 900, 3000]) for i in range(4500)]
+    return [(f"W{i}", cash[i], rule_of(rule, i)) for i in range(4500)], rows
+
+
+WIDE = {
+    f"wide-{make.__name__}-{rule}": partial(make, rule)
+    for make in (dense, scarce, complete, tiered)
+    for rule in ("order", "webster", "mixed")
+}
 # Debts files as long as a file may be, all of one piece.
 FULL = {"full-empty-lines": "\n", "full-blank-records": " \n", "full-commas": ",", "full-comma-records": ",\n"}
 
@@ -211,7 +265,7 @@ def write_full(name, piece):
 def made(name):
     """The names of the files of a network in the current folder, which are written first where they are not there."""
     if not os.path.exists(files(name)[1]):
-        write_full(name, FULL[name]) if name in FULL else write(name, *NETWORKS[name]())
+        write_full(name, FULL[name]) if name in FULL else write(name, *{**NETWORKS, **WIDE}[name]())
     return files(name)
 
 
@@ -239,12 +293,35 @@ def cuts():
     return str(path)
 
 
+def losing(name, lost, cut=lambda rng: 0):
+    """The name of a file with a hundred scenarios of a network, in each of which so many banks lose all their cash, drawn with a cut."""
+    rng = random.Random(2)
+    banks = [(bank[0], bank[1]) for bank in NETWORKS[name]()[0]]
+    path = pathlib.Path(f"{name}-losing-{lost}.toml")
+    with open(path, "w", encoding="utf-8") as file:
+        for number in range(SCENARIOS):
+            file.write(f'[[scenario]]\nname = "draw {number}"\ncut = {cut(rng)}\n')
+            for bank, cash in rng.sample(banks, min(lost, len(banks))):
+                file.write(f'[[scenario.loss]]\nbank = "{bank}"\namount = {cash}\n')
+    return str(path)
+
+
+def alike(name):
+    """A hundred scenarios that are alike: five banks lose their cash in each."""
+    return losing(name, 5)
+
+
+def unlike(name):
+    """A hundred scenarios that are not: a tenth of all banks lose their cash in each, and up to three tenths of the rest are cut."""
+    return losing(name, len(NETWORKS[name]()[0]) // 10, lambda rng: rng.randrange(300))
+
+
 def main(words):
     if not words or words[0] in ("-h", "--help"):
         sys.exit(__doc__.strip())
-    unknown = [name for name in words[1:] if name not in NETWORKS and name not in FULL]
+    unknown = [name for name in words[1:] if name not in {**NETWORKS, **FULL, **WIDE}]
     if unknown:
-        sys.exit(f"inputs.py: no network {', '.join(unknown)}; there are {', '.join([*NETWORKS, *FULL])}")
+        sys.exit(f"inputs.py: no network {', '.join(unknown)}; there are {', '.join([*NETWORKS, *FULL, *WIDE])}")
     os.makedirs(words[0], exist_ok=True)
     os.chdir(words[0])
     for name in words[1:] or [*NETWORKS, *FULL]:

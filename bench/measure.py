@@ -11,10 +11,16 @@ TABLE is one of
   rounds   one round and all of them beside reading alone; and a round that moves one unit, with 19,990 debts at rest beside it
            and without: of `clear` (INPUT `unit`) and of `bounds` (INPUT `fall`)
   units    the hardest lawful networks: a unit goes to and fro in each round. Beside `clear` of the same network with cash enough
+  scenarios  `outcomes` of a hundred scenarios beside `clear` by one worker: cuts, five banks ruined, and draws that are not alike, each
+           told by the scenario; with `--other` by another build as well
   reading  files read, and a journal of a million raises printed and replayed (INPUT `journal`), beside `wc` of the same bytes
   peer     everything beside an unverified peer, plain Rust that reads the same files and prints the same texts: payments of a
            network, files of 8 MB (INPUT `full`), payments with their journal (`both`), a journal replayed and a hundred
            scenarios (`stress`)
+  wide     networks of the wide limits: `check`, `clear` and `central` on 10,000 banks and 1,000,000 debts beside the peer with its limits
+           raised (`peer`); the other tasks beside `clear` (`tasks`); a hundred scenarios printed (`stress`), and `outcomes` of as many,
+           `impact`, `rescues` and `breaking` on 4,500 banks and 150,000 debts (`many`); and what four workers make of the part of
+           `clear` that is neither reading nor printing (`workers`). INPUT is one of these words
   others   the payments beside what a user would take instead: Eisenberg and Noe's algorithm and plain repetition in numpy,
            pro rata, in real numbers; and networkx, which loads the graph and clears nothing
 INPUT is a network of bench/inputs.py, such as largest-order, core-mixed or chain; all that the table has where none is named.
@@ -129,6 +135,14 @@ def tasks(program, options):
 
 def row_of_tasks(program, table, columns, name):
     """Some tasks on a network."""
+    jobs, states = jobs_of_tasks(program, columns, name)
+    short = sum(state != "sound" for state in states.values())
+    parts = {"stress": inputs.SCENARIOS, "outcomes": inputs.SCENARIOS, "impact": len(states), "rescues": max(1, short)}
+    table.row(name, jobs, parts=parts)
+
+
+def jobs_of_tasks(program, columns, name):
+    """The runs of `clear` by one worker and of some tasks on a network, and the states of its banks."""
     journal = program.kept(f"{name}-journal.csv", program.words("clear", name, "--show", "journal", *ONE))
     states = states_of(program, name)
     short = [bank for bank, state in states.items() if state != "sound"]
@@ -144,8 +158,7 @@ def row_of_tasks(program, table, columns, name):
     }
     jobs = {"clear": program.words("clear", name.replace("dry-", "one-"), *ONE)}
     jobs.update({task: program.words(task, name, *more.get(task, ())) for task in columns})
-    scenarios = inputs.SCENARIOS
-    table.row(name, jobs, parts={"stress": scenarios, "outcomes": scenarios, "impact": len(states), "rescues": max(1, len(short))})
+    return jobs, states
 
 
 def rules(program, options):
@@ -186,6 +199,20 @@ def units(program, options):
         table.row(name, jobs | {task: program.words(task, name) for task in tasks[1:]})
 
 
+def scenarios(program, options):
+    """A hundred scenarios of three kinds on each network."""
+    kinds = {"cuts": lambda name: inputs.cuts(), "alike": inputs.alike, "unlike": inputs.unlike}
+    others = {"": program.path} | ({", other": os.path.realpath(options.other)} if options.other else {})
+    columns = [kind + other for kind in kinds for other in others]
+    table = Table(options, "a hundred scenarios", "clear", columns, memory=columns)
+    for name in options.inputs or ["largest-order", "largest-mixed", "core-order", "core-mixed", "tight-order", "tight-mixed", "ordinary"]:
+        jobs = {"clear": program.words("clear", name, *ONE)}
+        for kind, made in kinds.items():
+            words = program.words("outcomes", name, "--scenarios", made(name))
+            jobs.update({kind + other: [path, *words[1:]] for other, path in others.items()})
+        table.row(name, jobs, parts=dict.fromkeys(columns, inputs.SCENARIOS))
+
+
 def reading(program, options):
     """Of a network the program reads both files and refuses the last record. Of a file of 8 MB it says what it finds."""
     others = {"program": program.path} | ({"other": os.path.realpath(options.other)} if options.other else {})
@@ -219,11 +246,11 @@ def check_replay(replay, clear, limit):
         raise Fault("the journal does not replay to the payments")
 
 
-def built_peer():
+def built_peer(*more):
     """The peer, built in the current folder."""
     if not shutil.which("rustc"):
         raise Fault("rustc is not on the path")
-    flags = ["--edition", "2021", "-C", "opt-level=3", "-C", "codegen-units=1", "-C", "panic=abort"]
+    flags = [*more, "--edition", "2021", "-C", "opt-level=3", "-C", "codegen-units=1", "-C", "panic=abort"]
     subprocess.run(["rustc", *flags, "-o", "peer", BENCH / "peer/peer.rs"], check=True)
     return os.path.abspath("peer")
 
@@ -290,6 +317,65 @@ def scenarios_of_the_peer(program, path, options):
             ["stress", *inputs.made("largest-order"), str(inputs.SCENARIOS)])
 
 
+WIDELY = ("--limits", "wide")
+
+
+def wide(program, options):
+    parts = {"peer": wide_beside_the_peer, "tasks": wide_tasks, "stress": wide_scenarios, "many": wide_many, "workers": wide_workers}
+    for part in options.inputs or parts:
+        parts[part](program, options)
+
+
+def wide_beside_the_peer(program, options):
+    """The three tasks beside the peer's payments, and the most memory of each."""
+    path, jobs_of = built_peer("--cfg", "wide"), {"check": (), "clear": ONE, "central": ()}
+    table = Table(options, "10,000 banks, 1,000,000 debts", "peer", jobs_of, memory=["peer", *jobs_of], more=["same"])
+    for name in ("wide-dense-order", "wide-dense-webster", "wide-scarce-order", "wide-complete-webster"):
+        jobs = {"peer": [path, "clear", *inputs.made(name)]}
+        jobs |= {task: program.words(task, name, *more, *WIDELY) for task, more in jobs_of.items()}
+        table.row(name, jobs, more=[lambda _, jobs=jobs: timing.same(jobs["clear"], jobs["peer"], options.limit)])
+
+
+def wide_tasks(program, options):
+    """Tasks that clear a few times beside `clear` by one worker."""
+    more = {"defaults": ONE, "bounds": ONE, "rescue": ("--bank", "W1", *ONE), "costs": ("--keep", "500"), "cost-bounds": ("--keep", "500"),
+            "compress": ()}
+    table = Table(options, "beside clear, 1 worker", "clear", more, memory=["clear", *more], wide=24)
+    for name in ("wide-dense-order", "wide-dense-webster", "wide-scarce-order"):
+        jobs = {"clear": program.words("clear", name, *ONE, *WIDELY)}
+        table.row(name, jobs | {task: program.words(task, name, *words, *WIDELY) for task, words in more.items()})
+
+
+def wide_scenarios(program, options):
+    """A hundred scenarios printed whole, told by the scenario."""
+    table = Table(options, "stress, 100 scenarios", "clear", ["stress"], memory=["clear", "stress"], wide=24)
+    for name in ("wide-dense-order", "wide-tiered-order"):
+        jobs = {"clear": program.words("clear", name, *ONE, *WIDELY)}
+        jobs["stress"] = program.words("stress", name, "--scenarios", inputs.cuts(), *WIDELY)
+        table.row(name, jobs, parts={"stress": inputs.SCENARIOS})
+
+
+def wide_many(program, options):
+    """Tasks that clear a thousand times and more, in times of `clear` by one worker."""
+    tasks = {"impact": (), "rescues": (), "breaking": (), "outcomes": ("--scenarios", inputs.cuts())}
+    table = Table(options, "4,500 banks, 150,000 debts", "clear", tasks, memory=["clear", *tasks], wide=30)
+    for name in ("wide-tiered-order", "wide-tiered-mixed"):
+        jobs = {"clear": program.words("clear", name, *ONE, *WIDELY)}
+        table.row(name, jobs | {task: program.words(task, name, *more, *WIDELY) for task, more in tasks.items()})
+
+
+def wide_workers(program, options):
+    """`clear` less a run on the same debts without claims, which reads, goes one round and prints."""
+    print(f"{'clear less reading and printing':38}{'1 worker, ms':>14}{'4 workers':>14}{'64 workers':>14}")
+    for name in ("wide-dense-order", "wide-dense-webster", "wide-scarce-order", "wide-complete-order"):
+        jobs = {"none": program.on("clear", inputs.without_claims(name), *ONE, *WIDELY)}
+        jobs |= {count: program.words("clear", name, "--workers", count, *WIDELY) for count in ("1", "4", "64")}
+        best = timing.least(jobs, options.runs, options.limit, {})
+        took = {count: None if None in (best[count], best["none"]) else max(best[count] - best["none"], 1e-9) for count in ("1", "4", "64")}
+        ratios = [timing.ratio(took[count], took["1"]) for count in ("4", "64")]
+        print(f"{name:38}{timing.ms(took['1']):>14}" + "".join(f"{ratio:>14}" for ratio in ratios), flush=True)
+
+
 def python_with(module):
     """A Python that has a module: PYTHON, this one, or the system's; None where none has it."""
     for python in filter(None, (os.environ.get("PYTHON"), sys.executable, "/usr/bin/python3")):
@@ -324,12 +410,12 @@ def others(program, options):
         table.row(name, jobs, ends={"fictitious": (0, 1)}, more=[lambda _, jobs=jobs: distance(jobs)])
 
 
-TABLES = {"tasks": tasks, "rules": rules, "workers": workers, "rounds": rounds, "units": units, "reading": reading,
-          "peer": peer, "others": others}
+TABLES = {"tasks": tasks, "rules": rules, "workers": workers, "rounds": rounds, "units": units, "scenarios": scenarios, "reading": reading,
+          "peer": peer, "wide": wide, "others": others}
 # Inputs that are no networks.
 KINDS = {"rules": {"largest", "star"}, "rounds": {*inputs.NETWORKS, "unit", "fall"}, "units": {*OF_UNITS},
          "reading": {*inputs.NETWORKS, *inputs.FULL, "journal"},
-         "peer": {*inputs.NETWORKS, "full", "both", "stress"}}
+         "peer": {*inputs.NETWORKS, "full", "both", "stress"}, "wide": {"peer", "tasks", "stress", "many", "workers"}}
 
 
 def options_of(words):
@@ -338,9 +424,9 @@ def options_of(words):
     parser.add_argument("table", metavar="TABLE", choices=TABLES)
     parser.add_argument("inputs", metavar="INPUT", nargs="*")
     parser.add_argument("--runs", type=int, default=5, metavar="N", help="how often each job is run (5)")
-    parser.add_argument("--limit", type=float, default=60, metavar="SECONDS", help="the longest time of a run (60)")
+    parser.add_argument("--limit", type=float, metavar="SECONDS", help="the longest time of a run (60, of the table `wide` 900)")
     parser.add_argument("--beside", metavar="COLUMN", help="the column whose times the others are told in, in place of the first")
-    parser.add_argument("--other", metavar="PROGRAM", help="another build of the program, as a column of `reading`")
+    parser.add_argument("--other", metavar="PROGRAM", help="another build of the program, in columns of its own: of `reading`, `scenarios`")
     options = parser.parse_intermixed_args(words)
     known = KINDS.get(options.table, set(inputs.NETWORKS))
     unknown = [name for name in options.inputs if name not in known]
@@ -348,6 +434,7 @@ def options_of(words):
         parser.error(f"no input {', '.join(unknown)} of {options.table}; there are {', '.join(sorted(known))}")
     if options.runs < 1:
         parser.error("a run at least")
+    options.limit = options.limit or (900 if options.table == "wide" else 60)
     return options
 
 

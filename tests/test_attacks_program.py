@@ -122,14 +122,15 @@ class Planted(Case):
             shutil.rmtree(self.work / "crates", ignore_errors=True)
 
     def test_there_is_one_way_to_find_a_program(self):
-        """In both packages nothing else finds or starts one, and the two that find one are the same."""
+        """In both packages nothing else finds or starts one; what finds one, and what lets signals wait, are the same in both."""
         packages = ROOT / "python/src"
         found = {(str(path.relative_to(packages)), name) for path in packages.rglob("*.py") for name in starters_in(path)}
         self.assertEqual(found - set(PLACES), set(), "finds or starts a program by a way of its own; take runner.on_path or said_by")
         self.assertEqual(set(PLACES) - found, set(), "is listed, and starts nothing")
-        both = [next(ast.unparse(node) for node in ast.walk(ast.parse((packages / name).read_text())) if getattr(node, "name", "") == "on_path")
-                for name in ("clearing_tools/runner.py", "clearing_client/program.py")]
-        self.assertEqual(*both)
+        for told in ("on_path", "signals_wait"):
+            both = [next(ast.unparse(node) for node in ast.walk(ast.parse((packages / name).read_text())) if getattr(node, "name", "") == told)
+                    for name in ("clearing_tools/runner.py", "clearing_client/program.py")]
+            self.assertEqual(*both, told)
         # What looks for it finds it.
         probe = self.file("probe.py", "import subprocess\ndef f():\n    subprocess.run(['rt'])\ndef g():\n    from shutil import which\n")
         self.assertEqual(set(starters_in(probe)), {"f", "g", "the file itself"})

@@ -43,7 +43,7 @@ class Refused(Case):
         ]
         for table, row, kind, record in banks:
             with self.subTest(kind=kind, row=row):
-                self.assertEqual(self.refused(Network(table, []).check), ("banks", row, kind, record))
+                self.assertEqual(self.refused(Network(table, [], limits="standard").check), ("banks", row, kind, record))
         claims = [(debtor, creditor, 1, 10**6) for debtor, creditor in zip(["B0"] * 11, [f"B{n}" for n in range(1, 12)])]
         pairs = [(f"B{n // 200}", f"B{n % 200 + 1 if n % 200 >= n // 200 else n % 200}", 1, 0) for n in range(20_001)]
         debts = [
@@ -58,7 +58,7 @@ class Refused(Case):
         for table, debts, row, kind in debts:
             with self.subTest(kind=kind):
                 record = tuple(map(str, debts[row - 1]))
-                self.assertEqual(self.refused(Network(table, debts).check), ("debts", row, kind, record))
+                self.assertEqual(self.refused(Network(table, debts, limits="standard").check), ("debts", row, kind, record))
         raises = [
             ([(1, "A", "B", 1, 7), (2, "A", "C", 1, 7)], 2, "unknown bank"),
             ([(1, "B", "A", 1, 7)], 1, "unknown debt"),
@@ -82,7 +82,7 @@ class Refused(Case):
             ("name,cash,rule\nA,7,order\n" + "x" * 8_388_608, 0, "file size", None),
         ]:
             with self.subTest(text=text[:40]):
-                net = Network(self.file("b.csv", text), debts)
+                net = Network(self.file("b.csv", text), debts, limits="standard")
                 self.assertEqual(self.refused(net.check), ("banks", row, kind, record))
         net = Network(self.file("b.csv", b"name,cash,rule\nCr\xe9dit,7,order\n"), debts)
         self.assertEqual(self.refused(net.check), ("banks", 1, "name", ("Cr\ufffddit", "7", "order")))

@@ -84,13 +84,16 @@ class Completion(Case):
     def test_words_are_completed(self):
         self.file("banks.csv", "name,cash,rule\nAster,1,order\nBank Two,2,order\n")
         self.assertEqual(completed(self.folder, "clearing c"), ["check", "clear", "central", "compress", "costs", "cost-bounds", "convert"])
-        self.assertEqual(completed(self.folder, "clearing cost-bounds --banks banks.csv --"), ["--debts", "--keep"])
-        self.assertEqual(completed(self.folder, "clearing outcomes --banks banks.csv --"), ["--debts", "--scenarios"])
+        self.assertEqual(completed(self.folder, "clearing cost-bounds --banks banks.csv --"), ["--debts", "--keep", "--limits"])
+        self.assertEqual(completed(self.folder, "clearing outcomes --banks banks.csv --"), ["--debts", "--scenarios", "--limits"])
         self.assertEqual(completed(self.folder, "clearing clear --s"), ["--sweeps", "--show"])
         self.assertEqual(completed(self.folder, "clearing clear --show b"), ["both"])
         self.assertEqual(completed(self.folder, "clearing clear --show=b", "b"), ["both"])
-        self.assertEqual(completed(self.folder, "clearing costs --banks banks.csv --"), ["--debts", "--keep"])
-        self.assertEqual(completed(self.folder, "clearing costs --banks=banks.csv --"), ["--debts", "--keep"])
+        self.assertEqual(completed(self.folder, "clearing costs --banks banks.csv --"), ["--debts", "--keep", "--limits"])
+        self.assertEqual(completed(self.folder, "clearing costs --banks=banks.csv --"), ["--debts", "--keep", "--limits"])
+        self.assertEqual(completed(self.folder, "clearing check --limits w"), ["wide"])
+        self.assertEqual(completed(self.folder, "clearing check --limits "), ["standard", "wide"])
+        self.assertNotIn("--limits", completed(self.folder, "clearing gen --seed 1 --"))
         self.assertEqual(completed(self.folder, "clearing check --banks b"), ["banks.csv"])
         self.assertEqual(completed(self.folder, "clearing rescue --banks banks.csv --bank B"), ["Bank\\ Two"])
 
@@ -147,7 +150,7 @@ class Completion(Case):
         more = {"stress": ["--scenarios", "none"], "outcomes": ["--scenarios", "none"], "replay": ["--journal", "none"],
                 "rescue": ["--bank", "A"], "costs": ["--keep", "1"], "cost-bounds": ["--keep", "1"],
                 "gen": ["--seed", "1", "--size", "1", "--tries", "1"]}
-        value = {"--workers": "2", "--sweeps": "2", "--show": "both"}
+        value = {"--workers": "2", "--sweeps": "2", "--show": "both", "--limits": "wide"}
         for task in completed(self.folder, "clearing "):
             words = ([] if task == "gen" else files) + more.get(task, [])
             for option in completed(self.folder, f"clearing {task} --"):

@@ -468,10 +468,15 @@ class Faults(Desk):
             desk.change(0, 422, set="bank", bank=0, field="cash", value=value)
 
     def test_all_claims_of_a_bank_may_pass_the_limit(self):
-        debts = "".join(f"A,B{at},1,1000000\n" for at in range(10))
-        files = self.net("A,1,order\n" + "".join(f"B{at},1,order\n" for at in range(11)), debts)
-        fault = self.desk(files).change(0, 422, set="add", debtor="A", creditor="B10", **{"class": "1"}, claim="1")
-        self.assertEqual((fault["said"], fault["field"]), ("debts row 11: total (13)", "claim"))
+        debts = "".join(f"A,B{at},1,1000000\n" for at in range(25))
+        banks = "A,1,order\n" + "".join(f"B{at},1,order\n" for at in range(26))
+        add = {"set": "add", "debtor": "A", "creditor": "B25", "class": "1", "claim": "1"}
+        fault = self.desk(self.net(banks, debts)).change(0, 422, **add)
+        self.assertEqual((fault["said"], fault["field"]), ("debts row 26: total (13)", "claim"))
+        self.assertIn("all that banks owe is at most 25,000,000", fault["meaning"])
+        # A state that passes the standard limits is read by the wide ones.
+        ten = "".join(debts.splitlines(True)[:10])
+        self.assertEqual(len(self.desk(self.net(banks, ten)).change(0, **add)["cash"]), 27)
 
     def test_what_is_no_change_is_refused(self):
         desk = self.desk()
@@ -573,11 +578,11 @@ class Faults(Desk):
             self.assertEqual((len(found.claims), len(found.added)), (number // 2, number - number // 2), number)
 
     def test_a_debt_that_meets_a_limit_offers_a_larger_unit(self):
-        debts = "".join(f"A,B{at},1,1000000\n" for at in range(10))
-        files = self.net("A,1,order\n" + "".join(f"B{at},1,order\n" for at in range(11)), debts)
-        add = {"set": "add", "debtor": "A", "creditor": "B10", "class": "1", "claim": "1"}
+        debts = "".join(f"A,B{at},1,1000000\n" for at in range(25))
+        files = self.net("A,1,order\n" + "".join(f"B{at},1,order\n" for at in range(26)), debts)
+        add = {"set": "add", "debtor": "A", "creditor": "B25", "class": "1", "claim": "1"}
         desk = self.desk(files, "--unit", "20000", "--currency", "EUR")
-        self.assertIn("all that banks owe is at most 10,000,000; a unit of account of EUR 200,000 has room for ten times as much: import the sheets again with"
+        self.assertIn("all that banks owe is at most 25,000,000; a unit of account of EUR 200,000 has room for ten times as much: import the sheets again with"
                       " --unit 200000", desk.change(0, 422, **add)["meaning"])
         self.assertIn("at most 1,000,000; a unit of account of EUR 200,000",
             desk.change(0, 422, set="claim", debt=0, value="1000001")["meaning"])
@@ -831,7 +836,7 @@ class Sessions(Desk):
             ({**files, "session.json": b'{"session": 1, "scenarios": [["s", 2000, []]]}'}, 4,
                 "a cut is a whole number"),
             # More than a file may have, however small it is packed.
-            ({**files, "case/banks.csv": b"x" * 9_000_000}, 4, "longer than it may be"),
+            ({**files, "case/banks.csv": b"x" * 168_000_000}, 4, "longer than it may be"),
             ({**files, "session.json": b" " * 70_000_000}, 4, "longer than it may be"),
         ]
         for content, status, said in table:

@@ -465,7 +465,7 @@ class Lint(Case):
         one = '[[scenario]]\nname = "A"\n'
         for count, want in ((100, ""), (101, "too many")):
             self.assertEqual(self.compare_all([{**NETWORK, "scenarios": (one * count).encode()}]), {want: 1})
-        long = b"#" * (lint.MAX_BYTES["scenarios"] - 1) + b"\n"
+        long = b"#" * (lint.MOST.bytes["scenarios"] - 1) + b"\n"
         self.assertEqual(self.compare_all([{**NETWORK, "scenarios": long}]), {"": 1})
         # A file that is too long comes before a fault within the banks.
         bad = {"banks": b"name\n", "debts": NETWORK["debts"], "scenarios": long + b"#"}
@@ -522,6 +522,7 @@ class Lint(Case):
             b"N%d,N%d,%d,1\n" % (n % 1000, (n % 1000 + 1 + n // 9000) % 1000, 1 + n // 1000 % 9) for n in range(20001)
         ]
         nine = b"".join(b"A,B,%d,1000000\n" % n for n in range(1, 10))
+        size = lint.LIMITS["standard"].bytes["banks"]
         cases = [
             (many[0], debts, ""),
             (many[1], debts, "too many"),
@@ -530,9 +531,9 @@ class Lint(Case):
             (many[0], debts + b"".join(rows), "too many"),
             (two, debts + nine + b"B,A,1,1000000\n", ""),
             (two, debts + nine + b"B,A,1,1000000\nB,A,2,1\n", "total"),
-            (two + b"\n" * (lint.MAX_BYTES["banks"] - len(two)), debts, ""),
-            (two + b"\n" * (lint.MAX_BYTES["banks"] - len(two) + 1), debts, "file size"),
-            (b"", debts + b"\n" * lint.MAX_BYTES["debts"], "file size"),
+            (two + b"\n" * (size - len(two)), debts, ""),
+            (two + b"\n" * (size - len(two) + 1), debts, "file size"),
+            (b"", debts + b"\n" * size, "file size"),
         ]
         for banks, owed, kind in cases:
             self.assertEqual(self.compare(banks, owed), kind)

@@ -81,7 +81,7 @@ class Man(Case):
             self.assertIn(message, page)
         tasks = re.findall(r"^\| `([a-z-]+)` \| ", formats.partition("| task | what it does |")[2].partition("\n\n")[0], re.MULTILINE)
         options = set(re.findall(r"`(--[a-z]+)`", formats)) - {"--help", "--version"}
-        self.assertEqual((len(tasks), len(options)), (17, 12))
+        self.assertEqual((len(tasks), len(options)), (17, 13))
         for word in [*(f".B {task}\n" for task in tasks), *options, *(f"[[{table}]]" for table in ("scenario", "scenario.loss")),
                      *(f".TP\n.B {key}\n" for key in ("name", "cut", "loss")), ".B bank\n(a name", ".B amount\n(0", "/dev/stdin", "| head -4",
                      "order", "equal", "losses", "jefferson", "webster", "adams"]:

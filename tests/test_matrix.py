@@ -552,8 +552,14 @@ class Matrix(Case):
             self.file("m.csv", text),
             "--unit",
             "auto",
+            "--limits",
+            "standard",
             *self.files,
         )
+        # Where nothing is said they are made, and it is told that the wide limits read them.
+        told = self.told("from_matrix.py", self.file("m.csv", text), "--unit", "auto", *self.files)
+        self.assertIn("limits: wide, as the standard ones have at most 1,000 banks, 20,000 debts and 10,000,000 units", told)
+        self.assertEqual(self.debts.read_bytes().count(b"\n"), 22_351)
 
     def test_sheets_are_read_as_they_are_saved(self):
         text = "Exposures\n\nlender;É;B;cash;\nÉ;0;2;3;\nB;4;0;5\n;;;;\n"

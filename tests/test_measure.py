@@ -1,5 +1,7 @@
 """bench/measure.py prints each table as ratios, and measures no run that ends otherwise than it has to. Times themselves are not tested."""
+import hashlib
 import os
+import pathlib
 import re
 import subprocess
 
@@ -123,6 +125,50 @@ class Measure(Case):
         status, lines, _ = self.run_of("--limit", "1", "tasks", "chain", program=program)
         self.assertEqual(cells(lines[1])[3], "-")
         self.assertRegex(cells(lines[1])[2], r"^[0-9.]+$")
+
+    def speed(self, *words, program=None):
+        environment = {**os.environ, "CLEARING": program or os.path.realpath(PROGRAM)}
+        run = [str(ROOT / "bench/speed.py"), "--runs", "1", *map(str, words)]
+        return subprocess.run(run, env=environment, stdin=subprocess.DEVNULL, capture_output=True, encoding="utf-8")
+
+    def test_the_table_of_the_page_has_each_task_that_reads_files(self):
+        sources = (ROOT / "crates/clear_words/src/task.rt").read_text(encoding="utf-8")
+        tasks = set(re.findall(r'"([a-z-]+)" => Some\(Task::', sources)) - {"gen", "convert"}
+        done = self.speed("chain", "largest-order")
+        self.assertEqual((done.returncode, done.stderr), (0, ""))
+        said, _, head, rule, first, *rows, last = done.stdout.splitlines()
+        checksum = hashlib.sha256(pathlib.Path(PROGRAM).read_bytes()).hexdigest()[:8]
+        told = rf"^\d{{4}}-\d\d-\d\d, `\w+\+?`, the program `{checksum}`, one run on \d+ processors, which .*:$"
+        self.assertRegex(said, told)
+        self.assertEqual((head, rule), ("| task | `chain` | largest, `order` |", "|---|---|---|"))
+        self.assertRegex(first, r"^\| `clear`, ms \| \d+\.\d \| \d+\.\d \|$")
+        self.assertEqual({row.split("`")[1] for row in rows}, tasks - {"clear"})
+        for row in rows:
+            self.assertRegex(row, r"^\| `[a-z-]+` \| [\d.,]+ \| [\d.,]+ \|$")
+        self.assertRegex(last, r"^\| most memory, MB \| (\d+ \(`[a-z-]+`\)|-) \| (\d+ \(`[a-z-]+`\)|-) \|$")
+
+    def test_it_is_put_in_its_place_alone(self):
+        page = self.file("page.md", "before\n<!-- bench/speed.py -->\nold\n<!-- end -->\nafter\n")
+        done = self.speed("--write", "--page", page, "chain")
+        self.assertEqual((done.returncode, done.stdout, done.stderr), (0, "", ""))
+        before, made, after = re.split(r"(?<=-->\n)|(?=<!-- end)", page.read_text(encoding="utf-8"))[:3]
+        self.assertEqual((before, after), ("before\n<!-- bench/speed.py -->\n", "<!-- end -->\n"))
+        self.assertIn("| task | `chain` |\n", made)
+        self.assertNotIn("old", made)
+        self.assertTrue(page.read_text(encoding="utf-8").endswith("<!-- end -->\nafter\n"))
+
+    def test_a_page_without_a_place_is_left_as_it_is(self):
+        page = self.file("page.md", "before\nafter\n")
+        done = self.speed("--write", "--page", page, "chain")
+        self.assertEqual((done.returncode, done.stdout), (1, ""))
+        self.assertIn("has no place for the table", done.stderr)
+        self.assertEqual(page.read_text(encoding="utf-8"), "before\nafter\n")
+        self.assertEqual((ROOT / "docs/SPEED.md").read_text(encoding="utf-8").count("<!-- bench/speed.py -->\n"), 1)
+
+    def test_a_task_above_the_limit_says_so(self):
+        done = self.speed("--limit", "1", "chain", program=self.odd("central", "exec sleep 9"))
+        self.assertEqual(done.returncode, 0, done.stderr)
+        self.assertIn("\n| `central` | over 1 s |\n", done.stdout)
 
     def test_faulty_words_measure_nothing(self):
         for words in ([], ["speed"], ["tasks", "no-such"], ["tasks", "unit"], ["rules", "chain"], ["--runs", "0", "tasks"],

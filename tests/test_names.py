@@ -214,6 +214,10 @@ class Names(unittest.TestCase):
         """What was measured or run names its commit, since a page outlives the one that it was written in."""
         self.each(lambda path, text: re.findall(r"(?i)\bthis\s+(?:commit|text's|program's\s+sources)", text))
 
+    def test_no_page_names_a_toolchain_by_its_kit(self):
+        """Several toolchains have the logic of the proofs. A page names the logic."""
+        self.each(lambda path, text: re.findall(r"rattle-kit|\bkit-\w+", text))
+
     def test_the_paper_cites_names_of_code(self):
         """The check of names has something to check: each section of the paper but the last two cites some."""
         text = (ROOT / "docs/THEORY.md").read_text(encoding="utf-8")

@@ -38,6 +38,19 @@ class Readme(unittest.TestCase):
         rules = re.findall(r"^\| `([a-z]+)` \|", table, re.MULTILINE)
         self.assertEqual(rules, list(clearing_client.format.RULES))
 
+    def test_its_minutes_are_those_that_were_measured(self):
+        """README and PYTHON say how long the first call takes, in steps of five minutes, as SPEED has it measured."""
+        speed = (ROOT / "docs/SPEED.md").read_text(encoding="utf-8")
+        first = r"^\| the first call of `\./clearing` \|.*\n\| the same on two processors \|.*$"
+        rows = re.search(first, speed, re.MULTILINE)[0].splitlines()
+        clocks = [clock for row in rows for clock in re.findall(r"\b(\d+):(\d\d)\b", row.split("|")[2])]
+        measured = [int(minutes) + int(seconds) / 60 for minutes, seconds in clocks]
+        self.assertEqual(len(measured), 3)
+        said = f"{5 * round(min(measured) / 5)} to {5 * round(max(measured) / 5)} minutes"
+        self.assertIn(f"The first call takes {said}, depending on the machine", " ".join(TEXT.split()))
+        python = " ".join((ROOT / "docs/PYTHON.md").read_text(encoding="utf-8").split())
+        self.assertIn(f"proves and builds it, which takes {said}", python)
+
     def test_the_headline_is_a_click_away(self):
         """The clause and the row that carry the theorem stand in the files that the README links to."""
         clause, row = re.search(r"\[`clear_top::run`\]\((\S+)\)", TEXT)[1], re.search(r"\[`Settles`\]\((\S+)\)", TEXT)[1]

@@ -54,9 +54,9 @@ class Completions(Case):
 
         self.assertEqual(sorted(offered("clearing c")), ["central", "check", "clear", "compress", "convert", "cost-bounds", "costs"])
         self.assertEqual(offered("clearing clear --show b"), ["both"])
-        self.assertEqual(sorted(offered("clearing costs --")), ["--banks", "--debts", "--keep"])
-        self.assertEqual(sorted(offered("clearing cost-bounds --")), ["--banks", "--debts", "--keep"])
-        self.assertEqual(sorted(offered("clearing outcomes --")), ["--banks", "--debts", "--scenarios"])
+        self.assertEqual(sorted(offered("clearing costs --")), ["--banks", "--debts", "--keep", "--limits"])
+        self.assertEqual(sorted(offered("clearing cost-bounds --")), ["--banks", "--debts", "--keep", "--limits"])
+        self.assertEqual(sorted(offered("clearing outcomes --")), ["--banks", "--debts", "--limits", "--scenarios"])
         self.assertEqual(sorted(offered("clearing gen --")), ["--seed", "--size", "--sweeps", "--tries", "--workers"])
         self.assertEqual(offered("clearing rescue --banks banks.csv --bank A"), ["Aster"])
 

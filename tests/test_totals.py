@@ -361,8 +361,14 @@ class Totals(Case):
             self.refuse(told, table)
             self.refuse(told, table, "--drop", "All countries")
         self.refuse(
+            "all claims come to 40,000,000 units: 15,000,000 more than the most, 25,000,000",
+            head + "A,20000000,20000000,1\nB,20000000,20000000,1\n",
+        )
+        self.refuse(
             "all claims come to 40,000,000 units: 30,000,000 more than the most, 10,000,000",
             head + "A,20000000,20000000,1\nB,20000000,20000000,1\n",
+            "--limits",
+            "standard",
         )
         self.refuse(
             "a claim of 2,000,000 units, 1,000,000 more than the most",

@@ -12,8 +12,8 @@ from clearing_tools.checks import why  # noqa: E402
 LINES = 3000
 VALUES = ["none.csv", "", "-", "-x", "--", "--banks", "0", "1", "7", "64", "65", "1000", "1001", "20000", "20001", "007", "1" * 20, "1" * 21, "18446744073709551615",
           "18446744073709551616", "+1", "-1", "1.0", " 1", "1 ", "٣", "both", "payments", "Journal", "journals", "x" * 64, "x" * 65, "é" * 33, "a,b", 'a"b', "a\nb", "\x7f",
-          "\u0085", "A=B", "=", "=x", " ", "none with blanks", "$HOME", "check", "gen"]
-GOOD = {"bank": "A", "show": "both", "workers": "2", "sweeps": "3", "seed": "1", "size": "3", "tries": "4", "keep": "5"}
+          "\u0085", "standard", "wide", "Wide", "A=B", "=", "=x", " ", "none with blanks", "$HOME", "check", "gen"]
+GOOD = {"bank": "A", "show": "both", "workers": "2", "sweeps": "3", "seed": "1", "size": "3", "tries": "4", "keep": "5", "limits": "wide"}
 STRAY = ["--", "-", "", "-b", "--help", "-h", "--version", "--bankz", "--Banks", "--ban", "---banks", "--banks=", "--=x", "-banks", "check", "x", "--workers", "--show=both", "help",
          "--no-banks", "--banks none.csv", "—banks", "-1", "\udcff", "a\udc80b", "--banks=\udcff", "--\udcff=1"]
 
@@ -110,7 +110,7 @@ class Why(Case):
             required = ["banks", "debts"] if "both_files" in body else []
             allowed = ["workers", "sweeps"] if "on_workers" in body else []
             required += re.findall(r"(\w+): Use::Required", body)
-            allowed += re.findall(r"(\w+): Use::Allowed", body)
+            allowed += re.findall(r"(\w+): Use::Allowed", body) + (["limits"] if "both_files" in body else [])
             self.assertEqual((required, allowed), why.TASKS[word], word)
 
     def test_faults_have_their_word_and_a_hint(self):
@@ -126,6 +126,10 @@ class Why(Case):
             ("--help --banks b", ["word 1 '--help': there is no option --help; docs/FORMATS.md and the manual page say what there is",
                                   "there is no task; the tasks are " + ", ".join(why.TASKS), "2 faults"]),
             ("clear --debts d --banks b", ["understood: the task clear"]),
+            ("check --debts d --banks b --limits wide", ["understood: the task check"]),
+            ("check --banks b --debts d --limits big", ["word 7 'big': 'big' is no value of --limits: it is one of standard, wide", "1 fault"]),
+            ("gen --seed 1 --size 3 --tries 4 --limits wide", [
+                "word 8 '--limits': gen has no option --limits; it is of " + ", ".join(task for task in why.TASKS if task != "gen"), "1 fault"]),
         ]:
             done = tool("why.py", *line.split(" "))
             self.assertEqual((done.stdout.splitlines(), done.stderr), (lines, ""))

@@ -3,7 +3,7 @@ import ast
 import re
 import unittest
 
-from common import PACKAGES, ROOT
+from common import PACKAGES, ROOT, needs_checkout
 
 from clearing_tools import wording
 
@@ -82,4 +82,16 @@ class Words(unittest.TestCase):
         for path in sorted(TOOLS.rglob("*.py")):
             if path.name != "wording.py":
                 found += [(path.name, fault) for fault in wording.faults_in(path.read_text(encoding="utf-8"))]
+        self.assertEqual(found, [])
+
+    @needs_checkout
+    def test_comments_of_the_crates_give_no_reason_for_a_default(self):
+        """A label compares. It says not why a bank defaults."""
+        found = [
+            (str(path.relative_to(ROOT)), line.strip())
+            for kind in ("rt", "antt")
+            for path in sorted(ROOT.glob(f"crates/*/*/**/*.{kind}"))
+            for line in path.read_text(encoding="utf-8").splitlines()
+            if re.match(r"\s*(?://|--)", line) and re.search(r"default.*\band why\b", line)
+        ]
         self.assertEqual(found, [])

@@ -118,6 +118,11 @@ class Workbooks(Case):
             book,
         )
 
+    def saved_by_libreoffice(self, form, folder, *books):
+        """What LibreOffice makes of these books in this form, in this folder."""
+        command = ["nice", "-n", "10", "soffice", f"-env:UserInstallation=file://{self.folder}/profile", "--headless"]
+        subprocess.run([*command, "--convert-to", form, "--outdir", folder, *books], check=True, capture_output=True)
+
     @needs("soffice")
     def test_what_libreoffice_saves_is_read(self):
         book = written(
@@ -127,23 +132,7 @@ class Workbooks(Case):
         )
         for kind in ("xlsx", "ods"):
             made = self.folder / "made"
-            subprocess.run(
-                [
-                    "nice",
-                    "-n",
-                    "10",
-                    "soffice",
-                    f"-env:UserInstallation=file://{self.folder}/profile",
-                    "--headless",
-                    "--convert-to",
-                    kind,
-                    "--outdir",
-                    made,
-                    book,
-                ],
-                check=True,
-                capture_output=True,
-            )
+            self.saved_by_libreoffice(kind, made, book)
             with self.subTest(kind=kind):
                 if kind == "ods" and not python_with("odf", "openpyxl"):
                     self.skipTest("no Python here has odf and openpyxl")
@@ -177,23 +166,7 @@ class Workbooks(Case):
         for charset, encoding in ((76, "utf-8"), (65535, "utf-16")):
             made = self.folder / encoding
             how = f"csv:Text - txt - csv (StarCalc):59,34,{charset},1,,0,false,false,true,false"
-            subprocess.run(
-                [
-                    "nice",
-                    "-n",
-                    "10",
-                    "soffice",
-                    f"-env:UserInstallation=file://{self.folder}/profile",
-                    "--headless",
-                    "--convert-to",
-                    how,
-                    "--outdir",
-                    made,
-                    *books,
-                ],
-                check=True,
-                capture_output=True,
-            )
+            self.saved_by_libreoffice(how, made, *books)
             for locale, (_, want) in shown.items():
                 with self.subTest(locale=locale, encoding=encoding):
                     self.assertRegex((made / f"{locale}.csv").read_text(encoding), want)

@@ -3,8 +3,8 @@
 run.py.
 
 The wheel is installed into a virtual environment that sees the system's packages. The tests stand in a folder of their
-own, which has the scripts of the tools, the examples and the documents, and neither sources of the packages nor crates:
-what they import and run is the wheel's. Without names of modules all are run but those that wheel.txt names with a
+own, which has the scripts of the tools, the examples, the documents and bench/, and neither sources of the packages nor
+crates: what they import and run is the wheel's. Without names of modules all are run but those that wheel.txt names with a
 reason. The folder goes at the end.
 
 Ends as run.py does, and with 1 and a message where the wheel cannot be installed or has no program.
@@ -20,7 +20,7 @@ from typing import Dict, List
 HERE = pathlib.Path(__file__).resolve().parent
 ROOT = HERE.parent
 # What the tests read beside the packages.
-FOLDERS = ["tests", "tools", "examples", "docs"]
+FOLDERS = ["tests", "tools", "examples", "docs", "bench"]
 FILES = ["README.md", "VERSION", "CHANGELOG.md", "CONTRIBUTING.md", "CITATION.cff"]
 OPTIONS = ("--without", "--skips-fail", "--note")
 

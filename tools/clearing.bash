@@ -5,14 +5,14 @@
 
 _clearing_options() { # the task
     case $1 in
-    check | convert | central | compress | breaking | impact | rescues) echo "--banks --debts" ;;
-    clear) echo "--banks --debts --workers --sweeps --show" ;;
-    defaults | bounds) echo "--banks --debts --workers --sweeps" ;;
-    stress) echo "--banks --debts --scenarios --workers --sweeps" ;;
-    outcomes) echo "--banks --debts --scenarios" ;;
-    replay) echo "--banks --debts --journal" ;;
-    rescue) echo "--banks --debts --bank --workers --sweeps" ;;
-    costs | cost-bounds) echo "--banks --debts --keep" ;;
+    check | convert | central | compress | breaking | impact | rescues) echo "--banks --debts --limits" ;;
+    clear) echo "--banks --debts --workers --sweeps --show --limits" ;;
+    defaults | bounds) echo "--banks --debts --workers --sweeps --limits" ;;
+    stress) echo "--banks --debts --scenarios --workers --sweeps --limits" ;;
+    outcomes) echo "--banks --debts --scenarios --limits" ;;
+    replay) echo "--banks --debts --journal --limits" ;;
+    rescue) echo "--banks --debts --bank --workers --sweeps --limits" ;;
+    costs | cost-bounds) echo "--banks --debts --keep --limits" ;;
     gen) echo "--seed --size --tries --workers --sweeps" ;;
     esac
 }
@@ -68,7 +68,7 @@ _clearing_names() { # the file
     [[ -f $file && -r $file ]] || return
     # By bytes, as a name may be no UTF-8, and no more than there may be banks. The header is the first record with a byte, a byte order
     # mark apart.
-    mapfile -t names < <(head -c 8388608 -- "$file" | LC_ALL=C tr -d '\0' | LC_ALL=C tr '\r' '\n' | LC_ALL=C awk '
+    mapfile -t names < <(head -c 167772160 -- "$file" | LC_ALL=C tr -d '\0' | LC_ALL=C tr '\r' '\n' | LC_ALL=C awk '
         NR == 1 { sub(/^\357\273\277/, "") }
         $0 == "" { next }
         !header { header = 1; next }
@@ -80,7 +80,7 @@ _clearing_names() { # the file
             if (name ~ /^".*"$/) name = substr(name, 2, length(name) - 2)
             if (name == "" || name ~ /^-/ || name ~ /[\001-\037\177]|\302[\200-\237]/) next
             print name
-            if (++count == 1000) exit
+            if (++count == 10000) exit
         }')
 }
 
@@ -146,6 +146,7 @@ _clearing() {
         mapfile -t COMPREPLY < <(compgen -f -- "$word")
         ;;
     --show) mapfile -t COMPREPLY < <(compgen -W "payments journal both" -- "$word") ;;
+    --limits) mapfile -t COMPREPLY < <(compgen -W "standard wide" -- "$word") ;;
     --bank)
         _clearing_names "$(_clearing_value --banks)"
         local typed_quote=$quote

@@ -24,7 +24,7 @@ function __clearing_banks
     or return
     set -l file $words[(math $at + 1)]
     test -f "$file" -a -r "$file"
-    and head -c 8388608 -- $file | env LC_ALL=C tr -d '\\0' | env LC_ALL=C tr '\\r' '\\n' | env LC_ALL=C awk '
+    and head -c 167772160 -- $file | env LC_ALL=C tr -d '\\0' | env LC_ALL=C tr '\\r' '\\n' | env LC_ALL=C awk '
         NR == 1 { sub(/^\\357\\273\\277/, "") }
         $0 == "" { next }
         !header { header = 1; next }
@@ -36,7 +36,7 @@ function __clearing_banks
             if (name ~ /^".*"$/) name = substr(name, 2, length(name) - 2)
             if (name == "" || name ~ /^-/ || name ~ /[\\001-\\037\\177]|\\302[\\200-\\237]/) next
             print name
-            if (++count == 1000) exit
+            if (++count == 10000) exit
         }'
 end
 
@@ -51,6 +51,7 @@ complete -c clearing -n '__clearing_task_in rescue' -l bank -x -a '(__clearing_b
 complete -c clearing -n "__clearing_task_in $workers" -l workers -x -d '1 to 64'
 complete -c clearing -n "__clearing_task_in $workers" -l sweeps -x -d '1 to 1000'
 complete -c clearing -n '__clearing_task_in clear' -l show -x -a 'payments journal both'
+complete -c clearing -n 'not __clearing_task_in gen; and __clearing_task' -l limits -x -a 'standard wide' -d 'the limits of the network'
 complete -c clearing -n '__clearing_task_in costs cost-bounds' -l keep -x -d '0 to 1000 per mille'
 complete -c clearing -n '__clearing_task_in gen' -l seed -x -d 'the number'
 complete -c clearing -n '__clearing_task_in gen' -l size -x -d '1 to 1000 banks'

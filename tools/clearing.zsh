@@ -6,7 +6,7 @@ _clearing_banks() {
     local at=${words[(i)--banks]}
     local file=${(Q)words[at + 1]}
     [[ -f $file && -r $file ]] || return 1
-    local -a banks=(${(f)"$(head -c 8388608 -- $file | LC_ALL=C tr -d '\0' | LC_ALL=C tr '\r' '\n' | LC_ALL=C awk '
+    local -a banks=(${(f)"$(head -c 167772160 -- $file | LC_ALL=C tr -d '\0' | LC_ALL=C tr '\r' '\n' | LC_ALL=C awk '
         NR == 1 { sub(/^\357\273\277/, "") }
         $0 == "" { next }
         !header { header = 1; next }
@@ -18,7 +18,7 @@ _clearing_banks() {
             if (name ~ /^".*"$/) name = substr(name, 2, length(name) - 2)
             if (name == "" || name ~ /^-/ || name ~ /[\001-\037\177]|\302[\200-\237]/) next
             print name
-            if (++count == 1000) exit
+            if (++count == 10000) exit
         }')"})
     compadd -a banks
 }
@@ -52,7 +52,10 @@ _clearing() {
         return
     fi
     local -a options
-    [[ $task == gen ]] || options+=('--banks[the banks file]:file:_files' '--debts[the debts file]:file:_files')
+    [[ $task == gen ]] || options+=(
+        '--banks[the banks file]:file:_files' '--debts[the debts file]:file:_files'
+        '--limits[the limits of the network]:limits:(standard wide)'
+    )
     case $task in
     clear | defaults | bounds | stress | rescue | gen) options+=('--workers[1 to 64]:number:' '--sweeps[1 to 1000]:number:') ;;
     esac

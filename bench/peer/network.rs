@@ -4,13 +4,15 @@ use std::fs::File;
 use std::hash::{BuildHasherDefault, Hasher};
 use std::io::Read;
 
-const MAX_FILE: usize = 8_388_608;
-const MAX_JOURNAL: usize = 1_600_000_000;
-const MAX_BANKS: usize = 1_000;
-const MAX_DEBTS: usize = 20_000;
+// Built with `--cfg wide` it has the wide limits, else the standard ones.
+const WIDE: bool = cfg!(wide);
+const MAX_FILE: usize = if WIDE { 167_772_160 } else { 8_388_608 };
+const MAX_JOURNAL: usize = if WIDE { 4_000_000_000 } else { 1_600_000_000 };
+const MAX_BANKS: usize = if WIDE { 10_000 } else { 1_000 };
+const MAX_DEBTS: usize = if WIDE { 1_000_000 } else { 20_000 };
 const MAX_CASH: u64 = 1_000_000_000_000;
 const MAX_CLAIM: u64 = 1_000_000;
-const MAX_OWED: u64 = 10_000_000;
+const MAX_OWED: u64 = if WIDE { 25_000_000 } else { 10_000_000 };
 
 // A status and a message.
 pub struct Fault(pub u8, pub String);

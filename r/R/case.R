@@ -9,15 +9,15 @@ bank_case <- function(network, title = "", description = "", as_of = NULL, test 
   if (!inherits(network, "bank_network")) fail("a case is made of a network")
   check_described(list(asOf = as_of, test = test, currency = currency, unit = unit, keep = keep))
   as_case(network, list(title = title, description = description,
-                        clearing = drop_null(list(asOf = as_of, test = test, currency = currency, unit = unit, limits = "standard",
-                                                  keep = keep))), labels, list(), character(0))
+                        clearing = drop_null(list(asOf = as_of, test = test, currency = currency, unit = unit,
+                                                  limits = network$limits, keep = keep))), labels, list(), character(0))
 }
 
 as_case <- function(network, document, labels, paths, notes) {
   ours <- document$clearing
   structure(list(network = network, labels = labels, title = or(document$title, ""), description = or(document$description, ""),
                  as_of = ours$asOf, test = ours$test, currency = ours$currency, unit = or(ours$unit, "1"),
-                 limits = or(ours$limits, "standard"), keep = ours$keep, notes = notes, document = document, paths = paths),
+                 limits = network$limits, keep = ours$keep, notes = notes, document = document, paths = paths),
             class = "bank_case")
 }
 
@@ -77,7 +77,8 @@ read_case <- function(folder) {
   check_described(document$clearing)
   labels <- if (is.null(paths$labels)) NULL else read_labels(paths$labels)
   notes <- if (is.null(described)) character(0) else notes_of(document, folder, paths)
-  as_case(read_network(paths$banks, paths$debts), document, labels, paths, notes)
+  said <- if (identical(document$clearing$limits, "wide")) "wide" else NULL
+  as_case(read_network(paths$banks, paths$debts, said), document, labels, paths, notes)
 }
 
 read_labels <- function(file) {

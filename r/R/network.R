@@ -39,7 +39,7 @@ needed <- function(frame, columns, what) {
   if (length(missing)) fail(sprintf("%s has no column %s", what, missing[1]))
 }
 
-bank_network <- function(banks, debts, rule = "webster", class = 1) {
+bank_network <- function(banks, debts, rule = "webster", class = 1, limits = NULL) {
   needed(banks, c("name", "cash"), "banks")
   needed(debts, c("debtor", "creditor", "claim"), "debts")
   outside <- whole_text(column_or(banks, "outside", 0), "outside")
@@ -49,17 +49,49 @@ bank_network <- function(banks, debts, rule = "webster", class = 1) {
   header <- if (is_second) "name,cash,rule,outside" else "name,cash,rule"
   rows <- list(name_text(debts$debtor, "debtor"), name_text(debts$creditor, "creditor"),
                whole_text(column_or(debts, "class", class), "class"), whole_text(debts$claim, "claim"))
-  as_network(c(header, joined(fields)), c("debtor,creditor,class,claim", joined(rows)))
+  as_network(c(header, joined(fields)), c("debtor,creditor,class,claim", joined(rows)), limits)
 }
 
 # The fields of rows with commas between; no row where there is none.
 joined <- function(fields) if (length(fields[[1]])) do.call(paste, c(fields, sep = ",")) else character(0)
 
-as_network <- function(banks, debts) structure(list(banks_file = banks, debts_file = debts), class = "bank_network")
+# What the standard limits have; the wide ones are the program's to judge.
+STANDARD <- c(banks = 1000, debts = 20000, owed = 10000000, bytes = 8388608)
 
-read_network <- function(banks, debts) {
+# A network of the lines of its files, with the limits by which they are read: those that were said, else `wide` where it needs
+# them, which a message tells.
+as_network <- function(banks, debts, limits = NULL) {
+  if (is.null(limits)) {
+    what <- beyond(banks, debts)
+    limits <- if (is.null(what)) "standard" else "wide"
+    if (!is.null(what)) {
+      message(sprintf("the network is read by the wide limits, as it has %s; limits = \"wide\" says so", what))
+    }
+  } else if (!identical(limits, "standard") && !identical(limits, "wide")) {
+    fail("limits: neither standard nor wide")
+  }
+  structure(list(banks_file = banks, debts_file = debts, limits = limits), class = "bank_network")
+}
+
+# What passes the standard limits, in words, or nothing.
+beyond <- function(banks, debts) {
+  shown <- function(count) format(count, big.mark = ",", scientific = FALSE)
+  files <- list(banks = banks, debts = debts)
+  for (what in names(files)) {
+    lines <- files[[what]]
+    if (sum(nchar(lines, "bytes") + 1) > STANDARD[["bytes"]]) return(sprintf("a %s file of more than %s bytes", what, shown(STANDARD[["bytes"]])))
+    records <- sum(grepl("[^, \t\r\"]", lines, useBytes = TRUE)) - 1
+    if (records > STANDARD[[what]]) return(sprintf("more than %s %s", shown(STANDARD[[what]]), what))
+  }
+  claims <- gsub("[ \t\r\"]", "", sub("^.*,", "", debts[-1], useBytes = TRUE), useBytes = TRUE)
+  owed <- sum(as.numeric(claims[grepl("^[0-9]{1,20}$", claims, useBytes = TRUE)]))
+  if (owed > STANDARD[["owed"]]) return(sprintf("claims of more than %s units", shown(STANDARD[["owed"]])))
+  NULL
+}
+
+read_network <- function(banks, debts, limits = NULL) {
   for (file in c(banks, debts)) if (!file.exists(file) || dir.exists(file)) fail(paste("cannot read", file), 3L)
-  as_network(read_lines(banks), read_lines(debts))
+  as_network(read_lines(banks), read_lines(debts), limits)
 }
 
 write_network <- function(network, banks, debts) {

@@ -1,9 +1,10 @@
 # The tasks of the program, a function each.
 
-# Runs a task on a network; `more` are its further words, or a function of the folder that gives them.
+# Runs a task on a network by its limits; `more` are its further words, or a function of the folder that gives them.
 ask <- function(network, task, read, more = character(0)) {
+  limits <- if (inherits(network, "bank_case")) network$network$limits else network$limits
   with_files(network, function(banks, debts, folder) {
-    words <- if (is.function(more)) more(folder) else more
+    words <- c(if (is.function(more)) more(folder) else more, if (identical(limits, "wide")) c("--limits", "wide"))
     read(run_program(c(task, "--banks", banks, "--debts", debts, words))$lines)
   })
 }

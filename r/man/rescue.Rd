@@ -4,7 +4,7 @@
 \alias{breaking}
 \alias{impact}
 \title{Rescues, ruins and breaking cuts}
-\description{\code{rescue} finds the least sum of cash that makes a bank pay all that it owes, \code{rescues} that for each bank in default, and whom it saves besides. \code{breaking} gives the least cut of all cash, per mille, after which a bank no longer pays in full: 0 where it is in default as things are, and 1,001 where no cut breaks it. \code{impact} takes each bank's cash away, and tells what it and the others keep less.}
+\description{\code{rescue} finds the least sum of cash that makes a bank pay all that it owes. \code{rescues} finds this sum for each bank in default, and tells which other banks it saves too. \code{breaking} gives the least cut of all cash, per mille, after which a bank no longer pays in full: 0 where it is in default as things are, and 1,001 where no cut breaks it. \code{impact} takes each bank's cash away, and tells what it and the others keep less.}
 \usage{
 rescue(network, bank, workers = 4, sweeps = 1)
 rescues(network)

@@ -25,6 +25,21 @@ if (nzchar(Sys.which("clearing")) || nzchar(Sys.getenv("CLEARING"))) {
   stopifnot(nrow(stress(net, list())$totals) == 0)
   stopifnot(generate(1, 3, 3)$totals$banks == 3)
 
+  # A network that passes the standard limits is read by the wide ones, which is told; what is said decides.
+  many <- data.frame(name = paste0("B", 0:1000), cash = 1)
+  none <- data.frame(debtor = character(0), creditor = character(0), claim = numeric(0))
+  told <- tryCatch(bank_network(many, none), message = conditionMessage)
+  stopifnot(grepl("as it has more than 1,000 banks", told, fixed = TRUE))
+  stopifnot(check(suppressMessages(bank_network(many, none)))$totals$banks == 1001, net$limits == "standard")
+  stopifnot(identical(clear(bank_network(data.frame(name = c("A", "B"), cash = c(7, 1)), data.frame(debtor = "A", creditor = "B", claim = 10),
+                                         limits = "wide"))$payments$paid, 7))
+  fault <- tryCatch(check(bank_network(many, none, limits = "standard")), clearing_error = identity)
+  stopifnot(fault$status == 4, grepl("banks row 1001: too many", conditionMessage(fault), fixed = TRUE))
+  owed <- data.frame(debtor = "A", creditor = "B", class = 1:9, claim = 1e6)
+  more <- data.frame(debtor = "B", creditor = "A", class = 1:2, claim = c(1e6, 1))
+  two <- data.frame(name = c("A", "B"), cash = 0)
+  stopifnot(suppressMessages(bank_network(two, rbind(owed, more)))$limits == "wide", bank_network(two, rbind(owed, more[1, ]))$limits == "standard")
+
   # Amounts are exact as far as R has them, and an error beyond.
   large <- bank_network(data.frame(name = c("A", "B"), cash = c(1e12, 0)), data.frame(debtor = "A", creditor = "B", claim = 1e6))
   stopifnot(defaults(large)$standings$estate[1] == 1000000000000)

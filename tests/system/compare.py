@@ -17,10 +17,11 @@ import time
 
 sys.dont_write_bytecode = True
 import model
-from networks import drawn_net, files_and_cases, judge_compression, judge_journal
+from networks import beyond_net, drawn_net, files_and_cases, files_and_cases_beyond, judge_compression, judge_journal
 from running import Runner
 
 LIMIT = 600  # seconds of a run
+EVERY = 50  # of so many networks one passes the standard limits
 MESSAGES = {
     0: b"",
     2: b"clearing: the command line is not understood\n",
@@ -33,6 +34,7 @@ class Comparison:
         self.runner, self.seed = Runner(program, LIMIT), seed
         self.networks = self.cases = self.differ = 0
         self.sizes = {8: 0, 30: 0, 1000: 0}
+        self.beyond = 0
         # Whether an interrupt came, and whether it ended a run too, as it does in a terminal.
         self.ended = self.cut = False
 
@@ -54,10 +56,10 @@ class Comparison:
         pathlib.Path("differs.txt").open("a", encoding="utf-8").write(f"{words!r}: {what}\n")
         self.same = False
 
-    def compare(self, words, text, status=0):
+    def compare(self, words, text, status=0, message=None):
         """Compares a run with what it has to print. Says what it printed."""
         got = self.run(words)
-        if got == (status, text.encode(), MESSAGES[status]):
+        if got == (status, text.encode(), MESSAGES[status] if message is None else message.encode()):
             return got[1]
         lines = list(difflib.unified_diff(text.splitlines(), got[1].decode(errors="replace").splitlines(), "model", "program", "", "", 0, ""))
         self.differs(words, "\n".join([f"status {got[0]} in place of {status}: {got[2]!r}", *lines[:8]]))
@@ -76,9 +78,14 @@ class Comparison:
 
     def one_network(self):
         rng = random.Random(f"{self.seed} {self.networks}")
-        net = drawn_net(rng)
-        self.sizes[min(size for size in self.sizes if len(net.banks) <= size)] += 1
-        texts, cases, shown, compress = files_and_cases(rng, net)
+        if self.networks % EVERY == EVERY - 1:
+            net = beyond_net(rng)
+            self.beyond += 1
+            texts, cases, shown, compress = files_and_cases_beyond(rng, net)
+        else:
+            net = drawn_net(rng)
+            self.sizes[min(size for size in self.sizes if len(net.banks) <= size)] += 1
+            texts, cases, shown, compress = files_and_cases(rng, net)
         for name, text in texts.items():
             pathlib.Path(name).write_bytes(text)
         self.same = True
@@ -89,7 +96,7 @@ class Comparison:
         journal = self.judge(shown, lambda text: judge_journal(net, low, text))
         pathlib.Path("journal.csv").write_bytes(journal)
         raises = len(journal.splitlines()) - 2
-        self.compare(["replay", *shown[1:5], "--journal", "journal.csv"], f"lawful,{raises}\n\n" + model.payments_text(net, low))
+        self.compare(["replay", *shown[1:5], *compress[5:], "--journal", "journal.csv"], f"lawful,{raises}\n\n" + model.payments_text(net, low))
         self.judge(compress, lambda text: judge_compression(net, text))
         model.forget()
         if self.cut:
@@ -108,7 +115,7 @@ class Comparison:
         while self.networks < count and not self.ended:
             self.one_network()
         seconds = time.monotonic() - begun
-        of = ", ".join(f"{number} of up to {size} banks" for size, number in self.sizes.items())
+        of = ", ".join(f"{number} of up to {size} banks" for size, number in self.sizes.items()) + f", {self.beyond} beyond the standard limits"
         print(f"seed {self.seed}: {of}; {self.cases / max(seconds, 0.001):.0f} cases a second")
         return f"{self.networks} networks, {self.cases} cases, {self.differ} networks differ"
 

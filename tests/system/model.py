@@ -10,6 +10,9 @@ RULES = ["order", "equal", "losses", "jefferson", "webster", "adams"]
 Bank = namedtuple("Bank", "name cash rule outside")
 Debt = namedtuple("Debt", "debtor creditor cls claim")
 Scenario = namedtuple("Scenario", "name cut losses")
+Limits = namedtuple("Limits", "banks debts owed")
+# How many banks, debts and units owed a network has at most, by the words of `--limits`.
+LIMITS = {"standard": Limits(1_000, 20_000, 10_000_000), "wide": Limits(10_000, 1_000_000, 25_000_000)}
 
 
 class Net(namedtuple("Net", "banks debts")):
@@ -40,6 +43,18 @@ class Net(namedtuple("Net", "banks debts")):
     @functools.cached_property
     def classes(self):
         return [tuple(self.debts[x].cls for x in places) for places in self.rows]
+
+
+def refusal(net, by):
+    """The message of a run that reads a network, from files without a blank record, that passes these limits; None within them."""
+    limits, owed = LIMITS[by], 0
+    if len(net.banks) > limits.banks:
+        return f"clearing: banks row {limits.banks + 1}: too many (12)\n"
+    for row, debt in enumerate(net.debts, 1):
+        owed += debt.claim
+        if row > limits.debts or owed > limits.owed:
+            return f"clearing: debts row {row}: {'too many (12)' if row > limits.debts else 'total (13)'}\n"
+    return None
 
 
 # How a bank divides.

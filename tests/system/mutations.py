@@ -461,7 +461,7 @@ class Folders(Reader):
     SHARE = 2
 
     def files(self):
-        words = types.SimpleNamespace(folder=str(self.folder / "evidence"), banks=str(HUB / "banks.csv"), debts=str(HUB / "debts.csv"), scenarios=None, bank="South",
+        words = types.SimpleNamespace(folder=str(self.folder / "evidence"), banks=str(HUB / "banks.csv"), debts=str(HUB / "debts.csv"), scenarios=None, limits=None, bank="South",
                                       source=None, changes=None, case=None)
         with contextlib.redirect_stdout(io.TextIOWrapper(io.BytesIO())):
             evidence.make(words)

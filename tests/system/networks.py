@@ -3,7 +3,7 @@ import collections
 
 from model import (
     RULES, Bank, Debt, Net, Scenario, banks_text, bounds_text, breaking_text, check_text, cost_bounds_text, costs_text, debt_fields,
-    debts_text, defaults_text, due, gen_text, impact_text, journal_text, least, line, outcomes_text, pay, payments_text, put, rescue,
+    debts_text, defaults_text, due, gen_text, impact_text, journal_text, least, line, outcomes_text, pay, payments_text, put, refusal, rescue,
     rescue_text, rescues_text, state, stress_text, verdict)
 
 NAMES = [
@@ -61,6 +61,50 @@ def wide_net(rng):
     banks = [Bank(name, rng.randint(0, debt_of_first) if i == 0 else rng.choice([0, most]), rules[i], 0)
              for i, name in enumerate(rng.sample(NAMES[:8], count))]
     return Net(banks, debts)
+
+
+# Networks that pass the standard limits: by their banks, by their debts, or by what is owed. Most money is short, and claims small
+# enough for the model.
+
+def net_of_many_banks(rng):
+    """1,001 to 1,200 banks, each of which owes some that follow."""
+    size = rng.randint(1_001, 1_200)
+    keys = {(i, (i + rng.choice([1, 1, 2, 7, size // 2])) % size, rng.randint(1, 3)) for i in range(size) for _ in range(rng.randint(0, 3))}
+    banks = [Bank(f"N{i}", rng.choice([0, 0, 1, 3]), rng.choice(RULES), rng.choice([0, 0, 0, 1])) for i in range(size)]
+    return Net(banks, [Debt(*key, rng.randint(0, 4)) for key in rng.sample(sorted(keys), len(keys))])
+
+
+def net_of_many_debts(rng):
+    """20,001 debts or some more, of 150 to 200 banks in all classes."""
+    size, count = rng.randint(150, 200), rng.randint(20_001, 20_100)
+    keys = {}
+    while len(keys) < count:
+        debtor, creditor = rng.randrange(size), rng.randrange(size)
+        if debtor != creditor:
+            keys[debtor, creditor, rng.randint(1, 9)] = rng.choice([0, 1, 1, 2])
+    banks = [Bank(f"N{i}", rng.choice([0, 20, 60]), rng.choice(RULES), rng.choice([0, 0, 5])) for i in range(size)]
+    return Net(banks, [Debt(*key, claim) for key, claim in keys.items()])
+
+
+def net_of_much_owed(rng):
+    """A rich bank and a poor one owe a million each of 11 to 24 times; the rich one pays, and the poor one has nothing. The others owe
+    little."""
+    others = random_net(rng, 8)
+    rich, poor, first = len(others.banks), len(others.banks) + 1, rng.sample(range(8), 4)
+    keys = [(debtor, creditor, cls) for debtor, creditors in ((rich, first[:2]), (poor, first[2:])) for creditor in creditors for cls in range(1, 10)]
+    large = [Debt(*key, 1_000_000) for key in rng.sample(keys, rng.randint(11, 24))]
+    banks = [*others.banks, Bank("rich", 25_000_000, rng.choice(RULES), 7), Bank("poor", 0, rng.choice(RULES), 0)]
+    debts = [*others.debts, *large]
+    rng.shuffle(debts)
+    return Net(banks, debts)
+
+
+BEYOND = [net_of_many_banks, net_of_many_debts, net_of_much_owed]
+
+
+def beyond_net(rng):
+    """A network that passes the standard limits, and not the wide ones."""
+    return rng.choice(BEYOND)(rng)
 
 
 def generated_words(seed):
@@ -195,6 +239,11 @@ def further_cases(rng, net, low, files, scenarios):
     return cases
 
 
+def limits(rng):
+    """The option of limits, or none."""
+    return rng.choice([[], [], ["--limits", "standard"], WIDE])
+
+
 def files_and_cases(rng, net):
     """The files of a network by their names, and its cases: the words of a run, its text, and its status."""
     second = any(bank.outside for bank in net.banks) or rng.random() < 0.3
@@ -231,6 +280,7 @@ def files_and_cases(rng, net):
     tries = rng.randint(0, 5 * size)
     made = ["gen", "--seed", str(seed), "--size", str(size), "--tries", str(tries), *how()]
     cases.append((made, gen_text(generated(seed, size, tries)), 0))
+    cases.append(([*made, "--limits", rng.choice(["standard", "wide"])], "", 2))
     raises = random_journal(rng, net)
     for n in range(4):
         tried = raises if n == 0 else changed_journal(rng, net, raises)
@@ -240,9 +290,50 @@ def files_and_cases(rng, net):
         texts[f"journal{n}.csv"] = dressed(rng, journal_text(net, tried, rounds), {0, 4})
         text += "" if status else "\n" + payments_text(net, paid)
         cases.append((["replay", *files, "--journal", f"journal{n}.csv"], text, status))
+    # Within the standard limits both give the same.
+    cases = [(words + limits(rng) if words[0] != "gen" else words, *told) for words, *told in cases]
     # What is judged, since more than one answer is right.
-    shown = ["clear", *files, "--show", "journal", "--workers", workers(), "--sweeps", str(rng.choice([1, 1, 2, 7, 1000]))]
+    shown = ["clear", *files, *limits(rng), "--show", "journal", "--workers", workers(), "--sweeps", str(rng.choice([1, 1, 2, 7, 1000]))]
     return texts, cases, shown, ["compress", *files]
+
+
+WIDE = ["--limits", "wide"]
+
+
+def files_and_cases_beyond(rng, net):
+    """The same of a network that passes the standard limits. Each task is refused without the option, and answers by the wide limits."""
+    second = any(bank.outside for bank in net.banks) or rng.random() < 0.3
+    scenarios = random_scenarios(rng, net)[:2]
+    texts = {
+        "banks.csv": banks_text(net, second).encode(),
+        "debts.csv": debts_text(net).encode(),
+        "scenarios.toml": scenarios_toml(net, scenarios).encode(),
+        "none.csv": b"stamp,debtor,creditor,class,to\n",
+    }
+    files = ["--banks", "banks.csv", "--debts", "debts.csv"]
+    third, keep = ["--scenarios", "scenarios.toml"], ["--keep", str(rng.randint(0, 1000))]
+    how = lambda: rng.choice([[], ["--workers", str(rng.randint(1, 64))], ["--sweeps", "7"]])
+    low = least(net)
+    accepted = [
+        (["clear", *files, *how()], payments_text(net, low)),
+        (["central", *files], payments_text(net, low)),
+        (["defaults", *files, *how()], defaults_text(net, low)),
+        (["bounds", *files, *how()], bounds_text(net)),
+        (["stress", *files, *third, *how()], stress_text(net, scenarios)),
+        (["outcomes", *files, *third], outcomes_text(net, scenarios)),
+        (["costs", *files, *keep], costs_text(net, int(keep[1]))),
+        (["cost-bounds", *files, *keep], cost_bounds_text(net, int(keep[1]))),
+        (["check", *files], check_text(net)),
+        (["convert", *files], banks_text(net, True)),
+    ]
+    others = [["compress", *files], ["impact", *files], ["rescues", *files], ["breaking", *files], ["replay", *files, "--journal", "none.csv"],
+              ["rescue", *files, "--bank", net.banks[0].name]]
+    refused = refusal(net, "standard")
+    asked = [words for words, _ in accepted] + [words for words in others if not words[-1].startswith("-")]
+    cases = [([*words, *rng.choice([[], ["--limits", "standard"]])], "", 4, refused) for words in asked]
+    cases += [([*words, *WIDE], text, 0) for words, text in accepted]
+    shown = ["clear", *files, "--show", "journal", "--workers", str(rng.randint(1, 9)), *WIDE]
+    return texts, cases, shown, ["compress", *files, *WIDE]
 
 
 # Answers of which more than one is right.

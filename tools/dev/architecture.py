@@ -25,7 +25,7 @@ LAYERS = [
      "texts, and the record of the run"),
     ("Written", ["clear_many", "clear_report"],
      "standings, greatest payments and waves, sums, shocked networks"),
-    ("Asked of a network", ["cascade", "upper", "rescue", "impact", "costs", "compress", "stress"],
+    ("Asked of a network", ["cascade", "upper", "rescue", "descent", "impact", "costs", "compress", "stress"],
      "least payments, and the journal of the run"),
     ("The run of workers", ["settle", "bank_worker", "bank_desk", "pay_words", "shares"],
      "a network; what is lawful"),
@@ -36,7 +36,7 @@ LAYERS = [
     ("Networks and rules", ["clr_net", "rule_level", "rule_class", "rule_divisor", "rule_kinds", "rule_unit"],
      None),
 ]
-WIDTH, LEFT, BOX, GAP, BAND, FLOW = 1060, 210, 112, 8, 62, 34
+WIDTH, LEFT, BOX, GAP, BAND, FLOW = 1060, 210, 98, 7, 62, 34
 FILLS = {"starts threads": "#f3c9a5", "words that threads share": "#f7e6b0", "": "#e4ecf4"}
 
 

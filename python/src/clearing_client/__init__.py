@@ -188,6 +188,7 @@ from .ensemble import Spread as Spread
 from .ensemble import ensemble
 from .errors import CaseError as CaseError
 from .errors import ClearingError as ClearingError
+from .errors import LimitsWarning as LimitsWarning
 from .errors import MissingPackageError as MissingPackageError
 from .errors import NoProgramError as NoProgramError
 from .errors import OutOfMemoryError as OutOfMemoryError

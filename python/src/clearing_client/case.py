@@ -15,14 +15,14 @@ from typing import Any, Dict, Iterable, List, Mapping, NamedTuple, Optional, Tup
 from . import description as described
 from .description import LABEL_COLUMNS, NAME, ImportLine, ImportSummary, Origin
 from .errors import CaseError, UnreadableError
-from .format import MAX_BYTES
+from .limits import MOST, STANDARD, WIDE
 from .network import File, Network, ScenariosLike, third_of
 
 __all__ = ["Case", "ImportLine", "ImportSummary", "Label", "Origin", "Source"]
 
 FILES = {"banks": "banks.csv", "debts": "debts.csv", "scenarios": "scenarios.toml", "labels": "labels.csv"}
 """The files of a case by what they are."""
-WIDE_BYTES = 167_772_160
+WIDE_BYTES = MOST.bytes["banks"]
 """No banks file or debts file is longer by either limits."""
 MOST_DIGITS = 100
 
@@ -58,7 +58,7 @@ class Case:
     test          `liquidity` or `solvency`, or None
     currency      three letters, or None
     unit          how much of the currency one unit of account is, an exact decimal
-    limits        `standard` or `wide`
+    limits        the limits by which the network is read, `standard` or `wide`; where it is not said, those it needs
     keep          what default keeps, per mille, or None
     contributors  dicts with `title` and others of the Data Package standard
     sources       the sheets that it was made of
@@ -80,7 +80,7 @@ class Case:
         test: Optional[str] = None,
         currency: Optional[str] = None,
         unit: Union[Decimal, int, str] = 1,
-        limits: str = "standard",
+        limits: Optional[str] = None,
         keep: Optional[int] = None,
         labels: Union[Mapping[str, Label], Iterable[Label]] = (),
         scenarios: Union[ScenariosLike, bytes, None] = None,
@@ -95,7 +95,7 @@ class Case:
         self.title, self.description = title, description
         self.as_of = described.date_of(as_of) if isinstance(as_of, str) else as_of
         self.test, self.currency, self.unit = test, currency, exact_unit(unit)
-        self.limits, self.keep = limits, keep
+        self.said_limits, self.keep = limits, keep
         rows = labels.values() if isinstance(labels, Mapping) else labels
         self.labels: Dict[str, Label] = {label.bank: label for label in rows}
         self.scenarios = scenarios_bytes(scenarios)
@@ -122,7 +122,19 @@ class Case:
         """The network. The two files are read once, when it is first asked for."""
         if self._network is None:
             self._network = Network(self.paths["banks"], self.paths["debts"])
+        if self.said_limits is not None and self._network.limits != self.said_limits:
+            self._network = self._network._by_limits(self.said_limits)
         return self._network
+
+    @property
+    def limits(self) -> str:
+        """The limits by which the network is read: those that were said, else those that it needs."""
+        is_there = self._network is not None or "debts" in self.paths
+        return self.said_limits or (self.network.limits if is_there else STANDARD)
+
+    @limits.setter
+    def limits(self, limits: Optional[str]) -> None:
+        self.said_limits = limits
 
     @property
     def author(self) -> str:
@@ -158,9 +170,9 @@ class Case:
                 case.paths[what] = os.fspath(place / name)
             elif what in ("banks", "debts"):
                 raise CaseError(os.fspath(folder), "", f"it has no {name}, and is no case")
-        labels = content_in(place, FILES["labels"], MAX_BYTES["banks"])
+        labels = content_in(place, FILES["labels"], WIDE_BYTES)
         case.labels = {} if labels is None else labels_in(labels, case.paths["labels"])
-        case.scenarios = content_in(place, FILES["scenarios"], MAX_BYTES["scenarios"] + 1)
+        case.scenarios = content_in(place, FILES["scenarios"], MOST.bytes["scenarios"] + 1)
         case.notes = () if document is None else tuple(case._told(document, place))
         return case
 
@@ -181,7 +193,8 @@ class Case:
             test=ours.get("test"),
             currency=ours.get("currency"),
             unit=ours.get("unit", "1"),
-            limits=ours.get("limits", "standard"),
+            # What says that the standard ones were enough asks for nothing.
+            limits=WIDE if ours.get("limits") == WIDE else None,
             keep=ours.get("keep"),
             contributors=document.get("contributors", ()),
             sources=map(source_of, document.get("sources", ())),

@@ -73,6 +73,10 @@ class UnreadableError(ClearingError):
         super().__init__(f"cannot read {file}{': ' + reason if reason else ''}")
 
 
+class LimitsWarning(UserWarning):
+    """A network is too large for the standard limits, and is read by the wide ones, as nobody said which."""
+
+
 class RefusedError(ClearingError, ValueError):
     """Status 4: a file is refused.
 

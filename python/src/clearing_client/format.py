@@ -1,5 +1,6 @@
-"""What the formats of the program say, said once: limits, rules, states, kinds of fault, statuses. The headers are
-those of `texts`, which takes them from `records`. Amounts are whole units of account."""
+"""What the formats of the program say, said once: limits of numbers, rules, states, kinds of fault, statuses. The
+headers are those of `texts`, which takes them from `records`; how much a network may have is in `limits`. Amounts are
+whole units of account."""
 from typing import Dict, Tuple
 
 RULES = ("order", "equal", "losses", "jefferson", "webster", "adams")
@@ -7,12 +8,11 @@ RULES = ("order", "equal", "losses", "jefferson", "webster", "adams")
 STATES = ("sound", "fundamental", "contagion")
 """How a bank stands after clearing."""
 
-MAX_BYTES = {"banks": 8_388_608, "debts": 8_388_608, "scenarios": 8_388_608, "journal": 1_600_000_000}
-"""How many bytes each file may have."""
-MAX_BANKS, MAX_DEBTS, MAX_SCENARIOS, MAX_RAISES = 1000, 20_000, 100, 10_000_000
-MAX_CASH, MAX_OUTSIDE, MAX_CLAIM, MAX_OWED = 10**12, 10**11, 10**6, 10**7
-MAX_CUT, MAX_LOSS, MAX_STAMP = 1000, 10**12, 2**32 - 1
-MAX_SEED, MAX_TRIES, MAX_WORKERS, MAX_SWEEPS, MAX_KEEP = 2**64 - 1, 20_000, 64, 1000, 1000
+MAX_CASH, MAX_OUTSIDE, MAX_CLAIM = 10**12, 10**11, 10**6
+MAX_SCENARIOS, MAX_CUT, MAX_LOSS, MAX_STAMP = 100, 1000, 10**12, 2**32 - 1
+MAX_WORKERS, MAX_SWEEPS, MAX_KEEP = 64, 1000, 1000
+MAX_SEED, MAX_SIZE, MAX_TRIES = 2**64 - 1, 1000, 20_000
+"""From which numbers a network is made, of how many banks and tries at a debt."""
 
 KINDS: Dict[int, Tuple[str, str]] = {
     1: ("header", "the first record is missing, or not the header's words"),
@@ -27,7 +27,7 @@ KINDS: Dict[int, Tuple[str, str]] = {
     10: ("class", "a field is not one digit from 1 to 9"),
     11: ("double debt", "a debt of this debtor, creditor and class came before"),
     12: ("too many", "one more bank, debt, scenario or raise than the limit"),
-    13: ("total", "the claims so far pass 10,000,000"),
+    13: ("total", "the claims so far pass the limit of all together"),
     14: ("file size", "the file is longer than its limit"),
     15: ("unknown debt", "no debt has this debtor, creditor and class"),
     16: ("toml", "the scenarios file is not UTF-8, or not TOML"),

@@ -18,7 +18,17 @@ from typing import Any, Callable, Deque, Iterable, Iterator, List, NamedTuple, O
 from . import tabular
 from .errors import RefusedError, TextError
 from .format import MAX_SCENARIOS
-from .network import Network, ScenariosLike, as_scenarios, as_third, effort, is_file, read_file
+from .network import (
+    LARGEST_SCENARIOS,
+    Limits,
+    Network,
+    ScenariosLike,
+    as_scenarios,
+    as_third,
+    effort,
+    is_file,
+    read_file,
+)
 from .records import BankCounts, ScenarioSums
 from .results import Outcome, Outcomes
 from .scenarios import Scenarios
@@ -59,6 +69,7 @@ def map_stress(
     sweeps: int = 1,
     executor: Pool = None,
     timeout: Optional[float] = None,
+    limits: Limits = None,
 ) -> Iterator[Outcome]:
     """What the same scenarios leave of each network: an `Outcome` for each network and scenario, in the order of the
     networks, and for each of them in that of the scenarios, as they come. `network` and `number` say whose it is.
@@ -70,6 +81,7 @@ def map_stress(
                `client.get_executor()` or mpi4py's `MPIPoolExecutor()`; processes of this machine where it is not said.
                Its workers need this package and the program, as `find_program` finds it there. It is not shut down.
     timeout    how many seconds a run may take; one that takes longer is ended, and raises `OutOfTimeError`
+    limits     `standard` or `wide` for all; where it is not said, those of each network
 
     The first fault is raised in the place of its outcome, and ends it.
 
@@ -78,7 +90,7 @@ def map_stress(
     [(1, 0), (2, 1), (1, 0), (2, 0)]
     """
     work = functools.partial(stressed, workers=workers, sweeps=sweeps, timeout=timeout)
-    return outcomes_of(in_turn(work, runs_of(networks, scenarios, most_in_a_run), jobs, executor))
+    return outcomes_of(in_turn(work, runs_of(networks, scenarios, most_in_a_run), jobs, executor, limits), limits)
 
 
 def map_outcomes(
@@ -87,6 +99,7 @@ def map_outcomes(
     jobs: Jobs = None,
     executor: Pool = None,
     timeout: Optional[float] = None,
+    limits: Limits = None,
 ) -> Iterator[Outcomes]:
     """What the same scenarios leave of each network in sums: an `Outcomes` for each network, in order, as they come.
     The words are those of `map_stress`. The program prints no payment, and each run has as many threads as it takes.
@@ -101,7 +114,8 @@ def map_outcomes(
     BankCounts(bank='A', defaults=0, fundamental=0)
     """
     work = functools.partial(summed, timeout=timeout)
-    return summed_up(in_turn(work, runs_of(networks, scenarios, lambda _: MAX_SCENARIOS), jobs, executor))
+    runs = runs_of(networks, scenarios, lambda _: MAX_SCENARIOS)
+    return summed_up(in_turn(work, runs, jobs, executor, limits), limits)
 
 
 def runs_of(
@@ -109,7 +123,8 @@ def runs_of(
 ) -> Iterator[Tuple[Network, Part]]:
     """The runs, each a network and so many of the scenarios at most, or a file of them as it is. The scenarios are
     read at once."""
-    known: Union[Scenarios, bytes] = read_file(scenarios) if is_file(scenarios) else as_scenarios(scenarios)
+    is_named = is_file(scenarios)
+    known: Union[Scenarios, bytes] = read_file(scenarios, LARGEST_SCENARIOS) if is_named else as_scenarios(scenarios)
     return ((net, part) for net in networks for part in parts_of(known, most(net)))
 
 
@@ -132,16 +147,21 @@ def most_in_a_run(net: Network) -> int:
 
 
 def in_turn(
-    work: Callable[[Network, Part], P], tasks: Iterable[Tuple[Network, Part]], jobs: Jobs, executor: Pool
+    work: Callable[[Network, Part, str], P],
+    tasks: Iterable[Tuple[Network, Part]],
+    jobs: Jobs,
+    executor: Pool,
+    limits: Limits = None,
 ) -> Iterator[Tuple[Network, Part, P]]:
-    """What the work makes of each task, in order. Besides those at work as many may wait to be taken."""
+    """What the work makes of each task by the limits of its network, in order. Besides those at work as many may wait
+    to be taken. Here is told what a network takes by itself, and not by those that work."""
     at_a_time = jobs or getattr(executor, "_max_workers", None) or os.cpu_count() or 1
     own = None if executor is not None else own_pool(at_a_time)
     pool: Any = executor if own is None else own
     begun: Deque[Tuple[Network, Part, Any]] = deque()
     try:
         for net, part in tasks:
-            begun.append((net, part, pool.submit(work, net, part)))
+            begun.append((net, part, pool.submit(work, net, part, net._by(limits))))
             if len(begun) >= 2 * at_a_time:
                 yield taken(begun)
         while begun:
@@ -171,29 +191,29 @@ def end_at_interrupt() -> None:
     signal.signal(signal.SIGINT, signal.SIG_DFL)
 
 
-def outcomes_of(done: Iterator[Tuple[Network, Part, List[Outcome]]]) -> Iterator[Outcome]:
+def outcomes_of(done: Iterator[Tuple[Network, Part, List[Outcome]]], limits: Limits) -> Iterator[Outcome]:
     """The outcomes of the runs, each with its network."""
     for net, _, outcomes in done:
         for outcome in outcomes:
-            yield outcome.told("", net)
+            yield outcome.told("", net, limits or net.limits)
 
 
-def summed_up(done: Iterator[Tuple[Network, Part, Sums]]) -> Iterator[Outcomes]:
+def summed_up(done: Iterator[Tuple[Network, Part, Sums]], limits: Limits) -> Iterator[Outcomes]:
     """The sums of the runs of each network together."""
     parts: List[Sums] = []
     for net, part, sums in done:
         parts.append(sums)
         if part.last:
-            yield together(parts, net)
+            yield together(parts, net, limits or net.limits)
             parts = []
 
 
-def together(parts: List[Sums], net: Network) -> Outcomes:
+def together(parts: List[Sums], net: Network, by: str) -> Outcomes:
     """The sums of several runs of one network, with the text that says them."""
     counts = [list(map(sum, zip(*(part.banks.column(word) for part in parts)))) for word in ("defaults", "fundamental")]
     scenarios = Table.of(ScenarioSums, [one for part in parts for one in part.scenarios])
     banks = Table(BankCounts, [parts[0].banks.column("bank"), *counts])
-    return Outcomes(scenarios, banks).told(text_of_table(scenarios) + "\n" + text_of_table(banks), net)
+    return Outcomes(scenarios, banks).told(text_of_table(scenarios) + "\n" + text_of_table(banks), net, by)
 
 
 def text_of_table(table: Table[Any]) -> str:
@@ -219,11 +239,14 @@ def known_of(part: Part) -> Optional[Scenarios]:
     return None if isinstance(part.scenarios, bytes) else part.scenarios
 
 
-def stressed(net: Network, part: Part, workers: int, sweeps: int, timeout: Optional[float] = None) -> List[Outcome]:
+def stressed(
+    net: Network, part: Part, by: str, workers: int, sweeps: int, timeout: Optional[float] = None
+) -> List[Outcome]:
     """The outcomes of a run, numbered on from those before it. Parsed where it runs, as they come."""
     third, known, outcomes = as_third(part.scenarios), known_of(part), []
     words = effort(workers, sweeps)
-    with counted_on(part), net._stream("stress", *words, third=third, known=known, timeout=timeout) as stream:
+    run = net._stream("stress", *words, third=third, known=known, timeout=timeout, limits=by)
+    with counted_on(part), run as stream:
         for outcome in outcomes_in(stream, part.before):
             net._asked.check(outcome)
             outcomes.append(outcome)
@@ -232,8 +255,9 @@ def stressed(net: Network, part: Part, workers: int, sweeps: int, timeout: Optio
     return outcomes
 
 
-def summed(net: Network, part: Part, timeout: Optional[float] = None) -> Sums:
+def summed(net: Network, part: Part, by: str, timeout: Optional[float] = None) -> Sums:
     """The sums of a run."""
+    third, known = as_third(part.scenarios), known_of(part)
     with counted_on(part):
-        left = net._ask(Outcomes, "outcomes", third=as_third(part.scenarios), known=known_of(part), timeout=timeout)
+        left = net._ask(Outcomes, "outcomes", third=third, known=known, timeout=timeout, limits=by)
     return Sums(left.scenarios, left.banks)

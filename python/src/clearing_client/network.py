@@ -3,12 +3,14 @@ from __future__ import annotations
 
 import contextlib
 import os
+import sys
+import warnings
 from functools import cached_property
 from typing import IO, Any, Dict, Iterable, Iterator, List, Mapping, Optional, Sequence, Tuple, Type, TypeVar, Union
 
+from . import limits as sizes
 from . import tabular
-from .errors import RefusedError, TableError, TextError, UnreadableError
-from .format import MAX_BYTES
+from .errors import LimitsWarning, RefusedError, TableError, TextError, UnreadableError
 from .asked import Asked, record_at
 from .program import Done, fault_of, handed_over, run, started
 from .records import Bank, Debt, Raise
@@ -42,9 +44,11 @@ File = Union[str, "os.PathLike[str]"]
 ScenariosLike = Union[Scenarios, Iterable[Union[Scenario, Mapping[str, Any]]], File]
 Third = Tuple[str, bytes]  # a file's option, and its bytes
 JournalLike = Union[Journal, Table[Raise], Iterable[Raise], File]
+Limits = Optional[str]
 
-LARGEST = MAX_BYTES["banks"]
-"""How many bytes a banks, debts or scenarios file may have; one more is handed over, for the program to refuse."""
+LARGEST, LARGEST_SCENARIOS = sizes.MOST.bytes["banks"], sizes.MOST.bytes["scenarios"]
+"""How many bytes a banks or debts file may have, and a scenarios file; one more is handed over, for the program to
+refuse."""
 
 
 class Network:
@@ -58,10 +62,14 @@ class Network:
     rule    the rule of the banks where there is no column `rule`: `webster` (pro rata), `jefferson`, `adams`, `equal`,
             `losses` or `order`
     class_  the class of the debts where there is no column `class`
+    limits  `standard` (1,000 banks, 20,000 debts, 10,000,000 units owed) or `wide` (10,000 banks, 1,000,000 debts,
+            25,000,000 units owed). Without it the limits are the standard ones, or the wide ones for a network that is
+            too large for these; a `LimitsWarning` says so once
 
     With a networkx graph in place of both: nodes with `cash` (`rule`, `outside`), edges with `claim` (`class`).
 
-    Each task takes a `timeout` in seconds: a run that takes longer is ended, and raises `OutOfTimeError`.
+    Each task takes a `timeout` in seconds: a run that takes longer is ended, and raises `OutOfTimeError`. Each takes
+    `limits` for its own run.
 
     Amounts are whole units of account. A float is taken where it is a whole number, and refused otherwise. Names are
     texts; an integer is taken as its digits. The order of the rows is that of the files, and decides ties. Files are
@@ -74,18 +82,23 @@ class Network:
     B       C             1      9     8
     """
 
-    def __init__(self, banks: Any, debts: Any = None, *, rule: str = "webster", class_: int = 1) -> None:
+    def __init__(
+        self, banks: Any, debts: Any = None, *, rule: str = "webster", class_: int = 1, limits: Optional[str] = None
+    ) -> None:
         if debts is None:
             if not tabular.is_graph(banks):
                 raise TypeError("a network is of banks and debts, or of one networkx graph")
             banks, debts = tabular.tables_of_graph(banks)
         self._banks = read_file(banks) if is_file(banks) else tabular.banks_csv(banks, rule)
         self._debts = read_file(debts) if is_file(debts) else tabular.debts_csv(debts, class_)
+        self._said_limits = limits
 
     # Of sheets, as the tools read them
 
     summary: Tuple[Tuple[str, Optional[int], Any, str], ...] = ()
     """What was done to the sheet that a network is of: records of what it is, a count, an amount and a detail."""
+    _said_limits: Optional[str] = None
+    _is_told = False
 
     @classmethod
     def from_matrix(cls, matrix: Any, **options: Any) -> "Network":
@@ -144,6 +157,23 @@ class Network:
     def _checked(self) -> Check:
         return self.check()
 
+    @property
+    def limits(self) -> str:
+        """The limits by which it is read: those that were said, else the ones that it needs, `standard` or `wide`."""
+        return self._said_limits or (sizes.WIDE if self._beyond else sizes.STANDARD)
+
+    @cached_property
+    def _beyond(self) -> Optional[str]:
+        """What is too much for the standard limits, in words, or nothing."""
+        return sizes.beyond(self._banks, self._debts)
+
+    def _tell_limits(self) -> None:
+        """Tells once that the wide limits are taken where nobody said so."""
+        if self._said_limits is None and self._beyond and not self._is_told:
+            self._is_told = True
+            told = f"the network is read by the wide limits, as it has {self._beyond}; limits='wide' says so"
+            warnings.warn(told, LimitsWarning, stacklevel=level_of_caller())
+
     def to_pandas(self) -> Dict[str, Any]:
         """The banks and the debts, each a pandas `DataFrame`."""
         return {"banks": self.banks.to_pandas(), "debts": self.debts.to_pandas()}
@@ -182,24 +212,41 @@ class Network:
         unknown = [name for name in cash if name not in self.banks.column("name")]
         if unknown:
             raise TableError("banks", 0, "name", unknown[0], f"no bank has the name {unknown[0]!r}")
-        return Network([bank._replace(cash=cash.get(bank.name, bank.cash)) for bank in self.banks], self.debts)
+        banks = [bank._replace(cash=cash.get(bank.name, bank.cash)) for bank in self.banks]
+        return self._alike(Network(banks, self.debts))
 
     def with_debts(self, debts: Any) -> "Network":
         """A network of the same banks with other debts, such as those that `compress` leaves."""
-        return Network(self.banks, debts)
+        return self._alike(Network(self.banks, debts))
+
+    def _alike(self, other: "Network") -> "Network":
+        """Another network, by the limits that were said of this one, and told of where this one was."""
+        other._said_limits, other._is_told = self._said_limits, self._is_told
+        return other
+
+    def _by_limits(self, limits: Limits) -> "Network":
+        """The same network, by these limits."""
+        other = Network.__new__(Network)
+        other._banks, other._debts, other.summary, other._said_limits = self._banks, self._debts, self.summary, limits
+        return other
 
     # The tasks
 
-    def check(self, timeout: Optional[float] = None) -> Check:
+    def check(self, timeout: Optional[float] = None, limits: Limits = None) -> Check:
         """Reads the network and gives it back as the program understands it, with all claims and all cash together.
 
         >>> Network({"A": 7, "B": 1}, {("A", "B"): 10}).check().total
         CheckTotals(banks=2, debts=1, owed=10, cash=8)
         """
-        return self._ask(Check, "check", timeout=timeout)
+        return self._ask(Check, "check", timeout=timeout, limits=limits)
 
     def clear(
-        self, workers: int = 4, sweeps: int = 1, journal: bool = False, timeout: Optional[float] = None
+        self,
+        workers: int = 4,
+        sweeps: int = 1,
+        journal: bool = False,
+        timeout: Optional[float] = None,
+        limits: Limits = None,
     ) -> Clearing:
         """The least payments that clear, by this many workers (1 to 64), each of which goes so often over its banks in
         a round; with the journal of the run, where it is asked for. The payments depend on neither number; which
@@ -213,23 +260,30 @@ class Network:
         Raise(stamp=1, debtor='A', creditor='B', class_=1, to=7)
         """
         show = ["--show", "both"] if journal else []
-        return self._ask(Clearing, "clear", *effort(workers, sweeps), *show, timeout=timeout)
+        return self._ask(Clearing, "clear", *effort(workers, sweeps), *show, timeout=timeout, limits=limits)
 
-    def central(self, timeout: Optional[float] = None) -> Clearing:
+    def central(self, timeout: Optional[float] = None, limits: Limits = None) -> Clearing:
         """The same payments, computed on one thread."""
-        return self._ask(Clearing, "central", timeout=timeout)
+        return self._ask(Clearing, "central", timeout=timeout, limits=limits)
 
-    def defaults(self, workers: int = 4, sweeps: int = 1, timeout: Optional[float] = None) -> Defaults:
+    def defaults(
+        self, workers: int = 4, sweeps: int = 1, timeout: Optional[float] = None, limits: Limits = None
+    ) -> Defaults:
         """How each bank stands after clearing, who defaults, and whether it is its own doing.
 
         >>> net = Network({"A": 7, "B": 1, "C": 0}, {("A", "B"): 10, ("B", "C"): 9})
         >>> [(bank.bank, bank.state) for bank in net.defaults().standings]
         [('A', 'fundamental'), ('B', 'contagion'), ('C', 'sound')]
         """
-        return self._ask(Defaults, "defaults", *effort(workers, sweeps), timeout=timeout)
+        return self._ask(Defaults, "defaults", *effort(workers, sweeps), timeout=timeout, limits=limits)
 
     def stress(
-        self, scenarios: ScenariosLike, workers: int = 4, sweeps: int = 1, timeout: Optional[float] = None
+        self,
+        scenarios: ScenariosLike,
+        workers: int = 4,
+        sweeps: int = 1,
+        timeout: Optional[float] = None,
+        limits: Limits = None,
     ) -> Stress:
         """What each scenario leaves: `Scenarios`, `Scenario`s, dicts of the shape of the TOML document, or the name of
         a TOML file. At most 100; `map_stress` takes more.
@@ -240,9 +294,10 @@ class Network:
         [[], ['A', 'B']]
         """
         third, known = third_of(scenarios)
-        return self._ask(Stress, "stress", *effort(workers, sweeps), third=third, known=known, timeout=timeout)
+        words = effort(workers, sweeps)
+        return self._ask(Stress, "stress", *words, third=third, known=known, timeout=timeout, limits=limits)
 
-    def outcomes(self, scenarios: ScenariosLike, timeout: Optional[float] = None) -> Outcomes:
+    def outcomes(self, scenarios: ScenariosLike, timeout: Optional[float] = None, limits: Limits = None) -> Outcomes:
         """What each scenario leaves in sums, given as for `stress`: the cash that is left, what is paid and paid
         outside, what banks keep, and how many default; and in how many scenarios each bank does. At most 100;
         `map_outcomes` takes more.
@@ -253,9 +308,11 @@ class Network:
         ([0, 2], BankCounts(bank='B', defaults=1, fundamental=0))
         """
         third, known = third_of(scenarios)
-        return self._ask(Outcomes, "outcomes", third=third, known=known, timeout=timeout)
+        return self._ask(Outcomes, "outcomes", third=third, known=known, timeout=timeout, limits=limits)
 
-    def bounds(self, workers: int = 4, sweeps: int = 1, timeout: Optional[float] = None) -> Bounds:
+    def bounds(
+        self, workers: int = 4, sweeps: int = 1, timeout: Optional[float] = None, limits: Limits = None
+    ) -> Bounds:
         """The least and the greatest payments that clear; for each bank the round in which it first falls short on the
         way down from all debts paid in full (0: never), and whether it is in gridlock.
 
@@ -265,36 +322,41 @@ class Network:
         >>> ring.bounds().waves[0].gridlock
         True
         """
-        return self._ask(Bounds, "bounds", *effort(workers, sweeps), timeout=timeout)
+        return self._ask(Bounds, "bounds", *effort(workers, sweeps), timeout=timeout, limits=limits)
 
-    def rescue(self, bank: str, workers: int = 4, sweeps: int = 1, timeout: Optional[float] = None) -> Rescue:
+    def rescue(
+        self, bank: str, workers: int = 4, sweeps: int = 1, timeout: Optional[float] = None, limits: Limits = None
+    ) -> Rescue:
         """The least cash to add so that a bank pays all it owes, and the payments with it.
 
         >>> Network({"A": 7, "B": 1}, {("A", "B"): 10}).rescue("A").added
         3
         """
         if bank.startswith("-") and bank in self.banks.column("name"):
-            return self._rescue_renamed(bank, workers, sweeps, timeout)
-        return self._ask(Rescue, "rescue", "--bank", bank, *effort(workers, sweeps), known=bank, timeout=timeout)
+            return self._rescue_renamed(bank, workers, sweeps, timeout, limits)
+        words = ["--bank", bank, *effort(workers, sweeps)]
+        return self._ask(Rescue, "rescue", *words, known=bank, timeout=timeout, limits=limits)
 
-    def _rescue_renamed(self, bank: str, workers: int, sweeps: int, timeout: Optional[float]) -> Rescue:
+    def _rescue_renamed(
+        self, bank: str, workers: int, sweeps: int, timeout: Optional[float], limits: Limits
+    ) -> Rescue:
         """The command line cannot name a bank that begins with a dash: it has another name for this run."""
         there = set(self.banks.column("name"))
         other = next(name for name in (f"bank {n}" for n in range(len(there) + 1)) if name not in there)
-        net = read_check(with_fields(self._checked.text, bank, other))
-        text = with_fields(net.rescue(other, workers, sweeps, timeout).text, other, bank)
-        return read_as(text, Rescue).told(text, self)
+        net, by = self._alike(read_check(with_fields(self._checked.text, bank, other))), self._by(limits)
+        text = with_fields(net.rescue(other, workers, sweeps, timeout, by).text, other, bank)
+        return read_as(text, Rescue).told(text, self, by)
 
-    def costs(self, keep: int, timeout: Optional[float] = None) -> Costs:
+    def costs(self, keep: int, timeout: Optional[float] = None, limits: Limits = None) -> Costs:
         """The payments and standings where an estate in default is worth only `keep` thousandths, 0 to 1,000.
 
         >>> left = Network({"A": 7, "B": 1}, {("A", "B"): 10}).costs(500)
         >>> left.standings[0].lost, left.payments[0].paid
         (4, 3)
         """
-        return self._ask(Costs, "costs", "--keep", keep, timeout=timeout)
+        return self._ask(Costs, "costs", "--keep", keep, timeout=timeout, limits=limits)
 
-    def cost_bounds(self, keep: int, timeout: Optional[float] = None) -> CostBounds:
+    def cost_bounds(self, keep: int, timeout: Optional[float] = None, limits: Limits = None) -> CostBounds:
         """The least and the greatest payments that clear where an estate in default is worth only `keep` thousandths,
         0 to 1,000, and what each bank loses and keeps, and its state, at both. The greatest are those of Rogers and
         Veraart (2013).
@@ -306,9 +368,9 @@ class Network:
         >>> both.standings[0].state_at_least, both.standings[0].state_at_greatest
         ('contagion', 'sound')
         """
-        return self._ask(CostBounds, "cost-bounds", "--keep", keep, timeout=timeout)
+        return self._ask(CostBounds, "cost-bounds", "--keep", keep, timeout=timeout, limits=limits)
 
-    def breaking(self, timeout: Optional[float] = None) -> Breaking:
+    def breaking(self, timeout: Optional[float] = None, limits: Limits = None) -> Breaking:
         """For each bank the least cut of all cash, 0 to 1,000 per mille, at which it is not sound, and its state then;
         1,001 and `sound` where there is none.
 
@@ -316,9 +378,9 @@ class Network:
         >>> [tuple(one) for one in net.breaking().cuts]
         [('A', 143, 'fundamental'), ('B', 143, 'contagion'), ('C', 1001, 'sound')]
         """
-        return self._ask(Breaking, "breaking", timeout=timeout)
+        return self._ask(Breaking, "breaking", timeout=timeout, limits=limits)
 
-    def impact(self, timeout: Optional[float] = None) -> Impact:
+    def impact(self, timeout: Optional[float] = None, limits: Limits = None) -> Impact:
         """For each bank what the loss of all its cash costs itself and others, and which banks fall by it.
 
         >>> done = Network({"A": 7, "B": 1, "C": 0}, {("A", "B"): 7, ("B", "C"): 8}).impact()
@@ -327,18 +389,18 @@ class Network:
         >>> [pair.of for pair in done.pairs if pair.falls and pair.bank == "A"]
         ['A', 'B']
         """
-        return self._ask(Impact, "impact", timeout=timeout)
+        return self._ask(Impact, "impact", timeout=timeout, limits=limits)
 
-    def rescues(self, timeout: Optional[float] = None) -> Rescues:
+    def rescues(self, timeout: Optional[float] = None, limits: Limits = None) -> Rescues:
         """For each bank in default the least cash to add so that it pays all it owes, and whom that saves besides.
 
         >>> done = Network({"A": 7, "B": 1, "C": 0}, {("A", "B"): 10, ("B", "C"): 9}).rescues()
         >>> [tuple(one) for one in done.banks], [tuple(one) for one in done.saved]
         ([('A', 3, 1, 1, 0), ('B', 1, 1, 0, 1)], [('A', 'B')])
         """
-        return self._ask(Rescues, "rescues", timeout=timeout)
+        return self._ask(Rescues, "rescues", timeout=timeout, limits=limits)
 
-    def compress(self, timeout: Optional[float] = None) -> Compression:
+    def compress(self, timeout: Optional[float] = None, limits: Limits = None) -> Compression:
         """The debts that are left when cycles of debts of one class are cancelled.
 
         >>> ring = Network({"A": 0, "B": 0}, {("A", "B"): 5, ("B", "A"): 3})
@@ -346,9 +408,9 @@ class Network:
         >>> left.cancelled, left.debts.column("claim")
         (6, [2, 0])
         """
-        return self._ask(Compression, "compress", timeout=timeout)
+        return self._ask(Compression, "compress", timeout=timeout, limits=limits)
 
-    def replay(self, journal: JournalLike, timeout: Optional[float] = None) -> Verdict:
+    def replay(self, journal: JournalLike, timeout: Optional[float] = None, limits: Limits = None) -> Verdict:
         """Judges a journal (a `Journal`, its raises, or the name of a file) and gives the payments that a lawful one
         makes.
 
@@ -360,16 +422,24 @@ class Network:
         ('unlawful', 7, Raise(stamp=1, debtor='A', creditor='B', class_=1, to=8))
         """
         data = read_file(journal, None) if is_file(journal) else journal_bytes(journal)
-        verdict = self._ask(Verdict, "replay", third=("journal", data), timeout=timeout)
+        by = limits or (journal.limits if isinstance(journal, Journal) else None)
+        verdict = self._ask(Verdict, "replay", third=("journal", data), timeout=timeout, limits=by)
         if verdict.entry is not None:
             object.__setattr__(verdict, "record", raise_of(data, verdict.entry))
         return verdict
 
     # How the program is asked
 
-    def __getstate__(self) -> Dict[str, bytes]:
-        """What goes to another process: the two files."""
-        return {"_banks": self._banks, "_debts": self._debts}
+    def __getstate__(self) -> Dict[str, Any]:
+        """What goes to another process: the two files, and what was said and told of limits."""
+        kept = ("_banks", "_debts", "_said_limits", "_is_told")
+        return {name: getattr(self, name) for name in kept}
+
+    def _by(self, limits: Limits) -> str:
+        """The limits of a run: those that are said for it, else the network's, which tells that they are wide."""
+        if limits is None:
+            self._tell_limits()
+        return limits or self.limits
 
     @cached_property
     def _asked(self) -> Asked:
@@ -384,21 +454,31 @@ class Network:
         third: Optional[Third] = None,
         known: object = None,
         timeout: Optional[float] = None,
+        limits: Limits = None,
     ) -> T:
         """Runs a task on the files, and reads its text, which must be an answer on them."""
+        by = self._by(limits)
+        words += tuple(sizes.words_of(by))
         with handed_over(self._files(third)) as (files, numbers):
             done = run(line_of(task, files, words), numbers, timeout)
         if done.status not in (0, 7):
             raise self._fault(done, [task, *map(str, words)], third, known)
         result = read_as(text_of(done), kind)
         self._asked.check(result, known)
-        return result.told(text_of(done), self)
+        return result.told(text_of(done), self, by)
 
     @contextlib.contextmanager
     def _stream(
-        self, task: str, *words: object, third: Third, known: object = None, timeout: Optional[float] = None
+        self,
+        task: str,
+        *words: object,
+        third: Third,
+        known: object = None,
+        timeout: Optional[float] = None,
+        limits: Limits = None,
     ) -> Iterator[IO[bytes]]:
         """Runs a task on the files. Its text is read as it comes; that the run failed is said where all is read."""
+        words += tuple(sizes.words_of(self._by(limits)))
         with handed_over(self._files(third)) as (files, numbers):
             with started(line_of(task, files, words), numbers, timeout) as (stream, end):
                 try:
@@ -463,6 +543,14 @@ def effort(workers: int, sweeps: int) -> List[object]:
     return ["--workers", workers, "--sweeps", sweeps]
 
 
+def level_of_caller() -> int:
+    """How many calls above the one that asks is the first outside this package, for a warning about it."""
+    frame, level = sys._getframe(1), 1
+    while frame.f_back is not None and frame.f_globals.get("__name__", "").partition(".")[0] == __package__:
+        frame, level = frame.f_back, level + 1
+    return level
+
+
 def is_file(table: object) -> bool:
     """Whether it is the name of a file."""
     return isinstance(table, (str, os.PathLike))
@@ -484,7 +572,8 @@ def as_scenarios(scenarios: Any) -> Scenarios:
 
 def third_of(scenarios: ScenariosLike) -> Tuple[Third, Optional[Scenarios]]:
     """The file of some scenarios, and these where they are not given as a file."""
-    chosen: Union[Scenarios, bytes] = read_file(scenarios) if is_file(scenarios) else as_scenarios(scenarios)
+    is_named = is_file(scenarios)
+    chosen: Union[Scenarios, bytes] = read_file(scenarios, LARGEST_SCENARIOS) if is_named else as_scenarios(scenarios)
     return as_third(chosen), chosen if isinstance(chosen, Scenarios) else None
 
 

@@ -87,8 +87,9 @@ def proved(found: str) -> str:
     return os.path.abspath(found)
 
 
-MOST_OUTPUT, MOST_MESSAGES = 2_000_000_000, 1_000_000
-"""How many bytes of output and of messages are held; no text of the program is longer."""
+MOST_OUTPUT, MOST_MESSAGES = 5_000_000_000, 1_000_000
+"""How many bytes of output and of messages are held. No text is longer, but that of `stress` on many debts, which
+`map_stress` takes in parts."""
 # The descriptors of files for a run: none that a script between, such as the repository's, may take for itself.
 FIRST_DESCRIPTOR = 100
 

@@ -57,6 +57,9 @@ class Result:
     """The text, as the program printed it."""
     network: "Optional[Network]" = None
     """The network that was asked; None where the result is read from a text alone."""
+    limits: Optional[str] = None
+    """The limits by which the network was read, `standard` or `wide`; None where the result is read from a text
+    alone."""
 
     def tables(self) -> Dict[str, Table[Any]]:
         """The tables by name, none of them with a line of sums. `totals` has these, and what the text says once, such
@@ -70,10 +73,11 @@ class Result:
         """The tables by name, each a pandas `DataFrame`. A single one: `result.payments.to_pandas()`."""
         return {name: table.to_pandas() for name, table in self.tables().items()}
 
-    def told(self: S, text: str, network: "Optional[Network]" = None) -> S:
-        """This result, with its text and its network."""
+    def told(self: S, text: str, network: "Optional[Network]" = None, limits: Optional[str] = None) -> S:
+        """This result, with its text, its network, and the limits by which that was read."""
         object.__setattr__(self, "text", text)
         object.__setattr__(self, "network", network)
+        object.__setattr__(self, "limits", limits)
         return self
 
 
@@ -206,6 +210,11 @@ class Clearing(Flows):
     payments: Table[Payment]
     journal: Optional[Journal] = None
 
+    def told(self, text: str, network: "Optional[Network]" = None, limits: Optional[str] = None) -> "Clearing":
+        if self.journal is not None:
+            self.journal.told("", network, limits)
+        return super().told(text, network, limits)
+
     @property
     def total(self) -> Sums:
         """What is claimed and what is paid in all."""
@@ -241,10 +250,10 @@ class Stress(Result):
 
     scenarios: Tuple[Outcome, ...]
 
-    def told(self, text: str, network: "Optional[Network]" = None) -> "Stress":
+    def told(self, text: str, network: "Optional[Network]" = None, limits: Optional[str] = None) -> "Stress":
         for outcome in self.scenarios:
-            outcome.told("", network)
-        return super().told(text, network)
+            outcome.told("", network, limits)
+        return super().told(text, network, limits)
 
     @cached_property
     def payments(self) -> Table[ScenarioPayment]:

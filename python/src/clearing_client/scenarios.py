@@ -27,10 +27,10 @@ def whole(value: Any, row: int, field: str) -> int:
 class Scenario:
     """What is lost in one state of the world.
 
-    name    what the scenario is called cut     per mille of its cash that every bank loses, 0 to 1,000; what is lost
-    is rounded down losses  units that single banks lose after the cut, as a dict or as pairs of a bank's name and an
-    amount; cash does not
-            fall below 0
+    name    what the scenario is called
+    cut     per mille of its cash that every bank loses, 0 to 1,000; what is lost is rounded down
+    losses  units that single banks lose after the cut, as a dict or as pairs of a bank's name and an amount; cash does
+            not fall below 0
 
     A float is taken where it is a whole number, as in a table, and refused otherwise.
 

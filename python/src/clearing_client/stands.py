@@ -79,6 +79,7 @@ def variations_of(network: Network) -> Dict[str, Ask]:
     }
     if (single := in_one_class(debts)) is not None:
         networks["one class"] = Network(banks, single)
+    networks = {name: network._alike(net) for name, net in networks.items()}
     asked: Dict[str, Ask] = {name: asking(places_of, net) for name, net in networks.items()}
     for keep in KEEPS:
         asked[f"keeps {keep}"] = asking(places_with_costs, network, keep)

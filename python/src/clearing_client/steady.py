@@ -9,7 +9,8 @@ from typing import Callable, Dict, List, Mapping, NamedTuple, Optional, Sequence
 
 from .case import Case
 from .compare import as_case
-from .format import MAX_CASH, MAX_CLAIM, MAX_OUTSIDE, MAX_OWED
+from .format import MAX_CASH, MAX_CLAIM, MAX_OUTSIDE
+from .limits import LIMITS
 from .network import Network
 from .records import Bank, Debt
 
@@ -66,9 +67,9 @@ def other_units(network: Network) -> Dict[str, Network]:
     much where the limits let."""
     banks, debts = list(network.banks), list(network.debts)
     found = {"unit x2": scaled(banks, debts, half)}
-    if within_limits(banks, debts, 2):
+    if within_limits(banks, debts, 2, LIMITS[network.limits].owed):
         found["unit /2"] = scaled(banks, debts, lambda units: 2 * units)
-    return found
+    return {name: network._alike(net) for name, net in found.items()}
 
 
 def half(units: int) -> int:
@@ -85,8 +86,8 @@ def scaled(banks: List[Bank], debts: List[Debt], scale: Callable[[int], int]) ->
     )
 
 
-def within_limits(banks: List[Bank], debts: List[Debt], times: int) -> bool:
-    """Whether all amounts so many times as large are within the limits."""
+def within_limits(banks: List[Bank], debts: List[Debt], times: int, most: int) -> bool:
+    """Whether all amounts so many times as large are within the limits, and all claims together at most so much."""
     is_bank = all(times * bank.cash <= MAX_CASH and times * bank.outside <= MAX_OUTSIDE for bank in banks)
     claims = [debt.claim for debt in debts]
-    return is_bank and times * max(claims, default=0) <= MAX_CLAIM and times * sum(claims) <= MAX_OWED
+    return is_bank and times * max(claims, default=0) <= MAX_CLAIM and times * sum(claims) <= most

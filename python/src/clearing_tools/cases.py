@@ -1,16 +1,18 @@
 """The case of a command line: a folder, or the two files, with what options say over it."""
 import argparse
+import os
 import sys
 from typing import Any, List, Optional
 
 from clearing_client.case import Case
 from clearing_client.errors import CaseError, ClearingError, UnreadableError
-from clearing_client.network import Network
+from clearing_client.limits import LIMITS, STANDARD, WIDE, beyond
+from clearing_client.network import Network, read_file
 from clearing_client.steady import WHY, unsteady
 
 from .fullnames import FullNames, read_labels
 from .money import Money
-from .runner import Failed, shown
+from .runner import Failed, say, shown
 
 UNREADABLE, REFUSED = 3, 4
 MOST_TOLD = 10
@@ -24,13 +26,23 @@ def add_case(parser: argparse.ArgumentParser) -> None:
     )
     parser.add_argument("--banks", metavar="FILE", help="the banks file, where no folder is given")
     parser.add_argument("--debts", metavar="FILE", help="the debts file, where no folder is given")
+    add_limits(parser)
+
+
+def add_limits(parser: Any) -> None:
+    """The word --limits of a tool that has networks read."""
+    parser.add_argument(
+        "--limits",
+        choices=list(LIMITS),
+        help="the limits of the network; wide where it is not said and the network passes the standard ones",
+    )
 
 
 def take_case(parser: argparse.ArgumentParser, asked: argparse.Namespace) -> Case:
     """The case that the words of a tool mean. What else is said beside a folder decides over it: --banks, --debts,
     --scenarios, --labels, --unit, --currency, --title and --default-keeps, as far as the tool has these words. The
     words that are not said are set to what the case has, so that `asked.banks`, `asked.debts` and `asked.scenarios`
-    name files.
+    name files, and `asked.limits` the limits by which they are read.
 
     Ends with 2 where there is neither a folder nor the two files, and fails with 3 where a file cannot be read, and
     with 4 where the folder is refused. What is to be told of the folder is told on standard error."""
@@ -45,7 +57,41 @@ def take_case(parser: argparse.ArgumentParser, asked: argparse.Namespace) -> Cas
             case.paths[word] = said
         elif hasattr(asked, word):
             setattr(asked, word, case.paths.get(word))
+    asked.limits = settle_limits(case, asked.limits)
     return with_words(case, asked)
+
+
+def settle_limits(case: Case, said: Optional[str] = None) -> str:
+    """The limits by which the files of a case are read: those that were said on the command line, else by the case,
+    else those that they need. The case keeps them where they were said, or are wide."""
+    said = said or case.said_limits
+    by = limits_for(said, case.paths["banks"], case.paths["debts"])
+    case.said_limits = said or (WIDE if by == WIDE else None)
+    return by
+
+
+def limits_for(said: Optional[str], banks: str, debts: str) -> str:
+    """The limits by which two files are read: those that were said, else the standard ones, or the wide ones where the
+    files pass these, which is told. What is no file, or cannot be read, is left to the program."""
+    if said is not None or not (os.path.isfile(banks) and os.path.isfile(debts)):
+        return said or STANDARD
+    try:
+        what = long_file(banks=banks, debts=debts) or beyond(read_file(banks), read_file(debts))
+    except (UnreadableError, OSError):
+        return STANDARD
+    if what is None:
+        return STANDARD
+    say(f"the network is read by the wide limits, as it has {what}; --limits wide says so")
+    return WIDE
+
+
+def long_file(**names: str) -> Optional[str]:
+    """The file that is longer than the standard limits have it, in words, without reading it; or nothing."""
+    for file, name in names.items():
+        most = LIMITS[STANDARD].bytes[file]
+        if os.path.getsize(name) > most:
+            return f"a {file} file of more than {most:,} bytes"
+    return None
 
 
 def add_beside(parser: argparse.ArgumentParser) -> None:
@@ -139,7 +185,7 @@ def tell_unsteady(case: Case) -> List[str]:
     if not case.is_described:
         return []
     try:
-        banks = unsteady(Network(case.paths["banks"], case.paths["debts"]))
+        banks = unsteady(Network(case.paths["banks"], case.paths["debts"], limits=case.said_limits))
     except ClearingError as fault:
         raise Failed(str(fault), fault.status if fault.status in (UNREADABLE, REFUSED) else 1) from fault
     if banks:

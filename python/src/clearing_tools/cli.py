@@ -3,6 +3,8 @@ import argparse
 import os
 from typing import Any, Callable, List, NoReturn, Optional, Sequence
 
+from clearing_client import limits
+
 from . import cases, files
 from .runner import Failed, same_file, shown
 
@@ -43,8 +45,8 @@ def case_parser(doc: Optional[str]) -> argparse.ArgumentParser:
 
 
 def words_of(asked: argparse.Namespace) -> List[str]:
-    """The two files as words of the program."""
-    return [f"--banks={asked.banks}", f"--debts={asked.debts}"]
+    """The two files, and the limits by which they are read, as words of the program."""
+    return [f"--banks={asked.banks}", f"--debts={asked.debts}", *limits.words_of(asked.limits)]
 
 
 def number_in(least: int, most: int) -> Callable[[str], int]:

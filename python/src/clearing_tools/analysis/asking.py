@@ -7,7 +7,8 @@ from typing import Any, Callable, Dict, Iterable, Iterator, List, Mapping, Named
 
 from clearing_client import texts
 from clearing_client.errors import TextError
-from clearing_client.format import MAX_BYTES, MAX_SCENARIOS
+from clearing_client.format import MAX_SCENARIOS
+from clearing_client.limits import MOST
 from clearing_client.records import Debt, Standing
 from clearing_client.results import Check, Defaults, Outcomes
 from clearing_client.table import Table
@@ -74,7 +75,7 @@ def scenario_groups(numbers: Iterable[int], texts: Sequence[bytes]) -> Iterator[
         part: List[int] = []
         size = 0
         for number in group:
-            if part and size + len(texts[number]) > MAX_BYTES["scenarios"]:
+            if part and size + len(texts[number]) > MOST.bytes["scenarios"]:
                 yield part
                 part, size = [], 0
             part.append(number)

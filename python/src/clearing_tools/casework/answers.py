@@ -33,6 +33,7 @@ def read_all(folders: Sequence[str]) -> List[Case]:
     found = [cases.read_case(folder) for folder in folders]
     for case in found:
         cases.tell(case)
+        cases.settle_limits(case)
     return found
 
 

@@ -2,8 +2,8 @@
 
 In:  TASK, and the folder of a case, with banks.csv and debts.csv, and, where they are there, scenarios.toml,
      labels.csv, sources/ and datapackage.json, the description by the Data Package standard of Frictionless Data,
-     version 2. A folder with the two files alone is a case too. Importers write one by --case FOLDER, and every tool
-     takes one in place of --banks and --debts.
+     version 2. A folder with the two files alone is a case too. Importers write one by --case FOLDER. Tools that take
+     --banks and --debts take one in their place, and others take it by --case.
 Out: on standard output, or in --output FILE, what the task says; TASK --help has the words of each task.
 
 show       what the case is: title, date, currency, unit, sums, sources, what the import did, and its text
@@ -152,7 +152,8 @@ def check(asked: argparse.Namespace) -> int:
     if sys.version_info < (3, 11):
         # Whose module reads the scenarios.
         names.pop("scenarios", None)
-    linter = lint.Linter(**{what: lint.content_of(what, name) for what, name in names.items()})
+    limits = cases.settle_limits(case)
+    linter = lint.Linter(limits=limits, **{what: lint.content_of(what, name, limits) for what, name in names.items()})
     faults = list(linter.faults)
     told = [f"case: {note}" for note in case.notes]
     if not case.is_described:

@@ -12,10 +12,10 @@ direction, one that a spreadsheet takes for a formula, as it begins with =, +, -
 scripts, such as a Cyrillic a among Latin letters, and two that look the same. Each has a line `warning`, behind the
 faults; warnings are counted in the last line, and change no status.
 
-It accepts exactly the files that `clearing check`, `stress` or `replay` accepts, and the first fault that it names is
-the one that `clearing` does, but for some scenarios (below); whether the raises of a journal are lawful is for `replay`
-to say. What follows from a fault already named is left out where it can be: a bank whose record is faulty counts as a
-bank for the debts, and below a header that says something else altogether nothing is looked at.
+It accepts exactly the files that `clearing check`, `stress` or `replay` accepts by the same limits, and the first fault
+that it names is the one that `clearing` does, but for some scenarios (below); whether the raises of a journal are
+lawful is for `replay` to say. What follows from a fault already named is left out where it can be: a bank whose record
+is faulty counts as a bank for the debts, and below a header that says something else altogether nothing is looked at.
 
 --scenarios needs Python 3.11 or later, whose module tomllib reads the file. Where that knows TOML 1.0 alone, what
 TOML 1.1 added is refused here, though the program reads it: the escape \\x41, and a line break or a last comma within
@@ -38,21 +38,17 @@ from typing import Any, Dict, Iterator, List, Mapping, Optional, Sequence, Set, 
 
 from clearing_client import texts
 from clearing_client.format import (
-    MAX_BANKS,
-    MAX_BYTES,
     MAX_CASH,
     MAX_CLAIM,
     MAX_CUT,
-    MAX_DEBTS,
     MAX_LOSS,
     MAX_OUTSIDE,
-    MAX_OWED,
-    MAX_RAISES,
     MAX_SCENARIOS,
     MAX_STAMP,
     NUMBERS,
     RULES,
 )
+from clearing_client.limits import LIMITS, MOST, STANDARD
 
 from .. import cases, cli, runner
 from ..evidence import bounds
@@ -411,9 +407,10 @@ def is_closing(record: Record) -> bool:
 
 
 class Linter:
-    """All faults of two files and a third, in the order in which the program looks for them."""
+    """All faults of two files and a third by some limits, in the order in which the program looks for them."""
 
-    def __init__(self, banks: bytes, debts: bytes, **third: bytes) -> None:
+    def __init__(self, banks: bytes, debts: bytes, limits: str = STANDARD, **third: bytes) -> None:
+        self.limits = LIMITS[limits]
         self.faults: List[Fault] = []
         # The names of banks and of scenarios that are no fault: by file, the record and the name of each.
         self.named: Dict[str, Dict[str, Record]] = {"banks": {}, "scenarios": {}}
@@ -442,10 +439,15 @@ class Linter:
         self.faults.append(Fault(file, record.line, record.row, field, kind, what, hint))
 
     def is_small(self, file: str, data: bytes) -> bool:
-        if len(data) > MAX_BYTES[file]:
-            what = f"the file is longer than {MAX_BYTES[file]:,} bytes"
+        most = self.limits.bytes[file]
+        if len(data) > most:
+            what = f"the file is longer than {most:,} bytes"
             self.add(file, Record(1, 0, []), "", "file size", what, "are there many empty lines below the records?")
-        return len(data) <= MAX_BYTES[file]
+        return len(data) <= most
+
+    def wider(self) -> str:
+        """What to do where the standard limits are passed."""
+        return "read it by --limits wide" if self.limits is LIMITS[STANDARD] else ""
 
     def rows(self, file: str, data: bytes, words: Sequence[List[str]]) -> Tuple[List[str], List[Record]]:
         """The header that the file has, or means, and the records below it that are not blank."""
@@ -506,10 +508,9 @@ class Linter:
             self.known = {}
         for record in rows:
             self.banks += 1
-            if self.banks == MAX_BANKS + 1:
-                self.add(
-                    "banks", record, "", "too many", f"the file has {len(rows):,} banks, and the most is {MAX_BANKS:,}"
-                )
+            if self.banks == self.limits.banks + 1:
+                what = f"the file has {len(rows):,} banks, and the most is {self.limits.banks:,}"
+                self.add("banks", record, "", "too many", what, self.wider())
             self.check_bank(record, header)
 
     def check_bank(self, record: Record, header: List[str]) -> None:
@@ -520,7 +521,7 @@ class Linter:
             return
         if self.is_name("banks", record, name, "name"):
             first = known.setdefault(name, record)
-            if self.banks <= MAX_BANKS:
+            if self.banks <= self.limits.banks:
                 self.named["banks"].setdefault(text_of(name), record)
             if first is not record:
                 what = f"the bank {shown(name)} is also in line {first.line} (row {first.row})"
@@ -550,16 +551,16 @@ class Linter:
             self.claims = seen
         for record in rows:
             self.debts += 1
-            if self.debts == MAX_DEBTS + 1:
-                self.add(
-                    "debts", record, "", "too many", f"the file has {len(rows):,} debts, and the most is {MAX_DEBTS:,}"
-                )
+            if self.debts == self.limits.debts + 1:
+                what = f"the file has {len(rows):,} debts, and the most is {self.limits.debts:,}"
+                self.add("debts", record, "", "too many", what, self.wider())
             if not self.has_fields("debts", record, header):
                 continue
             claim = self.check_debt(record, header, seen)
-            if owed <= MAX_OWED < owed + claim:
-                what = f"the claims so far come to {owed + claim:,}, and the most is {MAX_OWED:,}"
-                self.add("debts", record, "claim", "total", what, "take a larger unit of account")
+            if owed <= self.limits.owed < owed + claim:
+                what = f"the claims so far come to {owed + claim:,}, and the most is {self.limits.owed:,}"
+                wider = f", or {self.wider()}" if self.wider() else ""
+                self.add("debts", record, "claim", "total", what, f"take a larger unit of account{wider}")
             owed += claim
 
     def check_debt(self, record: Record, header: List[str], seen: Any) -> Any:
@@ -601,7 +602,7 @@ class Linter:
         for at, record in enumerate(rows):
             if is_closing(record):
                 if at + 1 < len(rows):
-                    kind = "fields" if raises < MAX_RAISES else "too many"
+                    kind = "fields" if raises < self.limits.raises else "too many"
                     what = (
                         f"{len(record.fields)} fields in place of {len(header)}"
                         if kind == "fields"
@@ -617,8 +618,8 @@ class Linter:
                     )
                 continue
             raises += 1
-            if raises == MAX_RAISES + 1:
-                self.add("journal", record, "", "too many", f"the most is {MAX_RAISES:,} raises")
+            if raises == self.limits.raises + 1:
+                self.add("journal", record, "", "too many", f"the most is {self.limits.raises:,} raises", self.wider())
             if self.has_fields("journal", record, header):
                 self.check_raise(record, header)
 
@@ -738,9 +739,9 @@ class Linter:
                 yield Fault(file, records[at].line, records[at].row, "name", "warning", what)
 
 
-def faults_of(banks: bytes, debts: bytes, **third: bytes) -> List[Fault]:
+def faults_of(banks: bytes, debts: bytes, limits: str = STANDARD, **third: bytes) -> List[Fault]:
     """The faults of a banks file and a debts file, and of scenarios or a journal, given as bytes."""
-    return Linter(banks, debts, **third).faults
+    return Linter(banks, debts, limits, **third).faults
 
 
 def line_of(fault: Fault, files: Mapping[str, str]) -> str:
@@ -752,11 +753,11 @@ def line_of(fault: Fault, files: Mapping[str, str]) -> str:
     return f"{place}{field}: {kind}: {fault.what}{hint}"
 
 
-def content_of(file: str, name: str) -> bytes:
+def content_of(file: str, name: str, limits: str = STANDARD) -> bytes:
     """The bytes of a file, or one more than the limit of a longer one."""
     try:
         with open(name, "rb") as opened:
-            return opened.read(MAX_BYTES[file] + 1)
+            return opened.read(LIMITS[limits].bytes[file] + 1)
     except OSError as error:
         raise Failed(f"cannot read {name}: {error.strerror}", 3) from error
 
@@ -770,8 +771,9 @@ def main() -> int:
     cases.take_case(parser, words)
     if words.scenarios and sys.version_info < (3, 11):
         parser.error(f"--scenarios needs Python 3.11 or later, and {sys.executable} is {sys.version.split()[0]}")
-    files = {file: getattr(words, file) for file in MAX_BYTES if getattr(words, file) is not None}
-    linter = Linter(**{file: content_of(file, name) for file, name in files.items()})
+    files = {file: getattr(words, file) for file in MOST.bytes if getattr(words, file) is not None}
+    contents = {file: content_of(file, name, words.limits) for file, name in files.items()}
+    linter = Linter(limits=words.limits, **contents)
     faults, warnings = linter.faults, list(linter.warnings())
     count = {0: "no fault", 1: "1 fault"}.get(len(faults), f"{len(faults):,} faults")
     if warnings:

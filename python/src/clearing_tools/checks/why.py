@@ -19,7 +19,8 @@ import re
 import sys
 from typing import Any, Dict, List, Optional, Sequence, Tuple
 
-from clearing_client.format import MAX_BANKS, MAX_KEEP, MAX_SEED, MAX_SWEEPS, MAX_TRIES, MAX_WORKERS, is_name
+from clearing_client.format import MAX_KEEP, MAX_SEED, MAX_SIZE, MAX_SWEEPS, MAX_TRIES, MAX_WORKERS, is_name
+from clearing_client.limits import LIMITS
 
 from .. import runner
 from ..runner import command
@@ -27,24 +28,25 @@ from ..runner import command
 # What each task requires, and what it may have.
 FILES = ["banks", "debts"]
 WORKERS = ["workers", "sweeps"]
+BY = ["limits"]
 TASKS: Dict[str, Tuple[List[str], List[str]]] = {
-    "check": (FILES, []),
-    "clear": (FILES, WORKERS + ["show"]),
-    "central": (FILES, []),
-    "defaults": (FILES, WORKERS),
-    "stress": (FILES + ["scenarios"], WORKERS),
-    "replay": (FILES + ["journal"], []),
+    "check": (FILES, BY),
+    "clear": (FILES, WORKERS + ["show"] + BY),
+    "central": (FILES, BY),
+    "defaults": (FILES, WORKERS + BY),
+    "stress": (FILES + ["scenarios"], WORKERS + BY),
+    "replay": (FILES + ["journal"], BY),
     "gen": (["seed", "size", "tries"], WORKERS),
-    "convert": (FILES, []),
-    "bounds": (FILES, WORKERS),
-    "rescue": (FILES + ["bank"], WORKERS),
-    "compress": (FILES, []),
-    "costs": (FILES + ["keep"], []),
-    "breaking": (FILES, []),
-    "impact": (FILES, []),
-    "rescues": (FILES, []),
-    "outcomes": (FILES + ["scenarios"], []),
-    "cost-bounds": (FILES + ["keep"], []),
+    "convert": (FILES, BY),
+    "bounds": (FILES, WORKERS + BY),
+    "rescue": (FILES + ["bank"], WORKERS + BY),
+    "compress": (FILES, BY),
+    "costs": (FILES + ["keep"], BY),
+    "breaking": (FILES, BY),
+    "impact": (FILES, BY),
+    "rescues": (FILES, BY),
+    "outcomes": (FILES + ["scenarios"], BY),
+    "cost-bounds": (FILES + ["keep"], BY),
 }
 SHOWN = ["payments", "journal", "both"]
 # The value of each option: the name of a file or a bank, one of some words, or a number from one to another.
@@ -58,9 +60,10 @@ OPTIONS = {
     "sweeps": (1, MAX_SWEEPS),
     "show": SHOWN,
     "seed": (0, MAX_SEED),
-    "size": (1, MAX_BANKS),
+    "size": (1, MAX_SIZE),
     "tries": (0, MAX_TRIES),
     "keep": (0, MAX_KEEP),
+    "limits": list(LIMITS),
 }
 
 
@@ -170,8 +173,8 @@ def value_fault(kind: Any, value: str) -> Optional[str]:
         return "the name of a file is not empty, and does not begin with a dash" if value == "" or value.startswith("-") else None
     if kind == "bank":
         return bank_fault(value)
-    if kind is SHOWN:
-        return None if value in SHOWN else f"it is one of {', '.join(SHOWN)}"
+    if isinstance(kind, list):
+        return None if value in kind else f"it is one of {', '.join(kind)}"
     least, most = kind
     if not re.fullmatch("[0-9]{1,20}", value):
         return "a number is 1 to 20 digits 0 to 9, and nothing else"

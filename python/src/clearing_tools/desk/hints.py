@@ -3,7 +3,8 @@ import re
 from decimal import Decimal
 from typing import Any, Mapping
 
-from clearing_client.format import MAX_CASH, MAX_CLAIM, MAX_CUT, MAX_KEEP, MAX_OUTSIDE, MAX_OWED
+from clearing_client.format import MAX_CASH, MAX_CLAIM, MAX_CUT, MAX_KEEP, MAX_OUTSIDE
+from clearing_client.limits import MOST as MOST_BY_LIMITS
 
 from ..checks import lint
 from ..money import Money
@@ -34,7 +35,7 @@ def hint_of(change: Mapping[str, Any], kind: str, money: Money) -> str:
     if kind == "class":
         return str(lint.class_hint(str(change.get("class", "")).encode("utf-8", "replace")))
     if kind == "total":
-        return f"all that banks owe is at most {MAX_OWED:,}; {larger_unit(money)}"
+        return f"all that banks owe is at most {MOST_BY_LIMITS.owed:,}; {larger_unit(money)}"
     if kind == "limit" and field in MOST:
         return f"it is at most {MOST[field]:,}" + (f"; {larger_unit(money)}" if field in ("claim", "add") else "")
     return ""

@@ -10,6 +10,7 @@ from typing import Any, Callable, Dict, Iterator, List, Optional, Sequence, Tupl
 
 from clearing_client import errors, steady
 from clearing_client.format import MAX_CUT, MAX_KEEP
+from clearing_client.limits import LIMITS, of_counts, words_of
 from clearing_client.network import Network
 from clearing_client.records import Bank, Debt
 from clearing_client.results import Costs, Defaults, Impact, Outcomes, Rescue, Rescues
@@ -268,7 +269,8 @@ def unit_pieces(desk: Desk, runs: OwnRuns, place: Place, state: State, bank: Opt
         for one in found.banks
     }
     scales: List[Callable[[int], int]] = [steady.half]
-    if steady.within_limits(banks, debts, 2):
+    needed = of_counts(len(banks), len(debts), sum(debt.claim for debt in debts))
+    if steady.within_limits(banks, debts, 2, LIMITS[desk.case.said_limits or needed].owed):
         scales.append(lambda units: 2 * units)
     answers: List[steady.Places] = []
     for scale in scales:
@@ -281,7 +283,7 @@ def places_of(runs: OwnRuns, place: Place, network: Network, keep: int) -> Dict[
     """How the banks of a network are, by the program."""
     banks, debts = (pathlib.Path(tempfile.mkdtemp(dir=place.path)) / f"{what}.csv" for what in ("banks", "debts"))
     network.write(banks, debts)
-    words = [f"--banks={banks}", f"--debts={debts}"]
+    words = [f"--banks={banks}", f"--debts={debts}", *words_of(network.limits)]
     if keep == MAX_KEEP:
         found: Any = ask.answer_of(runs, ["defaults", *words, "--workers=1"], Defaults)
     else:

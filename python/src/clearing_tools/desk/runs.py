@@ -12,6 +12,7 @@ from clearing_client import program as client
 from clearing_client import texts as parser
 from clearing_client.case import Case
 from clearing_client.format import MAX_SCENARIOS
+from clearing_client.limits import STANDARD, of_counts, words_of
 from clearing_client.records import Payment
 from clearing_client.results import Bounds, Check, CostBounds, Stress
 from clearing_client.table import Table
@@ -124,9 +125,9 @@ class Place:
         return str(path)
 
 
-def base_of(runs: Runs, banks: str, debts: str, scenarios: Optional[str]) -> Base:
+def base_of(runs: Runs, banks: str, debts: str, scenarios: Optional[str], limits: str = STANDARD) -> Base:
     """The network as the program reads it. Its own refusal comes first."""
-    files = [f"--banks={banks}", f"--debts={debts}"]
+    files = [f"--banks={banks}", f"--debts={debts}", *words_of(limits)]
     check = ask.answer_of(runs, ["check", *files], Check)
     chosen: Sequence[shock.Scenario] = ()
     if scenarios is not None:
@@ -170,17 +171,18 @@ class Desk:
 
     def ask(self, state: State) -> Cleared:
         """A state as the program clears it, asked now."""
-        keys, debts_text = self.debts_of(state)
+        keys, debts_text, by = self.debts_of(state)
         rows = [states.row_of(self.base, state, place) for place in range(len(self.base.banks))]
         left = states.left_of(self.base, state)
         with Place(self.runs) as place:
             debts_file = place.put("debts.csv", debts_text)
-            words = [f"--banks={place.put('banks.csv', states.banks_csv(self.base, rows))}", f"--debts={debts_file}"]
+            banks_file = place.put("banks.csv", states.banks_csv(self.base, rows))
+            words = [f"--banks={banks_file}", f"--debts={debts_file}", *by]
             shock_file = place.put("shock.toml", states.shock_toml(self.base, state))
             jobs: List[Any] = [(["stress", *words, f"--scenarios={shock_file}"], Stress)]
             if left is not None:
                 left_file = place.put("left.csv", states.left_csv(self.base, state, left))
-                after = [f"--banks={left_file}", f"--debts={debts_file}"]
+                after = [f"--banks={left_file}", f"--debts={debts_file}", *by]
                 jobs.append((["bounds", *after], Bounds))
                 if state.keep != states.AS_IT_IS.keep:
                     jobs.append((["cost-bounds", *after, f"--keep={state.keep}"], CostBounds))
@@ -199,16 +201,19 @@ class Desk:
         if left is None:
             raise runner.Failed("the state has a number that is none")
         banks = place.put("banks.csv", states.left_csv(self.base, state, left))
-        return [f"--banks={banks}", f"--debts={place.put('debts.csv', self.debts_of(state)[1])}"]
+        _, debts, by = self.debts_of(state)
+        return [f"--banks={banks}", f"--debts={place.put('debts.csv', debts)}", *by]
 
-    def debts_of(self, state: State) -> Tuple[List[int], bytes]:
-        """The keys of a state's debts, and the debts file."""
+    def debts_of(self, state: State) -> Tuple[List[int], bytes, List[str]]:
+        """The keys of a state's debts, the debts file, and the words for the limits that the state needs."""
         mark, (kept, found) = (state.claims, state.added), self.debts
         if kept != mark or found is None:
             debts = list(states.debts_of(self.base, state))
-            found = [debt[0] for debt in debts], states.debts_csv(debts)
+            owed = sum(int(debt[-1]) for debt in debts if str(debt[-1]).isdecimal())
+            by = self.case.said_limits or of_counts(len(self.base.banks), len(debts), owed)
+            found = [debt[0] for debt in debts], states.debts_csv(debts), words_of(by)
             self.debts = mark, found
-        return found[0], found[1]
+        return found
 
     def add_scenario(self, wanted: Mapping[str, Any]) -> int:
         """Takes a scenario into the list, and gives its number. The program judges it as a file of one."""

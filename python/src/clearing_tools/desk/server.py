@@ -226,7 +226,7 @@ class Clock:
 def desk_of(runs: Runs, case: Case) -> Desk:
     """The desk of a case: its network as the program reads it."""
     banks, debts = case.paths["banks"], case.paths["debts"]
-    base = base_of(runs, banks, debts, case.paths.get("scenarios"))
+    base = base_of(runs, banks, debts, case.paths.get("scenarios"), cases.settle_limits(case))
     originals = {what: original_of(path) for what, path in (("banks", banks), ("debts", debts)) if os.path.isfile(path)}
     desk = Desk(runs, base, case, originals)
     desk.full.check((bank.name for bank in base.banks), 4)

@@ -12,7 +12,7 @@ from typing import Any, Dict, List, Mapping, Sequence, Tuple
 from clearing_client.case import FILES, Case
 from clearing_client.description import NAME
 from clearing_client.errors import ClearingError
-from clearing_client.format import MAX_BYTES
+from clearing_client.limits import MOST
 
 from .. import runner
 from . import state as states
@@ -24,7 +24,7 @@ VERSION = 1
 STATES = "session.json"
 MOST_STATES_BYTES = 67_108_864
 EPOCH = (1980, 1, 1, 0, 0, 0)
-MEMBERS = {f"case/{name}": MAX_BYTES["banks"] for name in (*FILES.values(), NAME)}
+MEMBERS = {f"case/{name}": MOST.bytes["banks"] for name in (*FILES.values(), NAME)}
 
 
 def archive_of(files: Mapping[str, bytes]) -> bytes:

@@ -95,7 +95,7 @@ class Taken:
             test=before.test,
             currency=before.currency,
             unit=before.unit,
-            limits=before.limits,
+            limits=before.said_limits,
             keep=int(state.keep) if state.keep != states.AS_IT_IS.keep else before.keep,
             labels=before.labels,
             contributors=before.contributors,

@@ -12,8 +12,7 @@ Out:  a bar for each bank in default, the longest shortfall first: what it pays 
       in the accent. With --payments two bars: what it has, cash and receipts, and below it what it owes, outside
       first and then class by
       class, paid and unpaid. The mark beside a name is the bank's state. --unit and --currency say what a unit of
-      account is worth. The
-      kind of picture is the ending of OUTPUT: .svg, .png or .pdf.
+      account is worth. The kind of picture is the ending of OUTPUT: .svg, .png or .pdf.
 
 Example:
     clearing defaults --banks banks.csv --debts debts.csv >defaults.csv
@@ -21,8 +20,7 @@ Example:
     tools/shortfalls.py defaults.csv shortfalls.svg --payments payments.csv
 
 Ends with 0, with 1 where a file cannot be read or written or is not such a text, and with 2 where the command line is
-not
-understood or matplotlib is missing.
+not understood or matplotlib is missing.
 """
 import argparse
 from typing import Any, Callable, Dict, List, Optional, Sequence, Tuple

@@ -8,17 +8,15 @@ In:   STRESS     what `clearing stress` prints
 Out:  a map with a row for each scenario, in file order, and a column for each bank that defaults in one of them,
       those that default
       most often first. A cell has the share of all it owes that the bank leaves unpaid, as a number and as a strip; a
-      square marks
-      the label own fundamentals, a diamond the label contagion. The margins count the defaults of
-      each scenario and of each bank. The kind of picture is the ending of OUTPUT: .svg, .png or .pdf.
+      square marks the label own fundamentals, a diamond the label contagion. The margins count the defaults of each
+      scenario and of each bank. The kind of picture is the ending of OUTPUT: .svg, .png or .pdf.
 
 Example:
     clearing stress --banks banks.csv --debts debts.csv --scenarios scenarios.toml >stress.txt
     tools/stress_map.py stress.txt stress.svg
 
 Ends with 0, with 1 where a file cannot be read or written or is not such a text, and with 2 where the command line is
-not
-understood or matplotlib is missing.
+not understood or matplotlib is missing.
 """
 from typing import Any, Callable, Dict, Iterator, List, Mapping, NamedTuple, Optional, Sequence, Tuple
 

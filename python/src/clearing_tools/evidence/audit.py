@@ -4,6 +4,10 @@ In:   --banks FILE --debts FILE    the network (docs/FORMATS.md)
       --journal FILE               what `clearing clear --show journal` prints, or a journal that anybody made
       --payments FILE              what `clearing clear` prints
       --defaults FILE              what `clearing defaults` prints
+      --limits standard|wide       the limits by which the files are read: 1,000 banks, 20,000 debts, 10,000,000 units
+                                   owed and as many raises; or 10,000 banks, 1,000,000 debts, 25,000,000 units owed
+                                   and as many raises. Without it the standard ones, or the wide ones for a network
+                                   that is too large for these
 Out:  a line for each thing looked at: `49 raises lawful`, `nobody can pay more`, `payments same`, `defaults same`, and
       what was not checked. Where something is wrong the line says where, and the lines that would follow from it are
       left out.
@@ -102,8 +106,29 @@ KINDS = {
 }
 BANKS, BANKS_2 = b"name,cash,rule".split(b","), b"name,cash,rule,outside".split(b",")
 DEBTS, JOURNAL = b"debtor,creditor,class,claim".split(b","), b"stamp,debtor,creditor,class,to".split(b",")
-SIZES = {"banks": 8_388_608, "debts": 8_388_608, "journal": 1_600_000_000}
-MOST_TABLE = 8_388_608  # no payments or defaults are longer
+
+
+class Limits(NamedTuple):
+    """How many banks, debts, units owed together and raises there may be, and bytes of a banks or debts file and of a
+    journal."""
+
+    banks: int
+    debts: int
+    owed: int
+    raises: int
+    size: int
+    journal: int
+
+    def most_of(self, file: str) -> int:
+        """How many bytes a file has at most; no payments or defaults have more than the two files may have."""
+        return self.journal if file == "journal" else self.size
+
+
+STANDARD, WIDE = "standard", "wide"
+LIMITS = {
+    STANDARD: Limits(1_000, 20_000, 10_000_000, 10_000_000, 8_388_608, 1_600_000_000),
+    WIDE: Limits(10_000, 1_000_000, 25_000_000, 25_000_000, 167_772_160, 4_000_000_000),
+}
 
 
 def shown(text: Union[str, bytes]) -> str:
@@ -125,6 +150,7 @@ class Refused(Exception):
 
     def __init__(self, file: str, row: int, kind: str) -> None:
         super().__init__(f"{file} row {row}: {kind} ({KINDS[kind]})")
+        self.kind = kind
 
 
 # Files.
@@ -236,7 +262,7 @@ def rank_of(field: bytes, file: str, row: int) -> int:
     return int(field)
 
 
-def read_banks(data: bytes) -> List[Bank]:
+def read_banks(data: bytes, by: str = STANDARD) -> List[Bank]:
     """The banks of a banks file, of either version."""
     found = rows("banks", data, BANKS, BANKS_2)
     width = len(next(found)[1])
@@ -244,7 +270,7 @@ def read_banks(data: bytes) -> List[Bank]:
     names: Set[bytes] = set()
     for row, fields in found:
         at = "banks", row
-        must(len(banks) < 1000, *at, "too many")
+        must(len(banks) < LIMITS[by].banks, *at, "too many")
         must(len(fields) == width, *at, "fields")
         must(is_name(fields[0]), *at, "name")
         must(fields[0] not in names, *at, "double bank")
@@ -256,7 +282,7 @@ def read_banks(data: bytes) -> List[Bank]:
     return banks
 
 
-def read_debts(data: bytes, banks: Sequence[Bank]) -> List[Debt]:
+def read_debts(data: bytes, banks: Sequence[Bank], by: str = STANDARD) -> List[Debt]:
     """The debts of a debts file."""
     found = rows("debts", data, DEBTS)
     next(found)
@@ -266,7 +292,7 @@ def read_debts(data: bytes, banks: Sequence[Bank]) -> List[Debt]:
     owed = 0
     for row, fields in found:
         at = "debts", row
-        must(len(debts) < 20_000, *at, "too many")
+        must(len(debts) < LIMITS[by].debts, *at, "too many")
         must(len(fields) == 4, *at, "fields")
         debtor = bank_of(fields[0], places, *at)
         creditor = bank_of(fields[1], places, *at)
@@ -275,31 +301,42 @@ def read_debts(data: bytes, banks: Sequence[Bank]) -> List[Debt]:
         claim = number(fields[3], 10**6, *at)
         must((debtor, creditor, rank) not in seen, *at, "double debt")
         owed += claim
-        must(owed <= 10**7, *at, "total")
+        must(owed <= LIMITS[by].owed, *at, "total")
         seen.add((debtor, creditor, rank))
         debts.append(Debt(debtor, creditor, rank, claim))
     return debts
 
 
-def check_sizes(files: Mapping[str, bytes]) -> None:
+def check_sizes(files: Mapping[str, bytes], by: str = STANDARD) -> None:
     """The sizes of all files come before their contents."""
-    for file, size in SIZES.items():
-        must(len(files.get(file, b"")) <= size, file, 0, "file size")
+    for file in ("banks", "debts", "journal"):
+        must(len(files.get(file, b"")) <= LIMITS[by].most_of(file), file, 0, "file size")
 
 
-def read_network(banks_data: bytes, debts_data: bytes) -> Network:
-    """The network of the two files."""
-    check_sizes({"banks": banks_data, "debts": debts_data})
-    banks = read_banks(banks_data)
-    return Network(banks, read_debts(debts_data, banks))
+def read_network(banks_data: bytes, debts_data: bytes, by: str = STANDARD) -> Network:
+    """The network of the two files, by some limits."""
+    check_sizes({"banks": banks_data, "debts": debts_data}, by)
+    banks = read_banks(banks_data, by)
+    return Network(banks, read_debts(debts_data, banks, by))
+
+
+def limits_needed(banks_data: bytes, debts_data: bytes) -> Tuple[str, str]:
+    """The limits by which the two files are read where nobody says which: the standard ones, or the wide ones where
+    those are passed; and what passes them."""
+    try:
+        read_network(banks_data, debts_data)
+    except Refused as fault:
+        if fault.kind in ("too many", "total", "file size"):
+            return WIDE, str(fault)
+    return STANDARD, ""
 
 
 class Journal:
     """The raises of a journal file, (stamp, debt, to) each. At their end `rounds` is the number of its last line, or
     None."""
 
-    def __init__(self, data: bytes, network: Network) -> None:
-        self.data, self.network = data, network
+    def __init__(self, data: bytes, network: Network, by: str = STANDARD) -> None:
+        self.data, self.network, self.by = data, network, by
         self.rounds: Optional[int] = None
 
     def __iter__(self) -> Iterator[Raise]:
@@ -319,7 +356,7 @@ class Journal:
             if is_end and fields[1].isdigit() and len(fields[1]) <= 20:
                 self.rounds = int(fields[1])
                 return
-            must(count < 10_000_000, "journal", row, "too many")
+            must(count < LIMITS[self.by].raises, "journal", row, "too many")
             must(len(fields) == 5, "journal", row, "fields")
             stamp = number(fields[0], 2**32 - 1, "journal", row)
             x = debts.get((fields[1], fields[2], fields[3]))
@@ -573,12 +610,12 @@ def told(network: Network, verdict: Verdict) -> List[str]:
     return [f"{names[0]} can pay more: {names[1]}, class {network.debts[x].rank}, has {paid} and is to get {units}"]
 
 
-def judge(files: Mapping[str, bytes]) -> Tuple[List[str], int]:
+def judge(files: Mapping[str, bytes], by: str = STANDARD) -> Tuple[List[str], int]:
     """What is told of the contents of these files, by their options, and the status."""
     try:
-        check_sizes(files)
-        network = read_network(files["banks"], files["debts"])
-        journal = Journal(files["journal"], network)
+        check_sizes(files, by)
+        network = read_network(files["banks"], files["debts"], by)
+        journal = Journal(files["journal"], network, by)
         verdict = follow(network, journal)
     except Refused as fault:
         return [str(fault)], 4
@@ -595,13 +632,22 @@ def judge(files: Mapping[str, bytes]) -> Tuple[List[str], int]:
     return lines, status
 
 
-def content_of(option: str, name: str) -> bytes:
+def content_of(option: str, name: str, by: str) -> bytes:
     """The bytes of a file, some more than the limit of a longer one."""
     content = io.BytesIO()
     with open(name, "rb") as file:
-        while content.tell() <= SIZES.get(option, MOST_TABLE) and (block := file.read(1 << 20)):
+        while content.tell() <= LIMITS[by].most_of(option) and (block := file.read(1 << 20)):
             content.write(block)
     return content.getvalue()
+
+
+def told_limits(banks_data: bytes, debts_data: bytes) -> str:
+    """The limits that the two files need; that they are wide is told."""
+    by, why = limits_needed(banks_data, debts_data)
+    if by == WIDE:
+        told = f"the network is read by the wide limits, as it passes the standard ones ({why})"
+        print(f"audit.py: {told}; --limits wide says so", file=sys.stderr)
+    return by
 
 
 def with_streams() -> None:
@@ -625,15 +671,22 @@ def main() -> int:
         parser.add_argument(f"--{option}", metavar="FILE", required=True, help=what)
     parser.add_argument("--payments", metavar="FILE", help="the payments to be compared")
     parser.add_argument("--defaults", metavar="FILE", help="the table of defaults to be compared")
-    files = {}
-    for option, name in vars(parser.parse_args()).items():
+    parser.add_argument("--limits", choices=list(LIMITS), help="the limits of the network and the journal")
+    asked = vars(parser.parse_args())
+    by = asked.pop("limits")
+    files: Dict[str, bytes] = {}
+    for option, name in asked.items():
+        # The two files stand first, and say by which limits the others are read.
+        if by is None and len(files) == 2:
+            by = told_limits(files["banks"], files["debts"])
         if name is not None:
             try:
-                files[option] = content_of(option, name)
+                files[option] = content_of(option, name, by or WIDE)
             except (OSError, ValueError):
                 print(f"audit.py: cannot read {shown(name)}", file=sys.stderr)
                 return 3
-    lines, status = judge(files)
+    by = by or STANDARD
+    lines, status = judge(files, by)
     if status == 4:
         print(f"audit.py: {lines[0]}", file=sys.stderr)
     else:

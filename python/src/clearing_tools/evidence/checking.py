@@ -18,9 +18,9 @@ from ..runner import ROOT, Failed
 from . import audit, shock, source
 from .parts import (
     BANKS, BUILT, CHANGES, DESCRIPTION, FILE, JOURNAL, LABELS, PROGRAM, README, SUMS, TABLES, TEXTS, UNREAD,
-    VERSIONS, CommandOf, NoRoom, Part, checksum_of, commands_of, commands_text, is_stress, most_of, most_of_journal,
-    names_of, opened_in, parts_of, program_sum, read_inputs, read_rescue, rescue_holds, sums_listed, sums_text,
-    words_of,
+    VERSIONS, CommandOf, NoRoom, Part, checksum_of, commands_of, commands_text, is_stress, limits_of, limits_words,
+    most_of, most_of_journal, names_of, opened_in, parts_of, program_sum, read_inputs, read_rescue, rescue_holds,
+    sums_listed, sums_text, words_of,
 )
 
 # No folder of these commands has as many names.
@@ -35,9 +35,10 @@ LIMITS, PROGRAM_LIMITS = runner.Limits(seconds=3600, memory=8 << 30), runner.Lim
 
 
 class Inputs(NamedTuple):
-    """What the inputs of a folder say: the network, the scenarios, what is printed of a rescue, and what these
-    commands make of them."""
+    """What the inputs of a folder say: the limits by which they were read, the network, the scenarios, what is printed
+    of a rescue, and what these commands make of them."""
 
+    by: str
     network: audit.Network
     scenarios: Sequence[shock.Scenario]
     rescue: Optional[bytes]
@@ -154,14 +155,16 @@ def inputs_of(folder: Folder) -> Inputs:
     rescue = folder.read("rescue/rescue.csv") if folder.has("rescue/") else None
     try:
         banks, debts = folder.read("inputs/banks.csv"), folder.read("inputs/debts.csv")
-        network, scenarios = read_inputs(banks, debts, scenarios_data)
+        by = limits_of(folder.read("commands.tsv"))
+        network, scenarios = read_inputs(banks, debts, scenarios_data, by)
     except audit.Refused as fault:
         raise Failed(f"inputs: {fault}", UNREAD) from fault
     except shock.Failed as fault:
         raise Failed(f"inputs: {fault}", fault.status if fault.status == 2 else UNREAD) from fault
     parts = parts_of(network.banks, scenarios, rescue)
     rescued = read_rescue(rescue)[0].decode() if rescue is not None else None
-    return Inputs(network, scenarios, rescue, parts, commands_of(parts, scenarios_data is not None, rescued))
+    commands = commands_of(parts, scenarios_data is not None, rescued, by)
+    return Inputs(by, network, scenarios, rescue, parts, commands)
 
 
 def files_of(folder: Folder, inputs: Inputs) -> Set[str]:
@@ -190,7 +193,16 @@ def described_otherwise(folder: Folder) -> List[str]:
 
 def most_in(name: str, network: audit.Network) -> int:
     """How many bytes a file of a folder with this network has at most."""
+    if name == "stress.csv":
+        return max(most_of(name), 100 * most_of_tables(network))
     return most_of_journal(network) if name.endswith("/journal.csv") else most_of(name)
+
+
+def most_of_tables(network: audit.Network) -> int:
+    """How many bytes the payments and the defaults of a network have at most, with the name of a scenario."""
+    longest = max((len(bank.name) for bank in network.banks), default=0)
+    debt, bank = len(",,9,1000000,1000000\n") + 2 * longest, longest + 6 * 17 + len("fundamental\n")
+    return 1_000 + len(network.debts) * debt + len(network.banks) * bank
 
 
 class Checking:
@@ -326,7 +338,8 @@ class Checking:
         """The files of a network, as words of the tool and of the program."""
         words = words_of(part)
         journal = self.name(f"{part.folder}/journal.csv")
-        return [words[0], self.name(words[1]), words[2], self.name(words[3]), "--journal", journal]
+        by = limits_words(self.known.by)
+        return [words[0], self.name(words[1]), words[2], self.name(words[3]), "--journal", journal, *by]
 
     def name(self, name: str) -> str:
         """The name of a file as a word that no tool takes for an option."""

@@ -13,7 +13,8 @@ looked at
 and for each scenario (scenario-1/ ...) with the banks file that it leaves, a journal, the payments and the defaults;
 with --bank the rescue of that bank, the network with the sum that saves it (rescue/) and with a unit less
 (unit-less/), and the same of each; stress.csv with what `clearing stress` prints, which is compared with all that;
-commands.tsv with the words and the status of each run; versions.txt; and SHA256SUMS over all files. With --source in
+commands.tsv with the words and the status of each run, and the limits in them where they are wide (--limits, or where
+the network needs them); versions.txt; and SHA256SUMS over all files. With --source in
 place of the two files, source/ has the sheets of that command of from_matrix.py, from_list.py or from_totals.py
 (without where it writes), the command and the summary, and the two files are what it makes. With --case the inputs are
 those of a case, with labels.csv and its description, and source/ has its sheets where it keeps them; a case whose files
@@ -53,8 +54,8 @@ from ..runner import ROOT, Failed
 from . import audit, shock, source
 from .checking import check
 from .parts import (
-    CHANGES, DESCRIPTION, LABELS, README, checksum, commands_of, commands_text, contents, parts_of, program_sum,
-    read_inputs, rescue_holds, stress_of, sums_text,
+    CHANGES, DESCRIPTION, LABELS, NETWORK, README, checksum, commands_of, commands_text, contents, limits_words,
+    parts_of, program_sum, read_inputs, rescue_holds, stress_of, sums_text,
 )
 
 # Making.
@@ -106,6 +107,7 @@ def take_case(asked: argparse.Namespace) -> None:
             setattr(asked, name, case.paths.get(name))
     asked.description = os.path.join(asked.case, "datapackage.json") if case.is_described else None
     asked.kept = kept_command(case) if asked.source is None else None
+    asked.limits = asked.limits or case.said_limits
 
 
 def kept_command(case: Any) -> Optional[str]:
@@ -147,7 +149,8 @@ def put_inputs(folder: pathlib.Path, asked: argparse.Namespace) -> None:
     for name in ("banks", "debts", "scenarios"):
         if vars(asked)[name] is not None:
             ending = "toml" if name == "scenarios" else "csv"
-            put(folder, f"inputs/{name}.{ending}", contents(vars(asked)[name]))
+            content = contents(vars(asked)[name]) if name == "scenarios" else contents(vars(asked)[name], NETWORK.size)
+            put(folder, f"inputs/{name}.{ending}", content)
     if asked.changes is not None:
         put(folder, CHANGES, contents(asked.changes))
     if asked.kept is not None:
@@ -162,19 +165,20 @@ def make_in(folder: pathlib.Path, asked: argparse.Namespace) -> str:
     def read(name: str) -> bytes:
         return (folder / name).read_bytes()
 
-    inputs = ["--banks", "inputs/banks.csv", "--debts", "inputs/debts.csv"]
+    by = limits_for(asked.limits, read("inputs/banks.csv"), read("inputs/debts.csv"))
+    inputs = ["--banks", "inputs/banks.csv", "--debts", "inputs/debts.csv", *limits_words(by)]
     # The program's own refusal comes first.
     asking.answer(["check", *inputs], folder)
     rescue = asking.answer(["rescue", *inputs, "--bank", asked.bank], folder) if asked.bank is not None else None
     if asked.scenarios is not None:
         asking.answer(["stress", *inputs, "--scenarios", "inputs/scenarios.toml"], folder)
     scenarios_data = read("inputs/scenarios.toml") if asked.scenarios is not None else None
-    network, scenarios = read_inputs(read("inputs/banks.csv"), read("inputs/debts.csv"), scenarios_data)
+    network, scenarios = read_inputs(read("inputs/banks.csv"), read("inputs/debts.csv"), scenarios_data, by)
     parts = parts_of(network.banks, scenarios, rescue)
     for part in parts:
         if part.banks is not None:
             put(folder, f"{part.folder}/banks.csv", part.banks)
-    commands = commands_of(parts, asked.scenarios is not None, asked.bank)
+    commands = commands_of(parts, asked.scenarios is not None, asked.bank, by)
     answers = asking.all(lambda command: asking.answer(command[1], folder), commands, "run")
     for (file, _), answer in zip(commands, answers):
         put(folder, file, answer)
@@ -191,6 +195,15 @@ def make_in(folder: pathlib.Path, asked: argparse.Namespace) -> str:
     put(folder, "SHA256SUMS", sums)
     count = f"{len(parts)} network{'' if len(parts) == 1 else 's'}, {len(names)} files"
     return f"{count}; SHA256SUMS itself has the checksum {checksum(sums)}"
+
+
+def limits_for(said: Optional[str], banks: bytes, debts: bytes) -> str:
+    """The limits that were said, else those that the two files need; that they are wide is told."""
+    by, why = (said, "") if said else audit.limits_needed(banks, debts)
+    if why:
+        told = f"the network is read by the wide limits, as it passes the standard ones ({why})"
+        runner.say(f"{told}; --limits wide says so")
+    return by
 
 
 def put(folder: pathlib.Path, name: str, content: bytes) -> None:
@@ -275,6 +288,7 @@ def main() -> int:
     making.add_argument("--scenarios", metavar="FILE", help="the scenarios file")
     making.add_argument("--bank", metavar="NAME", help="a bank to be saved")
     making.add_argument("--changes", metavar="FILE", help="a text that says what was changed against other files")
+    making.add_argument("--limits", choices=list(audit.LIMITS), help="the limits of the network")
     tasks.add_parser("check", help="checks a folder", allow_abbrev=False).add_argument("folder", metavar="FOLDER")
     asked = parser.parse_args()
     is_whole = asked.task == "check" or asked.case is not None and asked.source is None

@@ -26,10 +26,12 @@ FILE = re.compile(
     r"|(as-is|scenario-[1-9][0-9]{0,2}|rescue|unit-less)/(banks|journal|payments|defaults)\.csv"
 )
 MOST_OF_OTHERS, MOST_OF_SHEETS, MOST_OF_COMMAND = 8_388_608, 400_000_000, 100_000
+NETWORK = audit.LIMITS[audit.WIDE]
 MOST = {
-    "journal.csv": audit.SIZES["journal"], "stress.csv": 400_000_000, "command.tsv": MOST_OF_COMMAND,
-    "SHA256SUMS": 1_000_000,
+    "banks.csv": NETWORK.size, "debts.csv": NETWORK.size, "payments.csv": NETWORK.size, "rescue.csv": NETWORK.size,
+    "journal.csv": NETWORK.journal, "stress.csv": 400_000_000, "command.tsv": MOST_OF_COMMAND, "SHA256SUMS": 1_000_000,
 }
+WIDELY = ["--limits", audit.WIDE]
 VERSIONS = re.compile(rb"repository [ -~]{1,200}\nprogram [0-9a-f]{64}\ntoolchain [ -~]{1,200}\npython [ -~]{1,100}\n")
 
 Read = Callable[[str], bytes]
@@ -56,7 +58,7 @@ as-is/         the network as it is: a journal of raises, the payments, the defa
 scenario-1/ .. what each scenario leaves: the banks file, and the same three
 rescue/        the banks file with the least sum that saves a bank, and the same three
 unit-less/     with a unit less
-commands.tsv   the words and the status of each run of the program, from this folder
+commands.tsv   the words and the status of each run of the program, from this folder, with the limits where wide
 versions.txt   of the repository, the program and the toolchain
 SHA256SUMS     checksums of all files: `sha256sum --check SHA256SUMS`
 
@@ -95,7 +97,7 @@ def most_of_journal(network: audit.Network) -> int:
     longest = max((len(bank.name) for bank in network.banks), default=0)
     line = len("4294967295,,,9,1000000\n") + 2 * longest
     ends = len(b",".join(audit.JOURNAL)) + 1 + len("rounds,\n") + 20
-    return min(audit.SIZES["journal"], ends + sum(debt.claim for debt in network.debts) * line)
+    return min(NETWORK.journal, ends + sum(debt.claim for debt in network.debts) * line)
 
 
 # What belongs to an evidence.
@@ -142,20 +144,30 @@ def words_of(part: Part) -> List[str]:
     return ["--banks", banks, "--debts", "inputs/debts.csv"]
 
 
-def commands_of(parts: Sequence[Part], has_scenarios: bool, rescued: Optional[str]) -> List[CommandOf]:
-    """Each file that the program prints, with the words that make it."""
-    inputs = ["--banks", "inputs/banks.csv", "--debts", "inputs/debts.csv"]
+def commands_of(parts: Sequence[Part], has_scenarios: bool, rescued: Optional[str], by: str) -> List[CommandOf]:
+    """Each file that the program prints, with the words that make it, which say the limits where they are wide."""
+    inputs = ["--banks", "inputs/banks.csv", "--debts", "inputs/debts.csv", *limits_words(by)]
     commands = []
     if has_scenarios:
         commands.append(("stress.csv", ["stress", *inputs, "--scenarios", "inputs/scenarios.toml"]))
     if rescued is not None:
         commands.append(("rescue/rescue.csv", ["rescue", *inputs, "--bank", rescued]))
     for part in parts:
-        files = words_of(part)
+        files = [*words_of(part), *limits_words(by)]
         commands.append((f"{part.folder}/journal.csv", ["clear", *files, "--show", "journal", "--workers", "1"]))
         commands.append((f"{part.folder}/payments.csv", ["clear", *files, "--workers", "1"]))
         commands.append((f"{part.folder}/defaults.csv", ["defaults", *files, "--workers", "1"]))
     return commands
+
+
+def limits_words(by: str) -> List[str]:
+    """The words of a command for some limits: none for the standard ones."""
+    return WIDELY if by == audit.WIDE else []
+
+
+def limits_of(commands: bytes) -> str:
+    """The limits that the commands of a folder were run by, as commands.tsv has them."""
+    return audit.WIDE if "\t".join(["", *WIDELY]).encode() in commands.partition(b"\n")[2] else audit.STANDARD
 
 
 def names_of(parts: Iterable[Part], commands: Iterable[CommandOf], has_scenarios: bool) -> Set[str]:
@@ -216,10 +228,10 @@ def rescue_holds(network: audit.Network, rescue: bytes, read: Read) -> bool:
 
 
 def read_inputs(
-    banks_data: bytes, debts_data: bytes, scenarios_data: Optional[bytes]
+    banks_data: bytes, debts_data: bytes, scenarios_data: Optional[bytes], by: str
 ) -> Tuple[audit.Network, Sequence[shock.Scenario]]:
-    """The network and the scenarios of the inputs."""
-    network = audit.read_network(banks_data, debts_data)
+    """The network and the scenarios of the inputs, by some limits."""
+    network = audit.read_network(banks_data, debts_data, by)
     scenarios = shock.read_scenarios(scenarios_data, network.banks) if scenarios_data is not None else []
     return network, scenarios
 

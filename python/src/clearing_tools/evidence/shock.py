@@ -179,14 +179,19 @@ def main() -> None:
     parser.add_argument("--scenarios", metavar="FILE", required=True, help="the scenarios file")
     parser.add_argument("--scenario", metavar="N", type=int, required=True, help="the scenario's number, from 1")
     parser.add_argument("--output", metavar="FILE", help="the file to write, standard output where it is not given")
+    parser.add_argument("--limits", choices=list(audit.LIMITS), help="the limits of the banks")
     asked = parser.parse_args()
     for name in (asked.banks, asked.scenarios):
         if asked.output is not None and files.is_same(name, asked.output):
             raise Failed(f"{audit.shown(asked.output)} would be written over", 2)
-    banks_data, scenarios_data = contents(asked.banks), contents(asked.scenarios)
+    banks_data, scenarios_data = contents(asked.banks, audit.LIMITS[audit.WIDE].size), contents(asked.scenarios)
+    by = asked.limits or audit.limits_needed(banks_data, b"debtor,creditor,class,claim\n")[0]
+    if by != asked.limits and by == audit.WIDE:
+        what = f"the banks are read by the wide limits, as they pass the standard ones; --limits {by} says so"
+        print(f"{os.path.basename(sys.argv[0])}: {what}", file=sys.stderr)
     try:
-        audit.check_sizes({"banks": banks_data})
-        banks = audit.read_banks(banks_data)
+        audit.check_sizes({"banks": banks_data}, by)
+        banks = audit.read_banks(banks_data, by)
     except audit.Refused as fault:
         raise Failed(str(fault), 4) from fault
     scenarios = read_scenarios(scenarios_data, banks)

@@ -15,7 +15,7 @@ Ends with 0, or with 1 where a file cannot be written, or with 2 where the words
 """
 from typing import Dict, List, Tuple
 
-from clearing_client.format import MAX_BANKS, MAX_SEED, MAX_TRIES, RULES
+from clearing_client.format import MAX_SEED, MAX_SIZE, MAX_TRIES, RULES
 from clearing_client.texts import BANKS_1, DEBTS
 
 from .. import cli, files
@@ -69,7 +69,7 @@ def main() -> None:
     parser.add_argument(
         "--seed", required=True, type=cli.number_in(0, MAX_SEED), help="the number the network is made from"
     )
-    parser.add_argument("--size", required=True, type=cli.number_in(1, MAX_BANKS), help="how many banks are made")
+    parser.add_argument("--size", required=True, type=cli.number_in(1, MAX_SIZE), help="how many banks are made")
     parser.add_argument("--tries", required=True, type=cli.number_in(0, MAX_TRIES), help="how many debts are tried")
     parser.add_argument("--banks", required=True, metavar="FILE", help="the banks file to write")
     parser.add_argument("--debts", required=True, metavar="FILE", help="the debts file to write")

@@ -110,6 +110,8 @@ def add_own(add: Callable[..., Any]) -> None:
 class Line:
     """A line of the list: its row, and the debt that it is part of."""
 
+    __slots__ = ("row", "debtor", "creditor", "rank", "amount")
+
     row: Any
     debtor: str
     creditor: str

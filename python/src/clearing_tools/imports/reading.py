@@ -5,7 +5,8 @@ import codecs
 import csv
 import io
 import re
-from typing import Iterable, List, Optional, Sequence, Tuple
+from itertools import repeat
+from typing import Dict, Iterable, List, Optional, Sequence, Tuple
 
 from .. import files
 from ..runner import Failed
@@ -134,9 +135,11 @@ def text_rows(name: str, words: argparse.Namespace, skip: int) -> Rows:
     csv.field_size_limit(len(text) + 1)
     reader, last, number = csv.reader(lines, delimiter=delimiter, strict=True), 0, 0
     rows, spans, above = [], [], []
+    # A text that stands in many cells is held once.
+    held: Dict[str, str] = {}
     try:
         for number, record in enumerate(reader, 1):
-            record = [field.strip(" \t") for field in record]
+            record = [held.setdefault(field, field) for field in map(str.strip, record, repeat(" \t"))]
             if number > skip and any(record):
                 rows.append((number, record))
                 spans.append((last, reader.line_num))

@@ -15,13 +15,12 @@ Out: in --out FOLDER the files banks.csv and debts.csv; with --samples N the fol
 
 --method says which of the networks that have these totals:
   entropy   claims as even as the totals allow, each bank owing each: maximum entropy, by iterative proportional fitting
-            (the usual one; it understates contagion, see Upper 2011). Of more than --most claims (20,000) so many stay:
-            some by which the totals can be kept, at most two for each bank, then the largest; they are fitted anew to
-            the same totals, and what was left out is told
+            (the usual one; it understates contagion, see Upper 2011). Of more than --most claims (20,000, or 1,000,000
+            by --limits wide or of more than 1,000 banks) so many stay: some by which the totals can be kept, at most
+            two for each bank, then the largest; they are fitted anew to the same totals, and what was left out is told
   sparse    few claims: minimum density, in the manner of Anand, Craig and von Peter (2015): pairs of banks are drawn,
-  the
-            more likely the more what one has left differs from the other, and load all that both have left; of --tries
-            runs (20, fewer for more than 120 banks) the one of fewest claims
+            the more likely the more what one has left differs from the other, and load all that both have left; of
+            --tries runs (20, fewer for more than 120 banks) the one of fewest claims
   sample    networks at random, by a sampler over cycles of claims as that of Gandy and Veraart (2017), in whole units:
             each claim is there with the probability --density (0.3, or less, so that about 16,000 claims come), and its
             size is geometric. --steps (200 for each pair of banks, 2,000,000 at most) are made before the first sample
@@ -42,7 +41,8 @@ import os
 from fractions import Fraction
 from typing import Any, Callable, Dict, Iterable, Iterator, List, Optional, Sequence, Tuple
 
-from clearing_client.format import MAX_BANKS, MAX_CASH, MAX_CLAIM, MAX_DEBTS, MAX_OUTSIDE, MAX_OWED, MAX_SEED
+from clearing_client.format import MAX_CASH, MAX_CLAIM, MAX_OUTSIDE, MAX_SEED
+from clearing_client.limits import LIMITS, MOST, STANDARD, WIDE, Limits, of_counts
 from clearing_client.texts import DEBTS
 
 from .. import cli, files
@@ -67,7 +67,7 @@ from .matrix import Made, tell_read
 from .methods import Claims, Totals, networks_of, some_network
 from .summary import Summary
 from .tables import Cells, Table
-from .units import Bank, Network, codes_of, handy_units, units_of
+from .units import Bank, Network, codes_of, handy_units, tell_limits, units_of
 
 Known = Dict[Tuple[str, str], Tuple[Amount, Table, Any]]
 """Amounts by the names of debtor and creditor, each with its table and row."""
@@ -98,9 +98,8 @@ def add_own(add: Callable[..., Any]) -> None:
     add("--known", metavar="FILE", help="a list of claims that are known and stay (debtor, creditor, amount)")
     add(
         "--most",
-        type=cli.number_in(1, MAX_DEBTS),
-        default=MAX_DEBTS,
-        help=f"so many claims of entropy, the largest ({MAX_DEBTS:,})",
+        type=cli.number_in(1, MOST.debts),
+        help=f"so many claims of entropy, the largest ({LIMITS[STANDARD].debts:,}; {MOST.debts:,} by --limits wide)",
     )
     add(
         "--rest",
@@ -123,7 +122,15 @@ def parsed(words: Optional[Sequence[str]] = None) -> argparse.Namespace:
     asked = sheet_words.parsed(parser(), words)
     if asked.samples and asked.method == "entropy":
         parser().error("there is one network of maximum entropy; --samples is for sparse and sample")
+    if asked.most and asked.most > LIMITS[asked.limits or WIDE].debts:
+        parser().error(f"--most {asked.most} is more than the standard limits have, {LIMITS[STANDARD].debts:,}")
     return asked
+
+
+def limits_of(words: argparse.Namespace, banks: int) -> Limits:
+    """The limits by which claims and a unit are chosen: those that were said, else those that --most and the banks
+    need."""
+    return LIMITS[words.limits or of_counts(banks, words.most or 0, 0)]
 
 
 # Totals in whole units
@@ -241,7 +248,7 @@ def units_for(
     amounts = [*owes, *owed, *(bank.cash for bank in banks), *(bank.outside for bank in banks)]
     finest = Fraction(1, 10 ** max(map(decimals_of, amounts), default=0))
     for unit in handy_units(finest):
-        if units_of(sum(owes), unit) <= MAX_OWED and all(
+        if units_of(sum(owes), unit) <= limits_of(words, len(banks)).owed and all(
             units_of(bank.cash, unit) <= MAX_CASH and units_of(bank.outside, unit) <= MAX_OUTSIDE for bank in banks
         ):
             yield unit
@@ -250,10 +257,10 @@ def units_for(
 # Files
 
 
-def check_network(claims: Claims, where: str, faults: Faults, table: Table) -> None:
+def check_network(claims: Claims, where: str, faults: Faults, table: Table, limits: Limits) -> None:
     """Refuses a network beyond the limits."""
-    if len(claims) > MAX_DEBTS:
-        what = f"{where}{len(claims):,} debts, {len(claims) - MAX_DEBTS:,} more than the most, {MAX_DEBTS:,}"
+    if len(claims) > limits.debts:
+        what = f"{where}{len(claims):,} debts, {len(claims) - limits.debts:,} more than the most, {limits.debts:,}"
         faults.add(
             table, None, None, f"{what}; take --method sparse, or sample with a smaller --density and more --steps"
         )
@@ -316,10 +323,9 @@ def read_totals(
     faults.end_if_any()
     rates.tell(summary)
     with_the_rest(names, banks, owes, owed, table, words, faults, summary)
-    if len(names) > MAX_BANKS:
-        faults.add(
-            table, None, None, f"{len(names):,} banks, {len(names) - MAX_BANKS:,} more than the most, {MAX_BANKS:,}"
-        )
+    most = LIMITS[words.limits or WIDE].banks
+    if len(names) > most:
+        faults.add(table, None, None, f"{len(names):,} banks, {len(names) - most:,} more than the most, {most:,}")
     faults.end_if_any()
     check_sums(names, owes, owed, table, faults)
     faults.end_if_any()
@@ -391,12 +397,13 @@ def in_units(
             if (Fraction(amount) / unit).denominator != 1 and not words.round and words.unit != "auto":
                 what = f"{shown(amount)} is not a whole number of units; take a smaller --unit, or --round"
                 faults.add(table, table.rows.get(bank.name), column, what)
-    if total > MAX_OWED:
+    limits = LIMITS[words.limits or WIDE]
+    if total > limits.owed:
         faults.add(
             table,
             None,
             None,
-            f"all claims come to {total:,} units: {total - MAX_OWED:,} more than the most, {MAX_OWED:,}; take a "
+            f"all claims come to {total:,} units: {total - limits.owed:,} more than the most, {limits.owed:,}; take a "
             "larger --unit, or --unit auto",
         )
     for bank in banks:
@@ -489,6 +496,7 @@ def made(words: argparse.Namespace) -> Made:
     """The files that the words ask for, each with its text, what is read, and the summary."""
     faults, summary = Faults(), Summary()
     table, banks, owes, owed = read_totals(words, faults, summary)
+    words.most = words.most or limits_of(words, len(banks)).debts
     known = read_known(words, faults)
     faults.end_if_any()
     unit, totals, networks, cut, told = networks_in_units(table, banks, owes, owed, known, words, faults)
@@ -505,7 +513,8 @@ def made(words: argparse.Namespace) -> Made:
     has_outside, pairs = bool(words.outside), []
     for at, claims in enumerate(networks, 1):
         check_exact(claims, totals)
-        check_network(claims, f"network {at} has " if words.samples else "", faults, table)
+        where = f"network {at} has " if words.samples else ""
+        check_network(claims, where, faults, table, LIMITS[words.limits or WIDE])
         pairs.append(
             (str(at) if words.samples else "", texts_of(banks, claims, unit, has_outside, words.class_, codes))
         )
@@ -515,6 +524,7 @@ def made(words: argparse.Namespace) -> Made:
             "debts made", len(claims), totals.sum * unit, f"{totals.sum:,} units, the largest {most:,}, in {folder}"
         )
     faults.end_if_any()
+    tell_limits(summary, words.limits, of_counts(len(banks), max(map(len, networks)), totals.sum))
     network = Network(banks, [], has_outside, codes)
     network.labels = sheet_words.labels_in(network, table, words)
     for number, texts in pairs:

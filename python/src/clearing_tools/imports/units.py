@@ -4,9 +4,10 @@ import re
 from collections import defaultdict
 from dataclasses import dataclass, field
 from fractions import Fraction
-from typing import Any, Dict, Iterable, Iterator, List, Mapping, Tuple
+from typing import Any, Dict, Iterable, Iterator, List, Mapping, Optional, Tuple, Union
 
-from clearing_client.format import MAX_BANKS, MAX_CASH, MAX_CLAIM, MAX_DEBTS, MAX_OUTSIDE, MAX_OWED, is_name
+from clearing_client.format import MAX_CASH, MAX_CLAIM, MAX_OUTSIDE, is_name
+from clearing_client.limits import LIMITS, STANDARD, WIDE, Limits, of_counts
 from clearing_client.texts import DEBTS
 
 from .. import files
@@ -31,6 +32,8 @@ class Bank:
 class Debt:
     """A debt in the amounts of a sheet, with its place: the table, the row and the column."""
 
+    __slots__ = ("debtor", "creditor", "rank", "amount", "place")
+
     debtor: str
     creditor: str
     rank: int
@@ -50,13 +53,13 @@ class Network:
     # The table of the banks, which may have more of their names.
     table: Any = None
 
-    def amounts(self) -> Iterator[Tuple[Amount, int, str]]:
-        """Each amount with its limit in units, what it is, and its place."""
+    def amounts(self) -> Iterator[Tuple[Amount, int, Union[Bank, Debt]]]:
+        """Each amount with its limit in units, and the bank or the debt that has it."""
         for bank in self.banks:
-            yield bank.cash, MAX_CASH, f"the cash of {bank.name}"
-            yield bank.outside, MAX_OUTSIDE, f"what {bank.name} owes outside"
+            yield bank.cash, MAX_CASH, bank
+            yield bank.outside, MAX_OUTSIDE, bank
         for debt in self.debts:
-            yield debt.amount, MAX_CLAIM, f"the claim of {debt.creditor} on {debt.debtor}"
+            yield debt.amount, MAX_CLAIM, debt
 
     def owed(self) -> Amount:
         return sum(debt.amount for debt in self.debts)
@@ -102,15 +105,26 @@ def units_of(amount: Amount, unit: Fraction) -> int:
     return amount if unit == 1 and isinstance(amount, int) else round(Fraction(amount) / unit)
 
 
-def breaks(network: Network, unit: Fraction) -> Iterator[str]:
+def off_by(amount: Amount, unit: Fraction) -> Amount:
+    """By how much an amount is changed where it is rounded to whole units."""
+    if isinstance(amount, int) and unit.denominator == 1 and amount % unit.numerator == 0:
+        return 0
+    return abs(units_of(amount, unit) * unit - amount)
+
+
+def breaks(network: Network, unit: Fraction, limits: Limits) -> Iterator[str]:
     """What passes a limit in a unit, and by how much, each in a line."""
-    for amount, most, what in network.amounts():
+    for amount, most, owner in network.amounts():
         units = units_of(amount, unit)
         if units > most:
+            if isinstance(owner, Debt):
+                what = f"the claim of {owner.creditor} on {owner.debtor}"
+            else:
+                what = f"the cash of {owner.name}" if most == MAX_CASH else f"what {owner.name} owes outside"
             yield f"{what} is {shown(amount)}, in units {units:,}: {units - most:,} more than the most, {most:,}"
     owed = sum(units_of(debt.amount, unit) for debt in network.debts)
-    if owed > MAX_OWED:
-        yield f"all claims come to {owed:,} units: {owed - MAX_OWED:,} more than the most, {MAX_OWED:,}"
+    if owed > limits.owed:
+        yield f"all claims come to {owed:,} units: {owed - limits.owed:,} more than the most, {limits.owed:,}"
 
 
 def handy_units(least: Fraction) -> Iterator[Fraction]:
@@ -121,29 +135,47 @@ def handy_units(least: Fraction) -> Iterator[Fraction]:
         least *= 10
 
 
-def auto_unit(network: Network) -> Fraction:
+def auto_unit(network: Network, limits: Limits) -> Fraction:
     """The smallest unit that keeps all limits, of 1, 2 and 5 times the powers of ten, and no finer than the amounts
     are."""
-    amounts = [amount for amount, _, _ in network.amounts()]
-    finest = Fraction(1, 10 ** max(map(decimals_of, amounts), default=0))
-    bound = max(
-        [Fraction(amount, most) for amount, most, _ in network.amounts()] + [Fraction(network.owed(), MAX_OWED)]
-    )
-    return next(unit for unit in handy_units(finest) if 2 * unit >= bound and not any(breaks(network, unit)))
+    finest = Fraction(1, 10 ** max((decimals_of(amount) for amount, _, _ in network.amounts()), default=0))
+    largest: Dict[int, Amount] = {limits.owed: network.owed()}
+    for amount, most, _ in network.amounts():
+        if amount > largest.get(most, 0):
+            largest[most] = amount
+    bound = max(Fraction(amount, most) for most, amount in largest.items())
+    return next(unit for unit in handy_units(finest) if 2 * unit >= bound and not any(breaks(network, unit, limits)))
+
+
+def tell_limits(summary: Summary, said: Optional[str], needed: str) -> None:
+    """Tells where a network needs the wide limits."""
+    if needed == WIDE:
+        what = "as was said" if said else f"as the standard ones have {standard_words()}"
+        summary.tell("limits", detail=f"wide, {what}: clearing reads the files by --limits wide")
+
+
+def standard_words() -> str:
+    """The standard limits in words."""
+    limits = LIMITS[STANDARD]
+    return f"at most {limits.banks:,} banks, {limits.debts:,} debts and {limits.owed:,} units owed"
 
 
 class Units:
     """A network in whole units, and what was done to come to them."""
 
     def __init__(self, network: Network, words: argparse.Namespace, faults: Faults, table: Any) -> None:
-        self.network, self.unit = network, words.unit
+        self.network, self.unit, self.said = network, words.unit, words.limits
         self.is_auto = words.unit == "auto"
+        # A unit is chosen by the limits that the network needs for its banks and debts alone.
+        debts = sum(1 for debt in network.debts if debt.amount)
+        limits = LIMITS[self.said or of_counts(len(network.banks), debts, 0)]
+        most = LIMITS[self.said or WIDE]
         if self.is_auto:
-            self.unit = auto_unit(network)
-        elif any(breaks(network, self.unit)):
-            for line in breaks(network, self.unit):
+            self.unit = auto_unit(network, limits)
+        elif any(breaks(network, self.unit, most)):
+            for line in breaks(network, self.unit, most):
                 faults.add(table, None, None, line)
-            unit = shown(auto_unit(network))
+            unit = shown(auto_unit(network, limits))
             faults.add(
                 table,
                 None,
@@ -154,14 +186,23 @@ class Units:
         self.check_counts(faults, table)
         if not self.is_auto and not words.round:
             for debt in network.debts:
-                if (Fraction(debt.amount) / self.unit).denominator != 1:
+                if off_by(debt.amount, self.unit):
                     faults.add(*debt.place, not_whole(debt.amount), kind="whole")
 
     def check_counts(self, faults: Faults, table: Any) -> None:
-        count = sum(1 for debt in self.network.debts if units_of(debt.amount, self.unit))
-        for found, most, what in [(len(self.network.banks), MAX_BANKS, "banks"), (count, MAX_DEBTS, "debts")]:
+        count, limits = self.count(), LIMITS[self.said or WIDE]
+        for found, most, what in [(len(self.network.banks), limits.banks, "banks"), (count, limits.debts, "debts")]:
             if found > most:
                 faults.add(table, None, None, f"{found:,} {what}, {found - most:,} more than the most, {most:,}")
+
+    def count(self) -> int:
+        """How many debts have a unit."""
+        return sum(1 for debt in self.network.debts if units_of(debt.amount, self.unit))
+
+    def needed(self) -> str:
+        """The limits that the network needs in its unit."""
+        owed = sum(units_of(debt.amount, self.unit) for debt in self.network.debts)
+        return of_counts(len(self.network.banks), self.count(), owed)
 
     def named(self, name: str) -> str:
         return self.network.codes.get(name, name)
@@ -201,13 +242,14 @@ class Units:
             )
             summary.tell(f"{what} made", count, made, f"in units of {shown(unit)}: {sum(units):,}{off}")
         self.tell_rounding(summary)
+        tell_limits(summary, self.said, self.needed())
 
     def tell_rounding(self, summary: Summary) -> None:
         unit = self.unit
-        off = [abs(units_of(a, unit) * unit - a) for a, _, _ in self.network.amounts()]
-        if any(off):
+        off = [gap for gap in (off_by(amount, unit) for amount, _, _ in self.network.amounts()) if gap]
+        if off:
             detail = f"by {shown(sum(off))} together, the largest by {shown(max(off))}"
-            summary.tell("amounts rounded", sum(map(bool, off)), None, detail, step="rounded")
+            summary.tell("amounts rounded", len(off), None, detail, step="rounded")
         lost = [debt for debt in self.network.debts if debt.amount and not units_of(debt.amount, unit)]
         if lost:
             some = ", ".join(f"{debt.debtor} owes {debt.creditor} {shown(debt.amount)}" for debt in lost[:3])

@@ -7,9 +7,10 @@ import sys
 from fractions import Fraction
 from typing import Callable, Dict, Iterable, List, Optional, Sequence, Tuple, Union
 
-from clearing_client.format import MAX_BYTES, RULES, is_name
+from clearing_client.format import RULES, is_name
+from clearing_client.limits import LIMITS, WIDE
 
-from .. import cli, files
+from .. import cases, cli, files
 from ..runner import Failed
 from . import left_out, made_case
 from .amounts import Amount, Amounts, Unread, is_null, shown
@@ -82,6 +83,7 @@ def add_words(parser: argparse.ArgumentParser) -> None:
     add("--class", dest="class_", type=int, default=1, choices=range(1, 10), help="the class of all debts (1)")
     add("--unit", type=unit_in, default=Fraction(1), help="what a unit of account is worth in the sheet (1), or auto")
     add("--round", action="store_true", help="round to whole units")
+    cases.add_limits(parser)
     add("--decimal", choices=[".", ","], help="the sign before decimals")
     add("--thousands", choices=[".", ",", "'", " "], help="the sign between thousands")
     add(
@@ -262,10 +264,11 @@ def outputs_of(
 
 def write(outputs: Outputs, inputs: Sequence[Optional[str]], summary: Summary, words: argparse.Namespace) -> None:
     """Writes the files, all or none, and then tells what was done: on standard error, or in the file of the summary."""
+    most = LIMITS[words.limits or WIDE].bytes["banks"]
     for name, text in outputs:
         size = len(text) if isinstance(text, bytes) else len(text.encode())
-        if size > MAX_BYTES["banks"] and os.path.dirname(name) != os.path.join(words.case or "", "sources"):
-            raise Failed(f"{name} would have {size:,} bytes, and the most is {MAX_BYTES['banks']:,}")
+        if size > most and os.path.dirname(name) != os.path.join(words.case or "", "sources"):
+            raise Failed(f"{name} would have {size:,} bytes, and the most is {most:,}")
     if words.summary:
         outputs = [*outputs, (words.summary, summary.table())]
     files.write_all(outputs, inputs)

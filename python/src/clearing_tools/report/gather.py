@@ -49,7 +49,8 @@ import time
 from typing import Dict, List, Optional, Sequence, Tuple, Union
 
 from clearing_client.case import Case
-from clearing_client.format import MAX_BYTES, MAX_KEEP
+from clearing_client.format import MAX_KEEP
+from clearing_client.limits import LIMITS, MOST, STANDARD, words_of
 from clearing_client.results import Bounds, Breaking, Check, Impact, Rescues
 from clearing_client.results import Verdict as Judged
 
@@ -79,7 +80,7 @@ def inputs_of(asked: argparse.Namespace) -> List[Given]:
     return [
         Given(what, name, os.path.getsize(name), sum_of(name))
         for what, name in names
-        if name and os.path.isfile(name) and os.path.getsize(name) <= max(MAX_BYTES.values())
+        if name and os.path.isfile(name) and os.path.getsize(name) <= max(MOST.bytes.values())
     ]
 
 
@@ -148,7 +149,7 @@ def changes_of(name: Optional[str]) -> List[str]:
     """What was changed against other files, a line each; none where no file says so."""
     if name is None:
         return []
-    text = pathlib.Path(name).read_bytes()[: max(MAX_BYTES.values())].decode("utf-8", "backslashreplace")
+    text = pathlib.Path(name).read_bytes()[: MOST.bytes["scenarios"]].decode("utf-8", "backslashreplace")
     lines = [line for line in text.removeprefix("\ufeff").replace("\r\n", "\n").split("\n") if line.strip()]
     # What holds a name apart stays.
     apart = re.compile("([\u2068\u2069])")
@@ -173,7 +174,7 @@ def head_of(case: Case, asked: argparse.Namespace, banks: int) -> Head:
 def gather(case: Case, asked: argparse.Namespace, folder: str) -> Matter:
     """Asks the program for all that the page has."""
     program, inputs = Program(folder), inputs_of(asked)
-    names = ["--banks", asked.banks, "--debts", asked.debts]
+    names = ["--banks", asked.banks, "--debts", asked.debts, *words_of(asked.limits)]
     known = program.result("check", Check, program.ask("check.csv", "check", *names)).banks
     cash, outside = ({bank.name: getattr(bank, word) for bank in known} for word in ("cash", "outside"))
     payments = program.ask("payments.csv", "clear", *names)
@@ -185,15 +186,17 @@ def gather(case: Case, asked: argparse.Namespace, folder: str) -> Matter:
     journal = journal_of(program, names, asked.journal)
     verdict = verdict_of(program, payments)
     place = {(debt.debtor, debt.creditor, str(debt.class_)): at for at, debt in enumerate(debts)}
-    frames = frames_of(read_journal(journal, place)) if verdict.lawful else None
+    # The journal of a network beyond the standard limits is judged, and too long to be played.
+    is_played = verdict.lawful and len(debts) <= LIMITS[STANDARD].debts
+    frames = frames_of(read_journal(journal, place)) if is_played else None
     scenarios = scenarios_of(program, names, asked.scenarios, outside)
     saved = program.result("rescues", Rescues, program.ask("rescues.csv", "rescues", *names))
     impact = program.result("impact", Impact, program.ask("impact.csv", "impact", *names))
     breaking = program.result("breaking", Breaking, program.ask("breaking.csv", "breaking", *names))
     costs = costs_of(program, names, asked.default_keeps, banks, sum(cash.values()))
     own, both = stands.read_files(asked.banks, asked.debts), (asked.banks, asked.debts)
-    rescues = stands.rescues_of(program, own, both, banks, saved)
-    changed = stands.changes_of(program, own, both, banks, bounds)
+    rescues = stands.rescues_of(program, own, both, banks, saved, asked.limits)
+    changed = stands.changes_of(program, own, both, banks, bounds, asked.limits)
     check_same(inputs, inputs_of(asked))
     return Matter(
         head=head_of(case, asked, len(banks)),

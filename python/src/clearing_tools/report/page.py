@@ -160,6 +160,11 @@ class View:
         return len(self.matter.banks) > tables.MANY_BANKS
 
     @property
+    def is_cut(self) -> bool:
+        """Whether the part of a bank may have some of its debts alone."""
+        return tables.most_each(self.matter) < len(self.matter.debts)
+
+    @property
     def files(self) -> Dict[str, str]:
         """The tables that the page gives as files of CSV, by their keys."""
         found = {

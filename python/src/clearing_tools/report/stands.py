@@ -7,7 +7,8 @@ import io
 from typing import Callable, Dict, List, NamedTuple, Sequence, Set, Tuple
 
 from clearing_client import texts as forms
-from clearing_client.format import MAX_CASH, MAX_CLAIM, MAX_OUTSIDE, MAX_OWED
+from clearing_client.format import MAX_CASH, MAX_CLAIM, MAX_OUTSIDE
+from clearing_client.limits import LIMITS, words_of
 from clearing_client.results import Bounds, Defaults, Outcomes, Rescues
 from clearing_client.scenarios import Scenario, Scenarios
 from clearing_client.steady import MARK, Place, half
@@ -68,9 +69,10 @@ class Stands:
     """The case, and the program that clears it changed."""
 
     def __init__(
-        self, program: Program, files: Files, names: Tuple[str, str], banks: List[Bank], bounds: Bounds
+        self, program: Program, files: Files, names: Tuple[str, str], banks: List[Bank], bounds: Bounds, limits: str
     ) -> None:
         self.program, self.files, self.names, self.banks, self.bounds = program, files, names, banks, bounds
+        self.limits = limits
         self.base = {bank.name: plain(bank.state) for bank in banks}
         self.unpaid = sum(map(shortfall_of, banks))
 
@@ -80,7 +82,8 @@ class Stands:
 
     def cleared(self, key: str, words: str, banks: str, debts: str, unit: Unit = AS_GIVEN) -> Change:
         """The case with these files, whose amounts are in a unit, cleared, against the first."""
-        path = self.program.ask(f"defaults-{key}.csv", "defaults", "--banks", banks, "--debts", debts)
+        by = words_of(self.limits)
+        path = self.program.ask(f"defaults-{key}.csv", "defaults", "--banks", banks, "--debts", debts, *by)
         found: Defaults = self.program.result("defaults", Defaults, path)
         outside = {row[0]: unit.amount(int(row[3])) for row in self.files.banks if len(row) > 3}
         unpaid = sum(bank.owed - bank.paid + outside.get(bank.bank, 0) - bank.outside_paid for bank in found.standings)
@@ -133,7 +136,7 @@ class Stands:
         claims = [2 * int(row[3]) for row in self.files.debts]
         banks = [(2 * int(row[1]), *(2 * int(cell) for cell in row[3:])) for row in self.files.banks]
         is_bank = all(cash <= MAX_CASH and max(outside, default=0) <= MAX_OUTSIDE for cash, *outside in banks)
-        return is_bank and max(claims, default=0) <= MAX_CLAIM and sum(claims) <= MAX_OWED
+        return is_bank and max(claims, default=0) <= MAX_CLAIM and sum(claims) <= LIMITS[self.limits].owed
 
     def by_order(self) -> Change:
         """The case with its debts in reverse order."""
@@ -165,7 +168,7 @@ def in_unit(amount: str, unit: Unit) -> str:
 
 
 def rescues_of(
-    program: Program, files: Files, names: Tuple[str, str], banks: List[Bank], found: Rescues
+    program: Program, files: Files, names: Tuple[str, str], banks: List[Bank], found: Rescues, limits: str
 ) -> List[Rescue]:
     """The rescues, in file order, the cheapest and those of the banks that leave most unpaid tried one by one.
 
@@ -189,23 +192,18 @@ def rescues_of(
             for at, one in enumerate(tried, 1)
         ]
         path = str(program.put("rescues.toml", Scenarios(scenarios).to_toml(plain=True).encode()))
-        sums = program.result(
-            "outcomes",
-            Outcomes,
-            program.ask(
-                "outcomes-rescues.csv", "outcomes", "--banks", changed, "--debts", names[1], "--scenarios", path
-            ),
-        )
+        words = ["--banks", changed, "--debts", names[1], "--scenarios", path, *words_of(limits)]
+        sums = program.result("outcomes", Outcomes, program.ask("outcomes-rescues.csv", "outcomes", *words))
         given = sum(map(given_by, banks))
         less = {one.bank: then.paid + then.outside_paid - given for one, then in zip(tried, sums.scenarios)}
     return [saving_of(one, saves.get(one.bank, []), less.get(one.bank)) for one in found.banks]
 
 
 def changes_of(
-    program: Program, files: Files, names: Tuple[str, str], banks: List[Bank], bounds: Bounds
+    program: Program, files: Files, names: Tuple[str, str], banks: List[Bank], bounds: Bounds, limits: str
 ) -> List[Change]:
     """The case, changed in one point each."""
-    return Stands(program, files, names, banks, bounds).all()
+    return Stands(program, files, names, banks, bounds, limits).all()
 
 
 def title_of(changes: List[Change], unsure: Set[str]) -> str:

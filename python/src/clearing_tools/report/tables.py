@@ -3,6 +3,7 @@ import csv
 import io
 from typing import Any, Dict, Iterator, List, NamedTuple, Optional, Sequence, Tuple
 
+from clearing_client.limits import LIMITS, STANDARD
 from clearing_client.steady import MARK, NOTE, WHY
 
 from ..labels import percent, shown
@@ -13,6 +14,9 @@ from .charts.figure import Data
 from .matter import Matter, begun, counted, plain
 
 MANY_BANKS = 40  # above that the part of one bank is shown at a time
+LEAST_EACH, MOST_ROWS = 10, 40_000
+"""Of a network beyond the standard limits so many debts at least stand in the part of a bank on each side, and about so
+many in all."""
 MOST_PRINTED = 100  # with more banks those in default alone stand on paper, and of them
 MOST_FALLEN = 200  # those that leave most unpaid
 NONE, NOT = "0", "\u2013"  # none, and not applicable
@@ -333,12 +337,15 @@ class Debt(NamedTuple):
 
 
 class Debts(NamedTuple):
-    """The debts of one side, with their sums."""
+    """The debts of one side, with their sums; where the network has very many, those of which most stays unpaid, and
+    the rest as one: how many they are, and their amounts."""
 
     rows: List[Debt]
     claim: str
     paid: str
     unpaid: str
+    rest: Optional[Debt] = None
+    more: int = 0
 
 
 class Part(NamedTuple):
@@ -355,20 +362,42 @@ class Part(NamedTuple):
     is_owed: Debts
 
 
+def most_each(matter: Matter) -> int:
+    """How many debts of one side stand in the part of a bank: all, unless the network passes the standard limits."""
+    if len(matter.debts) <= LIMITS[STANDARD].debts:
+        return len(matter.debts)
+    return max(LEAST_EACH, MOST_ROWS // len(matter.banks))
+
+
+def largest_of(debts: Sequence[Any], most: int) -> Tuple[List[Any], List[Any]]:
+    """The debts of which most stays unpaid, then the largest, in file order; and the others."""
+    if len(debts) <= most:
+        return list(debts), []
+    order = sorted(range(len(debts)), key=lambda at: (debts[at].paid - debts[at].claim, -debts[at].claim, at))
+    kept = set(order[:most])
+    return [debts[at] for at in sorted(kept)], [debt for at, debt in enumerate(debts) if at not in kept]
+
+
 def debts_of(matter: Matter, debts: Sequence[Any], side: int, outside: Tuple[int, int] = (0, 0)) -> Debts:
     """What a bank owes, or is owed, to the last unit; first what it owes outside, with what is paid of it."""
     number = matter.money.number
     rows = []
+    largest, others = largest_of(debts, most_each(matter))
     if outside[0]:
         owed, paid = outside
         rows.append(Debt(None, "first", number(owed), number(paid), number(owed - paid), paid < owed))
-    for debt in debts:
+    for debt in largest:
         unpaid = debt.claim - debt.paid
         rows.append(
             Debt(debt[side], str(debt.class_), number(debt.claim), number(debt.paid), number(unpaid), unpaid > 0)
         )
     claim, paid = sum(debt.claim for debt in debts), sum(debt.paid for debt in debts)
-    return Debts(rows, number(claim), number(paid), number(claim - paid))
+    sums = number(claim), number(paid), number(claim - paid)
+    if not others:
+        return Debts(rows, *sums)
+    claim, paid = sum(debt.claim for debt in others), sum(debt.paid for debt in others)
+    rest = Debt(None, "", number(claim), number(paid), number(claim - paid), claim > paid)
+    return Debts(rows, *sums, rest, len(others))
 
 
 def parts_of_banks(matter: Matter) -> Iterator[Part]:

@@ -8,6 +8,8 @@ from ..matter import Matter, counted
 from .figure import Data
 
 MOST_IN_LIST = 12
+MOST_ROWS = 20_000
+"""So many flows stand by themselves among the numbers of the picture."""
 
 
 class Owing(NamedTuple):
@@ -70,6 +72,17 @@ def owing_of(matter: Matter, flows: List[Flow]) -> Tuple[List[Owing], str]:
     return found, f"{counted(left, 'other')} in default: in the table of banks." if left else ""
 
 
+def rows_of(flows: List[Flow]) -> List[Tuple[str, str, int, int, int]]:
+    """The flows as numbers; where they are very many, those of which most stays unpaid, and the others as one."""
+    kept = flows
+    if len(flows) > MOST_ROWS:
+        kept = sorted(flows, key=lambda flow: (flow.paid - flow.claim, -flow.claim))[:MOST_ROWS]
+    rows = [(flow.debtor, flow.creditor or "outside", flow.claim, flow.paid, flow.claim - flow.paid) for flow in kept]
+    claim, paid = (sum(getattr(flow, word) for flow in flows) for word in ("claim", "paid"))
+    claim, paid = claim - sum(flow.claim for flow in kept), paid - sum(flow.paid for flow in kept)
+    return rows if kept is flows else [*rows, ("all others", "all others", claim, paid, claim - paid)]
+
+
 def picture_of(matter: Matter) -> Picture:
     """The picture of the network."""
     flows = flows_of(matter.debts, matter.banks)
@@ -78,7 +91,7 @@ def picture_of(matter: Matter) -> Picture:
     drawn = network.drawing_of(flows, matter.banks, matter.money, form, link, matter.marked)
     scale = network.scale_for(flows, matter.banks, matter.money)
     owing, rest = owing_of(matter, flows)
-    rows = [(flow.debtor, flow.creditor or "outside", flow.claim, flow.paid, flow.claim - flow.paid) for flow in flows]
+    rows = rows_of(flows)
     written = (
         "; the ten largest amounts are written"
         if form == "graph" and len([flow for flow in flows if flow.claim > flow.paid]) > 10

@@ -1,0 +1,123 @@
+"""The limits of networks in the tools: which are taken where nobody says so, what is told of it, and what keeps them."""
+import collections
+import types
+import unittest
+
+from common import CHAIN, Case, files_of, tool
+
+import clearing_client as cc
+from clearing_client.limits import LIMITS
+from clearing_tools import cases, cli
+from clearing_tools.checks import lint
+from clearing_tools.evidence import audit, parts
+from clearing_tools.report import tables
+from clearing_tools.report.charts import network
+
+DEBTS, JOURNAL = b"debtor,creditor,class,claim\n", b"stamp,debtor,creditor,class,to\n"
+BANKS = b"name,cash,rule\n" + b"".join(b"N%d,0,order\n" % n for n in range(1001))
+TOLD = "the network is read by the wide limits, as it has more than 1,000 banks; --limits wide says so\n"
+Owed = collections.namedtuple("Owed", "debtor creditor class_ claim paid")
+
+
+class Tools(Case):
+    def setUp(self):
+        super().setUp()
+        self.files = ["--banks", self.file("b.csv", BANKS), "--debts", self.file("d.csv", DEBTS + b"N0,N1,1,5\n")]
+
+    def test_all_limits_stand_in_one_table_but_for_the_audit_which_shares_no_code(self):
+        for name, limits in LIMITS.items():
+            own = audit.LIMITS[name]
+            self.assertEqual(own[:4], limits[:4])
+            self.assertEqual([own.most_of(file) for file in ("banks", "debts", "journal")],
+                             [limits.bytes[file] for file in ("banks", "debts", "journal")])
+
+    def test_lint_names_what_passes_the_limits_that_were_said(self):
+        done = tool("lint.py", *self.files)
+        self.assertEqual((done.returncode, done.stdout, done.stderr), (0, "no fault\n", f"lint: {TOLD}"))
+        done = tool("lint.py", *self.files, "--limits", "wide")
+        self.assertEqual((done.returncode, done.stdout, done.stderr), (0, "no fault\n", ""))
+        done = tool("lint.py", *self.files, "--limits", "standard")
+        self.assertEqual(done.returncode, 1)
+        self.assertIn("too many (12): the file has 1,001 banks, and the most is 1,000; read it by --limits wide\n", done.stdout)
+        self.assertEqual(tool("lint.py", *self.files, "--limits", "big").returncode, 2)
+        for limits in LIMITS:
+            most = LIMITS[limits]
+            for count, kinds in ((most.banks, []), (most.banks + 1, ["too many"])):
+                banks = b"name,cash,rule\n" + b"".join(b"N%d,1,order\n" % n for n in range(count))
+                self.assertEqual([fault.kind for fault in lint.faults_of(banks, DEBTS, limits)], kinds)
+            claims = [10**6] * (most.owed // 10**6)
+            for more, kinds in (([], []), ([1], ["total"])):
+                rows = b"".join(b"N%d,N%d,1,%d\n" % (at, at + 1, claim) for at, claim in enumerate([*claims, *more]))
+                self.assertEqual([fault.kind for fault in lint.faults_of(BANKS[: BANKS.index(b"N100,")], DEBTS + rows, limits)], kinds)
+
+    def test_the_audit_follows_a_journal_by_the_limits(self):
+        banks = BANKS.replace(b"N0,0,", b"N0,7,")
+        files = {"banks": banks, "debts": DEBTS + b"N0,N1,1,5\n", "journal": JOURNAL + b"1,N0,N1,1,5\n"}
+        self.assertEqual(audit.judge(files, "wide"), (["1 raises lawful", "nobody can pay more", "payments: none given", "defaults: none given"], 0))
+        self.assertEqual(audit.judge(files), (["banks row 1001: too many (12)"], 4))
+        names = [word for name, data in files.items() for word in (f"--{name}", self.file(f"{name}.csv", data))]
+        done = tool("audit.py", *names)
+        what = "the network is read by the wide limits, as it passes the standard ones (banks row 1001: too many (12)); --limits wide says so"
+        self.assertEqual((done.returncode, done.stderr), (0, f"audit.py: {what}\n"))
+        self.assertEqual(tool("audit.py", *names, "--limits", "wide").stderr, "")
+        done = tool("audit.py", *names, "--limits", "standard")
+        self.assertEqual((done.returncode, done.stderr), (4, "audit.py: banks row 1001: too many (12)\n"))
+
+    def test_evidence_says_wide_limits_in_its_commands(self):
+        one = parts.Part("as it is", "as-is", None)
+        for by, words in (("standard", []), ("wide", ["--limits", "wide"])):
+            commands = parts.commands_of([one], True, "A", by)
+            self.assertEqual({" ".join(words) in " ".join(command) for _, command in commands}, {True})
+            self.assertEqual(sum("--limits" in command for _, command in commands), len(commands) if words else 0)
+            self.assertEqual(parts.limits_of(parts.commands_text(commands)), by)
+
+    def test_a_case_that_was_described_by_wide_limits_is_read_by_them(self):
+        net, wide = cc.Network(CHAIN / "banks.csv", CHAIN / "debts.csv"), ["--limits", "wide"]
+        for limits, more, words in (("wide", [], wide), (None, [], []), (None, wide, wide), ("wide", ["--limits", "standard"], [])):
+            cc.Case(net, title="Chain", limits=limits).write(self.folder / "case", replace=True)
+            parser = cli.case_parser("A tool.")
+            asked = parser.parse_args([str(self.folder / "case"), *more])
+            case = cases.take_case(parser, asked)
+            self.assertEqual((cli.words_of(asked)[2:], case.limits), (words, "wide" if words else "standard"), (limits, more))
+        # The program gets the words.
+        self.program('for word in "$@"; do last=$word; done; [ "$last" = wide ] || exit 9; echo "bank,cut,state"\n')
+        self.assertEqual(tool("breaking.py", *files_of(CHAIN), *wide).stdout, "bank,cut,state\n")
+        self.assertEqual(tool("breaking.py", *self.files).stdout, "bank,cut,state\n")
+        self.assertEqual(tool("breaking.py", *files_of(CHAIN)).returncode, 1)
+
+    def test_estimates_keep_as_many_claims_as_the_limits_have(self):
+        table = self.file("t.csv", "bank,assets,liabilities,cash\n" + "".join(f"N{n},{1000 + n},{1000 + n},{n % 7}\n" for n in range(143)))
+        words = ["from_totals.py", table, "--out", self.folder / "made"]
+        kept = lambda *more: (self.told(*words, *more), (self.folder / "made/debts.csv").read_bytes().count(b"\n") - 1)
+        told, count = kept("--limits", "wide")
+        self.assertEqual(count, 143 * 142)
+        self.assertIn("limits: wide, as was said: clearing reads the files by --limits wide\n", told)
+        self.assertEqual(kept("--most", 20_200)[1], 20_200)
+        self.assertEqual(tool(*words, "--most", 20_200, "--limits", "standard").returncode, 2)
+
+
+class LargeReports(unittest.TestCase):
+    def test_of_very_many_debts_the_largest_stand_and_the_others_as_one(self):
+        owed = [Owed("A", f"B{n}", 1, 100 + n, 100 + n - (n % 3)) for n in range(30)]
+        largest, others = tables.largest_of(owed, 10)
+        self.assertEqual([debt.creditor for debt in largest], [f"B{n}" for n in range(2, 30, 3)])
+        self.assertEqual((len(others), set(largest) | set(others)), (20, set(owed)))
+        self.assertEqual(tables.largest_of(owed, 30), (owed, []))
+        money = types.SimpleNamespace(number=str)
+        small = types.SimpleNamespace(debts=owed, banks=[None] * 31, money=money)
+        self.assertIsNone(tables.debts_of(small, owed, 1).rest)
+        large = types.SimpleNamespace(debts=owed * 1000, banks=[None] * 5000, money=money)
+        told = tables.debts_of(large, owed, 1)
+        self.assertEqual((len(told.rows), told.more), (10, 20))
+        for word in ("claim", "paid", "unpaid"):
+            self.assertEqual(sum(int(getattr(row, word)) for row in [*told.rows, told.rest]), int(getattr(told, word)))
+
+    def test_the_numbers_of_the_picture_have_the_largest_flows_and_one_for_all_others(self):
+        flows = [network.Flow(f"A{n}", f"B{n}", 10, 10 - n % 2) for n in range(20_003)]
+        rows = network.rows_of(flows)
+        self.assertEqual((len(rows), rows[-1]), (20_001, ("all others", "all others", 30, 30, 0)))
+        self.assertEqual(network.rows_of(flows[:5]), [(f.debtor, f.creditor, f.claim, f.paid, f.claim - f.paid) for f in flows[:5]])
+
+
+if __name__ == "__main__":
+    unittest.main()
