@@ -104,7 +104,7 @@ class Completing(Case):
             with self.subTest(about):
                 found = self.names(content)
                 self.assertTrue(found, about)
-                self.assertLessEqual(len(found), 1000)
+                self.assertLessEqual(len(found), 10_000)
 
     def test_what_is_no_utf_8_hides_no_other_name(self):
         found = self.names(b"name,cash,rule\nAlpha,1,order\nB\xffeta,1,order\nGamma,1,order\n\xc3\x28,1,order\nDelta,1,order\n")

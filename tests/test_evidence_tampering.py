@@ -165,7 +165,7 @@ TABLE = [
     ("a device", link("versions.txt", "/dev/zero"), 3, "versions.txt is not there"),
     ("a folder in the place of a file", both(remove("versions.txt"), lambda folder: (folder / "versions.txt").mkdir()), 3, "versions.txt is not there"),
     ("twelve gigabytes of nothing", sparse("versions.txt", 12 << 30), 3, "versions.txt: it is longer than 8,388,608 bytes"),
-    ("twelve gigabytes of banks", sparse("inputs/banks.csv", 12 << 30), 3, "inputs/banks.csv: it is longer than 8,388,608 bytes"),
+    ("twelve gigabytes of banks", sparse("inputs/banks.csv", 12 << 30), 3, "inputs/banks.csv: it is longer than 167,772,160 bytes"),
     # What is missing.
     ("no payments of a scenario", remove("scenario-1/payments.csv"), 3, "scenario-1/payments.csv is not there"),
     ("no journal of a unit less", remove("unit-less/journal.csv"), 3, "unit-less/journal.csv is not there"),

@@ -510,7 +510,8 @@ class Matrix(Case):
                 f"in units of {unit}: ", self.told("from_matrix.py", sheet, "--unit", "auto", *self.files), text[:60]
             )
             self.printed("check", *self.files)
-            self.refused("from_matrix.py", 1, "more than the most", sheet, "--unit", smaller, "--round", *self.files)
+            words = ["--unit", smaller, "--round", "--limits", "standard", *self.files]
+            self.refused("from_matrix.py", 1, "more than the most", sheet, *words)
 
     def test_amounts_at_the_limits_are_taken(self):
         self.told(
