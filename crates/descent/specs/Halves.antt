@@ -1,6 +1,6 @@
 -- A descent through halves of many networks: what it holds at any time.
-use Rattle.std.specs.Prelude.{◌≡◌, ℕ, ◌<◌, ◌≤◌, All, length}
-use Rattle.clr_net.specs.Net.{Net}
+use Rattle.std.specs.Prelude.{◌≡◌, ℕ, ◌+◌, ◌-◌, ◌*◌, ◌<◌, ◌≤◌, All, length, min}
+use Rattle.clr_net.specs.Net.{Net, all_cash}
 use Rattle.clear_core.specs.Buffers.{HasRoom}
 use Rattle.clear_core.specs.Clearing.{least}
 use Rattle.cascade.specs.MoreCash.{IsOfOtherCash}
@@ -20,3 +20,14 @@ pub record IsDescentOf (net : Net) (size : ℕ) (floor : ℕ → ℕ → ℕ →
   pub steps : All (IsStepOf net size floor) d.steps.items
   pub for_each_bank : length d.marks.items ≡ length net.banks
   pub room : HasRoom net d.scratch
+
+-- the least cash in a share, which begins at a number, comes to at least two thirds of the cash that
+-- the network of this number has
+abbrev pub HasEnough : Net → (ℕ → ℕ → ℕ → ℕ) → ℕ → ℕ → Type 0
+HasEnough net floor number high =
+    2 * all_cash (with_cashes net (floor number (number + 1)))
+    ≤ 3 * all_cash (with_cashes net (floor number high))
+
+-- where a share twice as wide ends, of so many networks
+abbrev pub twice_as_wide : ℕ → ℕ → ℕ → ℕ
+twice_as_wide low high size = min size (high + (high - low))

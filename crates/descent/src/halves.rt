@@ -5,7 +5,7 @@ ghost use Rattle.clear_core.specs.Clearing.{least};
 ghost use Rattle.clr_net.specs.Limits.{IsNetwork};
 ghost use Rattle.clr_net.specs.Net.{cash_of};
 ghost use Rattle.descent.specs.Cashes.{AreFloors, with_cashes};
-ghost use Rattle.descent.specs.Halves.{IsDescentOf, IsStepOf};
+ghost use Rattle.descent.specs.Halves.{HasEnough, IsDescentOf, IsStepOf, twice_as_wide};
 ghost use Rattle.std.specs.Bool.{OnFalse};
 ghost use Rattle.std.specs.Prelude.{◌≡◌, ◌+◌, ◌<◌, ◌≤◌, ℕ, IfOk, OnOk, false, length, slice_index_or};
 
@@ -17,7 +17,8 @@ use clr_net::{Amounts, BankId, Mem, Network};
 use std::alloc::Global;
 
 /// A descent through halves of many networks that differ in cash alone: the least payments with the
-/// least cash of all, of half of them, of half of these, and so on; and what it takes to clear.
+/// least cash of a share of them, of half of the share, of half of this, and so on; and what it takes
+/// to clear.
 #[derive(Drop)]
 pub struct Descent {
     left: Network,
@@ -60,9 +61,10 @@ impl Descent {
     /// `Mem` for want of memory alone, after which the descent serves as before.
     ///
     /// Any number may be asked for after any other. In order each clearing goes on from one with the
-    /// least cash of twice as many networks, and first visits those banks alone that have more.
-    /// Costs a walk over the debts, and takes some lists over the banks and one over the debts for
-    /// each step.
+    /// least cash of twice as many networks, and first visits those banks alone that have more. A
+    /// clearing begins from nothing paid only where the least cash of more networks would not come to
+    /// two thirds of what its own network has: payments rise long where cash is scarce. Costs a walk
+    /// over the debts, and takes some lists over the banks and one over the debts for each step.
     pub fn standings_at<F: Floors>(
         &mut self,
         alloc: Global,
@@ -92,8 +94,8 @@ impl Descent {
         defaults(alloc, &self.left, step.paid.as_slice())
     }
 
-    // The last step whose share has the number, taken out, without those after it; the first of all
-    // where none has.
+    // The last step whose share has the number, taken out, without those after it; one that begins at
+    // the number where none has.
     fn nearest<F: Floors>(
         &mut self,
         alloc: Global,
@@ -116,25 +118,38 @@ impl Descent {
                 return Ok(step);
             }
         }
-        self.first(alloc, net, floors)
+        self.begun(alloc, net, floors, number)
     }
 
-    // The step of all networks, which is cleared from nothing paid.
-    fn first<F: Floors>(&mut self, alloc: Global, net: &Network, floors: &F) -> Result<Step, Mem>
+    // The step of the widest share that begins at a number and has cash enough. It is cleared from
+    // nothing paid.
+    fn begun<F: Floors>(
+        &mut self,
+        alloc: Global,
+        net: &Network,
+        floors: &F,
+        number: u32,
+    ) -> Result<Step, Mem>
         requires network { IsNetwork net.now }
         requires of { F.of floors.now net.now }
-        requires some { 0 < F.size floors.now net.now }
+        requires number { number < F.size floors.now net.now }
         requires descent { IsDescentOf net.now (F.size floors.now net.now) (F.floors floors.now net.now) self.old }
         ensures descent { IsDescentOf net.now (F.size floors.now net.now) (F.floors floors.now net.now) self.new }
         ensures step { IfOk result
             (IsStepOf net.now (F.size floors.now net.now) (F.floors floors.now net.now)) }
-        ensures low { IfOk result (λ step. step.low ≡ 0) }
-        ensures high { IfOk result (λ step. step.high ≡ F.size floors.now net.now) }
+        ensures low { IfOk result (λ step. step.low ≡ number) }
+        ensures high { IfOk result (λ step. number < step.high) }
+        ensures enough { IfOk result (λ step.
+            HasEnough net.now (F.floors floors.now net.now) number step.high) }
     {
-        let high = floors.count(net);
-        lay_in(net, floors, 0, high, &mut self.left);
+        let high = widest(net, floors, number, &mut self.left);
+        lay_in(net, floors, number, high, &mut self.left);
         let paid = from_nothing(alloc, &self.left)?;
-        Ok(Step { low: 0, high, paid })
+        Ok(Step {
+            low: number,
+            high,
+            paid,
+        })
     }
 
     // The half of a step whose share has the number.
@@ -205,6 +220,36 @@ impl Descent {
         );
         Ok(Step { low, high, paid })
     }
+}
+
+// Where the widest share that begins at a number and has cash enough ends. It is made wider twofold
+// at a time. The cash is laid into a copy of the network, which has the sum of it.
+fn widest<F: Floors>(net: &Network, floors: &F, number: u32, left: &mut Network) -> u32
+    requires network { IsNetwork net.now }
+    requires of { F.of floors.now net.now }
+    requires number { number < F.size floors.now net.now }
+    requires alike { IsOfOtherCash net.now left.old }
+    ensures some { number < result }
+    ensures share { result ≤ F.size floors.now net.now }
+    ensures enough { HasEnough net.now (F.floors floors.now net.now) number result }
+    ensures widest { result < F.size floors.now net.now
+        → HasEnough net.now (F.floors floors.now net.now) number
+        (twice_as_wide number result (F.size floors.now net.now)) → ⊥ }
+    ensures alike { IsOfOtherCash net.now left.new }
+{
+    let all = floors.count(net);
+    lay_in(net, floors, number, number + 1, left);
+    let own = left.cash_total();
+    let mut high = number + 1;
+    while high < all {
+        let wider = high + (high - number).min(all - high);
+        lay_in(net, floors, number, wider, left);
+        if 3 * left.cash_total() < 2 * own {
+            break;
+        }
+        high = wider;
+    }
+    high
 }
 
 // The least payments that clear, from nothing paid.
