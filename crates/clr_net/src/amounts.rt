@@ -34,9 +34,9 @@ impl Amounts {
     pub fn copy_of(alloc: Global, amounts: &[u64]) -> Result<Amounts, Mem>
         ensures { IfOk result (λ copy. copy ≡ amounts.now) }
     {
-        let mut copy = Amounts::zeros(alloc, amounts.len())?;
-        copy.as_mut_slice().copy_from_slice(amounts);
-        Ok(copy)
+        Ok(Amounts {
+            units: Vec::from_slice(alloc, amounts)?,
+        })
     }
 
     /// The amounts, in units.
