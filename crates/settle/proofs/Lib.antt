@@ -1,6 +1,6 @@
 pub mod Joined
 pub mod Quiet
-pub mod Offices
+pub mod OfficeLists
 pub mod Handed
 pub mod Returned
 pub mod Rounded

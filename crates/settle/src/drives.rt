@@ -6,10 +6,11 @@ ghost use Rattle.settle.specs.Drives.{IsBelowLeast, IsDriven};
 ghost use Rattle.settle.specs.Offices.{AreOffices};
 ghost use Rattle.std.specs.Prelude.{◌≡◌, IfOk, OnOk};
 
+use crate::offices::offices_beside;
 use crate::plan::{Driven, Plan};
 use crate::run::{Run, Threading, Way};
 use crate::state::RunState;
-use crate::teams::{calls_two_workers, offices_of, round};
+use crate::teams::{calls_two_workers, round};
 use bank_worker::Office;
 use clear_core::Raise;
 use clr_edge::Gate;
@@ -53,7 +54,7 @@ pub fn drive<R: Threads + Sync, G: Gate + Sync>(
         (IsDriven net.now past.now plan master.old.shows master.new.shows) }
 {
     let _clock = master.clock();
-    let mut offices = offices_of(alloc, net, plan.workers)?;
+    let mut offices = offices_beside(rt, alloc, net, plan.workers)?;
     let run = Run {
         rt,
         alloc,

@@ -7,6 +7,7 @@
 
 mod drives;
 pub mod laws;
+mod offices;
 mod plan;
 mod run;
 mod runs;
@@ -15,8 +16,9 @@ mod teams;
 mod work;
 
 pub use drives::drive;
+pub use offices::{offices_beside, offices_of};
 pub use plan::{Driven, Plan};
 pub use run::{Run, Way};
 pub use runs::{Settled, settle, settle_alone, settle_from, settle_owned, settle_owned_from};
 pub use state::RunState;
-pub use teams::{calls_two_workers, offices_of, round};
+pub use teams::{calls_two_workers, round};

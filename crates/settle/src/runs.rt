@@ -7,9 +7,9 @@ ghost use Rattle.settle.specs.Runs.{CanGoOn, IsRecordOf, IsSettled, IsWithin};
 ghost use Rattle.std.specs.Prelude.{◌≡◌, ◌<◌, [], All, IfOk, OnOk, length, replicate};
 
 use crate::drives::drive_on;
+use crate::offices::{move_offices, offices_beside};
 use crate::plan::{Driven, Plan};
 use crate::run::{Run, Threading};
-use crate::teams::{move_offices, offices_of};
 use bank_worker::Office;
 use clear_core::Raise;
 use clr_edge::Gate;
@@ -129,7 +129,7 @@ pub fn settle_owned_from<R: Threads + Sync, G: Gate + Sync>(
     requires past { CanGoOn net past.now }
     ensures settled { IfOk result (IsSettled net past.now plan) }
 {
-    let mut offices = offices_of(alloc, &net, plan.workers)?;
+    let mut offices = offices_beside(rt, alloc, &net, plan.workers)?;
     let by = Settler {
         rt,
         alloc,

@@ -6,48 +6,28 @@ ghost use Rattle.settle.specs.Between.{AreOfBoard, HaveGrownAlike, IsBack, IsBet
 ghost use Rattle.settle.specs.Between.{crews, raises_of_all, without_first};
 ghost use Rattle.raise_journal.specs.Gathered.{HasMerged};
 ghost use Rattle.settle.specs.Calls.{HaveCalledFrom, OthersAreAtRest};
-ghost use Rattle.settle.specs.Offices.{AreOffices, with_cash_of};
-ghost use Rattle.std.specs.Prelude.{◌≡◌, ◌+◌, ◌++◌, ◌<◌, ◌≤◌, ℕ, [], All, IfOk, OnOk};
-ghost use Rattle.std.specs.Prelude.{length, map, sum_by, true, vec_len};
+ghost use Rattle.settle.specs.Offices.{AreOffices};
+ghost use Rattle.std.specs.Prelude.{◌≡◌, ◌+◌, ◌++◌, ◌<◌, ◌≤◌, [], IfOk, OnOk};
+ghost use Rattle.std.specs.Prelude.{length, sum_by, true, vec_len};
 
 use crate::run::{Run, Way};
 use crate::state::RunState;
 use crate::work::work_all;
 use bank_worker::{Office, Visit, Worker};
-use clear_core::{Journal, Raise};
+use clear_core::Journal;
 use clr_edge::Gate;
-use clr_net::{BankId, MAX_BANKS, Mem, Network};
+use clr_net::{BankId, Mem, Network};
 use pay_words::{Board, PaySeat};
 use raise_journal::merge_in;
 use std::alloc::Global;
+use std::mem;
 use std::thread::Threads;
 
 // Of so many workers the raises are merged.
 const FEW_WORKERS: usize = 8;
 
-/// The offices of all workers, the last worker's first. `Mem` is want of memory.
-pub fn offices_of(alloc: Global, net: &Network, workers: u32) -> Result<Vec<Office>, Mem>
-    requires workers { 1 ≤ workers }
-    ensures { IfOk result (λ os. AreOffices net.now workers workers os.items) }
-{
-    let mut offices = Vec::with_capacity(alloc, workers as usize)?;
-    for made in 0..workers {
-        offices.push(Office::of(alloc, net, workers - 1 - made, workers)?)?;
-    }
-    Ok(offices)
-}
-
-// Makes the offices of a network those of another, which differs in the cash of its banks alone.
-pub(crate) fn move_offices(offices: &mut [Office], net: &Network)
-    requires { All (λ o. All (λ d. d.bank < length net.now.banks) o.desks) offices.old }
-    ensures network { IsNetwork net.now }
-    ensures offices { offices.new ≡ map (with_cash_of net.now) offices.old }
-{
-    prove!(net.banks() <= MAX_BANKS);
-    for office in offices.iter_mut() {
-        office.set_cash(net);
-    }
-}
+// So many raises are not copied where they need not be. The room of fewer stays with their worker.
+const MANY_RAISES: usize = 1_000;
 
 // Hands a seat to each worker, from the first one on, which takes it to its office.
 fn open_workers<R: Threads + Sync, G: Gate + Sync>(
@@ -117,9 +97,8 @@ fn close_workers<R: Threads + Sync, G: Gate + Sync>(
         worker.call_creditors(0, &mut state.called);
         let (seat, made, mut office) = worker.leave();
         run.board.take_back(master, seat);
-        let raises = made.as_slice();
-        add_raises(run.alloc, &mut state.journal, from, raises, count)?;
-        office.keep(made);
+        let left = add_raises(run.alloc, &mut state.journal, from, made, count)?;
+        office.keep(left);
         state.offices.push(office)?;
     }
     Ok(visits)
@@ -127,23 +106,26 @@ fn close_workers<R: Threads + Sync, G: Gate + Sync>(
 
 // Adds the raises of one of so many workers to those of its round, which stand from this place on.
 // They are merged where the workers are few. Among many each run would move most of the others, and
-// the sort at the end is quicker.
+// the sort at the end is quicker. Where there is no raise yet a long journal is taken as it is.
+// Answers a journal whose room is free.
 fn add_raises(
     alloc: Global,
     journal: &mut Journal,
     from: usize,
-    raises: &[Raise],
+    made: Journal,
     workers: usize,
-) -> Result<(), Mem>
+) -> Result<Journal, Mem>
     requires { from ≤ length journal.old.raises }
-    ensures { OnOk result (HasMerged journal.old.raises journal.new.raises from raises.now) }
+    ensures { OnOk result (HasMerged journal.old.raises journal.new.raises from made.raises) }
 {
-    let place = if workers <= FEW_WORKERS {
-        from
-    } else {
-        journal.as_slice().len()
-    };
-    merge_in(alloc, journal, place, raises)
+    let before = journal.as_slice().len();
+    if before == 0 && made.as_slice().len() >= MANY_RAISES {
+        return Ok(mem::replace(journal, made));
+    }
+    let place = if workers <= FEW_WORKERS { from } else { before };
+    let raises = made.as_slice();
+    merge_in(alloc, journal, place, raises)?;
+    Ok(made)
 }
 
 /// Whether two workers have a bell up, by one look at each bell. No clause can say it: any thread

@@ -1,7 +1,5 @@
 use Rattle.std.proofs.Common.{ℕ, List, [], drop, length, take, ap, ◌∙◌, subst, arith}
 use Rattle.std.proofs.lemmas.List.{take-append-drop}
-use Rattle.std.proofs.lemmas.Result.{on_ok_weaker}
-use Rattle.std.specs.Prelude.{OnOk}
 use Rattle.clear_core.specs.declared.event.Raise.{Raise}
 use Rattle.raise_journal.specs.Gathered.{HasGrownBy, HasMerged}
 use Rattle.raise_journal.proofs.Merged.{grown_at_end, grown_merged, grown_none, grown_then}
@@ -11,7 +9,7 @@ use Rattle.settle.proofs.teams.add_raises.Goals.{then-workers-le-FEW_WORKERS, el
 pub merge_in-requires : goal.merge_in-requires
 merge_in-requires c = elim c.if-workers-le-FEW_WORKERS.branch [
   | then-workers-le-FEW_WORKERS w ↦ omega (arith, w.place-is, c.requires)
-  | else-workers-le-FEW_WORKERS w ↦ omega (arith, w.place-is, ap length w.as_slice.ensures)
+  | else-workers-le-FEW_WORKERS w ↦ omega (arith, w.place-is, ap length c.as_slice-before.ensures)
 ]
 
 -- what is added at the end of a list is added from any place of it on
@@ -25,11 +23,12 @@ pub returns : goal.returns
 returns c =
     let old = c.args.journal.now.raises in
     let new = c.merge_in.new.journal.raises in
-    let rs = c.args.raises.now in
-    let merged = c.merge_in.ensures.merged in
+    let raises = c.as_slice-raises in
+    let merged = c.in_ok-merge_in.ensures.merged in
     elim c.if-workers-le-FEW_WORKERS.branch [
-      | then-workers-le-FEW_WORKERS w ↦ subst (λ k. OnOk c.merge_in.result (HasMerged old new k rs)) w.place-is merged
+      | then-workers-le-FEW_WORKERS w ↦
+          subst (HasMerged old new c.args.from) raises.ensures (subst (λ k. HasMerged old new k raises.result.now) w.place-is merged)
       | else-workers-le-FEW_WORKERS w ↦
-          on_ok_weaker c.merge_in.result (added_at_end old new rs c.args.from)
-          (subst (λ k. OnOk c.merge_in.result (HasMerged old new k rs)) (w.place-is ∙ ap length w.as_slice.ensures) merged)
+          let at_end = subst (λ k. HasMerged old new k raises.result.now) (w.place-is ∙ ap length c.as_slice-before.ensures) merged in
+          added_at_end old new c.args.made.raises c.args.from (subst (HasMerged old new (length old)) raises.ensures at_end)
     ]

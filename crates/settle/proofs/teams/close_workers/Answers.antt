@@ -6,7 +6,7 @@ use Rattle.bank_worker.specs.Views.{Crew}
 use Rattle.settle.specs.Between.{raises_of_all}
 use Rattle.settle.specs.Rounds.{crew_at}
 use Rattle.settle.proofs.Calling.{called_from}
-use Rattle.settle.proofs.Offices.{held_by, office_more, seat_serves}
+use Rattle.settle.proofs.OfficeLists.{held_by, office_more, seat_serves}
 use Rattle.settle.proofs.Returned.{IsLast, back_more, grown_more, known_banks, last_of, raises_more}
 use Rattle.settle.proofs.teams.close_workers.Goals as goal
 use Rattle.settle.proofs.teams.close_workers.Given.{Over}
@@ -52,7 +52,7 @@ loop-worker-preserved g c =
     let shown : c.take_back.new.master.shows ≡ rejoined m (crew_at ws n).seat.shows =
     c.take_back.ensures.rejoined ∙ ap (rejoined m) (ap (λ s. s.shows) seat ∙ ap (λ (k : Crew). k.seat.shows) h.is) in
     let back = back_more c.args.run.now.board.now s m ws n (rw (h.is) at h.own) (rw (h.more) at inv.back) (known_banks net c.requires.network) in
-    let made : c.as_slice-raises.result.now ≡ (crew_at ws n).seat.shows.raises = c.as_slice-raises.ensures ∙ c.leave-seat.ensures.same ∙ ap (λ s. s.shows.raises) seat ∙ ap (λ (k : Crew). k.seat.shows.raises) h.is in
+    let made : c.leave-seat.result.1.raises ≡ (crew_at ws n).seat.shows.raises = c.leave-seat.ensures.same ∙ ap (λ s. s.shows.raises) seat ∙ ap (λ (k : Crew). k.seat.shows.raises) h.is in
     record {
       table = c.take_back.ensures.table ∙ inv.table;
       back = rw shown back;
@@ -65,7 +65,7 @@ loop-worker-preserved g c =
           rw (c.in_ok-push.ensures.items, c.keep.ensures, count)
           (office_more net k (k - (n + 1)) n c.loop-worker.state.offices.items c.leave-seat.result.2 (rw (h.more) at inv.offices) (omega arith) serves);
       noted = grown_more c.args.state.now.journal.raises c.loop-worker.state.journal.raises c.add_raises.new.journal.raises s.raises m.raises c.take_back.new.master.shows.raises (crew_at ws n).seat.shows.raises
-          inv.noted (rw (made, ap length c.as_slice-from.ensures) at c.in_ok-add_raises.ensures) (ap (λ (u : Shown). u.raises) shown);
+          inv.noted (rw (made, ap length c.as_slice-from.ensures) at c.in_ok-left.ensures) (ap (λ (u : Shown). u.raises) shown);
       called = called_from net c.loop-worker.state.called c.call_creditors.new.called ws n w.journal
           (rw (h.more) at inv.called) c.call_creditors.ensures.kept
           (sym c.leave-seat.ensures.journal ∙ c.leave-seat.ensures.same ∙ ap (λ s. s.shows.raises) seat ∙ ap (λ (k : Crew). k.seat.shows.raises) h.is)

@@ -5,7 +5,7 @@ use Rattle.bank_worker.specs.Views.{desks_held}
 use Rattle.settle.specs.Between.{crew_of}
 use Rattle.settle.proofs.Handed.{first_handed, first_holds, first_rest, handed_holds, handed_quiet}
 use Rattle.settle.specs.Offices.{AreOffices, Serves}
-use Rattle.settle.proofs.Offices.{office_taken, serves_seat}
+use Rattle.settle.proofs.OfficeLists.{office_taken, serves_seat}
 use Rattle.settle.proofs.teams.open_workers.Goals as goal
 use Rattle.settle.proofs.teams.open_workers.Given.{Over}
 use Rattle.settle.proofs.teams.open_workers.Goals.{In-Some}

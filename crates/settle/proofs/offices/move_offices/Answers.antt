@@ -4,7 +4,7 @@ use Rattle.bank_desk.specs.Desks.{BankView}
 use Rattle.bank_worker.specs.Offices.{OfficeView}
 use Rattle.bank_worker.proofs.Recashed.{still_here}
 use Rattle.settle.specs.Offices.{with_cash_of}
-use Rattle.settle.proofs.teams.move_offices.Goals as goal
+use Rattle.settle.proofs.offices.move_offices.Goals as goal
 
 -- the office was not changed yet
 pub set_cash-requires : goal.set_cash-requires

@@ -1,7 +1,7 @@
 use Rattle.std.proofs.Common.{◌-◌, ◌+◌, refl, sym, subst}
 use Rattle.settle.specs.Offices.{AreOffices}
-use Rattle.settle.proofs.Offices.{office_more}
-use Rattle.settle.proofs.teams.offices_of.Goals as goal
+use Rattle.settle.proofs.OfficeLists.{office_more}
+use Rattle.settle.proofs.offices.offices_of.Goals as goal
 
 pub loop-made-preserved : goal.loop-made-preserved
 loop-made-preserved c =

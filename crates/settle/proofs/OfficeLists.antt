@@ -1,5 +1,6 @@
 -- Offices that are taken up by seats, the first worker's first, and left again, the last worker's first.
-use Rattle.std.proofs.Common.{◌≡◌, ℕ, ◌+◌, ◌-◌, ◌<◌, false, List, [], ◌∷◌, ◌++◌, length, sym, ap, ◌∙◌, arith, length-append, inl, inr}
+use Rattle.std.proofs.Common.{◌≡◌, ℕ, ◌+◌, ◌-◌, ◌<◌, false, IfOk, Ok, Result, List, [], ◌∷◌, ◌++◌, append_assoc, get_or, length, map, sym, ap, ◌∙◌, subst, arith, length-append, inl, inr}
+use Rattle.std.proofs.lemmas.List.{get_or-map, length-map, map_push}
 use Rattle.std.proofs.Math.ListN.{get_or-append}
 use Rattle.std.proofs.Math.Seq.{get_or-append_seam}
 use Rattle.std.proofs.lemmas.Bool.{cases_lt}
@@ -56,3 +57,25 @@ pub held_by : (board : Panel) (i : ℕ) (w : Crew) → IsOfBoard board i w → (
     → holds w.seat.shows b ≡ is_of_worker board.table.workers i b
 held_by board i w own b lt =
     ap (λ bs. is_marked bs b) own.banks ∙ tabled_at (length board.net.banks) (is_of_worker board.table.workers i) b false lt
+
+-- what was made goes over to another list, one after another
+pub gone_over : {X E : Type 0} (done now : List X) (x : X) (r : Result X E) (rest all : List (Result X E))
+    → map Ok done ++ r ∷ rest ≡ all → r ≡ Ok x → now ≡ done ++ x ∷ [] → map Ok now ++ rest ≡ all
+gone_over done now x r rest all whole is grown =
+    ap (λ xs. map Ok xs ++ rest) grown ∙ ap (λ rs. rs ++ rest) (map_push Ok done x) ∙ append_assoc (map Ok done) (Ok x ∷ []) rest
+    ∙ ap (λ q. map Ok done ++ q ∷ rest) (sym is) ∙ whole
+
+-- offices that were each made by its place, the last worker's first
+pub made_each : {E : Type 0} (net : Net) (workers : ℕ) (made : List (Result OfficeView E)) (os : List OfficeView)
+    → length made ≡ workers → made ≡ map Ok os
+    → ((k : ℕ) → k < workers → IfOk (get_or made k (Ok no_office)) (Serves net workers (workers - 1 - k)))
+    → AreOffices net workers workers os
+made_each net workers made os size is each =
+    let as_many : length os ≡ workers = sym (length-map os Ok) ∙ sym (ap length is) ∙ size in
+    record {
+      as_many = as_many;
+      each = λ k l.
+          subst (λ r. IfOk r (Serves net workers (workers - 1 - k)))
+          (ap (λ rs. get_or rs k (Ok no_office)) is ∙ get_or-map Ok os k no_office (Ok no_office) (omega (arith, l, as_many)))
+          (each k l);
+    }

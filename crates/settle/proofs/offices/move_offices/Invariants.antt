@@ -1,6 +1,6 @@
 use Rattle.std.proofs.Common.{◌≡◌, ◌++◌, drop, map, take}
 use Rattle.settle.specs.Offices.{with_cash_of}
-use Rattle.settle.proofs.teams.move_offices.Given as goal
+use Rattle.settle.proofs.offices.move_offices.Given as goal
 
 -- the offices so far have other cash
 abbrev pub invariant-loop-office : goal.invariant-loop-office
