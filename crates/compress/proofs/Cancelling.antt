@@ -1,21 +1,19 @@
 -- Taking a walk back debt by debt, while the debts of a cycle are lowered.
-use Rattle.std.proofs.Common.{◌≡◌, ◌≢◌, ℕ, zero, suc, ◌+◌, ◌-◌, ◌<◌, ◌≤◌, List, [], ◌∷◌, ◌++◌, length, length-set, get_or, set, take, slice_get, Some, sum, sum_by, refl, sym, ap, ◌∙◌, subst, ⊎_elim, arith}
+use Rattle.std.proofs.Common.{◌≡◌, ◌≢◌, ℕ, zero, suc, ◌+◌, ◌-◌, ◌<◌, ◌≤◌, List, [], ◌∷◌, ◌++◌, length, length-set, get_or, set, take, All, sum, sum_by, refl, sym, ap, ◌∙◌, subst, ⊎_elim, arith}
 use Rattle.std.proofs.Math.ListN.{get_or-append}
 use Rattle.std.proofs.lemmas.Bool.{cases_lt}
 use Rattle.std.proofs.lemmas.List.{get_or_push, get_or-set_same, get_or-set_other, length_push, length-map, length-take, map_more, take_all}
 use Rattle.std.proofs.lemmas.List.Sums.{sum_by-set}
 use Rattle.clr_net.specs.Amounts.{IsAtMost}
 use Rattle.clr_net.specs.Limits.{IsNetwork}
-use Rattle.std.specs.Option.{option_map_or}
-use Rattle.clr_net.specs.declared.debt.Debt.{Debt}
-use Rattle.clr_net.specs.declared.debt.DebtId.{DebtId}
-use Rattle.clr_net.specs.Net.{Net, numbers, debtor_of, creditor_of, class_of}
+use Rattle.clr_net.specs.Net.{Net, debtor_of, creditor_of, class_of}
 use Rattle.compress.specs.Compression.{IsBalanceKept, IsLive, Leads}
 use Rattle.compress.specs.Lowering.{lowered, CanLower}
 use Rattle.compress.proofs.Cycles.{cycle_keeps}
 use Rattle.compress.specs.declared.mark.Mark.{Mark}
 use Rattle.compress.specs.declared.mark.Mark.TheVariants.{New, Walked, Done}
-use Rattle.compress.specs.Walk.{mark_of, stops, end_of, steps_left, IsWalk, AreDone, IsKept}
+use Rattle.compress.specs.declared.step.Step.{Step}
+use Rattle.compress.specs.Walk.{mark_of, numbers, stops, end_of, steps_left, IsStep, IsWalk, AreDone, IsKept}
 use Rattle.compress.proofs.Walks.{closing_apart, last_apart, stop_before, stop_last, walk_back, walked_not_done}
 use Rattle.compress.proofs.Dones.{done_marked, done_lowered, marks_stay}
 
@@ -235,38 +233,38 @@ cancelling_ends {net = net} {c = c} {s = s} {place = place} {m = m} {C = C} {W =
     }
 
 -- a walk is its debts before the last, and the last
-pub split_last : (ids before : List DebtId) (n : ℕ) (d : DebtId) → before ≡ take (n - 1) ids
+pub split_last : (ids before : List Step) (n : ℕ) (d : Step) → before ≡ take (n - 1) ids
     → n ≡ length ids → 0 < n → d ≡ get_or ids (n - 1) d
-    → numbers ids ≡ numbers before ++ d.0 ∷ []
+    → numbers ids ≡ numbers before ++ d.debt.0 ∷ []
 split_last ids before n d e l pos at =
-    rw (e, at, ← map_more (λ (id : DebtId). id.0) ids (n - 1) d (omega arith))
+    rw (e, at, ← map_more (λ (s : Step). s.debt.0) ids (n - 1) d (omega arith))
     (ap numbers (sym (take_all (n - 1 + 1) ids (omega arith))))
 
-pub debtor_read : (net : Net) (x : ℕ) (d : Debt) → slice_get net.debts x ≡ Some d
-    → debtor_of net x ≡ d.debtor.0
-debtor_read net x d e = ap (λ o. option_map_or (λ (d : Debt). d.debtor.0) o 0) e
-
 module _ {net : Net} {c s place m : ℕ} {C : List ℕ} {before : List Mark} {D : List ℕ}
-    {ks : List DebtId} {marks : List Mark} {n : ℕ} {d : DebtId} (ids : List DebtId)
+    {ks : List Step} {marks : List Mark} {n : ℕ} {d : Step} (ids : List Step)
     (network : IsNetwork net) (l : length C ≡ length net.debts)
     (bl : length before ≡ length net.banks) (e : ks ≡ take (n - 1) ids) (len : n ≡ length ids)
     (at : d ≡ get_or ids (n - 1) d) (more : place < n)
     (old : IsCancelling net c s place m C before D (numbers ids) marks) where
-  parted : IsCancelling net c s place m C before D (numbers ks ++ d.0 ∷ []) marks
+  parted : IsCancelling net c s place m C before D (numbers ks ++ d.debt.0 ∷ []) marks
   parted = subst (λ W. IsCancelling net c s place m C before D W marks)
       (split_last ids ks n d e len (omega arith) at) old
 
   in_front : place < length (numbers ks) + 1
-  in_front = omega (arith, length-map ks (λ id. id.0), ap length e, length-take (n - 1) ids)
+  in_front = omega (arith, length-map ks (λ s. s.debt.0), ap length e, length-take (n - 1) ids)
 
-  pub step_last : IsLast net c m D d.0
-  step_last = cancelling_last (numbers ks) d.0 l parted in_front
+  pub step_last : IsLast net c m D d.debt.0
+  step_last = cancelling_last (numbers ks) d.debt.0 l parted in_front
 
-  pub step_more : (debt : Debt) → slice_get net.debts d.0 ≡ Some debt → 0 < m
-      → IsCancelling net c s place m C before (set D d.0 (get_or D d.0 0 - m)) (numbers ks)
-      (set marks debt.debtor.0 New)
-  step_more debt read pos =
-      subst (λ b. IsCancelling net c s place m C before (set D d.0 (get_or D d.0 0 - m))
-      (numbers ks) (set marks b New)) (debtor_read net d.0 debt read)
+  pub step_more : IsStep net d → 0 < m
+      → IsCancelling net c s place m C before (set D d.debt.0 (get_or D d.debt.0 0 - m)) (numbers ks)
+      (set marks d.debtor.0 New)
+  step_more told pos =
+      subst (λ b. IsCancelling net c s place m C before (set D d.debt.0 (get_or D d.debt.0 0 - m))
+      (numbers ks) (set marks b New)) (sym told)
       (cancelling_goes_on net c s place m C before D
-      (numbers ks) marks d.0 network l bl parted in_front pos)
+      (numbers ks) marks d.debt.0 network l bl parted in_front pos)
+
+  -- the last step of the walk is one
+  pub last_is_step : All (IsStep net) ids → IsStep net d
+  last_is_step all = subst (IsStep net) (sym at) (all (n - 1) d (omega (arith, more)))

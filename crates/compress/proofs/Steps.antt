@@ -1,13 +1,14 @@
 -- The two other steps: a walk goes on to a new bank, or its last bank is done.
-use Rattle.std.proofs.Common.{◌≡◌, ◌≢◌, ℕ, ◌<◌, ◌≤◌, List, [], ◌∷◌, ◌++◌, length, length-set, set, true, Option, Some, None, refl, sym, ap, ◌∙◌, subst, ⊎_elim, arith}
+use Rattle.std.proofs.Common.{◌≡◌, ◌≢◌, ℕ, ◌<◌, ◌≤◌, List, [], ◌∷◌, ◌++◌, All, length, length-set, length-append, get_or, set, true, Option, Some, None, refl, sym, ap, ◌∙◌, subst, ⊎_elim, arith}
+use Rattle.std.proofs.Math.ListN.{get_or-append}
 use Rattle.std.proofs.lemmas.Bool.{cases_lt}
 use Rattle.std.proofs.lemmas.List.{get_or_past, get_or-set_same, length_push, map-append}
 use Rattle.std.specs.Option.{is_some, option_to_list}
-use Rattle.clr_net.specs.declared.debt.DebtId.{DebtId}
-use Rattle.clr_net.specs.Net.{Net, numbers, debtor_of}
+use Rattle.clr_net.specs.Net.{Net, debtor_of}
 use Rattle.compress.specs.declared.mark.Mark.{Mark}
 use Rattle.compress.specs.declared.mark.Mark.TheVariants.{Done}
-use Rattle.compress.specs.Walk.{mark_of, end_of, HasNoWalk, IsWalk, IsKept}
+use Rattle.compress.specs.declared.step.Step.{Step}
+use Rattle.compress.specs.Walk.{mark_of, numbers, end_of, HasNoWalk, IsStep, IsWalk, IsKept}
 use Rattle.compress.proofs.Walks.{stop_last, walk_back, walk_ends, walked_not_done}
 use Rattle.compress.proofs.Dones.{marks_stay}
 
@@ -27,6 +28,12 @@ kept_both a b = record {
   banks = b.banks ∙ a.banks;
   stays = λ i e. b.stays i (a.stays i e);
 }
+
+-- and where nothing but the marks tells them apart
+pub kept_then : {net : Net} {c : ℕ} {C D E : List ℕ} {m n k o : List Mark} → IsKept net c C D m n
+    → k ≡ n → IsKept net c D E k o → IsKept net c C E m o
+kept_then {net = net} {c = c} {D = D} {E = E} {o = o} a same b =
+    kept_both a (subst (λ k. IsKept net c D E k o) same b)
 
 -- a bank that was not done is
 pub kept_done : (net : Net) (c : ℕ) (C : List ℕ) (marks : List Mark) (b : ℕ) (v : Mark)
@@ -68,10 +75,17 @@ module _ (net : Net) (c s : ℕ) (C W : List ℕ) (marks : List Mark)
       )
 
 -- what is left of a walk where its last debt is taken off
-pub popped : (net : Net) (c s : ℕ) (C : List ℕ) (marks : List Mark) (items ids : List DebtId) (o : Option DebtId)
+pub popped : (net : Net) (c s : ℕ) (C : List ℕ) (marks : List Mark) (items ids : List Step) (o : Option Step)
     → IsWalk net c s C (numbers items) marks → is_some o ≡ true → items ≡ ids ++ option_to_list o
     → IsWalk net c s C (numbers ids) (set marks (end_of net s (numbers items)) Done)
 popped net c s C marks items ids None w some at = absurd (cc)
 popped net c s C marks items ids (Some y) w some at =
-    retired_back net c s C (numbers items) marks w (numbers ids) y.0
-    (ap numbers at ∙ map-append (λ (id : DebtId). id.0) ids (y ∷ []))
+    retired_back net c s C (numbers items) marks w (numbers ids) y.debt.0
+    (ap numbers at ∙ map-append (λ (s : Step). s.debt.0) ids (y ∷ []))
+
+-- and its steps
+pub steps_popped : (net : Net) (items ids : List Step) (o : Option Step) → All (IsStep net) items
+    → items ≡ ids ++ option_to_list o → All (IsStep net) ids
+steps_popped net items ids o all at = λ k d l.
+    subst (IsStep net) (ap (λ ss. get_or ss k d) at ∙ get_or-append ids (option_to_list o) d k l)
+    (all k d (omega (arith, ap length at, length-append ids (option_to_list o))))

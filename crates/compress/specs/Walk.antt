@@ -1,9 +1,11 @@
 -- A walk from a bank back along debts above 0 of one class, and what is known of each bank.
-use Rattle.std.specs.Prelude.{◌≡◌, ◌≢◌, ℕ, ◌+◌, ◌<◌, ◌≤◌, List, [], ◌∷◌, length, map, sum_by}
+use Rattle.std.specs.Prelude.{◌≡◌, ◌≢◌, ℕ, ◌+◌, ◌<◌, ◌≤◌, List, [], ◌∷◌, All, length, map, sum_by}
+use Rattle.std.specs.Prelude.{Option, Some, None}
 use Rattle.std.specs.Prelude.{slice_index, slice_index_or}
 use Rattle.clr_net.specs.Amounts.{IsAtMost}
-use Rattle.clr_net.specs.Net.{Net, debtor_of, creditor_of, class_of, column, numbers}
+use Rattle.clr_net.specs.Net.{Net, debtor_of, creditor_of, class_of, column}
 use Rattle.compress.specs.declared.mark.Mark.{Mark}
+use Rattle.compress.specs.declared.step.Step.{Step}
 use Rattle.compress.specs.declared.walk.Walk.{Walk}
 use Rattle.compress.specs.declared.mark.Mark.TheVariants.{New, Walked, Done}
 use Rattle.compress.specs.Compression.{IsBalanceKept, IsLive, rank_above}
@@ -11,6 +13,26 @@ use Rattle.compress.specs.Compression.{IsBalanceKept, IsLive, rank_above}
 -- what is known of the bank b: all, past the end
 abbrev pub mark_of : List Mark → ℕ → Mark
 mark_of marks b = slice_index_or marks b Done
+
+-- the numbers of the debts of some steps
+abbrev pub numbers : List Step → List ℕ
+numbers steps = map (λ s. s.debt.0) steps
+
+-- the step tells the debtor of its debt
+abbrev pub IsStep : Net → Step → Type 0
+IsStep net s = s.debtor.0 ≡ debtor_of net s.debt.0
+
+-- a step back from the bank b along a debt of the class c, whatever is left of its claim
+pub record IsStepFrom (net : Net) (c b : ℕ) (s : Step) : Type 0 where
+  pub debt : s.debt.0 < length net.debts
+  pub class : class_of net s.debt.0 ≡ c
+  pub owed : creditor_of net s.debt.0 ≡ b
+  pub debtor : IsStep net s
+
+-- each of the heads is a step back from its bank
+abbrev pub AreHeads : Net → ℕ → List (Option Step) → Type 0
+AreHeads net c heads = (b : ℕ) (s : Step) → slice_index_or heads b None ≡ Some s
+    → IsStepFrom net c b s
 
 -- the banks of the walk back from the bank s along the debts W: s, and the debtor of each debt
 abbrev pub stops : Net → ℕ → List ℕ → List ℕ
@@ -81,18 +103,22 @@ ArePassed net c C marks cursors =
 pub record IsSizedFor (net : Net) (w : Walk) : Type 0 where
   pub marks : length w.marks.items ≡ length net.banks
   pub cursors : length w.cursors.items ≡ length net.banks
+  pub heads : length w.heads.items ≡ length net.banks
   pub ranks : length w.ranks.items ≡ length net.banks
 
--- what is told of the banks holds: which are done, with which numbers, and which places of their
--- columns are passed
+-- what is told of the banks holds: which are done, with which numbers, which places of their
+-- columns are passed, and where the last step back from each of them led
 pub record IsTold (net : Net) (c : ℕ) (C : List ℕ) (w : Walk) : Type 0 where
   pub done : AreDone net c C w.ranks.items w.marks.items
   pub passed : ArePassed net c C w.marks.items w.cursors.items
+  pub heads : AreHeads net c w.heads.items
   pub sizes : IsSizedFor net w
 
--- a walk is under way: its debts lead back from its start, and what is told of the banks holds
+-- a walk is under way: its debts lead back from its start, its steps tell their debtors, and what
+-- is told of the banks holds
 pub record IsUnderWay (net : Net) (c : ℕ) (C : List ℕ) (w : Walk) : Type 0 where
   pub walk : IsWalk net c w.start.0 C (numbers w.debts.items) w.marks.items
+  pub steps : All (IsStep net) w.debts.items
   pub told : IsTold net c C w
 
 -- no walk is under way, and what is told of the banks holds

@@ -1,10 +1,11 @@
 ghost use Rattle.clr_net.specs.Limits.{IsNetwork};
-ghost use Rattle.clr_net.specs.Net.{creditor_of, debtor_of, numbers};
+ghost use Rattle.clr_net.specs.Net.{creditor_of, debtor_of};
 ghost use Rattle.compress.specs.Compression.{IsLive};
-ghost use Rattle.compress.specs.Walk.{IsKept, IsUnderWay, end_of, steps_left, stops};
+ghost use Rattle.compress.specs.Walk.{IsKept, IsUnderWay, end_of, numbers, steps_left, stops};
 ghost use Rattle.std.specs.Prelude.{◌≡◌, ◌+◌, ◌<◌, ◌≤◌, ℕ, length, slice_index, sum, sum_by};
 
 use crate::mark::Mark;
+use crate::step::Step;
 use crate::walk::Walk;
 use clr_net::{DebtId, Network};
 
@@ -41,16 +42,15 @@ pub(crate) fn cancel(
     claims[closing.0 as usize] -= least;
     while walk.debts.len() > place {
         let last = walk.debts.len() - 1;
-        let id = walk.debts[last];
+        let step = walk.debts[last];
         walk.debts.truncate(last);
-        claims[id.0 as usize] -= least;
-        let debtor = net.debt(id).debtor;
-        walk.marks[debtor.0 as usize] = Mark::New;
+        claims[step.debt.0 as usize] -= least;
+        walk.marks[step.debtor.0 as usize] = Mark::New;
     }
 }
 
 // The least claim of a closing debt and of the debts of a walk from a place on.
-fn least_claim(debts: &[DebtId], place: usize, closing: DebtId, claims: &[u64]) -> u64
+fn least_claim(debts: &[Step], place: usize, closing: DebtId, claims: &[u64]) -> u64
     requires closing { closing.0 < length claims.now }
     requires debts { (k : ℕ) → k < length debts.now
         → slice_index (numbers debts.now) k < length claims.now }
@@ -64,7 +64,7 @@ fn least_claim(debts: &[DebtId], place: usize, closing: DebtId, claims: &[u64]) 
 {
     let mut least = claims[closing.0 as usize];
     for k in place..debts.len() {
-        let claim = claims[debts[k].0 as usize];
+        let claim = claims[debts[k].debt.0 as usize];
         if claim < least {
             least = claim;
         }

@@ -27,6 +27,7 @@ pub(crate) fn cancel_cycles(
 {
     walk.marks.fill(Mark::New);
     walk.cursors.fill(0);
+    walk.heads.fill(None);
     walk.ranks.fill(0);
     for number in 0..net.banks() {
         if walk.marks[number as usize].is_done() {

@@ -1,27 +1,42 @@
-ghost use Rattle.clr_net.specs.Net.{numbers, debtor_of as debtor_of_debt};
+ghost use Rattle.clr_net.specs.Net.{Net, debtor_of as debtor_of_debt};
 ghost use Rattle.clr_net.specs.declared.TheConstants.{MAX_BANKS};
-ghost use Rattle.compress.specs.Walk.{ArePassed, IsReady, LeadsOn, end_of as end_of_walk};
+ghost use Rattle.compress.specs.Walk.{ArePassed, IsReady, IsStep, LeadsOn, mark_of, numbers};
+ghost use Rattle.compress.specs.Walk.{end_of as end_of_walk};
+ghost use Rattle.compress.specs.declared.mark.Mark.TheVariants.{Done};
 ghost use Rattle.compress.specs.Compression.{is_live as is_live_debt, rank_above};
-ghost use Rattle.std.specs.Prelude.{◌≡◌, ◌<◌, ◌≤◌, ℕ, MatchOption, length, max, slice_index};
+ghost use Rattle.std.specs.Bool.{OnTrue};
+ghost use Rattle.std.specs.Prelude.{◌≡◌, ◌≢◌, ◌<◌, ◌≤◌, ℕ, All, IfSome, MatchOption, length, max};
+ghost use Rattle.std.specs.Prelude.{slice_index};
 
 use crate::mark::Mark;
+use crate::step::Step;
 use clr_net::{BankId, DebtId, Network};
 
 /// The bank that a walk back from a bank along debts has come to.
-pub(crate) fn end_of(net: &Network, start: BankId, walk: &[DebtId]) -> BankId
-    requires debts { (k : ℕ) → k < length walk.now
-        → slice_index (numbers walk.now) k < length net.now.debts }
-    ensures { result.0 ≡ end_of_walk net.now start.0 (numbers walk.now) }
+pub(crate) fn end_of(start: BankId, walk: &[Step]) -> BankId
+    ensures { (net : Net) → All (IsStep net) walk.now
+        → result.0 ≡ end_of_walk net start.0 (numbers walk.now) }
 {
-    let debts = walk.len();
-    if debts == 0 {
+    let steps = walk.len();
+    if steps == 0 {
         return start;
     }
-    net.debt(walk[debts - 1]).debtor
+    walk[steps - 1].debtor
 }
 
-/// A debt above 0 of a class to a bank, whose debtor is not done: the first in file order from the
-/// bank's cursor on. The cursor is moved to it, or to the end of the column where there is none.
+/// Whether a step can be taken: its claim is above 0, and its debtor is not done.
+pub(crate) fn is_open(step: Step, claims: &[u64], marks: &[Mark]) -> bool
+    requires debt { step.debt.0 < length claims.now }
+    requires debtor { step.debtor.0 < length marks.now }
+    ensures claim { OnTrue result (0 < slice_index claims.now step.debt.0) }
+    ensures debtor { OnTrue result (mark_of marks.now step.debtor.0 ≢ Done) }
+{
+    claims[step.debt.0 as usize] > 0 && !marks[step.debtor.0 as usize].is_done()
+}
+
+/// A step along a debt above 0 of a class to a bank, whose debtor is not done: the first in file
+/// order from the bank's cursor on. The cursor is moved to it, or to the end of the column where
+/// there is none.
 pub(crate) fn next_back(
     net: &Network,
     class: u8,
@@ -29,14 +44,15 @@ pub(crate) fn next_back(
     claims: &[u64],
     marks: &[Mark],
     cursors: &mut [usize],
-) -> Option<DebtId>
+) -> Option<Step>
     requires bank { bank.0 < length net.now.banks }
     requires claims { length claims.now ≡ length net.now.debts }
     requires marks { length marks.now ≡ length net.now.banks }
     requires cursors { length cursors.old ≡ length net.now.banks }
     requires passed { ArePassed net.now class claims.now marks.now cursors.old }
     ensures next { MatchOption result (IsReady net.now class bank.0 claims.now marks.now)
-        (λ id. LeadsOn net.now class bank.0 claims.now marks.now id.0) }
+        (λ step. LeadsOn net.now class bank.0 claims.now marks.now step.debt.0) }
+    ensures step { IfSome result (IsStep net.now) }
     ensures cursors { length cursors.new ≡ length cursors.old }
     ensures passed { ArePassed net.now class claims.now marks.now cursors.new }
 {
@@ -48,7 +64,7 @@ pub(crate) fn next_back(
         let done = marks[debtor.0 as usize].is_done();
         if is_live(net, class, id, claims) && !done {
             cursors[bank.0 as usize] = place;
-            return Some(id);
+            return Some(Step { debt: id, debtor });
         }
     }
     cursors[bank.0 as usize] = column.len();

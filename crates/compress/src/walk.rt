@@ -1,15 +1,16 @@
 ghost use Rattle.clr_net.specs.Limits.{IsNetwork};
-ghost use Rattle.clr_net.specs.Net.{debtor_of, numbers};
-ghost use Rattle.compress.specs.Walk.{IsAtRest, IsKept, IsReady, IsUnderWay};
-ghost use Rattle.compress.specs.Walk.{LeadsOn, end_of as end_of_walk, mark_of, steps_left};
+ghost use Rattle.clr_net.specs.Net.{debtor_of};
+ghost use Rattle.compress.specs.Walk.{IsAtRest, IsKept, IsReady, IsStep, IsUnderWay, LeadsOn};
+ghost use Rattle.compress.specs.Walk.{end_of as end_of_walk, mark_of, numbers, steps_left};
 ghost use Rattle.compress.specs.declared.mark.Mark.TheVariants.{Done, New};
 ghost use Rattle.std.specs.Bool.{OnFalse, OnTrue};
-ghost use Rattle.std.specs.Prelude.{◌≡◌, ◌<◌, [], IfOk, OnOk, length, sum_by};
+ghost use Rattle.std.specs.Prelude.{◌≡◌, ◌<◌, [], IfOk, IfSome, MatchOption, OnOk, length, sum_by};
 
 use crate::cancel::cancel;
 use crate::mark::Mark;
-use crate::search::{end_of, next_back, rank_here};
-use clr_net::{BankId, DebtId, Mem, Network};
+use crate::search::{end_of, is_open, next_back, rank_here};
+use crate::step::Step;
+use clr_net::{BankId, Mem, Network};
 use std::alloc::Global;
 
 /// A walk from a bank back along debts of one class above 0, and what is known of each bank.
@@ -18,11 +19,13 @@ pub(crate) struct Walk {
     /// The bank that it began at.
     pub start: BankId,
     /// Its debts: the first is owed to `start`, and each other to the debtor of the one before it.
-    pub debts: Vec<DebtId>,
+    pub debts: Vec<Step>,
     /// A mark for each bank.
     pub marks: Vec<Mark>,
     /// How many debts of each bank's column need not be looked at again.
     pub cursors: Vec<usize>,
+    /// The last step back from each bank, where there was one.
+    pub heads: Vec<Option<Step>>,
     /// The number of each bank that is done.
     pub ranks: Vec<u64>,
 }
@@ -33,6 +36,7 @@ impl Walk {
         ensures empty { IfOk result (λ walk. walk.debts.items ≡ []) }
         ensures marks { IfOk result (λ walk. length walk.marks.items ≡ banks) }
         ensures cursors { IfOk result (λ walk. length walk.cursors.items ≡ banks) }
+        ensures heads { IfOk result (λ walk. length walk.heads.items ≡ banks) }
         ensures ranks { IfOk result (λ walk. length walk.ranks.items ≡ banks) }
     {
         Ok(Walk {
@@ -40,6 +44,7 @@ impl Walk {
             debts: Vec::new(alloc),
             marks: vec![in alloc; Mark::New; banks]?,
             cursors: vec![in alloc; 0; banks]?,
+            heads: vec![in alloc; None; banks]?,
             ranks: vec![in alloc; 0; banks]?,
         })
     }
@@ -66,29 +71,56 @@ pub(crate) fn walk_from(
     walk.start = start;
     walk.marks[start.0 as usize] = Mark::Walked(0);
     loop {
-        let end = end_of(net, start, walk.debts.as_slice());
-        let marks = walk.marks.as_slice();
-        match next_back(net, class, end, claims, marks, walk.cursors.as_mut_slice()) {
+        let end = end_of(start, walk.debts.as_slice());
+        match step_back(net, class, claims, walk, end) {
             None => {
                 if retire(net, class, claims, walk, end) {
                     return Ok(());
                 }
             }
-            Some(id) => match walk.marks[net.debt(id).debtor.0 as usize] {
-                Mark::Walked(place) => cancel(net, class, claims, walk, place, id),
-                _ => grow(net, class, claims, walk, id)?,
+            Some(step) => match walk.marks[step.debtor.0 as usize] {
+                Mark::Walked(place) => cancel(net, class, claims, walk, place, step.debt),
+                _ => grow(net, class, claims, walk, step)?,
             },
         }
     }
 }
 
+// The step from the end of the walk: the last one from there where it can be taken again, and else
+// the next by the bank's column. None where each debt above 0 to that bank is owed by one that is
+// done.
+fn step_back(net: &Network, class: u8, claims: &[u64], walk: &mut Walk, end: BankId) -> Option<Step>
+    requires network { IsNetwork net.now }
+    requires claims { length claims.now ≡ length net.now.debts }
+    requires under_way { IsUnderWay net.now class claims.now walk.old }
+    requires end { end.0 ≡ end_of_walk net.now walk.old.start.0 (numbers walk.old.debts.items) }
+    ensures under_way { IsUnderWay net.now class claims.now walk.new }
+    ensures start { walk.new.start ≡ walk.old.start }
+    ensures debts { walk.new.debts ≡ walk.old.debts }
+    ensures marks { walk.new.marks ≡ walk.old.marks }
+    ensures next { MatchOption result (IsReady net.now class end.0 claims.now walk.old.marks.items)
+        (λ step. LeadsOn net.now class end.0 claims.now walk.old.marks.items step.debt.0) }
+    ensures step { IfSome result (IsStep net.now) }
+{
+    if let Some(step) = walk.heads[end.0 as usize] {
+        if is_open(step, claims, walk.marks.as_slice()) {
+            return Some(step);
+        }
+    }
+    let marks = walk.marks.as_slice();
+    let found = next_back(net, class, end, claims, marks, walk.cursors.as_mut_slice());
+    walk.heads[end.0 as usize] = found;
+    found
+}
+
 // The walk goes on by a debt to a new bank.
-fn grow(net: &Network, class: u8, claims: &[u64], walk: &mut Walk, id: DebtId) -> Result<(), Mem>
+fn grow(net: &Network, class: u8, claims: &[u64], walk: &mut Walk, step: Step) -> Result<(), Mem>
     requires under_way { IsUnderWay net.now class claims.now walk.old }
     requires next { LeadsOn net.now class
         (end_of_walk net.now walk.old.start.0 (numbers walk.old.debts.items))
-        claims.now walk.old.marks.items id.0 }
-    requires new { mark_of walk.old.marks.items (debtor_of net.now id.0) ≡ New }
+        claims.now walk.old.marks.items step.debt.0 }
+    requires step { IsStep net.now step }
+    requires new { mark_of walk.old.marks.items (debtor_of net.now step.debt.0) ≡ New }
     ensures under_way { OnOk result (IsUnderWay net.now class claims.now walk.new) }
     ensures start { OnOk result (walk.new.start ≡ walk.old.start) }
     ensures kept { OnOk result (IsKept net.now class claims.now claims.now walk.old.marks.items
@@ -96,9 +128,8 @@ fn grow(net: &Network, class: u8, claims: &[u64], walk: &mut Walk, id: DebtId) -
     ensures less { OnOk result (sum_by steps_left walk.new.marks.items
         < sum_by steps_left walk.old.marks.items) }
 {
-    walk.debts.push(id)?;
-    let debtor = net.debt(id).debtor;
-    walk.marks[debtor.0 as usize] = Mark::Walked(walk.debts.len());
+    walk.debts.push(step)?;
+    walk.marks[step.debtor.0 as usize] = Mark::Walked(walk.debts.len());
     Ok(())
 }
 

@@ -1,8 +1,9 @@
 use Rattle.std.proofs.Common.{◌≤◌, List, length, get_or, refl, ap, subst, arith}
 use Rattle.std.proofs.lemmas.List.{length-map}
-use Rattle.clr_net.specs.declared.debt.DebtId.{DebtId}
-use Rattle.clr_net.specs.Net.{numbers}
-use Rattle.compress.proofs.Cancelling.{cancelling_begins, cancelling_ends, step_last, step_more, debtor_read, IsLast}
+use Rattle.std.proofs.lemmas.List.Elements.{All-take}
+use Rattle.compress.specs.declared.step.Step.{Step}
+use Rattle.compress.specs.Walk.{IsStep, numbers}
+use Rattle.compress.proofs.Cancelling.{cancelling_begins, cancelling_ends, last_is_step, step_last, step_more, IsLast}
 use Rattle.compress.proofs.Telling.{cancelled_told}
 use Rattle.compress.proofs.cancel.cancel.Goals.{After-truncate}
 use Rattle.compress.proofs.cancel.cancel.Goals as goal
@@ -17,42 +18,54 @@ loop-walk-init c =
     c.requires.under_way.walk c.requires.closing c.requires.link c.requires.place
     c.requires.closes least.ensures.positive least.ensures.closing
     (λ k g l. subst
-    (λ (ids : List DebtId). least.result ≤ get_or C (get_or (numbers ids) k 0) 0)
+    (λ (ids : List Step). least.result ≤ get_or C (get_or (numbers ids) k 0) 0)
     c.as_slice.ensures.value (least.ensures.least k g (omega (
       arith,
-      length-map w.debts.items (λ id. id.0),
+      length-map w.debts.items (λ s. s.debt.0),
       ap length c.as_slice.ensures.value,
     )))) in
-    record { cancelling = begins; start = refl; cursors = refl; ranks = refl }
+    record {
+      cancelling = begins;
+      start = refl;
+      steps = c.requires.under_way.steps;
+      cursors = refl;
+      heads = refl;
+      ranks = refl;
+    }
+
+-- the last step of the walk tells its debtor
+last_step : (c : After-truncate) → IsStep c.args.net.now c.index-step.result.now
+last_step c = last_is_step c.loop-walk.walk.debts.items c.requires.network c.requires.claims
+    c.requires.under_way.told.sizes.marks c.truncate.ensures.items
+    (omega (arith, c.len-last.ensures)) c.index-step.ensures
+    (omega (arith, c.len.ensures, c.len-last.ensures)) c.loop-walk.invariant.cancelling
+    c.loop-walk.invariant.steps
 
 -- the last debt of the walk, which is lowered
 last : (c : After-truncate) → IsLast c.args.net.now c.args.class c.least_claim-least.result
-    c.loop-walk.claims c.index-id.result.now.0
+    c.loop-walk.claims c.index-step.result.now.debt.0
 last c = step_last c.loop-walk.walk.debts.items c.requires.network c.requires.claims
     c.requires.under_way.told.sizes.marks c.truncate.ensures.items
-    (omega (arith, c.len-last.ensures)) c.index-id.ensures
+    (omega (arith, c.len-last.ensures)) c.index-step.ensures
     (omega (arith, c.len.ensures, c.len-last.ensures)) c.loop-walk.invariant.cancelling
 
-pub bounds-claims-id : goal.bounds-claims-id
-bounds-claims-id c = (last (goal.at.bounds-claims-id c).After-truncate).in_claims
+pub bounds-claims-step : goal.bounds-claims-step
+bounds-claims-step c = (last (goal.at.bounds-claims-step c).After-truncate).in_claims
 
 pub overflow_sub-claims-in-loop-walk : goal.overflow_sub-claims-in-loop-walk
 overflow_sub-claims-in-loop-walk c =
     (last (goal.at.overflow_sub-claims-in-loop-walk c).After-truncate).enough
 
-pub bounds-claims-id-in-loop-walk : goal.bounds-claims-id-in-loop-walk
-bounds-claims-id-in-loop-walk c =
-    (last (goal.at.bounds-claims-id-in-loop-walk c).After-truncate).in_claims
-
-pub debt-requires : goal.debt-requires
-debt-requires c = (last (goal.at.debt-requires c).After-truncate).live.debt
+pub bounds-claims-step-in-loop-walk : goal.bounds-claims-step-in-loop-walk
+bounds-claims-step-in-loop-walk c =
+    (last (goal.at.bounds-claims-step-in-loop-walk c).After-truncate).in_claims
 
 pub index_mut-requires : goal.index_mut-requires
 index_mut-requires c =
     let known = (last (goal.at.index_mut-requires c).After-truncate).live.debt in
     omega (
       arith,
-      debtor_read c.args.net.now _ c.debt.result c.debt.ensures,
+      last_step (goal.at.index_mut-requires c).After-truncate,
       (c.requires.network.each_debt _ known).debtor_known,
       c.loop-walk.invariant.cancelling.banks,
       c.requires.under_way.told.sizes.marks,
@@ -62,23 +75,27 @@ pub loop-walk-preserved : goal.loop-walk-preserved
 loop-walk-preserved c = record {
   cancelling = step_more c.loop-walk.walk.debts.items c.requires.network c.requires.claims
       c.requires.under_way.told.sizes.marks c.truncate.ensures.items
-      (omega (arith, c.len-last.ensures)) c.index-id.ensures
+      (omega (arith, c.len-last.ensures)) c.index-step.ensures
       (omega (arith, c.len.ensures, c.len-last.ensures)) c.loop-walk.invariant.cancelling
-      c.debt.result c.debt.ensures c.least_claim-least.ensures.positive;
+      (last_step (goal.at.loop-walk-preserved c).After-truncate) c.least_claim-least.ensures.positive;
   start = c.loop-walk.invariant.start;
+  steps = rw c.truncate.ensures.items
+      (All-take (IsStep c.args.net.now) _ c.loop-walk.walk.debts.items c.loop-walk.invariant.steps);
   cursors = c.loop-walk.invariant.cursors;
+  heads = c.loop-walk.invariant.heads;
   ranks = c.loop-walk.invariant.ranks;
 }
 
 pub returns-clause-kept : goal.returns-clause-kept
 returns-clause-kept c =
     cancelling_ends c.requires.claims c.loop-walk.invariant.cancelling
-    (omega (arith, length-map c.loop-walk.walk.debts.items (λ id. id.0), c.len.ensures))
+    (omega (arith, length-map c.loop-walk.walk.debts.items (λ s. s.debt.0), c.len.ensures))
 
 pub returns-clause-under_way : goal.returns-clause-under_way
 returns-clause-under_way c = record {
   walk = c.loop-walk.invariant.cancelling.walk;
+  steps = c.loop-walk.invariant.steps;
   told = cancelled_told c.loop-walk.walk c.requires.under_way.told (returns-clause-kept c)
       c.loop-walk.invariant.cancelling.done c.loop-walk.invariant.cursors
-      c.loop-walk.invariant.ranks;
+      c.loop-walk.invariant.heads c.loop-walk.invariant.ranks;
 }

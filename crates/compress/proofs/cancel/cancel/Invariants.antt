@@ -1,5 +1,5 @@
-use Rattle.std.proofs.Common.{◌≡◌, length}
-use Rattle.clr_net.specs.Net.{numbers}
+use Rattle.std.proofs.Common.{◌≡◌, All, length}
+use Rattle.compress.specs.Walk.{IsStep, numbers}
 use Rattle.compress.proofs.Cancelling.{IsCancelling}
 use Rattle.compress.proofs.cancel.cancel.Given as goal
 
@@ -8,7 +8,9 @@ invariant-loop-walk l = record {
   cancelling : IsCancelling l.net l.class l.walk.start.0 l.place l.least l.fn.claims
       l.fn.walk.marks.items l.claims (numbers l.walk.debts.items) l.walk.marks.items;
   start : l.walk.start ≡ l.fn.walk.start;
+  steps : All (IsStep l.net) l.walk.debts.items;
   cursors : l.walk.cursors ≡ l.fn.walk.cursors;
+  heads : l.walk.heads ≡ l.fn.walk.heads;
   ranks : l.walk.ranks ≡ l.fn.walk.ranks;
 }
 

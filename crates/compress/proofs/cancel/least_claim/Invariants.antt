@@ -1,5 +1,5 @@
 use Rattle.std.proofs.Common.{ℕ, ◌<◌, ◌≤◌, slice_index}
-use Rattle.clr_net.specs.Net.{numbers}
+use Rattle.compress.specs.Walk.{numbers}
 use Rattle.compress.proofs.cancel.least_claim.Given as goal
 
 abbrev pub invariant-loop-k : goal.invariant-loop-k

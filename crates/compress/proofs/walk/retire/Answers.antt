@@ -1,9 +1,9 @@
 use Rattle.std.proofs.Common.{◌≡◌, ◌≢◌, [], sym, ap, ◌∙◌, arith}
 use Rattle.std.specs.Vec.{vec_len}
 use Rattle.std.proofs.lemmas.Bool.{eqb-true, eqb-false}
-use Rattle.clr_net.specs.Net.{numbers}
+use Rattle.compress.specs.Walk.{numbers}
 use Rattle.compress.proofs.Telling.{retired_told}
-use Rattle.compress.proofs.Steps.{popped, retired_ends}
+use Rattle.compress.proofs.Steps.{popped, retired_ends, steps_popped}
 use Rattle.std.proofs.lemmas.List.{nil_from_length}
 use Rattle.compress.proofs.walk.retire.Goals as goal
 
@@ -30,6 +30,7 @@ returns-clause-under_way c =
       walk = rw c.requires.end
           (popped c.args.net.now c.args.class w.start.0 c.args.claims.now w.marks.items w.debts.items
           c.pop.new.self.items c.pop.result old.walk (c.pop.ensures.variant.1 (omega (arith, some))) c.pop.ensures.items);
+      steps = steps_popped c.args.net.now w.debts.items c.pop.new.self.items c.pop.result old.steps c.pop.ensures.items;
       told = retired_told c.pop.new.self c.args.end.0 c.rank_here.result old c.requires.end c.requires.ready
           (rw c.as_slice.ensures.value at c.rank_here.ensures);
     }

@@ -1,0 +1,83 @@
+use Rattle.std.proofs.Common.{◌≡◌, List, None, IfSome, MatchOption, length, sym, ap, ◌∙◌, subst, arith}
+use Rattle.std.proofs.lemmas.List.{get_or_read}
+use Rattle.compress.specs.declared.mark.Mark.{Mark}
+use Rattle.compress.specs.declared.step.Step.{Step}
+use Rattle.compress.specs.Walk.{ArePassed, IsReady, IsStep, IsStepFrom, IsUnderWay, LeadsOn, mark_of}
+use Rattle.compress.proofs.Steps.{end_in_range}
+use Rattle.compress.proofs.Telling.{looked_on}
+use Rattle.compress.proofs.walk.step_back.Goals.{After-as_slice, in-Some+else-is_open, in_default}
+use Rattle.compress.proofs.walk.step_back.Goals as goal
+
+-- the step that stands beside the bank is one from there
+head : (c : After-as_slice) → IsStepFrom c.args.net.now c.args.class c.args.end.0 c.in-Some.step
+head c =
+    let told = c.requires.under_way.told in
+    let w = c.requires.under_way.walk in
+    told.heads c.args.end.0 c.in-Some.step
+    (sym (get_or_read c.args.walk.now.heads.items c.args.end.0 c.index.result.now
+    (omega (arith, c.requires.end, end_in_range _ _ _ _ _ _ w, told.sizes.heads, told.sizes.marks))
+    c.index.ensures None) ∙ c.in-Some.is)
+
+pub is_open-requires-clause-debt : goal.is_open-requires-clause-debt
+is_open-requires-clause-debt c =
+    let from = head (goal.at.is_open-requires-clause-debt c).After-as_slice in
+    omega (arith, from.debt, c.requires.claims)
+
+pub is_open-requires-clause-debtor : goal.is_open-requires-clause-debtor
+is_open-requires-clause-debtor c =
+    let from = head (goal.at.is_open-requires-clause-debtor c).After-as_slice in
+    omega (
+      arith,
+      from.debtor,
+      (c.requires.network.each_debt _ from.debt).debtor_known,
+      c.requires.under_way.told.sizes.marks,
+      ap length c.as_slice.ensures.value,
+    )
+
+pub returns-then-is_open-clause-next : goal.returns-then-is_open-clause-next
+returns-then-is_open-clause-next c =
+    let from = head (goal.at.returns-then-is_open-clause-next c).After-as_slice in
+    record {
+      live = record { debt = from.debt; class = from.class; claim = c.if-is_open.ensures.claim };
+      owed = from.owed;
+      unfinished = λ e. c.if-is_open.ensures.debtor
+          (ap (λ (m : List Mark). mark_of m c.in-Some.step.debtor.0) c.as_slice.ensures.value
+          ∙ ap (mark_of c.args.walk.now.marks.items) from.debtor ∙ e);
+    }
+
+pub returns-then-is_open-clause-step : goal.returns-then-is_open-clause-step
+returns-then-is_open-clause-step c =
+    (head (goal.at.returns-then-is_open-clause-step c).After-as_slice).debtor
+
+pub returns-clause-under_way : goal.returns-clause-under_way
+returns-clause-under_way c =
+    let net = c.args.net.now in
+    let C = c.args.claims.now in
+    let same : c.match-index.walk ≡ c.args.walk.now = elim c.match-index.branch [
+      | in-Some+else-is_open w ↦ w.walk-is
+      | in_default w ↦ w.walk-is
+    ] in
+    let old = subst (IsUnderWay net c.args.class C) (sym same) c.requires.under_way in
+    let w = c.requires.under_way.walk in
+    let look = c.next_back-found in
+    looked_on look.new.cursors c.args.end.0 look.result old
+    (omega (
+      arith,
+      c.requires.end,
+      end_in_range _ _ _ _ _ _ w,
+      c.requires.under_way.told.sizes.marks,
+    ))
+    (look.ensures.cursors ∙ ap length c.as_mut_slice.ensures.value)
+    (subst (λ m. ArePassed net c.args.class C m look.new.cursors)
+    c.as_slice-marks.ensures.value look.ensures.passed)
+    (λ s e.
+    let next = subst (λ o. MatchOption o
+    (IsReady net c.args.class c.args.end.0 C c.as_slice-marks.result.now)
+    (λ (t : Step). LeadsOn net c.args.class c.args.end.0 C c.as_slice-marks.result.now t.debt.0))
+    e look.ensures.next in
+    record {
+      debt = next.live.debt;
+      class = next.live.class;
+      owed = next.owed;
+      debtor = subst (λ o. IfSome o (IsStep net)) e look.ensures.step;
+    })
