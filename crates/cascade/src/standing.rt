@@ -1,4 +1,5 @@
-/// Whether a bank pays all that it owes, on its debts and outside the network, and why not.
+/// Whether a bank pays all that it owes, on its debts and outside the network, and with which label
+/// where it does not.
 #[derive(Clone, Copy, Debug, PartialEq, Eq)]
 pub enum Health {
     /// It pays all.

@@ -3,8 +3,8 @@
 //! It collects the words of the command line, lends the files of the current folder, the standard
 //! output and the standard error to [`clear_top::run`], and ends with the code of the status that
 //! this answers. What the program computes and writes is all in `run`; what the system gives and
-//! takes is in [`DirShelf`] and [`StdSink`], which count their faults, and whose contracts say
-//! nothing of contents.
+//! takes is in [`DirShelf`] and [`StdSink`], which count their faults. Their contracts tie what is
+//! read to no named file, and tell `run` nothing of what a file holds or a stream took.
 #![tactic(auto)]
 
 mod start;
