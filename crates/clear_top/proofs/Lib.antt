@@ -1,5 +1,7 @@
 pub mod Ending
 pub mod Pieces
+pub mod Passed
+pub mod Waits
 pub mod Loading
 pub mod Runs
 pub mod Writing

@@ -70,9 +70,6 @@ fn reject(alloc: Global, net: &Network, raises: u64, verdict: Verdict) -> Result
     }) }
 {
     let line = verdict_text(alloc, net, raises, verdict)?;
-    Ok(Outcome {
-        status: Status::Unlawful(verdict),
-        sealed: None,
-        text: Text::of(alloc, line)?,
-    })
+    let text = Text::of(alloc, line)?;
+    Ok(Outcome::ending(Status::Unlawful(verdict), text))
 }

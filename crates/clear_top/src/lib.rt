@@ -5,6 +5,7 @@
 //! contract is the program's theorem.
 #![tactic(auto)]
 
+mod blocks;
 mod clear;
 mod judge;
 pub mod laws;
@@ -13,7 +14,9 @@ mod load;
 mod many;
 mod message;
 mod outcome;
+mod passing;
 mod plain;
+mod recorded;
 mod reports;
 mod saving;
 mod scenarios;

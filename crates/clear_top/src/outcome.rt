@@ -1,15 +1,18 @@
 //! What the work on a job comes to, before it is written.
 ghost use Rattle.clear_many.specs.Texts.{text_of};
+ghost use Rattle.clear_report.specs.Blocks.{stress_text};
 ghost use Rattle.clear_report.specs.Words.{empty_line};
 ghost use Rattle.clear_top.specs.Ending.{TakesPart, TakesWhole, sink_call};
 ghost use Rattle.clear_top.specs.Meaning.{IsPlain};
 ghost use Rattle.clear_top.specs.Outcome.{with_journal};
+ghost use Rattle.clear_top.specs.Waiting.{waiting_text};
 ghost use Rattle.clear_top.specs.declared.status.Status.{Status};
 ghost use Rattle.raise_journal.specs.declared.TheConstants.{ROOM};
 ghost use Rattle.std.specs.Prelude.{◌≡◌, ◌++◌, ◌<◌, ◌≤◌, [], All, IfOk, OnOk, OnErr, None, Some};
-ghost use Rattle.std.specs.Prelude.{length, vec_capacity};
+ghost use Rattle.std.specs.Prelude.{length, map, vec_capacity};
 
-use crate::lines::put_raises;
+use crate::blocks::Blocks;
+use crate::recorded::Recorded;
 use crate::status::{Ended, Status};
 use clr_edge::{Sink, SinkFault, put_all};
 use clr_net::Mem;
@@ -20,33 +23,32 @@ use std::marker::Model;
 /// What the work on a job comes to: how the run ends if the text is written whole, the record of
 /// the board on which its payments were made, and the text.
 ///
-/// Contracts see the journal of the record in the text, where it is to be written below it.
+/// Contracts see the whole text, also what is made of it when it is written: the journal of the
+/// record, where it is to be written, and the lines of payments in the blocks of scenarios.
 #[derive(Drop)]
 pub struct Outcome {
     pub status: Status,
-    pub sealed: Option<Recorded>,
-    pub text: Text,
+    body: Body,
 }
 
-/// The record of a board, and where its journal is to be written, the line that closes it.
+/// What is to be written: a text, one with the record of a board, or the blocks of scenarios.
 #[derive(Drop)]
-pub struct Recorded {
-    sealed: Record,
-    closing: Option<Text>,
-    ghost debts: { All (λ r. r.debt.0 < length sealed.net.debts) sealed.journal },
+pub enum Body {
+    Plain(Text),
+    Recorded(Recorded),
+    Blocks(Blocks),
 }
 
 impl Model for Outcome {
-    ghost use Rattle.clear_top.specs.Outcome.{Outcome, with_journal};
-    ghost use Rattle.std.specs.Option.{option_map, option_map_or};
+    ghost use Rattle.clear_top.specs.Bodies.{sealed_in, text_in};
+    ghost use Rattle.clear_top.specs.Outcome.{Outcome};
 
     ghost Value = { Outcome };
 
     ghost view = { λ o. record {
       status = o.status;
-      sealed = option_map (λ k. k.sealed) o.sealed;
-      text = option_map_or (λ k. with_journal k.sealed.net k.sealed.journal o.text k.closing)
-          o.sealed o.text;
+      sealed = sealed_in o.body;
+      text = text_in o.body;
     } };
 }
 
@@ -55,10 +57,27 @@ impl Outcome {
     pub fn of(text: Text) -> Outcome
         ensures { IsPlain text result }
     {
+        Outcome::ending(Status::Done, text)
+    }
+
+    /// A text and no record, with this status if it is written whole. Takes no memory.
+    pub fn ending(status: Status, text: Text) -> Outcome
+        ensures { result ≡ record { status = status; sealed = None; text = text } }
+    {
+        Outcome {
+            status,
+            body: Body::Plain(text),
+        }
+    }
+
+    /// Done, with the text of these blocks of scenarios and no record. Takes no memory.
+    pub fn of_blocks(blocks: Blocks) -> Outcome
+        ensures { IsPlain
+            (stress_text (map (waiting_text blocks.heads.items) blocks.all.items)) result }
+    {
         Outcome {
             status: Status::Done,
-            sealed: None,
-            text,
+            body: Body::Blocks(blocks),
         }
     }
 
@@ -79,15 +98,18 @@ impl Outcome {
           text = with_journal sealed.net sealed.journal text closing;
         } }
     {
-        let recorded = Recorded { sealed, closing };
+        let recorded = Recorded {
+            text,
+            sealed,
+            closing,
+        };
         Outcome {
             status: Status::Done,
-            sealed: Some(recorded),
-            text,
+            body: Body::Recorded(recorded),
         }
     }
 
-    /// Writes the text, with the lines of a journal through the room. At a fault some bytes from
+    /// Writes the text, with the lines that are made of it now through the room. At a fault some bytes from
     /// its front have been written, but not all, and the count rose. It takes no memory.
     pub fn put<S: Sink>(&self, sink: &mut S, room: &mut Vec<u8>) -> Result<(), SinkFault>
         requires { ROOM ≤ vec_capacity room.old }
@@ -101,9 +123,10 @@ impl Outcome {
             self.now.text) }
         ensures well { S.counts_faults_alone → OnOk result (S.faults sink.new ≡ S.faults sink.old) }
     {
-        match &self.sealed {
-            Some(recorded) => recorded.put(&self.text, sink, room),
-            None => self.text.put(sink),
+        match &self.body {
+            Body::Plain(text) => text.put(sink),
+            Body::Recorded(recorded) => recorded.put(sink, room),
+            Body::Blocks(blocks) => blocks.put(sink, room),
         }
     }
 
@@ -111,41 +134,16 @@ impl Outcome {
     pub fn end(self, status: Status) -> Ended
         ensures { result ≡ record { status = status; sealed = self.sealed } }
     {
-        let Outcome { sealed, .. } = self;
-        match sealed {
-            Some(Recorded { sealed, .. }) => Ended {
+        let Outcome { body, .. } = self;
+        match body {
+            Body::Recorded(Recorded { sealed, .. }) => Ended {
                 status,
                 sealed: Some(sealed),
             },
-            None => Ended {
+            _ => Ended {
                 status,
                 sealed: None,
             },
-        }
-    }
-}
-
-impl Recorded {
-    // Writes a text, and below it the journal, where there is a line that closes it.
-    fn put<S: Sink>(&self, text: &Text, sink: &mut S, room: &mut Vec<u8>) -> Result<(), SinkFault>
-        requires { ROOM ≤ vec_capacity room.old }
-        ensures written { OnOk result (TakesWhole
-            (sink_call
-            (S.written sink.old) (S.written sink.new) (S.faults sink.old) (S.faults sink.new))
-            (with_journal self.now.sealed.net self.now.sealed.journal text.now self.now.closing)) }
-        ensures part { OnErr result (TakesPart
-            (sink_call
-            (S.written sink.old) (S.written sink.new) (S.faults sink.old) (S.faults sink.new))
-            (with_journal self.now.sealed.net self.now.sealed.journal text.now self.now.closing)) }
-        ensures well { S.counts_faults_alone → OnOk result (S.faults sink.new ≡ S.faults sink.old) }
-    {
-        text.put(sink)?;
-        match &self.closing {
-            Some(closing) => {
-                put_raises(sink, room, self.sealed.net(), self.sealed.journal())?;
-                closing.put(sink)
-            }
-            None => Ok(()),
         }
     }
 }

@@ -21,16 +21,13 @@ settle_alone-requires-clause-offices g c κs within =
     }
 
 -- the network of the record is what the scenario leaves, and its lines begin as those of the network
-pub block_text-requires-clause-heads : goal.block_text-requires-clause-heads
-block_text-requires-clause-heads g c =
-    subst (λ n. AreHeadsOf n c.args.heads.now) (sym (c.net.ensures ∙ c.in_ok-paid.ensures.record_is.net_is))
-    (c.requires.heads ∙ sym (heads_kept c.args.net.now c.shock_again.new.left c.shock_again.ensures.alike))
-
 pub returns : goal.returns
 returns g c =
     let sealed_is = c.in_ok-paid.ensures.record_is.net_is in
+    let kept = sym (heads_kept c.args.net.now c.shock_again.new.left c.shock_again.ensures.alike) in
     record {
-      text = c.in_ok-text.ensures
+      text = λ heads are. c.in_ok-waiting.ensures heads
+          (subst (λ n. AreHeadsOf n heads) (sym (c.net.ensures ∙ sealed_is)) (are ∙ kept))
           ∙ ap (λ n. scenario_block c.args.scenario.now.name (payments_text n (least n)) (defaults_report n))
           (c.net.ensures ∙ sealed_is ∙ c.shock_again.ensures.left);
       offices = subst (λ n. AreOffices n c.args.clearer.now.plan.workers c.args.clearer.now.plan.workers c.settle_alone.new.offices.items)

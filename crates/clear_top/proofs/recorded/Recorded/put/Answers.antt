@@ -2,7 +2,7 @@
 use Rattle.std.proofs.Common.{◌∙◌, arith}
 use Rattle.std.proofs.lemmas.Result.{on_ok_weaker, on_err_weaker}
 use Rattle.clear_top.proofs.Pieces.{on_err, part_in_front, whole_then_part, whole_then_whole}
-use Rattle.clear_top.proofs.outcome.Recorded.put.Goals as goal
+use Rattle.clear_top.proofs.recorded.Recorded.put.Goals as goal
 
 pub returns-in_err-put_raises-in-Some-clause-part : goal.returns-in_err-put_raises-in-Some-clause-part
 returns-in_err-put_raises-in-Some-clause-part g c =
