@@ -3,11 +3,13 @@ import json
 import os
 import shutil
 import unittest
+import unittest.mock
 from decimal import Decimal
 
 from common import CHAIN, Case as TestCase, needs, needs_packages
 
 import clearing_client as cc
+from clearing_client import case as case_of_package
 from clearing_client import description
 from clearing_client.schema import faults_of
 
@@ -200,6 +202,50 @@ class Refused(Folders):
         with self.assertRaises(cc.CaseError):
             cc.Case.read(self.place)
 
+    def test_links_and_folders_in_the_place_of_sheets_are_refused(self):
+        """Whether a description names them or not; and what stands behind a link stays."""
+        other = self.folder / "else"
+        other.mkdir()
+        (other / "thesis.csv").write_text("years of work")
+        for what, made in (
+            ("sources is a link", lambda place: os.symlink(other, place)),
+            ("sources is no folder", lambda place: place.write_text("")),
+            ("sources/a.csv is a link", lambda place: (place.mkdir(), os.symlink(other / "thesis.csv", place / "a.csv"))),
+            ("sources/a is a link", lambda place: (place.mkdir(), os.symlink(other, place / "a"))),
+            ("sources/a is no file", lambda place: (place / "a").mkdir(parents=True)),
+            ("sources/a is no file", lambda place: (place.mkdir(), os.mkfifo(place / "a"))),
+        ):
+            with self.subTest(what=what):
+                shutil.rmtree(self.place, ignore_errors=True)
+                self.written()
+                made(self.place / "sources")
+                with self.assertRaisesRegex(cc.CaseError, what):
+                    cc.Case.read(self.place)
+                with self.assertRaisesRegex(cc.CaseError, what):
+                    cc.Case(two_banks()).write(self.place, replace=True)
+                self.assertEqual((other / "thesis.csv").read_text(), "years of work")
+
+    def test_what_is_exchanged_for_a_link_later_is_not_read(self):
+        """A folder above a file, once it was looked at."""
+        self.written(sources=[cc.Source("a.csv", "sources/a.csv")])
+        (self.place / "sources").mkdir()
+        (self.place / "sources" / "a.csv").write_text("own")
+        (self.folder / "else").mkdir()
+        (self.folder / "else" / "a.csv").write_text("secret")
+        looked = case_of_package.is_file_in
+
+        def exchanged(place, path):
+            found = looked(place, path)
+            if path.startswith("sources/") and not os.path.islink(self.place / "sources"):
+                os.rename(self.place / "sources", self.place / "before")
+                os.symlink(self.folder / "else", self.place / "sources")
+            return found
+
+        read = cc.Case.read(self.place)
+        with unittest.mock.patch.object(case_of_package, "is_file_in", exchanged):
+            with self.assertRaisesRegex(cc.CaseError, "sources/a.csv is a link"):
+                read.sheets()
+
     def test_what_is_no_folder_and_no_file_is_refused(self):
         with self.assertRaises(cc.UnreadableError):
             cc.Case.read(self.place)
@@ -250,6 +296,42 @@ class Writing(Folders):
         os.symlink(self.place, self.folder / "link")
         with self.assertRaisesRegex(cc.CaseError, "it is no folder"):
             cc.Case(two_banks()).write(self.folder / "link", replace=True)
+
+    def test_a_case_that_is_read_and_written_again_keeps_its_sheets(self):
+        sheets = {"list.csv": b"debtor,creditor,amount\nA,B,10\n", "banks of January.xlsx": bytes(range(256))}
+        sources = [cc.Source(name, f"sources/{name}", description.hash_of(data)) for name, data in sheets.items()]
+        made = cc.Case(two_banks(), title="Two", sources=sources)
+        made.write(self.place, sources=sheets)
+
+        def files(place):
+            return {path.relative_to(place).as_posix(): path.read_bytes() for path in place.rglob("*") if path.is_file()}
+
+        before = files(self.place)
+        self.assertEqual({name for name in before if "/" in name}, {f"sources/{name}" for name in sheets})
+        read = cc.Case.read(self.place)
+        self.assertEqual((read.sheets(), read.notes, list(read.sources)), (sheets, (), sources))
+        read.write(self.folder / "again")
+        read.write(self.place, replace=True)
+        for place in (self.folder / "again", self.place):
+            self.assertEqual(files(place), before)
+            self.assertEqual(cc.Case.read(place).notes, ())
+        # Others, or none, where that is said.
+        read.write(self.folder / "none", sources={})
+        self.assertEqual(set(files(self.folder / "none")), {"banks.csv", "debts.csv", "datapackage.json"})
+        # One that is gone meanwhile cannot be written: nothing is written over.
+        os.unlink(self.place / "sources" / "list.csv")
+        there = files(self.place)
+        with self.assertRaisesRegex(cc.UnreadableError, "not there any more"):
+            read.write(self.place, replace=True)
+        self.assertEqual(files(self.place), there)
+
+    def test_a_sheet_is_looked_at_whatever_its_length(self):
+        """It may be longer than any file of a network."""
+        cc.Case(two_banks()).write(self.place, sources={"a.csv": b"x" * 3000})
+        with unittest.mock.patch.object(case_of_package, "WIDE_BYTES", 2000):
+            self.assertEqual(cc.Case.read(self.place).notes, ())
+            (self.place / "sources" / "a.csv").write_bytes(b"x" * 2999 + b"y")
+            self.assertEqual(cc.Case.read(self.place).notes, ("sources/a.csv is not the file that was described",))
 
     def test_nothing_is_left_where_a_file_cannot_be_written(self):
         case = cc.Case(two_banks())

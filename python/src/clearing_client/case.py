@@ -4,13 +4,14 @@ from __future__ import annotations
 import csv
 import datetime
 import errno
+import hashlib
 import io
 import os
 import pathlib
 import stat
 import tempfile
 from decimal import Context, Decimal, Inexact, InvalidOperation, localcontext
-from typing import Any, Dict, Iterable, List, Mapping, NamedTuple, Optional, Tuple, Union
+from typing import IO, Any, Dict, Iterable, List, Mapping, NamedTuple, Optional, Tuple, Union
 
 from . import description as described
 from .description import LABEL_COLUMNS, NAME, ImportLine, ImportSummary, Origin
@@ -24,6 +25,10 @@ FILES = {"banks": "banks.csv", "debts": "debts.csv", "scenarios": "scenarios.tom
 """The files of a case by what they are."""
 WIDE_BYTES = MOST.bytes["banks"]
 """No banks file or debts file is longer by either limits."""
+SHEETS = "sources"
+"""The folder of a case with copies of the sheets that it was made of."""
+MOST_OF_A_SHEET = 400_000_000
+"""No sheet that is read is longer."""
 MOST_DIGITS = 100
 
 
@@ -107,6 +112,8 @@ class Case:
         self.others: Dict[str, Any] = {}
         """What others have put into the description, which is kept as it is."""
         self.folder: Optional[pathlib.Path] = None
+        self.sheet_names: Tuple[str, ...] = ()
+        """The names of the copies of sheets that the folder has in `sources/`, in the order of the description."""
         self.paths: Dict[str, str] = {}
         """The names of the files that the case was read from: `banks`, `debts`, `scenarios` and `labels`, as far as
         they are there."""
@@ -165,6 +172,9 @@ class Case:
         document = None if data is None else described.parse(data, os.fspath(folder))
         case = cls._of_document(document or {})
         case.folder, case.is_described = place, document is not None
+        places = {one.get("path"): at for at, one in enumerate((document or {}).get("resources", ()))}
+        names = sheets_in(place)
+        case.sheet_names = tuple(sorted(names, key=lambda name: places.get(f"{SHEETS}/{name}", len(places))))
         for what, name in FILES.items():
             if is_file_in(place, name):
                 case.paths[what] = os.fspath(place / name)
@@ -259,16 +269,30 @@ class Case:
         kept = [one for one in self.others.get("resources", ()) if one.get("path") is None]
         return [*made, *kept] or [{"name": "banks", "path": "banks.csv"}]
 
+    def sheets(self) -> Dict[str, bytes]:
+        """The copies of sheets in the folder that the case was read from, by their names. They are read when they are
+        asked for; one that is not there any more cannot be read."""
+        found: Dict[str, bytes] = {}
+        for name in self.sheet_names:
+            place = self.folder or pathlib.Path()
+            data = content_in(place, f"{SHEETS}/{name}", MOST_OF_A_SHEET)
+            if data is None or len(data) > MOST_OF_A_SHEET:
+                why = "it is not there any more" if data is None else f"it is longer than {MOST_OF_A_SHEET:,} bytes"
+                raise UnreadableError(os.fspath(place / SHEETS / name), why)
+            found[name] = data
+        return found
+
     def files(self, sources: Optional[Mapping[str, bytes]] = None) -> Dict[str, bytes]:
         """The files of the case by their paths in its folder, with the description last. `sources` are copies of sheets
-        by their names, which stand in `sources/`."""
+        by their names, which stand in `sources/`: those of the folder that it was read from where they are not said."""
         banks, debts = self.network._banks, self.network._debts
         made = {"banks.csv": banks, "debts.csv": debts}
         if self.scenarios is not None:
             made["scenarios.toml"] = self.scenarios
         if self.labels:
             made["labels.csv"] = labels_text(self.labels.values()).encode()
-        made.update({f"sources/{name}": data for name, data in (sources or {}).items()})
+        copies = self.sheets() if sources is None else sources
+        made.update({f"{SHEETS}/{name}": data for name, data in copies.items()})
         return {**made, NAME: self.description_of(made).encode()}
 
     def description_of(self, files: Mapping[str, bytes]) -> str:
@@ -280,8 +304,9 @@ class Case:
         return described.text_of(document)
 
     def write(self, folder: File, *, replace: bool = False, sources: Optional[Mapping[str, bytes]] = None) -> None:
-        """Writes the case as a folder, whole or not at all. A folder that is there is written over where `replace` says
-        so, and has nothing that is no part of a case; it comes back where a step fails."""
+        """Writes the case as a folder, whole or not at all, with the copies of sheets that `files` says. A folder that
+        is there is written over where `replace` says so, and has nothing that is no part of a case; it comes back where
+        a step fails."""
         place = pathlib.Path(os.path.abspath(folder))
         if os.path.lexists(place):
             check_replaceable(place, os.fspath(folder), replace)
@@ -319,9 +344,10 @@ def check_replaceable(place: pathlib.Path, folder: str, replace: bool) -> None:
     if place.is_symlink() or not place.is_dir():
         raise CaseError(folder, "", "it is no folder; nothing is written over it")
     for one in sorted(place.iterdir()):
-        if one.name not in (*FILES.values(), NAME, "sources"):
+        if one.name not in (*FILES.values(), NAME, SHEETS):
             what = f"it has {one.name[:80]}, which is no part of a case; nothing is written over it"
             raise CaseError(folder, "", what)
+    sheets_in(place)
 
 
 def check_own(place: pathlib.Path, path: str) -> Optional[os.stat_result]:
@@ -353,24 +379,70 @@ def is_file_in(place: pathlib.Path, path: str) -> bool:
     return about is not None and stat.S_ISREG(about.st_mode)
 
 
-def content_in(place: pathlib.Path, path: str, most: int) -> Optional[bytes]:
-    """The bytes of a file of a folder, no more than one beyond the most; None where it is not there."""
+def opened_in(place: pathlib.Path, path: str) -> Optional[IO[bytes]]:
+    """A file of a folder, open; None where it is not there. Each step below the folder is opened from the one before,
+    and none is a link, whatever is put there meanwhile."""
     if not is_file_in(place, path):
         return None
-    name = place / path
+    here = -1
     try:
-        with open(os.open(name, os.O_RDONLY | os.O_NOFOLLOW | os.O_NONBLOCK), "rb") as file:
-            return file.read(most + 1)
+        here = os.open(place, os.O_RDONLY | os.O_DIRECTORY)
+        for part in path.split("/")[:-1]:
+            below = os.open(part, os.O_RDONLY | os.O_DIRECTORY | os.O_NOFOLLOW, dir_fd=here)
+            os.close(here)
+            here = below
+        flags = os.O_RDONLY | os.O_NOFOLLOW | os.O_NONBLOCK
+        return open(os.open(path.rpartition("/")[2], flags, dir_fd=here), "rb")
     except OSError as fault:
-        if fault.errno == errno.ELOOP:
+        if fault.errno in (errno.ELOOP, errno.ENOTDIR):
             raise CaseError(os.fspath(place), "", f"{path} is a link; a case has files alone") from fault
-        raise UnreadableError(os.fspath(name), fault.strerror or str(fault)) from fault
+        raise UnreadableError(os.fspath(place / path), fault.strerror or str(fault)) from fault
+    finally:
+        if here >= 0:
+            os.close(here)
+
+
+def content_in(place: pathlib.Path, path: str, most: int) -> Optional[bytes]:
+    """The bytes of a file of a folder, no more than one beyond the most; None where it is not there."""
+    file = opened_in(place, path)
+    if file is None:
+        return None
+    with file:
+        return file.read(most + 1)
 
 
 def hash_in(place: pathlib.Path, path: str) -> str:
-    """The checksum of a file of a folder. What is longer than any file of a case has none."""
-    data = content_in(place, path, WIDE_BYTES)
-    return "" if data is None or len(data) > WIDE_BYTES else described.hash_of(data)
+    """The checksum of a file of a folder, which is read block by block. What is longer than any file of its kind has
+    none."""
+    file = opened_in(place, path)
+    if file is None:
+        return ""
+    left = MOST_OF_A_SHEET if path.startswith(f"{SHEETS}/") else WIDE_BYTES
+    found = hashlib.sha256()
+    with file:
+        while block := file.read(1 << 20):
+            left -= len(block)
+            if left < 0:
+                return ""
+            found.update(block)
+    return f"sha256:{found.hexdigest()}"
+
+
+def sheets_in(place: pathlib.Path) -> Tuple[str, ...]:
+    """The names of the copies of sheets that a folder has. Fails at links, and at what is no file."""
+    about = check_own(place, SHEETS)
+    if about is None:
+        return ()
+    if not stat.S_ISDIR(about.st_mode):
+        raise CaseError(os.fspath(place), "", f"{SHEETS} is no folder")
+    try:
+        names = sorted(os.listdir(place / SHEETS))
+    except OSError as fault:
+        raise UnreadableError(os.fspath(place / SHEETS), fault.strerror or str(fault)) from fault
+    for name in names:
+        if not is_file_in(place, f"{SHEETS}/{name}"):
+            raise CaseError(os.fspath(place), "", f"{SHEETS}/{name[:80]} is no file; a case has files alone")
+    return tuple(names)
 
 
 # Labels

@@ -238,11 +238,11 @@ def desk_of(runs: Runs, case: Case) -> Desk:
 
 
 def described_files(case: Case) -> Dict[str, bytes]:
-    """The files of a case beside the network's: what it says of itself, and what its banks are called."""
+    """The files of a case beside the network's: what it says of itself, and what its banks are called; no sheets."""
     if case.paths.get("scenarios") is not None:
         case.scenarios = takeaway.bytes_of(case.paths["scenarios"])
     try:
-        made = case.files()
+        made = case.files({})
     except ClearingError:
         return {}
     return {name: data for name, data in made.items() if name not in ("banks.csv", "debts.csv")}

@@ -7,6 +7,7 @@ from typing import Any, Callable, Dict, List, Optional
 
 from clearing_client.case import Case
 from clearing_client.description import Origin
+from clearing_client.errors import ClearingError
 from clearing_client.format import is_name
 from clearing_client.network import Network
 from clearing_client.scenarios import Scenarios
@@ -102,7 +103,11 @@ class Taken:
             sources=before.sources,
             origin=Origin(before.title, hashes, tuple(changes.in_words(self.desk.base, state))),
         )
-        return session.archive_of({f"case/{name}": data for name, data in made.files().items()})
+        try:
+            files = made.files(before.sheets())
+        except ClearingError as fault:
+            raise runner.Failed(str(fault)) from fault
+        return session.archive_of({f"case/{name}": data for name, data in files.items()})
 
     def report(self, place: Place, state: State) -> bytes:
         """The report on the state."""
