@@ -1,6 +1,7 @@
 """Cases from sheets, and the tools that take one: what is said of a case reaches what they print, and what is said
 beside decides."""
 import json
+import os
 import re
 import shutil
 import unittest
@@ -115,6 +116,41 @@ class Imported(Case):
         self.refused(
             "from_matrix.py", 1, "which is no part of a case", sheet, *PLAIN, "--case", self.place, "--replace"
         )
+
+    def test_nothing_behind_a_link_is_written_over_or_removed(self):
+        other = self.folder / "else"
+        other.mkdir()
+        (other / "thesis.docx").write_text("years of work")
+        (other / "m.csv").write_text("another's")
+        before = {path.name: path.read_bytes() for path in other.iterdir()}
+        sheet = self.file("m.csv", MATRIX)
+        for words in ([], ["--keep-sources"]):
+            for name, target in (("sources", other), ("sources/m.csv", other / "m.csv"), ("sources/x", other)):
+                with self.subTest(name=name, words=words):
+                    shutil.rmtree(self.place, ignore_errors=True)
+                    self.make()
+                    described = (self.place / "banks.csv").read_bytes()
+                    (self.place / name).parent.mkdir(exist_ok=True)
+                    os.symlink(target, self.place / name)
+                    told = f"{name} is a link, or stands behind one"
+                    line = [sheet, *PLAIN, "--unit=0.25", "--case", self.place, "--replace", *words]
+                    self.refused("from_matrix.py", 1, told, *line)
+                    self.assertEqual((self.place / "banks.csv").read_bytes(), described)
+                    self.assertTrue((self.place / name).is_symlink())
+                    self.assertEqual({path.name: path.read_bytes() for path in other.iterdir()}, before)
+
+    def test_what_is_exchanged_for_a_link_later_is_not_removed(self):
+        """A folder of sheets, once the case was looked at; and what the new case has not goes."""
+        from clearing_tools.imports import made_case
+
+        self.make("--keep-sources")
+        os.rename(self.place / "sources", self.folder / "else")
+        os.symlink(self.folder / "else", self.place / "sources")
+        written = [str(self.place / name) for name in ("banks.csv", "debts.csv", "datapackage.json")]
+        made_case.remove_stale(written)
+        self.assertEqual((self.folder / "else" / "m.csv").read_text(), MATRIX)
+        self.assertTrue((self.place / "banks.csv").exists())
+        self.assertFalse((self.place / "labels.csv").exists())
 
     def test_each_importer_writes_one(self):
         listed = self.file("l.csv", "debtor,creditor,amount\nA,B,10\n")

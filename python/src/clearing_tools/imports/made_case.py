@@ -150,7 +150,7 @@ def case_files(
             labels=labels,
             scenarios=before.scenarios if before else None,
             sources=[
-                Source(name, f"sources/{name}" if words.keep_sources else "", hash_of(path))
+                Source(name, f"{cases.SHEETS}/{name}" if words.keep_sources else "", hash_of(path))
                 for path, name in names.items()
             ],
             summary=summary.of_case(command_of(tool, words.line, names, words.keep_sources), scale),
@@ -175,18 +175,34 @@ def replaced(folder: str, is_replaced: bool) -> Optional[Case]:
 
 
 def remove_stale(written: Sequence[str]) -> None:
-    """Removes the files of cases that were written over which the new ones have not."""
+    """Removes the files of cases that were written over which the new ones have not. Folders are gone into by their
+    descriptors and no link is followed, so that nothing goes that does not stand in the folder of a case itself."""
     kept = set(written)
-    for folder in {os.path.dirname(name) for name in written if os.path.basename(name) == description.NAME}:
-        sources = os.path.join(folder, "sources")
-        there = [os.path.join(folder, name) for name in cases.FILES.values()]
-        there += [os.path.join(sources, name) for name in os.listdir(sources)] if os.path.isdir(sources) else []
-        for path in there:
-            if path not in kept:
-                with contextlib.suppress(OSError):
-                    os.unlink(path)
-        with contextlib.suppress(OSError):
-            os.rmdir(sources)
+    for place in [name for name in written if os.path.basename(name) == description.NAME]:
+        folder = os.path.dirname(place)
+        with contextlib.suppress(OSError), contextlib.closing(files.Way(place)) as way:
+            for name in cases.FILES.values():
+                if os.path.join(folder, name) not in kept:
+                    files.remove(name, way.folder)
+            remove_sheets(way.folder, {os.path.basename(name) for name in kept if is_sheet_of(folder, name)})
+
+
+def is_sheet_of(folder: str, name: str) -> bool:
+    """Whether a name is that of a copy of a sheet in the folder of a case."""
+    return os.path.dirname(name) == os.path.join(folder, cases.SHEETS)
+
+
+def remove_sheets(folder: int, kept: Container[str]) -> None:
+    """Removes the copies of sheets of a case that are not kept, and their folder where nothing is left in it. The
+    folder of the case is given by its descriptor."""
+    sheets = os.open(cases.SHEETS, os.O_RDONLY | os.O_DIRECTORY | os.O_NOFOLLOW, dir_fd=folder)
+    try:
+        for name in os.listdir(sheets):
+            if name not in kept:
+                files.remove(name, sheets)
+    finally:
+        os.close(sheets)
+    os.rmdir(cases.SHEETS, dir_fd=folder)
 
 
 def decimal_of(unit: Fraction) -> Decimal:
@@ -224,7 +240,7 @@ def command_of(tool: str, line: Sequence[str], names: Mapping[str, str], is_kept
         if option.startswith("--") and option[2:] in WRITTEN:
             skip = not sign and option[2:] not in ("replace", "keep-sources")
             continue
-        found.append(by_name(word, names, "sources/" if is_kept else ""))
+        found.append(by_name(word, names, f"{cases.SHEETS}/" if is_kept else ""))
     return found
 
 
