@@ -1,4 +1,6 @@
 """Evidence that begins at the sheets of which the two files were made."""
+import json
+import os
 import shutil
 
 import test_evidence
@@ -103,6 +105,41 @@ class Source(test_evidence.Evidence):
         self.assertEqual(done.returncode, 0)
         self.assertIn("the sheets of the case do not make its banks.csv any more; they are left out", done.stderr.decode())
         self.assertFalse((self.folder / "other/source").exists())
+
+    def test_the_sheets_of_a_case_are_read_through_no_link(self):
+        for name in ("sources", "sources/m.csv"):
+            with self.subTest(name=name):
+                shutil.rmtree(self.folder / "case", ignore_errors=True)
+                place = self.case("--keep-sources")
+                outside = self.folder / name.replace("/", "-")
+                os.rename(place / name, outside)
+                os.symlink(outside, place / name)
+                done = evidence("make", self.folder / "evidence", "--case", place)
+                self.assertEqual((done.returncode, (self.folder / "evidence").exists()), (4, False))
+                self.assertIn(f"{name} is a link, or stands behind one; a case has files alone", done.stderr.decode())
+
+    def test_the_command_of_a_case_names_no_file_but_its_sheets(self):
+        """What stands in the description of somebody else's case has no file of this machine copied."""
+        secret = self.file("secret.csv", "bank,cash\nsecret,1\n")
+        for word in (f"--drop={secret}", str(secret), "secret.csv", "--drop=secret.csv", "../secret.csv"):
+            with self.subTest(word=word):
+                shutil.rmtree(self.folder / "case", ignore_errors=True)
+                shutil.rmtree(self.folder / "evidence", ignore_errors=True)
+                path = self.case("--keep-sources") / "datapackage.json"
+                document = json.loads(path.read_text())
+                document["clearing"]["import"]["command"].append(word)
+                path.write_text(json.dumps(document))
+                done = evidence("make", self.folder / "evidence", "--case", self.folder / "case", cwd=self.folder)
+                self.assertEqual((done.returncode, (self.folder / "evidence").exists()), (done.returncode or 1, False))
+        # A source that is no copy in the folder is none of its sheets.
+        path = self.case("--keep-sources", "--replace") / "datapackage.json"
+        document = json.loads(path.read_text())
+        document["sources"][0]["path"] = "../secret.csv"
+        document["clearing"]["import"]["command"][1] = "../secret.csv"
+        path.write_text(json.dumps(document))
+        done = evidence("make", self.folder / "evidence", "--case", self.folder / "case")
+        self.assertEqual((done.returncode, done.stderr), (0, b""))
+        self.assertFalse((self.folder / "evidence/source").exists())
 
     def test_a_command_with_labels_is_kept_as_it_was_run(self):
         self.file("m.csv", self.CLAIMS)

@@ -43,7 +43,6 @@ import os
 import pathlib
 import platform
 import secrets
-import shlex
 import shutil
 import sys
 import tempfile
@@ -106,30 +105,40 @@ def take_case(asked: argparse.Namespace) -> None:
         if vars(asked)[name] is None:
             setattr(asked, name, case.paths.get(name))
     asked.description = os.path.join(asked.case, "datapackage.json") if case.is_described else None
-    asked.kept = kept_command(case) if asked.source is None else None
+    asked.kept = case if asked.source is None and keeps_sheets(case) else None
     asked.limits = asked.limits or case.said_limits
 
 
-def kept_command(case: Any) -> Optional[str]:
-    """The command that made the files of a case, where it keeps all its sheets; nothing else."""
-    kept = {one.path: os.path.join(case.folder, one.path) for one in case.sources if one.path}
-    if case.summary is None or not case.summary.command or len(kept) < len(case.sources) or not kept:
-        return None
-    words = [with_path(word, kept) for word in case.summary.command]
-    return shlex.join(words) if all(map(os.path.isfile, kept.values())) else None
+def keeps_sheets(case: Any) -> bool:
+    """Whether a case has copies of all the sheets that it was made of, and the command that did it."""
+    kept = [source.path for source in case.sources if source.path]
+    has_all = len(kept) == len(case.sources) and {f"sources/{name}" for name in case.sheet_names}.issuperset(kept)
+    return bool(kept and has_all and case.summary is not None and case.summary.command)
 
 
-def with_path(word: str, kept: Dict[str, str]) -> str:
-    """A word with the path of a sheet in place of its name in the case."""
-    before, sign, name = word.rpartition("=")
-    return kept.get(word) or (before + sign + kept[name] if sign and name in kept else word)
+def sheets_of_case(case: Any, folder: pathlib.Path) -> Dict[str, str]:
+    """The sheets of a case by their paths in it, each in a file of its own in a folder. They are read by the case,
+    which opens nothing outside."""
+    cases, errors = map(importlib.import_module, ("clearing_tools.cases", "clearing_client.errors"))
+    found: Dict[str, str] = {}
+    try:
+        for name, data in case.sheets().items():
+            found[f"sources/{name}"] = str(folder / name)
+            (folder / name).write_bytes(data)
+    except errors.UnreadableError as fault:
+        raise Failed(str(fault), cases.UNREADABLE) from fault
+    except errors.CaseError as fault:
+        raise Failed(str(fault), cases.REFUSED) from fault
+    return found
 
 
-def keep_source(folder: pathlib.Path, command: str) -> None:
+def keep_source(folder: pathlib.Path, case: Any) -> None:
     """Keeps the sheets of a case, unless its files are not what they make any more."""
     with tempfile.TemporaryDirectory() as name:
-        source.keep(pathlib.Path(name), command, put)
-        made = pathlib.Path(name)
+        sheets, made = pathlib.Path(name, "sheets"), pathlib.Path(name, "made")
+        for path in (sheets, made):
+            path.mkdir()
+        source.keep(made, *source.of_case(case.summary.command, sheets_of_case(case, sheets)), put)
         for path in made.glob("inputs/*"):
             there = folder / "inputs" / path.name
             if not there.exists() or there.read_bytes() != path.read_bytes():
@@ -142,7 +151,7 @@ def keep_source(folder: pathlib.Path, command: str) -> None:
 def put_inputs(folder: pathlib.Path, asked: argparse.Namespace) -> None:
     """Puts the inputs into a folder."""
     if asked.source is not None:
-        source.keep(folder, asked.source, put)
+        source.keep(folder, *source.parsed(asked.source), put)
     for name, place in ((asked.labels, LABELS), (asked.description, DESCRIPTION)):
         if name is not None:
             put(folder, place, contents(name))
@@ -240,7 +249,8 @@ def new_folder(way: files.Way, mode: int) -> Iterator[pathlib.Path]:
         os.rename(part, way.last, src_dir_fd=way.folder, dst_dir_fd=way.folder)
     except BaseException:
         for name in os.listdir(number):
-            shutil.rmtree(here / name) if os.path.isdir(here / name) else os.unlink(here / name)
+            is_folder = os.path.isdir(here / name) and not os.path.islink(here / name)
+            shutil.rmtree(here / name) if is_folder else os.unlink(here / name)
         with contextlib.suppress(OSError):
             os.rmdir(part, dir_fd=way.folder)
         raise

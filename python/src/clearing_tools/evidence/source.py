@@ -12,7 +12,7 @@ import re
 import shlex
 import subprocess
 import sys
-from typing import Callable, Dict, List, NamedTuple, Optional, Tuple
+from typing import Callable, Dict, List, Mapping, NamedTuple, Optional, Sequence, Tuple
 
 from .. import runner
 from ..runner import Failed
@@ -52,15 +52,35 @@ def parsed(command: str) -> Tuple[str, List[Word]]:
         tool, *words = shlex.split(command)
     except ValueError as fault:
         raise Failed(f"--source is no command: {fault}", 2) from fault
-    tool = os.path.basename(tool)
+    tool = checked_tool(os.path.basename(tool), words)
+    return tool, list(map(word_in, without_places(words)))
+
+
+def of_case(command: Sequence[str], sheets: Mapping[str, str]) -> Tuple[str, List[Word]]:
+    """The tool of the command that made a case, and its words. Files are the sheets of the case alone, which are given
+    by their paths in it; no other word names a file, whatever stands there."""
+    tool = checked_tool(command[0], command[1:])
+    return tool, [word_of_case(word, sheets) for word in without_places(command[1:])]
+
+
+def word_of_case(word: str, sheets: Mapping[str, str]) -> Word:
+    """A word of the command of a case, with the file of a sheet where it names one."""
+    before, sign, name = word.rpartition("=")
+    if word in sheets:
+        return Word("", sheets[word])
+    return Word(before + sign, sheets[name]) if sign and name in sheets else Word(word)
+
+
+def checked_tool(tool: str, words: Sequence[str]) -> str:
+    """The tool of a command. Fails where it is none of those for sheets, or makes more than one network."""
     if tool not in TOOLS:
         raise Failed(f"--source begins with one of {', '.join(TOOLS)}", 2)
     if any(word.split("=")[0] == MANY for word in words):
         raise Failed(f"--source is of one network, and {MANY} makes several", 2)
-    return tool, list(map(word_in, without_places(words)))
+    return tool
 
 
-def without_places(words: List[str]) -> List[str]:
+def without_places(words: Sequence[str]) -> List[str]:
     """The words of a command without those that say where to write."""
     found, is_value = [], False
     for word in words:
@@ -84,9 +104,10 @@ def sheets_of(command: str) -> List[str]:
     return [word.sheet for word in parsed(command)[1] if word.sheet is not None]
 
 
-def keep(folder: pathlib.Path, command: str, put: Callable[[pathlib.Path, str, bytes], None]) -> None:
+def keep(
+    folder: pathlib.Path, tool: str, words: Sequence[Word], put: Callable[[pathlib.Path, str, bytes], None]
+) -> None:
     """Keeps the sheets and the command of a network in a folder, and makes its two files and the summary."""
-    tool, words = parsed(command)
     lines = [tool]
     for word in words:
         if word.sheet is None:
