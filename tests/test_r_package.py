@@ -11,7 +11,8 @@ import unittest
 from common import PROGRAM, ROOT, Case
 
 from clearing_client import Case as BankCase
-from clearing_client import Network
+from clearing_client import Network, Source
+from clearing_client.description import hash_of
 
 PACKAGE = ROOT / "r"
 
@@ -98,6 +99,25 @@ class Package(Case):
         again = BankCase.read(self.folder / "r")
         self.assertEqual((again.title, again.description, again.author, again.notes), (case.title, case.description, "Ada", ()))
         self.assertEqual(again.others["licenses"], [{"name": "none"}])
+
+    def test_both_keep_the_sheets_of_a_case_and_tell_the_same_of_it(self):
+        sheets = {"z list.csv": b"debtor,creditor,amount\nA,B,10\n", "banks.xlsx": bytes(range(256))}
+        sources = [Source(name, f"sources/{name}", hash_of(data)) for name, data in sheets.items()]
+        case = BankCase(Network({"A": 7, "B": 1}, {("A", "B"): 10}), title="Two", sources=sources)
+        case.others["clearing"] = {"colour": "red", "x" * 100: 1}
+        case.write(self.folder / "python", sources=sheets)
+        (self.folder / "python" / "labels.csv").write_text("bank,short,full,group,country\nA,,Alpha,,\n")
+        notes = BankCase.read(self.folder / "python").notes
+        self.assertEqual(len(notes), 3)
+        printed = self.r("case <- read_case('python')\ncat(case$notes, sep = '\\n')\nwrite_case(case, 'r')\n")
+        self.assertEqual(tuple(printed.splitlines()), notes)
+        again = BankCase.read(self.folder / "r")
+        self.assertEqual((again.sheets(), list(again.sources)), (sheets, sources))
+        self.assertEqual(again.notes, notes[1:])
+        resources = {one["path"]: one for one in again.others["resources"]}
+        for name, data in sheets.items():
+            one = resources[f"sources/{name}"]
+            self.assertEqual((one["bytes"], one["hash"]), (len(data), hash_of(data)))
 
 
 if __name__ == "__main__":

@@ -4,6 +4,13 @@ DESCRIPTION <- "datapackage.json"
 CASE_FILES <- c(banks = "banks.csv", debts = "debts.csv", scenarios = "scenarios.toml", labels = "labels.csv")
 LABEL_COLUMNS <- c("bank", "short", "full", "group", "country")
 
+# The folder of a case with copies of the sheets that it was made of.
+SHEETS <- "sources"
+
+# The keys of a description that are ours, below `clearing`; others are told.
+OUR_KEYS <- c("asOf", "test", "currency", "unit", "limits", "keep", "import", "from")
+INNER_KEYS <- list(import = c("command", "read", "leftOut", "summed", "rounded", "converted"), from = c("title", "hashes", "changes"))
+
 bank_case <- function(network, title = "", description = "", as_of = NULL, test = NULL, currency = NULL, unit = "1",
                       labels = NULL, keep = NULL) {
   if (!inherits(network, "bank_network")) fail("a case is made of a network")
@@ -13,11 +20,14 @@ bank_case <- function(network, title = "", description = "", as_of = NULL, test 
                                                   limits = network$limits, keep = keep))), labels, list(), character(0))
 }
 
-as_case <- function(network, document, labels, paths, notes) {
+# A case of its parts. `paths` are the files that it was read from, by what they are, and `sheets` the copies of sheets by their
+# names in the folder.
+as_case <- function(network, document, labels, paths, notes, sheets = character(0)) {
   ours <- document$clearing
   structure(list(network = network, labels = labels, title = or(document$title, ""), description = or(document$description, ""),
                  as_of = ours$asOf, test = ours$test, currency = ours$currency, unit = or(ours$unit, "1"),
-                 limits = network$limits, keep = ours$keep, notes = notes, document = document, paths = paths),
+                 limits = network$limits, keep = ours$keep, notes = notes, document = document, paths = paths,
+                 sheets = sheets),
             class = "bank_case")
 }
 
@@ -26,6 +36,7 @@ drop_null <- function(values) values[!vapply(values, is.null, NA)]
 
 # What stands under our key is of its form; fails with the key.
 check_described <- function(ours) {
+  if (!is.null(ours) && !is.list(ours)) fail("clearing: no object of JSON")
   must <- function(key, is_well, what) {
     value <- ours[[key]]
     if (!is.null(value) && !isTRUE(is_well(value))) fail(sprintf("clearing.%s: %s", key, what))
@@ -58,6 +69,23 @@ own_file <- function(folder, path) {
   here
 }
 
+# The copies of sheets that a folder has, by their names; fails at links and at what is no file.
+sheets_in <- function(folder) {
+  place <- file.path(folder, SHEETS)
+  if (!dir.exists(place)) {
+    own_file(folder, SHEETS)
+    if (file.exists(place)) fail(sprintf("%s: %s is no folder", folder, SHEETS))
+    return(character(0))
+  }
+  link <- Sys.readlink(place)
+  if (!is.na(link) && nzchar(link)) fail(sprintf("%s: %s is a link, or stands behind one; a case has files alone", folder, SHEETS))
+  names <- sort(list.files(place, all.files = TRUE, no.. = TRUE), method = "radix")
+  paths <- vapply(names, function(name) or(own_file(folder, paste0(SHEETS, "/", name)), ""), "")
+  other <- names[!utils::file_test("-f", paths)]
+  if (length(other)) fail(sprintf("%s: %s/%s is no file", folder, SHEETS, other[1]))
+  paths
+}
+
 # The SHA-256 of a file, or NULL where neither R nor the system can tell it.
 hash_of <- function(file) {
   ours <- tryCatch(getExportedValue("tools", "sha256sum"), error = function(fault) NULL)
@@ -69,16 +97,36 @@ hash_of <- function(file) {
 
 read_case <- function(folder) {
   if (!dir.exists(folder)) fail(sprintf("%s is no folder", folder), 3L)
+  # The files are read anew where the case is written, by then perhaps from another working folder.
+  folder <- normalizePath(folder)
   paths <- drop_null(lapply(CASE_FILES, function(name) own_file(folder, name)))
   for (what in c("banks", "debts")) if (is.null(paths[[what]])) fail(sprintf("%s has no %s, and is no case", folder, CASE_FILES[[what]]))
   described <- own_file(folder, DESCRIPTION)
   document <- if (is.null(described)) setNames(list(), character(0)) else read_json(paste(read_lines(described), collapse = "\n"))
   if (!is.list(document) || is.null(names(document))) fail(sprintf("%s is no object of JSON", DESCRIPTION))
   check_described(document$clearing)
+  sheets <- in_order_of(sheets_in(folder), document$resources)
   labels <- if (is.null(paths$labels)) NULL else read_labels(paths$labels)
   notes <- if (is.null(described)) character(0) else notes_of(document, folder, paths)
   said <- if (identical(document$clearing$limits, "wide")) "wide" else NULL
-  as_case(read_network(paths$banks, paths$debts, said), document, labels, paths, notes)
+  as_case(read_network(paths$banks, paths$debts, said), document, labels, paths, notes, sheets)
+}
+
+# Sheets in the order in which a description has them, and behind these those that it has not.
+in_order_of <- function(sheets, resources) {
+  if (!length(sheets)) return(sheets)
+  described <- vapply(resources, function(one) if (is.list(one) && is.character(one$path)) one$path[1] else "", "")
+  sheets[order(match(paste0(SHEETS, "/", names(sheets)), described, nomatch = length(described) + 1L))]
+}
+
+# The keys under `clearing` that are none of ours.
+unknown_keys <- function(ours) {
+  found <- sprintf("clearing.%s", setdiff(names(ours), OUR_KEYS))
+  for (inner in names(INNER_KEYS)) {
+    more <- setdiff(names(ours[[inner]]), INNER_KEYS[[inner]])
+    found <- c(found, sprintf("clearing.%s.%s", rep(inner, length(more)), more))
+  }
+  found
 }
 
 read_labels <- function(file) {
@@ -102,7 +150,8 @@ notes_of <- function(document, folder, paths) {
     else if (!is.null(resource$hash) && !identical(or(hash_of(file), resource$hash), resource$hash)) told <- c(told, sprintf("%s is not the file that was described", path))
   }
   left <- setdiff(basename(unlist(paths)), described)
-  c(told, sprintf("%s is not described", left))
+  unknown <- substr(unknown_keys(document$clearing), 1, 80)
+  c(told, sprintf("%s is not described", left), sprintf("the key %s is unknown", unknown))
 }
 
 # The columns of each file as the standard describes them.
@@ -113,38 +162,70 @@ fields_of <- function(what, network) {
   lapply(names, function(name) field(name, if (name %in% c("cash", "outside", "class", "claim")) "integer" else "string"))
 }
 
-resource_of <- function(what, file, network, before) {
-  name <- CASE_FILES[[what]]
-  is_table <- name != "scenarios.toml"
-  made <- list(name = what, path = name, format = if (is_table) "csv" else "toml",
-               mediatype = if (is_table) "text/csv" else "application/toml", encoding = "utf-8", bytes = file.size(file), hash = hash_of(file))
-  if (is_table) made$schema <- list(fields = fields_of(what, network))
-  old <- Filter(function(one) identical(one$path, name), before)
-  if (length(old)) made <- utils::modifyList(old[[1]], made[c("bytes", "hash")])
+MEDIA <- c(csv = "text/csv", toml = "application/toml", json = "application/json", ods = "application/vnd.oasis.opendocument.spreadsheet",
+           xlsx = "application/vnd.openxmlformats-officedocument.spreadsheetml.sheet")
+
+# A file of a case as a resource: one of CASE_FILES by what it is, or the copy of a sheet by its path in the folder.
+resource_of <- function(what, path, file, network, before) {
+  ending <- sub("^.*[.]", "", basename(path))
+  made <- drop_null(list(name = if (is.null(what)) gsub("[[:space:]/]+", "-", path) else what, path = path, format = ending,
+                         mediatype = if (ending %in% names(MEDIA)) MEDIA[[ending]], encoding = if (ending %in% c("csv", "toml", "json")) "utf-8",
+                         bytes = file.size(file), hash = hash_of(file)))
+  if (!is.null(what) && ending == "csv") made$schema <- list(fields = fields_of(what, network))
+  old <- Filter(function(one) identical(one$path, path), before)
+  if (length(old)) made <- utils::modifyList(old[[1]], list(bytes = made$bytes, hash = made$hash))
   drop_null(made)
 }
 
 write_case <- function(case, folder, replace = FALSE) {
   if (!inherits(case, "bank_case")) fail("this is no case")
-  if (file.exists(folder) && (!replace || !dir.exists(folder))) fail(sprintf("%s is there; nothing is written over it", folder))
-  if (file.exists(folder)) {
-    other <- setdiff(list.files(folder, all.files = TRUE, no.. = TRUE), c(CASE_FILES, DESCRIPTION, "sources"))
-    if (length(other)) fail(sprintf("%s has %s, which is no part of a case; nothing is written over it", folder, other[1]))
-  }
+  # Without a slash at its end, behind which a link would not be seen.
+  folder <- sub("(.)/+$", "\\1", folder)
+  check_replaceable(folder, replace)
   part <- tempfile(".part-", tmpdir = dirname(folder))
   dir.create(part)
   on.exit(unlink(part, recursive = TRUE))
   write_network(case$network, file.path(part, "banks.csv"), file.path(part, "debts.csv"))
-  if (!is.null(case$paths$scenarios)) file.copy(case$paths$scenarios, file.path(part, "scenarios.toml"))
+  if (!is.null(case$paths$scenarios)) copy_file(case$paths$scenarios, file.path(part, "scenarios.toml"))
   if (!is.null(case$labels) && nrow(case$labels)) write_labels(case$labels, file.path(part, "labels.csv"))
+  if (length(case$sheets)) dir.create(file.path(part, SHEETS))
+  for (name in names(case$sheets)) copy_file(case$sheets[[name]], file.path(part, SHEETS, name))
   write_text(write_json(document_of(case, part)), file.path(part, DESCRIPTION))
+  move_into(part, folder)
+  invisible(folder)
+}
+
+# Whether a folder may be written over: that was said, and it has nothing that is no part of a case.
+check_replaceable <- function(folder, replace) {
+  link <- Sys.readlink(folder)
+  is_link <- !is.na(link) && nzchar(link)
+  if (!file.exists(folder) && !is_link) return(invisible())
+  if (!replace || is_link || !dir.exists(folder)) fail(sprintf("%s is there; nothing is written over it", folder))
+  other <- setdiff(list.files(folder, all.files = TRUE, no.. = TRUE), c(CASE_FILES, DESCRIPTION, SHEETS))
+  if (length(other)) fail(sprintf("%s has %s, which is no part of a case; nothing is written over it", folder, other[1]))
+  sheets_in(folder)
+  invisible()
+}
+
+# Copies a file of a case, which is no link by now either.
+copy_file <- function(from, to) {
+  link <- Sys.readlink(from)
+  if (!is.na(link) && nzchar(link)) fail(sprintf("%s is a link; a case has files alone", from))
+  if (!file.copy(from, to)) fail(sprintf("%s cannot be read", from), 3L)
+}
+
+# Moves a folder that was made into its place. What stood there comes back where that fails, and goes where it does not.
+move_into <- function(part, folder, rename = file.rename) {
+  kept <- NULL
   if (file.exists(folder)) {
     kept <- tempfile(".before-", tmpdir = dirname(folder))
-    if (!file.rename(folder, kept)) fail(sprintf("%s cannot be moved aside", folder))
-    on.exit(unlink(kept, recursive = TRUE), add = TRUE)
+    if (!rename(folder, kept)) fail(sprintf("%s cannot be moved aside", folder))
   }
-  if (!file.rename(part, folder)) fail(sprintf("%s cannot be written", folder))
-  invisible(folder)
+  if (!rename(part, folder)) {
+    if (!is.null(kept)) rename(kept, folder)
+    fail(sprintf("%s cannot be written", folder))
+  }
+  if (!is.null(kept)) unlink(kept, recursive = TRUE)
 }
 
 write_labels <- function(labels, file) {
@@ -156,9 +237,10 @@ write_labels <- function(labels, file) {
 # The description of a case whose files stand in a folder.
 document_of <- function(case, folder) {
   present <- CASE_FILES[file.exists(file.path(folder, CASE_FILES))]
-  resources <- unname(lapply(names(present), function(what) {
-    resource_of(what, file.path(folder, present[[what]]), case$network, case$document$resources)
-  }))
+  described <- function(what, path) resource_of(what, path, file.path(folder, path), case$network, case$document$resources)
+  sheets <- if (length(case$sheets)) paste0(SHEETS, "/", names(case$sheets)) else character(0)
+  resources <- unname(c(lapply(names(present), function(what) described(what, present[[what]])),
+                        lapply(sheets, function(path) described(NULL, path))))
   name <- gsub("[^a-z0-9]+", "-", tolower(iconv(case$title, "UTF-8", "ASCII//TRANSLIT", sub = "-")))
   made <- list("$schema" = "https://datapackage.org/profiles/2.0/datapackage.json", name = or(case$document$name, gsub("^-+|-+$", "", name)),
                title = case$title, description = case$description, created = or(case$document$created, format(Sys.time(), "%Y-%m-%dT%H:%M:%SZ", tz = "UTC")),
