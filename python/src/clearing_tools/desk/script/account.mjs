@@ -27,7 +27,7 @@ export const unpaidIn = (account) => {
 };
 
 /** The lines of an account in two states: words, what it was and is, and for a debtor its place. */
-const linesOf = (now, before) => {
+export const linesOf = (now, before) => {
   const is = unpaidIn(now), was = unpaidIn(before), debtors = [...new Set([...is.keys(), ...was.keys()])];
   const of = (debtor) => is.get(debtor) ?? 0;
   debtors.sort((one, other) => of(other) - of(one) || (of(one) ? 0 : (was.get(other) ?? 0) - (was.get(one) ?? 0)) || one - other);

@@ -1,0 +1,216 @@
+"""The account of a bank, which says why it lacks something: its lines add up, and each is what the plain model says."""
+import json
+import os
+import pathlib
+import random
+import subprocess
+import sys
+import tempfile
+import types
+import unittest
+
+from common import PACKAGES, PROGRAM, ROOT, needs
+
+sys.path.insert(0, str(PACKAGES))
+sys.path.append(str(ROOT / "tests/system"))
+
+import model  # noqa: E402
+import networks  # noqa: E402
+
+from clearing_client.case import Case as Folder  # noqa: E402
+from clearing_tools import runner  # noqa: E402
+from clearing_tools.desk import account as accounts  # noqa: E402
+from clearing_tools.desk import state as states  # noqa: E402
+from clearing_tools.desk.runs import Desk, Runs, base_of  # noqa: E402
+
+NETWORKS = 200
+SCRIPT = ROOT / "python/src/clearing_tools/desk/script/account.mjs"
+# Wrong accounts, planted in the code: what is left out, counted twice or taken for something else.
+PLANTED = {
+    "claims are not counted": ("base.banks[bank].cash + claims - one.owed", "base.banks[bank].cash - one.owed"),
+    "the loss is left out": ("left = whole - loss - sum(", "left = whole - sum("),
+    "what is owed outside is left out": ("- outside - found.lost[bank]\n", "- found.lost[bank]\n"),
+    "costs of default are left out": ("- outside - found.lost[bank]\n", "- outside\n"),
+    "costs stand with what is owed outside": (
+        "return Account(whole, loss, unpaid, outside, found.lost[bank], left)",
+        "return Account(whole, loss, unpaid, outside + found.lost[bank], 0, left)",
+    ),
+    "the loss is that of another bank": ("found.left[bank]", "found.left[bank - 1]"),
+    "a debt stands for all of a debtor": ("one[0] += claim", "one[0] = max(one[0], claim)"),
+    "what is paid is what is unpaid": ("one[1] += paid", "one[1] += claim - paid"),
+    "the last debtor has no line": ("return sorted(lines, ", "return sorted(lines[:-1], "),
+    "the debtors are those of the claims owed": ("for _, debtor, _, class_, claim, paid in owed:", "for _, _, debtor, class_, claim, paid in owed:"),
+    "no test at the end": ("- (outside - one.outside_paid):", "- (outside - one.outside_paid) and bank:"),
+}
+# Lines of the account in the page, which adds together the debtors behind the first few.
+LINES = """
+// What the page measures text with is asked for at once.
+globalThis.document = { createElement: () => ({ getContext: () => null }) };
+const { linesOf } = await import(%s);
+let text = "";
+for await (const part of process.stdin) text += part;
+const found = JSON.parse(text).map(([now, before]) => linesOf(now, before).map(({ was, is, rest, debtor }) => ({ was, is, debtor, rest })));
+console.log(JSON.stringify(found));
+"""
+
+
+class Asked:
+    """A network drawn at random, a state of it, and what the program and the model say of that."""
+
+    def __init__(self, runs, folder, number):
+        rng = random.Random(7000 + number)
+        net = networks.drawn_net(rng)
+        (folder / "banks.csv").write_text(model.banks_text(net, True), encoding="utf-8")
+        (folder / "debts.csv").write_text(model.debts_text(net), encoding="utf-8")
+        self.keep = rng.choice([1000, 1000, 600, 0])
+        losses = {at: rng.randrange(20) for at in range(0, len(net.banks), 3)}
+        cut = rng.choice([0, 300, 1000])
+        self.net = net
+        self.left = model.shocked(net, model.Scenario("", cut, list(losses.items())))
+        self.paid = model.least(self.left, self.keep)
+        self.base = base_of(runs, str(folder / "banks.csv"), str(folder / "debts.csv"), None)
+        desk = Desk(runs, self.base, Folder())
+        self.found = desk.cleared(states.State(cut=str(cut), keep=str(self.keep), losses=tuple(losses.items())))
+        self.before = desk.cleared(states.AS_IT_IS)
+        model.forget()
+
+    def lacks(self, bank):
+        """What the model says that a bank has left: below 0 what it lacks."""
+        (_, _, outside, on_debts, equity), _ = model.cost_standing(self.left, self.keep, self.paid, bank)
+        return equity - (self.net.owed[bank] - on_debts) - (self.net.banks[bank].outside - outside)
+
+    def unpaid(self, bank):
+        """What each debtor leaves unpaid of its claims, by the model: its place, the claims and what is paid."""
+        sums = {}
+        for x in self.net.columns[bank]:
+            one = sums.setdefault(self.net.debts[x].debtor, [0, 0])
+            one[0] += self.net.debts[x].claim
+            one[1] += self.paid[x]
+        return sorted((debtor, claim, paid) for debtor, (claim, paid) in sums.items() if paid < claim)
+
+    def faults(self, bank, account):
+        """What of the account of a bank does not add up, or is not what the model says."""
+        one, claims = self.net.banks[bank], sum(self.net.debts[x].claim for x in self.net.columns[bank])
+        (_, lost, *_), _ = model.cost_standing(self.left, self.keep, self.paid, bank)
+        unpaid = [(line.debtor, line.claim, line.paid) for line in account.unpaid]
+        rest = account.whole - account.loss - sum(claim - paid for _, claim, paid in unpaid) - account.outside - account.lost
+        lines = {
+            "whole": (account.whole, one.cash + claims - self.net.owed[bank]),
+            "loss": (account.loss, one.cash - self.left.banks[bank].cash),
+            "unpaid": (sorted(unpaid), self.unpaid(bank)),
+            "outside": (account.outside, one.outside),
+            "lost": (account.lost, lost),
+            "left": (account.left, self.lacks(bank)),
+            "the sum": (rest, account.left),
+        }
+        return [f"{name}: {here} in place of {there}" for name, (here, there) in lines.items() if here != there]
+
+
+class Accounts(unittest.TestCase):
+    @classmethod
+    def setUpClass(cls):
+        os.environ["CLEARING"] = PROGRAM
+        folder = tempfile.TemporaryDirectory()
+        cls.addClassCleanup(folder.cleanup)
+        runs = Runs(folder.name)
+        cls.asked = [Asked(runs, pathlib.Path(folder.name), number) for number in range(NETWORKS)]
+
+    def test_the_lines_of_each_bank_of_200_networks_add_up(self):
+        lacking = with_lines = 0
+        for number, asked in enumerate(self.asked):
+            for bank in range(len(asked.net.banks)):
+                account = accounts.account_of(asked.base, asked.found, bank)
+                self.assertEqual(asked.faults(bank, account), [], (number, asked.net.banks[bank].name))
+                health = model.cost_standing(asked.left, asked.keep, asked.paid, bank)[1]
+                self.assertEqual(account.left < 0, health != "sound", (number, asked.net.banks[bank].name))
+                units = [line.claim - line.paid for line in account.unpaid]
+                self.assertEqual(units, sorted(units, reverse=True))
+                lacking, with_lines = lacking + (account.left < 0), with_lines + (len(units) > 1)
+        # Enough of them are in default, and have several debtors that are too.
+        self.assertGreater(lacking, NETWORKS)
+        self.assertGreater(with_lines, NETWORKS)
+
+    def test_a_wrong_account_is_told(self):
+        """One amount is another, or stands in another line, so that the sum may still be right."""
+        asked, bank, account = next(
+            (asked, bank, account)
+            for asked in self.asked for bank in range(len(asked.net.banks))
+            for account in [accounts.account_of(asked.base, asked.found, bank)]
+            if account.loss and account.outside and account.lost and len(account.unpaid) > 1
+            and account.unpaid[0][1:3] != account.unpaid[1][1:3]
+        )
+        first, second, *others = account.unpaid
+        wrong = [
+            account._replace(**{name: getattr(account, name) + 1}) for name in ("whole", "loss", "outside", "lost", "left")
+        ]
+        wrong += [
+            account._replace(loss=account.loss + 1, outside=account.outside - 1),
+            account._replace(outside=account.outside + account.lost, lost=0),
+            account._replace(whole=account.whole + 1, left=account.left + 1),
+            account._replace(unpaid=[second, *others]),
+            account._replace(unpaid=[first, first, second, *others]),
+            account._replace(unpaid=[first._replace(debtor=second.debtor), second._replace(debtor=first.debtor), *others]),
+            account._replace(unpaid=[first._replace(paid=first.paid - 1), second._replace(paid=second.paid + 1), *others]),
+            account._replace(unpaid=[first._replace(claim=first.claim + 1, paid=first.paid + 1), second, *others]),
+        ]
+        self.assertEqual(asked.faults(bank, account), [])
+        for one in wrong:
+            self.assertNotEqual(asked.faults(bank, one), [], one)
+
+    def test_a_wrong_account_in_the_code_is_told(self):
+        text = pathlib.Path(accounts.__file__).read_text(encoding="utf-8")
+        for what, (old, new) in PLANTED.items():
+            with self.subTest(planted=what):
+                self.assertEqual(text.count(old), 1)
+                made = types.ModuleType("clearing_tools.desk.account_with_a_fault")
+                made.__package__ = "clearing_tools.desk"
+                sys.modules[made.__name__] = made
+                self.addCleanup(sys.modules.pop, made.__name__, None)
+                exec(compile(text.replace(old, new), what, "exec"), made.__dict__)
+                self.assertTrue(any(self.is_told(asked, made) for asked in self.asked))
+
+    def is_told(self, asked, made):
+        """Whether the accounts of a network by this module are told to be wrong: by itself, or by the model."""
+        found = asked.found
+        if made.account_of.__code__.co_filename == "no test at the end":
+            # What is taken away there shows where the program's word is another.
+            found = found._replace(banks=[bank._replace(equity=bank.equity + 1) for bank in found.banks])
+            try:
+                return made.account_of(asked.base, found, 0) is not None
+            except runner.Failed:
+                return False
+        for bank in range(len(asked.net.banks)):
+            try:
+                if asked.faults(bank, made.account_of(asked.base, found, bank)):
+                    return True
+            except runner.Failed:
+                return True
+        return False
+
+    @needs("node")
+    def test_the_lines_of_the_page_add_up(self):
+        """Also those of the debtors that stand together, and in the state that is held against."""
+        pairs = []
+        for asked in self.asked:
+            for bank in range(len(asked.net.banks)):
+                pairs.append([accounts.account_of(asked.base, found, bank) for found in (asked.found, asked.before)])
+        given = json.dumps([[account.view() for account in pair] for pair in pairs])
+        script = LINES % json.dumps(SCRIPT.as_uri())
+        done = subprocess.run(["node", "--input-type=module", "-e", script], input=given, capture_output=True, encoding="utf-8")
+        self.assertEqual((done.returncode, done.stderr), (0, ""))
+        found, together = json.loads(done.stdout), 0
+        self.assertEqual(len(found), len(pairs))
+        for (now, before), lines in zip(pairs, found):
+            self.assertEqual(sum(line["is"] for line in lines), now.left)
+            self.assertEqual(sum(line["was"] for line in lines), before.left)
+            for line in lines:
+                inner = line.get("rest") or []
+                together += bool(inner)
+                if inner:
+                    sums = [sum(one[when] for one in inner) for when in ("was", "is")]
+                    self.assertEqual(sums, [line["was"], line["is"]])
+        self.assertGreater(together, 20)
+
+
+if __name__ == "__main__":
+    unittest.main()
