@@ -1,4 +1,5 @@
 """Evidence that begins at the sheets of which the two files were made."""
+import itertools
 import json
 import os
 import shutil
@@ -107,16 +108,22 @@ class Source(test_evidence.Evidence):
         self.assertFalse((self.folder / "other/source").exists())
 
     def test_the_sheets_of_a_case_are_read_through_no_link(self):
-        for name in ("sources", "sources/m.csv"):
-            with self.subTest(name=name):
+        """Whether the description has them among its files or not."""
+        for number, (name, is_described) in enumerate(itertools.product(("sources", "sources/m.csv"), (True, False))):
+            with self.subTest(name=name, is_described=is_described):
                 shutil.rmtree(self.folder / "case", ignore_errors=True)
                 place = self.case("--keep-sources")
-                outside = self.folder / name.replace("/", "-")
+                outside = self.folder / f"outside-{number}"
                 os.rename(place / name, outside)
                 os.symlink(outside, place / name)
+                if not is_described:
+                    path = place / "datapackage.json"
+                    document = json.loads(path.read_text())
+                    document["resources"] = [one for one in document["resources"] if "/" not in one["path"]]
+                    path.write_text(json.dumps(document))
                 done = evidence("make", self.folder / "evidence", "--case", place)
                 self.assertEqual((done.returncode, (self.folder / "evidence").exists()), (4, False))
-                self.assertIn(f"{name} is a link, or stands behind one; a case has files alone", done.stderr.decode())
+                self.assertIn(" is a link, or stands behind one; a case has files alone", done.stderr.decode())
 
     def test_the_command_of_a_case_names_no_file_but_its_sheets(self):
         """What stands in the description of somebody else's case has no file of this machine copied."""
