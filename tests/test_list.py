@@ -264,6 +264,43 @@ class List(Case):
         self.take(text, "--drop", "Total", table=table.replace("Banking system", "Total"))
         self.assertEqual(self.banks.read_text().count("\n"), 4)
 
+    def test_a_bank_of_the_list_that_looks_like_a_total_of_the_table_is_left_out(self):
+        """Its lines are gone by then; that they named it is not."""
+        told = self.take(
+            "debtor,creditor,amount\nA,B,1\nS,A,3\n", "--leave-out=S", table="bank,cash\nA,3\nB,4\nC,5\nS,12\n"
+        )
+        self.assertIn("debts that it owes, left out by --leave-out S: 1; 3 in all\n", told)
+        self.check("name,cash,rule\nA,3,webster\nB,4,webster\nC,5,webster\n", "debtor,creditor,class,claim\nA,B,1,1\n")
+        self.banks.unlink(), self.debts.unlink()
+        self.refuse(
+            "S is a row of totals", "debtor,creditor,amount\nA,B,1\n", table="bank,cash\nA,3\nB,4\nC,5\nS,12\n"
+        )
+
+    def test_fields_of_several_lines_are_read_in_their_rows(self):
+        """Also behind records of one line: a name with a line end is one, and lines of their own are refused."""
+        table = 'bank,cash\nA,3\n"B\r\nb",4\nC,5\n'
+        self.take('debtor,creditor,amount,note\nA,C,1,\nA,"B\r\nb",2,\nC,A,3,"a\nb"\n', f"--label={self.folder}/l.csv", table=table)
+        self.check("name,cash,rule\nA,3,webster\nB b,4,webster\nC,5,webster\n", "debtor,creditor,class,claim\nA,C,1,1\nA,B b,1,2\nC,A,1,3\n")
+        self.banks.unlink(), self.debts.unlink()
+        self.refuse("row 3: a quoted field holds a line as wide as the header", 'debtor,creditor,amount\nA,C,1\nA,"C,1\nC,A,3\nC",4\n')
+
+    def test_a_long_list_takes_as_long_as_its_lines(self):
+        """Without a search for objects that refer to one another, which takes the longer the more there are; and the
+        search goes on behind it."""
+        import gc
+
+        from clearing_tools.imports import list as tool
+        from clearing_tools.imports import words as sheet_words
+
+        lines = "".join(f"A,B,{at}\n" for at in range(30_000))
+        words = [*map(str, self.words("debtor,creditor,amount\n" + lines)), "--sum", "--duplicates=sum", "--unit=1000", "--round"]
+        searches = []
+        gc.callbacks.append(lambda phase, info: searches.append(info["generation"]) if phase == "start" else None)
+        self.addCleanup(gc.callbacks.pop)
+        tool.made(sheet_words.parsed(tool.parser(), words))
+        self.assertLess(len(searches), 5)
+        self.assertTrue(gc.isenabled())
+
     def test_a_column_may_be_left_out(self):
         table = "bank,cash,outside,rule\nA,3,0.5,orders\nB,4,1,equal\n"
         self.take("debtor,creditor,amount\nA,B,10\n", "--drop", "outside", "--drop", "rule", table=table)

@@ -41,14 +41,16 @@ Ends with 0, or with 1 and every fault that was found, each in a line, or with 2
 """
 import argparse
 import contextlib
+import gc
 import re
 from dataclasses import dataclass
-from typing import Any, Callable, Dict, Iterable, List, Optional, Set, Tuple
+from typing import Any, Callable, Dict, Iterable, Iterator, List, Optional, Set, Tuple
 
 from .. import cli
 from ..runner import command
 from . import made_case, tables, words as sheet_words
 from .amounts import Amount, Unread, is_null, shown
+from .book_rows import Row
 from .control import Totals, is_called_total, wrong
 from .faults import Faults
 from .groups import add_groups, read_classes, read_groups, read_rates
@@ -57,6 +59,10 @@ from .matrix import Made, tell_read
 from .summary import Summary
 from .tables import Cells, Table, quoted
 from .units import Debt, Network, grouped
+
+
+RANKS = frozenset("123456789")
+"""The classes as they stand in a cell."""
 
 
 def add_own(add: Callable[..., Any]) -> None:
@@ -223,12 +229,10 @@ class ExposureList:
         words, faults = self.words, self.faults
         columns = [column for column in (words.cash, *(words.outside or [])) if column in self.table]
         totals = Totals(self.table, sheet_words.amounts_of(words), columns, (), words, columns)
-        parties = {
-            row: [str(self.list.cell(row, column)) for column in (words.debtor, words.creditor)]
-            for row in self.list.rows
-        }
+        # As they are before anything is left out, where they are asked for.
+        parties = self.parties() if words.drop or totals.rows else {}
         dropped = {row: names for row, names in parties.items() if any(name in words.drop for name in names)}
-        right = self.check_lines(dropped, parties)
+        right = self.check_lines(dropped, parties) if dropped else set()
         for name in words.drop:
             totals.check(name, faults, self.summary)
             rows = [row for row in dropped if row in self.list.rows and name in dropped[row]]
@@ -251,6 +255,11 @@ class ExposureList:
         totals.refuse(
             faults, {row for row in totals.rows if row not in words.drop and (is_called_total(row) or row not in named)}
         )
+
+    def parties(self) -> Dict[Any, List[str]]:
+        """Who owes and who is owed, by the rows."""
+        places = [self.list.columns[column] for column in (self.words.debtor, self.words.creditor)]
+        return {row: [str(cells[at]) for at in places] for row, cells in self.list.cells.items()}
 
     def refuse_drop(self, name: str, rows: List[Any]) -> None:
         """Refuses to drop a name that is no total."""
@@ -357,7 +366,7 @@ class ExposureList:
             rank: int = self.words.class_
             return rank
         text = str(self.list.cell(row, column))
-        if text not in list("123456789"):
+        if text not in RANKS:
             what = (
                 f"{text!r} is not a class from 1 to 9; is {column} the column of classes? --class-of "
                 f"{quoted(column)}=FILE says the class of each of its values"
@@ -386,6 +395,7 @@ class ExposureList:
         told: Dict[str, List[Any]] = {}
         once, found = [], []
         left = {what: Counted() for what in LEFT}
+        takes = self.line_in(told, left)
         for row, cells in self.list.cells.items():
             key = tuple(cells)
             if key in seen:
@@ -400,19 +410,11 @@ class ExposureList:
                     )
                 if self.words.duplicates == "once":
                     continue
-            seen.setdefault(key, row)
-            if self.is_left_out(row, left):
-                continue
-            debtor, creditor = (self.bank_of(row, column) for column in (self.words.debtor, self.words.creditor))
-            rank, amount = self.class_in(row), self.amount_of(row, told)
-            if debtor is not None and debtor == creditor:
-                what = f"{debtor} is its own creditor; correct it, or say --leave-out self"
-                self.faults.add(self.list, row, self.words.creditor, what, kind="self")
-            elif amount < 0:
-                debtor, creditor, amount = creditor, debtor, -amount
-                left["turned"].add(amount)
-            if debtor is not None and creditor is not None and rank is not None:
-                found.append(Line(row, debtor, creditor, rank, amount))
+            else:
+                seen[key] = row
+            line = takes(row, cells)
+            if line is not None:
+                found.append(line)
         if once:
             how = {"once": "taken once", "sum": "summed"}.get(self.words.duplicates, "")
             step = "leftOut" if self.words.duplicates == "once" else "summed"
@@ -425,22 +427,53 @@ class ExposureList:
             counted.tell(self.summary, LEFT[what], step="read" if what in ("turned", "zero") else "leftOut")
         return found
 
-    def is_left_out(self, row: Any, left: Dict[str, Counted]) -> bool:
+    def line_in(
+        self, told: Dict[str, List[Any]], left: Dict[str, Counted]
+    ) -> Callable[[Any, Row], Optional[Line]]:
+        """What makes a line of a row and its cells: nothing of one that is left out, or has a fault. What texts mean
+        that stand in many cells is looked up once."""
+        words, banks, known, kinds = self.words, self.table.rows, self.cells.amounts.known, self.gone.kinds
+        owes, owed, worth = (self.list.columns[column] for column in (words.debtor, words.creditor, words.amount))
+        has_rank, has_rate = bool(self.class_of or words.class_column), bool(self.rate)
+        is_empty: Dict[str, bool] = {}
+
+        def line_of(row: Any, cells: Row) -> Optional[Line]:
+            debtor, creditor, text = cells[owes], cells[owed], cells[worth]
+            if text not in is_empty:
+                bare = str(text).strip()
+                is_empty[text] = not bare or is_null(bare)
+            if (is_empty[text] or kinds) and self.is_left_out(row, is_empty[text], str(debtor) == str(creditor), left):
+                return None
+            # A cell of a workbook may have a fault, and a name that no bank has is one.
+            one = debtor if type(debtor) is str and debtor in banks else self.bank_of(row, words.debtor)
+            other = creditor if type(creditor) is str and creditor in banks else self.bank_of(row, words.creditor)
+            rank = self.class_in(row) if has_rank else words.class_
+            is_plain = type(text) is str and text in known and not has_rate
+            amount = known[text] if is_plain else self.amount_of(row, told)
+            if one is not None and one == other:
+                what = f"{one} is its own creditor; correct it, or say --leave-out self"
+                self.faults.add(self.list, row, words.creditor, what, kind="self")
+            elif amount < 0:
+                one, other, amount = other, one, -amount
+                left["turned"].add(amount)
+            return None if one is None or other is None or rank is None else Line(row, one, other, rank, amount)
+
+        return line_of
+
+    def is_left_out(self, row: Any, is_empty: bool, is_self: bool, left: Dict[str, Counted]) -> bool:
         """Whether a line is left out by its kind; what is read otherwise than it stands is counted too."""
-        text = str(self.list.cell(row, self.words.amount)).strip()
-        parties = [str(self.list.cell(row, column)) for column in (self.words.debtor, self.words.creditor)]
-        amount = self.quiet(row)
         kind = None
-        if not text or is_null(text):
+        if is_empty:
             kind = "empty" if "empty" in self.gone.kinds else None
             if kind is None:
                 left["zero"].add(0)
-        elif parties[0] == parties[1] and "self" in self.gone.kinds:
+        elif is_self and "self" in self.gone.kinds:
             kind = "self"
-        elif amount is not None and amount < 0 and "negative" in self.gone.kinds:
-            kind = "negative"
+        elif "negative" in self.gone.kinds:
+            amount = self.quiet(row)
+            kind = "negative" if amount is not None and amount < 0 else None
         if kind is not None:
-            left[kind].add(amount or 0)
+            left[kind].add(self.quiet(row) or 0)
         return kind is not None
 
     def debts(self) -> List[Debt]:
@@ -460,7 +493,8 @@ class ExposureList:
         debts = []
         for (debtor, creditor, rank), lines in by_key.items():
             place = (self.list, lines[0].row, self.words.amount)
-            debts.append(Debt(debtor, creditor, rank, sum(line.amount for line in lines), place))
+            amount = sum(line.amount for line in lines) if len(lines) > 1 else lines[0].amount
+            debts.append(Debt(debtor, creditor, rank, amount, place))
         empty = sum(1 for debt in debts if not debt.amount)
         if empty:
             self.summary.tell("debts of amount 0, left out", empty, step="leftOut")
@@ -547,11 +581,25 @@ def network_of(
     return network, sheets.list, read
 
 
+@contextlib.contextmanager
+def without_search() -> Iterator[None]:
+    """Python looks for no objects that refer to one another while it lasts. A list of a million lines makes many
+    objects and none of these, and the search takes as long as all else."""
+    was_on = gc.isenabled()
+    gc.disable()
+    try:
+        yield
+    finally:
+        if was_on:
+            gc.enable()
+
+
 def made(words: argparse.Namespace) -> Made:
     """The files that the words ask for, each with its text, what is read, and the summary."""
     faults, summary = Faults(), Summary()
-    network, table, read = network_of(words, faults, summary)
-    return sheet_words.outputs_of(network, table, words, faults, summary, "from_list", read), read, summary
+    with without_search():
+        network, table, read = network_of(words, faults, summary)
+        return sheet_words.outputs_of(network, table, words, faults, summary, "from_list", read), read, summary
 
 
 def parser() -> cli.Parser:

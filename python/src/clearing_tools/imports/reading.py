@@ -131,10 +131,12 @@ def text_rows(name: str, words: argparse.Namespace, skip: int) -> Rows:
     them would be one field."""
     text = text_of(name, words.encoding)
     delimiter = words.delimiter or delimiter_of(text, skip)
-    lines = list(io.StringIO(text, newline=""))
     csv.field_size_limit(len(text) + 1)
-    reader, last, number = csv.reader(lines, delimiter=delimiter, strict=True), 0, 0
-    rows, spans, above = [], [], []
+    reader, last, number = csv.reader(io.StringIO(text, newline=""), delimiter=delimiter, strict=True), 0, 0
+    rows: List[NumberedRow] = []
+    above: List[NumberedRow] = []
+    # Records of several lines, with the first line and the end of each: these alone may have a line end in a field.
+    wide: List[Tuple[NumberedRow, int, int]] = []
     # A text that stands in many cells is held once.
     held: Dict[str, str] = {}
     try:
@@ -142,17 +144,19 @@ def text_rows(name: str, words: argparse.Namespace, skip: int) -> Rows:
             record = [held.setdefault(field, field) for field in map(str.strip, record, repeat(" \t"))]
             if number > skip and any(record):
                 rows.append((number, record))
-                spans.append((last, reader.line_num))
+                if reader.line_num - last > 1:
+                    wide.append((rows[-1], last, reader.line_num))
             elif any(record):
                 above.append((number, record))
             last = reader.line_num
     except csv.Error as error:
         # Before 3.11 Python reads no NUL.
         raise Failed(f"{name} row {number + 1}: {error if 'NUL' in str(error) else OPEN_QUOTE}") from error
-    for (row, record), (start, end) in zip(rows, spans):
-        if end - start > 1 and hides_a_record(lines[start:end], delimiter, len(rows[0][1])):
+    lines = list(io.StringIO(text, newline="")) if wide else []
+    for (row, record), start, end in wide:
+        if hides_a_record(lines[start:end], delimiter, len(rows[0][1])):
             raise Failed(f"{name} row {row}: {HIDDEN}")
-    broken = [row for (row, record) in rows if any("\n" in field or "\r" in field for field in record)]
+    broken = [row for (row, record), _, _ in wide if any("\n" in field or "\r" in field for field in record)]
     return Rows(name, rows, delimiter=delimiter, broken=broken, above=above)
 
 

@@ -102,7 +102,12 @@ def cut(text: str, most: int) -> str:
 
 
 def units_of(amount: Amount, unit: Fraction) -> int:
-    return amount if unit == 1 and isinstance(amount, int) else round(Fraction(amount) / unit)
+    """The whole units of an amount, to the nearest, a half to even."""
+    if isinstance(amount, int) and unit.numerator == unit.denominator:
+        return amount
+    over, under = amount.numerator * unit.denominator, amount.denominator * unit.numerator
+    whole, rest = divmod(over, under)
+    return whole + (2 * rest > under or 2 * rest == under and whole % 2 == 1)
 
 
 def off_by(amount: Amount, unit: Fraction) -> Amount:
@@ -114,15 +119,16 @@ def off_by(amount: Amount, unit: Fraction) -> Amount:
 
 def breaks(network: Network, unit: Fraction, limits: Limits) -> Iterator[str]:
     """What passes a limit in a unit, and by how much, each in a line."""
+    owed = 0
     for amount, most, owner in network.amounts():
         units = units_of(amount, unit)
+        owed += units if isinstance(owner, Debt) else 0
         if units > most:
             if isinstance(owner, Debt):
                 what = f"the claim of {owner.creditor} on {owner.debtor}"
             else:
                 what = f"the cash of {owner.name}" if most == MAX_CASH else f"what {owner.name} owes outside"
             yield f"{what} is {shown(amount)}, in units {units:,}: {units - most:,} more than the most, {most:,}"
-    owed = sum(units_of(debt.amount, unit) for debt in network.debts)
     if owed > limits.owed:
         yield f"all claims come to {owed:,} units: {owed - limits.owed:,} more than the most, {limits.owed:,}"
 
@@ -172,8 +178,8 @@ class Units:
         most = LIMITS[self.said or WIDE]
         if self.is_auto:
             self.unit = auto_unit(network, limits)
-        elif any(breaks(network, self.unit, most)):
-            for line in breaks(network, self.unit, most):
+        elif broken := list(breaks(network, self.unit, most)):
+            for line in broken:
                 faults.add(table, None, None, line)
             unit = shown(auto_unit(network, limits))
             faults.add(
@@ -183,6 +189,8 @@ class Units:
                 f"a unit of {unit} keeps all limits on amounts (--unit {unit.replace(',', '')} --round, or --unit "
                 "auto)",
             )
+        # The units of each debt, of which there may be a million.
+        self.units = [units_of(debt.amount, self.unit) for debt in network.debts]
         self.check_counts(faults, table)
         if not self.is_auto and not words.round:
             for debt in network.debts:
@@ -197,12 +205,11 @@ class Units:
 
     def count(self) -> int:
         """How many debts have a unit."""
-        return sum(1 for debt in self.network.debts if units_of(debt.amount, self.unit))
+        return len(self.units) - self.units.count(0)
 
     def needed(self) -> str:
         """The limits that the network needs in its unit."""
-        owed = sum(units_of(debt.amount, self.unit) for debt in self.network.debts)
-        return of_counts(len(self.network.banks), self.count(), owed)
+        return of_counts(len(self.network.banks), self.count(), sum(self.units))
 
     def named(self, name: str) -> str:
         return self.network.codes.get(name, name)
@@ -216,11 +223,13 @@ class Units:
         return files.csv_text([header, *records])
 
     def debts_text(self) -> str:
-        records = [
-            [self.named(d.debtor), self.named(d.creditor), d.rank, units_of(d.amount, self.unit)]
-            for d in self.network.debts
+        code = self.network.codes.get
+        lines = [
+            f"{code(debt.debtor, debt.debtor)},{code(debt.creditor, debt.creditor)},{debt.rank},{units}\n"
+            for debt, units in zip(self.network.debts, self.units)
+            if units
         ]
-        return files.csv_text([DEBTS.split(","), *(record for record in records if record[3])])
+        return f"{DEBTS}\n{''.join(lines)}"
 
     def tell(self, summary: Summary) -> None:
         """Tells what was made, what was rounded, and what became 0."""
@@ -230,7 +239,7 @@ class Units:
             ("owed outside", [b.outside for b in network.banks]),
             ("debts", [d.amount for d in network.debts]),
         ]:
-            units = [units_of(amount, unit) for amount in amounts]
+            units = self.units if what == "debts" else [units_of(amount, unit) for amount in amounts]
             made, given = sum(units) * unit, Fraction(sum(amounts))
             if what == "owed outside" and not network.has_outside:
                 continue
@@ -250,7 +259,7 @@ class Units:
         if off:
             detail = f"by {shown(sum(off))} together, the largest by {shown(max(off))}"
             summary.tell("amounts rounded", len(off), None, detail, step="rounded")
-        lost = [debt for debt in self.network.debts if debt.amount and not units_of(debt.amount, unit)]
+        lost = [debt for debt, units in zip(self.network.debts, self.units) if debt.amount and not units]
         if lost:
             some = ", ".join(f"{debt.debtor} owes {debt.creditor} {shown(debt.amount)}" for debt in lost[:3])
             some += ", and others" if len(lost) > 3 else ""
