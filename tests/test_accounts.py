@@ -39,7 +39,10 @@ PLANTED = {
     "a debt stands for all of a debtor": ("one[0] += claim", "one[0] = max(one[0], claim)"),
     "what is paid is what is unpaid": ("one[1] += paid", "one[1] += claim - paid"),
     "the last debtor has no line": ("return sorted(lines, ", "return sorted(lines[:-1], "),
-    "the debtors are those of the claims owed": ("for _, debtor, _, class_, claim, paid in owed:", "for _, _, debtor, class_, claim, paid in owed:"),
+    "the debtors are those of the claims owed": (
+        "for _, debtor, _, class_, claim, paid in owed:",
+        "for _, _, debtor, class_, claim, paid in owed:",
+    ),
     "no test at the end": ("- (outside - one.outside_paid):", "- (outside - one.outside_paid) and bank:"),
 }
 # Lines of the account in the page, which adds together the debtors behind the first few.
@@ -49,7 +52,7 @@ globalThis.document = { createElement: () => ({ getContext: () => null }) };
 const { linesOf } = await import(%s);
 let text = "";
 for await (const part of process.stdin) text += part;
-const found = JSON.parse(text).map(([now, before]) => linesOf(now, before).map(({ was, is, rest, debtor }) => ({ was, is, debtor, rest })));
+const found = JSON.parse(text).map(([now, before]) => linesOf(now, before).map(({ was, is, rest }) => ({ was, is, rest })));
 console.log(JSON.stringify(found));
 """
 
@@ -93,7 +96,7 @@ class Asked:
         one, claims = self.net.banks[bank], sum(self.net.debts[x].claim for x in self.net.columns[bank])
         (_, lost, *_), _ = model.cost_standing(self.left, self.keep, self.paid, bank)
         unpaid = [(line.debtor, line.claim, line.paid) for line in account.unpaid]
-        rest = account.whole - account.loss - sum(claim - paid for _, claim, paid in unpaid) - account.outside - account.lost
+        gone = account.loss + sum(claim - paid for _, claim, paid in unpaid) + account.outside + account.lost
         lines = {
             "whole": (account.whole, one.cash + claims - self.net.owed[bank]),
             "loss": (account.loss, one.cash - self.left.banks[bank].cash),
@@ -101,7 +104,7 @@ class Asked:
             "outside": (account.outside, one.outside),
             "lost": (account.lost, lost),
             "left": (account.left, self.lacks(bank)),
-            "the sum": (rest, account.left),
+            "the sum": (account.whole - gone, account.left),
         }
         return [f"{name}: {here} in place of {there}" for name, (here, there) in lines.items() if here != there]
 
@@ -140,18 +143,19 @@ class Accounts(unittest.TestCase):
             and account.unpaid[0][1:3] != account.unpaid[1][1:3]
         )
         first, second, *others = account.unpaid
-        wrong = [
-            account._replace(**{name: getattr(account, name) + 1}) for name in ("whole", "loss", "outside", "lost", "left")
-        ]
+        amounts = ("whole", "loss", "outside", "lost", "left")
+        wrong = [account._replace(**{name: getattr(account, name) + 1}) for name in amounts]
         wrong += [
             account._replace(loss=account.loss + 1, outside=account.outside - 1),
             account._replace(outside=account.outside + account.lost, lost=0),
             account._replace(whole=account.whole + 1, left=account.left + 1),
             account._replace(unpaid=[second, *others]),
             account._replace(unpaid=[first, first, second, *others]),
-            account._replace(unpaid=[first._replace(debtor=second.debtor), second._replace(debtor=first.debtor), *others]),
-            account._replace(unpaid=[first._replace(paid=first.paid - 1), second._replace(paid=second.paid + 1), *others]),
-            account._replace(unpaid=[first._replace(claim=first.claim + 1, paid=first.paid + 1), second, *others]),
+            *(account._replace(unpaid=[*changed, *others]) for changed in (
+                [first._replace(debtor=second.debtor), second._replace(debtor=first.debtor)],
+                [first._replace(paid=first.paid - 1), second._replace(paid=second.paid + 1)],
+                [first._replace(claim=first.claim + 1, paid=first.paid + 1), second],
+            )),
         ]
         self.assertEqual(asked.faults(bank, account), [])
         for one in wrong:
@@ -196,7 +200,8 @@ class Accounts(unittest.TestCase):
                 pairs.append([accounts.account_of(asked.base, found, bank) for found in (asked.found, asked.before)])
         given = json.dumps([[account.view() for account in pair] for pair in pairs])
         script = LINES % json.dumps(SCRIPT.as_uri())
-        done = subprocess.run(["node", "--input-type=module", "-e", script], input=given, capture_output=True, encoding="utf-8")
+        words = ["node", "--input-type=module", "-e", script]
+        done = subprocess.run(words, input=given, capture_output=True, encoding="utf-8")
         self.assertEqual((done.returncode, done.stderr), (0, ""))
         found, together = json.loads(done.stdout), 0
         self.assertEqual(len(found), len(pairs))

@@ -1,15 +1,18 @@
 """The limits of networks in the tools: which are taken where nobody says so, what is told of it, and what keeps them."""
 import collections
+import subprocess
 import types
 import unittest
 
-from common import CHAIN, Case, files_of, tool
+from common import CHAIN, ROOT, Case, files_of, tool
 
 import clearing_client as cc
-from clearing_client.limits import LIMITS
-from clearing_tools import cases, cli
+from clearing_client.format import MAX_CLAIM
+from clearing_client.limits import LIMITS, MOST
+from clearing_tools import cases, cli, files
 from clearing_tools.checks import lint
 from clearing_tools.evidence import audit, parts
+from clearing_tools.exports import tidy
 from clearing_tools.report import tables
 from clearing_tools.report.charts import network
 
@@ -30,6 +33,26 @@ class Tools(Case):
             self.assertEqual(own[:4], limits[:4])
             self.assertEqual([own.most_of(file) for file in ("banks", "debts", "journal")],
                              [limits.bytes[file] for file in ("banks", "debts", "journal")])
+
+    def test_no_file_of_a_network_and_no_text_on_its_debts_is_too_long_for_the_tools(self):
+        name, claim = "n" * 64, MAX_CLAIM
+        bank = len(f"{name},fundamental\n") + 8 * 17
+        for words in ("clear", "bounds", "cost-bounds", "check", "rescue"):
+            amounts = {"check": 1, "clear": 2, "rescue": 2}.get(words, 3)
+            debt = len(f"{name},{name},9" + f",{claim}" * amounts + "\n")
+            self.assertLess(1_000 + MOST.debts * debt + MOST.banks * bank, files.MOST_BYTES, words)
+            self.assertLess(MOST.debts * debt, parts.most_of("as-is/payments.csv") if amounts == 2 else files.MOST_BYTES)
+        self.assertLess(max(MOST.bytes["banks"], MOST.bytes["debts"]), files.MOST_BYTES)
+        # A journal, with the payments behind it.
+        raised = len(f"{2**32 - 1},{name},{name},9,{claim}\n") * MOST.raises
+        self.assertLess(min(raised, MOST.bytes["journal"]) + MOST.debts * debt, tidy.MOST_BYTES)
+
+    def test_what_is_too_long_for_an_evidence_is_refused_and_not_cut(self):
+        labels = self.file("l.csv", b"bank,short,full,group,country\n" + b"N1,,%b,,\n" % (b"x" * parts.MOST_OF_OTHERS))
+        words = [*self.files, "--changes", labels]
+        done = subprocess.run([ROOT / "tools/evidence.sh", "make", self.folder / "e", *words], capture_output=True)
+        self.assertEqual((done.returncode, (self.folder / "e").exists()), (4, False))
+        self.assertIn(b"l.csv is longer than 8,388,608 bytes", done.stderr)
 
     def test_lint_names_what_passes_the_limits_that_were_said(self):
         done = tool("lint.py", *self.files)

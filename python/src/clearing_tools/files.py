@@ -32,7 +32,8 @@ def text_of(name: Any) -> str:
 
 
 MOST_BYTES = 400_000_000
-"""No text of the program is longer, but a journal."""
+"""No file of a network is longer, by the wide limits either, and no text of the program but a journal, what `stress`
+prints of several scenarios, and the pairs of banks of `impact` and `rescues`."""
 
 # The blanks round a field are of the field, and may be as many as a file takes.
 csv.field_size_limit(MOST_BYTES)

@@ -53,8 +53,8 @@ from ..runner import ROOT, Failed
 from . import audit, shock, source
 from .checking import check
 from .parts import (
-    CHANGES, DESCRIPTION, LABELS, NETWORK, README, checksum, commands_of, commands_text, contents, limits_words,
-    parts_of, program_sum, read_inputs, rescue_holds, stress_of, sums_text,
+    CHANGES, DESCRIPTION, LABELS, MOST_OF_OTHERS, NETWORK, README, checksum, commands_of, commands_text, contents,
+    limits_words, parts_of, program_sum, read_inputs, rescue_holds, stress_of, sums_text,
 )
 
 # Making.
@@ -148,20 +148,28 @@ def keep_source(folder: pathlib.Path, case: Any) -> None:
             put(folder, f"source/{path.name}", path.read_bytes())
 
 
+def whole(name: str) -> bytes:
+    """The bytes of a file that the program does not read; one that is too long for a check is refused."""
+    content = contents(name)
+    if len(content) > MOST_OF_OTHERS:
+        raise Failed(f"{audit.shown(name)} is longer than {MOST_OF_OTHERS:,} bytes", 4)
+    return content
+
+
 def put_inputs(folder: pathlib.Path, asked: argparse.Namespace) -> None:
     """Puts the inputs into a folder."""
     if asked.source is not None:
         source.keep(folder, *source.parsed(asked.source), put)
     for name, place in ((asked.labels, LABELS), (asked.description, DESCRIPTION)):
         if name is not None:
-            put(folder, place, contents(name))
+            put(folder, place, whole(name))
     for name in ("banks", "debts", "scenarios"):
         if vars(asked)[name] is not None:
             ending = "toml" if name == "scenarios" else "csv"
             content = contents(vars(asked)[name]) if name == "scenarios" else contents(vars(asked)[name], NETWORK.size)
             put(folder, f"inputs/{name}.{ending}", content)
     if asked.changes is not None:
-        put(folder, CHANGES, contents(asked.changes))
+        put(folder, CHANGES, whole(asked.changes))
     if asked.kept is not None:
         keep_source(folder, asked.kept)
 

@@ -31,6 +31,7 @@ from decimal import Decimal
 from typing import IO, Any, Callable, Dict, Iterable, Iterator, List, Union
 
 from clearing_client.errors import TextError
+from clearing_client.limits import MOST
 from clearing_client.records import ScenarioPayment, ScenarioStanding, ScenarioTotals
 from clearing_client.table import words_of
 from clearing_client.texts import SUMS, outcomes_in
@@ -46,8 +47,8 @@ AMOUNTS = set(
     """claim paid least greatest estate outside_paid owed equity lost cash outside to added short cancelled had allowed
     own others lost_at_least equity_at_least lost_at_greatest equity_at_greatest""".split()
 )
-# A journal and what is printed beside it are no longer, and no header is.
-MOST_BYTES, MOST_LINE = 2_000_000_000, 1_000_000
+# A journal by the wide limits and what is printed beside it are no longer, and no header is.
+MOST_BYTES, MOST_LINE = MOST.bytes["journal"] + files.MOST_BYTES, 1_000_000
 SHOWN = {True: "yes", False: "no", None: ""}
 
 
