@@ -6,7 +6,8 @@ setting `program`, or by
     python3 build.py FOLDER PROGRAM
 
 a wheel with the program itself, for Linux on x86-64 and the glibc that it wants, and with the repository's script that runs
-many jobs of it.
+many jobs of it. The command `clearing` of such a wheel is the program, and not a script that would have to find it. Each wheel has the
+number of the release, by which the tools call the program.
 """
 import base64
 import gzip
@@ -59,13 +60,25 @@ def metadata():
 def sources():
     """The files of the package by their places in a wheel."""
     paths = sorted(path for path in (HERE / "src").rglob("*") if path.is_file() and "__pycache__" not in path.parts)
-    return {path.relative_to(HERE / "src").as_posix(): path.read_bytes() for path in paths}
+    files = {path.relative_to(HERE / "src").as_posix(): path.read_bytes() for path in paths}
+    return {**files, RELEASE: release().read_bytes()}
 
 
-# Where a wheel has the program, and the script that runs many jobs of it.
-PLACE, MANY = "clearing_client/bin/clearing", "clearing_tools/many.sh"
-# The commands of these.
-OWN = "clearing = clearing_client.program:main\nclearing-many = clearing_tools.many:main\n"
+def release():
+    """The file with the number of the release: the repository's, or the one that an archive of the sources has."""
+    own = HERE / "VERSION"
+    return own if own.is_file() else HERE.parent / "VERSION"
+
+
+# Where a wheel has the number of the release, the program, and the script that runs many jobs of it.
+RELEASE, PLACE, MANY = "clearing_tools/VERSION", "clearing_client/bin/clearing", "clearing_tools/many.sh"
+# The command of the script.
+OWN = "clearing-many = clearing_tools.many:main\n"
+
+
+def command_place():
+    """Where a wheel has what is installed among the commands as it is: the program."""
+    return f"{full_name()}.data/scripts/clearing"
 
 
 def tag_of(program):
@@ -92,7 +105,7 @@ def write_wheel(folder, files, tag="py3-none-any"):
         for name, data in files.items():
             # One date for all, so that the same sources make the same wheel.
             entry = zipfile.ZipInfo(name, (1980, 1, 1, 0, 0, 0))
-            mode = 0o100755 if name in (PLACE, MANY) else 0o100644
+            mode = 0o100755 if name in (PLACE, MANY, command_place()) else 0o100644
             entry.compress_type, entry.external_attr = zipfile.ZIP_DEFLATED, mode << 16
             archive.writestr(entry, data)
     return wheel
@@ -111,7 +124,8 @@ def build_wheel(wheel_directory, config_settings=None, metadata_directory=None):
     if named is None:
         return write_wheel(wheel_directory, sources())
     program, many = pathlib.Path(named).read_bytes(), (HERE.parent / "tools/many.sh").read_bytes()
-    return write_wheel(wheel_directory, {**sources(), PLACE: program, MANY: many}, tag_of(program))
+    files = {**sources(), PLACE: program, command_place(): program, MANY: many}
+    return write_wheel(wheel_directory, files, tag_of(program))
 
 
 def build_editable(wheel_directory, config_settings=None, metadata_directory=None):
@@ -125,6 +139,7 @@ def build_sdist(sdist_directory, config_settings=None):
         with tarfile.open(fileobj=packed, mode="w") as archive:
             for part in ("pyproject.toml", "build.py", "README.md", "src"):
                 archive.add(HERE / part, f"{full_name()}/{part}", filter=plain)
+            archive.add(release(), f"{full_name()}/VERSION", filter=plain)
             told = plain(tarfile.TarInfo(f"{full_name()}/PKG-INFO"))
             told.size = len(metadata().encode())
             archive.addfile(told, io.BytesIO(metadata().encode()))

@@ -26,7 +26,7 @@ PLACES = {
     ("clearing_tools/runner.py", "built"): "the repository's script", ("clearing_tools/evidence/source.py", "run_tool"): "Python", ("clearing_client/program.py", "started"): "the program",
     ("clearing_tools/report/document.py", "in_browser"): "the browser that on_path finds",
     ("clearing_tools/many.py", "main"): "the wheel's own script, by the system's shell",
-    ("clearing_client/program.py", "find_program"): "a file that CLEARING names", ("clearing_client/program.py", "main"): "the program",
+    ("clearing_client/program.py", "find_program"): "a file that CLEARING names",
 }
 GUARD = """# Of the path the absolute entries alone count: no command is one that the working folder has.
 set -f; IFS=: path=; for entry in $PATH; do case $entry in /*) path=$path:$entry ;; esac; done

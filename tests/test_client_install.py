@@ -106,9 +106,26 @@ class Install(Case):
         names = {entry.filename for entry in entries if ".dist-info/" not in entry.filename}
         # Each file of the sources, of whatever kind, and these kinds are there.
         sources = {path.relative_to(PACKAGES).as_posix() for path in PACKAGES.rglob("*") if path.is_file() and "__pycache__" not in path.parts}
-        self.assertEqual(names, sources)
+        self.assertEqual(names, sources | {build.RELEASE})
         for folder, kinds in KINDS.items():
             self.assertEqual({pathlib.PurePath(name).suffix for name in names if str(pathlib.PurePath(name).parent) == folder}, kinds, folder)
+
+    def test_the_tools_of_a_wheel_know_the_number_of_the_release(self):
+        import build
+
+        number = (ROOT / "VERSION").read_text(encoding="utf-8").strip()
+        # One of the repository, and one of the archive of its sources.
+        self.run_in(self.folder, "tar", "-xzf", build.build_sdist(self.folder))
+        (self.folder / "again").mkdir()
+        code = "import build; print(build.build_wheel('../again'))"
+        again = self.run_in(self.folder / build.full_name(), sys.executable, "-Bc", code)
+        for wheel in (self.folder / build.build_wheel(self.folder), self.folder / "again" / again.strip()):
+            place = self.folder / "of" / wheel.parent.name
+            zipfile.ZipFile(wheel).extractall(place)
+            code = "import sys; sys.path[:0] = sys.argv[1:]; from clearing_tools.runner import version; print(version())"
+            self.assertEqual(self.run_in(self.folder, sys.executable, "-IBc", code, place), f"{number}\n", wheel)
+            (place / build.RELEASE).unlink()
+            self.assertEqual(self.run_in(self.folder, sys.executable, "-IBc", code, place), "\n", wheel)
 
     @unittest.skipUnless(python_with("jinja2", "bottle"), "no Python here has jinja2 and bottle (Debian's packages python3-jinja2 and python3-bottle)")
     def test_what_a_wheel_has_is_enough_for_a_report_and_for_the_desk(self):

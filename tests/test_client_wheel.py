@@ -1,4 +1,5 @@
 """The wheel that has the program: installed without a network and without a toolchain it gives the program, all commands and both packages."""
+import hashlib
 import os
 import pathlib
 import subprocess
@@ -39,21 +40,25 @@ class Wheel(Case):
             entry = archive.getinfo(build.PLACE)
             self.assertEqual((archive.read(entry), oct(entry.external_attr >> 16)), (b"\x7fELFGLIBC_2.34", "0o100755"))
             told = archive.read(f"{build.full_name()}.dist-info/entry_points.txt").decode()
-            self.assertIn("\nclearing = clearing_client.program:main\nclearing-many = clearing_tools.many:main\n", told)
+            self.assertIn("\nclearing-many = clearing_tools.many:main\n", told)
             self.assertEqual(oct(archive.getinfo(build.MANY).external_attr >> 16), "0o100755")
+            # The command is the program itself.
+            self.assertNotIn("\nclearing = ", told)
+            entry = archive.getinfo(build.command_place())
+            self.assertEqual((archive.read(entry), oct(entry.external_attr >> 16)), (b"\x7fELFGLIBC_2.34", "0o100755"))
             metadata = archive.read(f"{build.full_name()}.dist-info/METADATA").decode()
             for line in ("Provides-Extra: desk", "Requires-Dist: bottle; extra == 'desk'", "Provides-Extra: all"):
                 self.assertIn(line + "\n", metadata)
             self.assertIn("Root-Is-Purelib: false\n", archive.read(f"{build.full_name()}.dist-info/WHEEL").decode())
         # The plain one has neither program nor command, and the same program makes the same bytes.
         with zipfile.ZipFile(self.folder / build.build_wheel(self.folder)) as archive:
-            self.assertNotIn(build.PLACE, archive.namelist())
+            self.assertEqual({build.PLACE, build.command_place(), build.MANY} & set(archive.namelist()), set())
             self.assertNotIn("many:main", archive.read(f"{build.full_name()}.dist-info/entry_points.txt").decode())
         before = name.read_bytes()
         self.assertEqual(self.wheel(self.folder / "program").read_bytes(), before)
 
-    @unittest.skipUnless(has_venv(), "without venv (Debian's package python3-venv)")
-    def test_installed_it_gives_the_program_and_all_commands(self):
+    def installed(self):
+        """A new environment with the wheel of the tested program, and what runs a command in a small environment."""
         program = executable()
         if program.read_bytes()[:4] != b"\x7fELF":
             self.skipTest("the tested program is a script")
@@ -61,8 +66,17 @@ class Wheel(Case):
         for words in ([sys.executable, "-m", "venv", str(place)], [str(place / "bin/pip"), "install", str(wheel)]):
             done = subprocess.run(words, env=OFFLINE, capture_output=True, encoding="utf-8")
             self.assertEqual(done.returncode, 0, done.stdout + done.stderr)
-        environment = {"PATH": "/usr/bin:/bin", "HOME": str(self.folder)}
-        run = lambda *words: subprocess.run([str(word) for word in words], cwd=self.folder, env=environment, stdin=subprocess.DEVNULL, capture_output=True)
+
+        def run(*words, **more):
+            environment = {"PATH": "/usr/bin:/bin", "HOME": str(self.folder), **more}
+            given = {"cwd": self.folder, "env": environment, "stdin": subprocess.DEVNULL, "capture_output": True}
+            return subprocess.run([str(word) for word in words], timeout=120, **given)
+
+        return place, run
+
+    @unittest.skipUnless(has_venv(), "without venv (Debian's package python3-venv)")
+    def test_installed_it_gives_the_program_and_all_commands(self):
+        place, run = self.installed()
         for words in (["clear", *FILES, "--workers", 1], ["defaults", *FILES, "--workers", 1]):
             done = run(place / "bin/clearing", *words)
             self.assertEqual((done.returncode, done.stdout.decode(), done.stderr), (0, printed(*words), b""))
@@ -89,8 +103,47 @@ class Wheel(Case):
         self.assertEqual((self.folder / "results/b.out").read_text(), printed("clear", *FILES, "--workers", 1))
         done = run(place / "bin/clearing-many", "slurm", "jobs.tsv", "results")
         self.assertIn(f"CLEARING='{packed}' exec '{packed.parents[2] / build.MANY}' one ".encode(), done.stdout)
-        environment["CLEARING"] = "/none/clearing"
-        self.assertNotEqual(run(place / "bin/clearing", "check", *FILES).returncode, 0)
+
+    @unittest.skipUnless(has_venv(), "without venv (Debian's package python3-venv)")
+    def test_its_command_is_the_program_by_whatever_name_it_is_found(self):
+        place, run = self.installed()
+        clears = ["clear", *FILES, "--workers", 1]
+        digest = hashlib.sha256(executable().read_bytes()).hexdigest()
+        path = f"{place}/bin:/usr/bin:/bin"
+        line = "\t".join(map(str, clears))
+        self.file("jobs.tsv", f"a\t{line}\n")
+        for number, named in enumerate(("clearing", "", f"{place}/bin/clearing")):
+            more = {"PATH": path, "CLEARING": named}
+            done = run(place / "bin/clearing", *clears, **more)
+            self.assertEqual((done.returncode, done.stdout.decode(), done.stderr), (0, printed(*clears), b""), named)
+            done = run(place / "bin/clearing-breaking", *FILES, **more)
+            self.assertEqual((done.returncode, done.stdout.decode()), (0, printed("breaking", *FILES)), done.stderr)
+            # The checksum of the program is that of what was built.
+            code = "from clearing_client import find_program; from clearing_tools.evidence.parts import program_sum"
+            done = run(place / "bin/python3", "-I", "-c", f"{code}; print(find_program()); print(program_sum())", **more)
+            found, told = done.stdout.decode().splitlines()
+            self.assertEqual((pathlib.Path(found).read_bytes()[:4], told), (b"\x7fELF", digest), (named, done.stderr))
+            done = run(place / "bin/clearing-many", "run", "jobs.tsv", f"results-{number}", **more)
+            self.assertEqual((done.returncode, done.stdout, done.stderr), (0, b"1 done, 0 failed\n", b""), named)
+            self.assertIn(f"program {digest}\n", (self.folder / f"results-{number}/a.job").read_text(), named)
+        # What names no program is said, with both ways on.
+        for named in ("no-program-of-this-name", "/none/clearing"):
+            done = run(place / "bin/clearing-breaking", *FILES, CLEARING=named)
+            self.assertNotEqual(done.returncode, 0, named)
+            self.assertIn(named.encode(), done.stderr)
+
+    @unittest.skipUnless(has_venv(), "without venv (Debian's package python3-venv)")
+    def test_installed_it_checks_evidence_by_its_program(self):
+        place, run = self.installed()
+        done = run(place / "bin/clearing-evidence", "make", "evidence", *FILES)
+        self.assertEqual((done.returncode, done.stderr), (0, b""), done.stdout)
+        done = run(place / "bin/clearing-evidence", "check", "evidence")
+        self.assertEqual((done.returncode, done.stderr), (0, b""), done.stdout)
+        told = done.stdout.decode()
+        self.assertRegex(told, "(?m)^as it is, replayed by the program: lawful,2; payments same$")
+        self.assertRegex(told, "(?m)^commands run again: ([0-9]+) of \\1 the same$")
+        self.assertIn("; the program here has the checksum that it names\n", told)
+        self.assertNotIn("none is built", told)
 
     @unittest.skipUnless(has_venv(), "without venv (Debian's package python3-venv)")
     def test_tests_run_against_a_wheel_and_find_what_is_wrong_in_it(self):
@@ -110,6 +163,27 @@ class Wheel(Case):
             done = subprocess.run(run, env=environment, stdin=subprocess.DEVNULL, capture_output=True, encoding="utf-8")
             self.assertEqual(done.returncode, status, done.stdout + done.stderr)
             self.assertRegex(done.stdout.splitlines()[-1], line)
+
+    @unittest.skipIf(subprocess.run(["unshare", "--mount", "true"], capture_output=True).returncode, "mounts want root")
+    def test_a_clean_root_has_what_tools_ask_the_system_for(self):
+        """In a userland, here this machine's own without its other file systems, there are processes and open files."""
+        place = self.folder / "userland"
+        place.mkdir()
+        script = "head -n 1 /proc/self/status; cat /dev/stdin; echo a | cat /dev/fd/0"
+        code = """if True:
+            import pathlib, sys
+            sys.path.insert(0, sys.argv[1])
+            import install
+            root = pathlib.Path(sys.argv[2])
+            assert not list((root / "proc").iterdir())
+            done = install.Userland(root, "python3", root / "tmp").run("sh", "-c", sys.argv[3])
+            print(done.stdout + done.stderr, end="")
+        """
+        mounted = 'mount --bind / "$2" && exec "$0" -B -c "$3" "$1" "$2" "$4"'
+        run = ["unshare", "--mount", "sh", "-c", mounted, sys.executable, ROOT / "bench", place, code, script]
+        run = [str(word) for word in run]
+        done = subprocess.run(run, cwd="/", stdin=subprocess.DEVNULL, capture_output=True, encoding="utf-8")
+        self.assertEqual((done.returncode, done.stdout, done.stderr), (0, "Name:\thead\na\n", ""))
 
     def test_each_module_that_is_left_out_is_there_and_has_a_reason(self):
         text = (ROOT / "tests/wheel.txt").read_text(encoding="utf-8")

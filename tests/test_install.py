@@ -2,6 +2,7 @@ import os
 import pathlib
 import re
 import subprocess
+import sys
 
 from common import PROGRAM, ROOT, Case
 
@@ -58,6 +59,14 @@ class Install(Case):
         told = subprocess.check_output([prefix / "bin/clearing-evidence", "check", evidence], env=environment, encoding="utf-8")
         self.assertRegex(told, "(?m)^as it is, replayed by the program: lawful,2; payments same$")
         self.assertNotIn("none is built", told)
+
+    def test_the_tools_know_the_number_of_the_release(self):
+        prefix = self.folder / "prefix"
+        self.assertEqual(self.installed(prefix).returncode, 0)
+        code = "import sys; sys.path[:0] = sys.argv[1:]; from clearing_tools.runner import version; print(version())"
+        packages = prefix / "share/clearing/python/src"
+        told = subprocess.check_output([sys.executable, "-IBc", code, packages], encoding="utf-8")
+        self.assertEqual(told, (ROOT / "VERSION").read_text())
 
     def test_what_cannot_be_written_is_said(self):
         done = self.installed(self.file("taken", "a file"))

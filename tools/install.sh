@@ -10,8 +10,8 @@
 #       PREFIX/share/fish/vendor_completions.d/clearing.fish; and, where there is a Python 3, for each tool NAME
 #       PREFIX/bin/clearing-NAME and PREFIX/share/man/man1/clearing-NAME.1, with the tools themselves in
 #       PREFIX/share/clearing/tools, the packages clearing_client and clearing_tools, which they call, in
-#       PREFIX/share/clearing/python/src, and PREFIX/share/clearing/clearing, a link to the program. Their names on standard
-#       output.
+#       PREFIX/share/clearing/python/src, the number of the release in PREFIX/share/clearing/VERSION, and
+#       PREFIX/share/clearing/clearing, a link to the program. Their names on standard output.
 #
 # All files are written beside their places first and then moved there; where one cannot be, each older file is left or put back.
 #
@@ -159,6 +159,7 @@ if command -v python3 >/dev/null 2>&1; then
     while IFS= read -r part; do
         put "$root/python/src/$part" "share/clearing/python/src/$part" 644
     done <"$list/packages"
+    put "$root/VERSION" share/clearing/VERSION 644
     # What a tool takes for the repository's program.
     put_link ../../bin/clearing share/clearing/clearing
 else

@@ -49,14 +49,6 @@ PACKED = pathlib.Path(__file__).resolve().parent / "bin/clearing"
 """The program of a wheel that has one."""
 
 
-def main() -> None:
-    """The command `clearing` of a wheel: the program takes the place of this process."""
-    # Python ignores this signal, and what it starts would ignore it too.
-    signal.signal(signal.SIGPIPE, signal.SIG_DFL)
-    program = find_program()
-    os.execv(program, [program, *sys.argv[1:]])
-
-
 def find_program() -> str:
     """The program: what the environment variable CLEARING names, a file or a command; else the one that came in the
     wheel of this package; else that of the repository or the installation that this package stands in, which the

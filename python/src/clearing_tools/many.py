@@ -5,15 +5,16 @@ import pathlib
 import signal
 import sys
 
-from clearing_client.program import find_program
+from .runner import command, program
 
 SCRIPT = pathlib.Path(__file__).resolve().parent / "many.sh"
 
 
+@command("clearing-many")
 def main() -> None:
     """The script takes the place of this process."""
     # Python ignores this signal, and what it starts would ignore it too.
     signal.signal(signal.SIGPIPE, signal.SIG_DFL)
     if not os.environ.get("CLEARING"):
-        os.environ["CLEARING"] = find_program()
+        os.environ["CLEARING"] = program()
     os.execv("/bin/sh", ["sh", str(SCRIPT), *sys.argv[1:]])

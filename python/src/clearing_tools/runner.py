@@ -43,6 +43,8 @@ PACKAGES, ROOT = (pathlib.Path(__file__).resolve().parents[above] for above in (
 STANDS = PACKAGES == ROOT / "python" / "src"
 """Whether the packages stand in a repository, or in an installation: elsewhere nothing that is in ROOT is run or
 asked."""
+PACKED = PACKAGES / "clearing_client/bin/clearing"
+"""The program of a wheel that has one."""
 
 
 T = TypeVar("T")
@@ -126,12 +128,11 @@ def says_yes(why: str) -> bool:
 def program() -> str:
     """The program: an absolute name, and never that of one without a proof."""
     named = os.environ.get("CLEARING") or "clearing"
-    beside, packed = ROOT / "clearing", PACKAGES / "clearing_client/bin/clearing"
+    beside = ROOT / "clearing"
     if os.sep in named:
         found: Optional[str] = os.path.abspath(named)
-    elif not os.environ.get("CLEARING") and os.access(packed, os.X_OK):
-        # The one that came in the wheel.
-        found = str(packed)
+    elif not os.environ.get("CLEARING") and os.access(PACKED, os.X_OK):
+        found = str(PACKED)
     elif not os.environ.get("CLEARING") and STANDS and beside.is_file():
         found = built(str(beside))
     else:
@@ -142,6 +143,16 @@ def program() -> str:
     if os.path.basename(os.path.realpath(found)) == "first-look":
         raise Failed(f"{named} is a first look, which is not proved; name the proved program by CLEARING", 2)
     return found
+
+
+def version() -> str:
+    """The number of the release, or nothing where it is not known. A repository and an installation have it beside the
+    tools, and a wheel has it beside this file."""
+    place = ROOT / "VERSION" if STANDS else pathlib.Path(__file__).with_name("VERSION")
+    try:
+        return place.read_text(encoding="utf-8").strip()
+    except (OSError, UnicodeDecodeError):
+        return ""
 
 
 def processors() -> int:

@@ -45,11 +45,7 @@ def network_view(desk: Desk, others: Sequence[Desk], has_d3: bool) -> Dict[str, 
 
 def program_called() -> str:
     """What the program is called, with its version where that is known."""
-    try:
-        version = (runner.ROOT / "VERSION").read_text(encoding="utf-8").strip()
-    except OSError:
-        version = ""
-    return f"clearing {version}".strip()
+    return f"clearing {runner.version()}".strip()
 
 
 def short_names(desk: Desk) -> List[str]:

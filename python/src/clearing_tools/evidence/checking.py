@@ -14,11 +14,11 @@ import sys
 from typing import Dict, Iterable, Iterator, List, NamedTuple, Optional, Sequence, Set, Tuple
 
 from .. import runner
-from ..runner import ROOT, Failed
+from ..runner import Failed
 from . import audit, shock, source
 from .parts import (
-    BANKS, BUILT, CHANGES, DESCRIPTION, FILE, JOURNAL, LABELS, PROGRAM, README, SUMS, TABLES, TEXTS, UNREAD,
-    VERSIONS, CommandOf, NoRoom, Part, checksum_of, commands_of, commands_text, is_stress, limits_of, limits_words,
+    BANKS, CHANGES, DESCRIPTION, FILE, JOURNAL, LABELS, PROGRAM, README, SUMS, TABLES, TEXTS, UNREAD, VERSIONS,
+    CommandOf, NoRoom, Part, at_hand, checksum_of, commands_of, commands_text, is_stress, limits_of, limits_words,
     most_of, most_of_journal, names_of, opened_in, parts_of, program_sum, read_inputs, read_rescue, rescue_holds,
     sums_listed, sums_text, words_of,
 )
@@ -386,11 +386,10 @@ class Checking:
     def program(self) -> Optional[str]:
         """The checksum of the program by which all is replayed and run again, where there is one. Nothing is built."""
         if not os.environ.get("CLEARING"):
-            # Beside installed tools stands the program itself, and in the repository the script that may build it.
-            here = BUILT if (ROOT / "crates").is_dir() else ROOT / "clearing"
-            if not runner.STANDS or not os.access(here, os.X_OK):
+            here = at_hand()
+            if here is None:
                 return None
-            os.environ["CLEARING"] = str(here)
+            os.environ["CLEARING"] = here
         return program_sum()
 
     def replayed(self, part: Part) -> Tuple[int, bytes, bytes]:

@@ -26,8 +26,8 @@ so that the same program makes the same bytes again.
 have exactly the files that `make` writes for its inputs, and nothing else. It compares the checksums, commands.tsv and
 README.txt, makes the banks file of each scenario and of the rescue anew, and the two files where their sheets are
 there, and follows each journal by tools/audit.py, which shares no code with the program. Where a built program is at
-hand (CLEARING, or that of the repository) it replays the journals too, and runs each command again. It prints a line
-for each, and at the end what was checked and what was not.
+hand (CLEARING, or that of the wheel, the installation or the repository) it replays the journals too, and runs each
+command again. It prints a line for each, and at the end what was checked and what was not.
 
 Ends with 0 where all is well. `make` ends with 1 where the program fails, or where two of its answers do not agree; 2
 where the words are not understood or FOLDER is there already; 3 where a file cannot be read; 4 where a file is

@@ -290,6 +290,14 @@ def write_copy(copy: IO[bytes], block: bytes) -> None:
 # The program.
 
 
+def at_hand() -> Optional[str]:
+    """The program that the tools came with, where it is there: that of the wheel; in a repository what was built, and
+    not the script that may build it; and beside installed tools the program itself."""
+    beside = BUILT if (ROOT / "crates").is_dir() else ROOT / "clearing"
+    places = [runner.PACKED, *([beside] if runner.STANDS else [])]
+    return next((str(place) for place in places if os.access(place, os.X_OK)), None)
+
+
 def program_file() -> str:
     """The file of the program that runs: what was built, where it is the repository's script that was named."""
     named = runner.program()

@@ -59,7 +59,7 @@ from ..drawing.stress_map import read_stress
 from ..evidence import evidence
 from ..fullnames import add_labels
 from ..money import Money, add_money
-from ..runner import ROOT, Failed, command, said_by, seen, work_folder
+from ..runner import Failed, command, said_by, seen, version, work_folder
 from . import document, page, stands
 from .costs import costs_of
 from .journal import frames_of, read_journal
@@ -162,13 +162,8 @@ def head_of(case: Case, asked: argparse.Namespace, banks: int) -> Head:
     """What the case says of itself."""
     title = asked.title or case.title or f"Clearing of {labels.count(banks, 'bank')}"
     as_of = f"{case.as_of.day} {case.as_of:%B %Y}" if case.as_of else ""
-    try:
-        version = (ROOT / "VERSION").read_text(encoding="utf-8").strip()
-    except OSError:
-        version = ""
-    return Head(
-        title, case.description, as_of, TESTS.get(case.test or "", ""), case.author, f"clearing {version}".strip()
-    )
+    program = f"clearing {version()}".strip()
+    return Head(title, case.description, as_of, TESTS.get(case.test or "", ""), case.author, program)
 
 
 def gather(case: Case, asked: argparse.Namespace, folder: str) -> Matter:
