@@ -27,7 +27,7 @@ class FirstSteps(test_launcher.Launcher):
         shutil.copytree(PACKAGES, self.root / "python/src", ignore=shutil.ignore_patterns("__pycache__"))
         shutil.copytree(CHAIN, self.root / "examples/chain")
         (self.root / "tools").mkdir()
-        for path in (ROOT / "tools").glob("*.py"):
+        for path in [*(ROOT / "tools").glob("*.py"), *(ROOT / "tools").glob("*.sh")]:
             shutil.copy(path, self.root / "tools")
         self.environment = {**{key: value for key, value in os.environ.items() if key not in ("CLEARING", "PYTHONPATH")}, "CALLS": str(self.calls),
                             "TIMES": str(self.times), "PATH": f"{self.folder}/bin:/usr/bin:/bin", "LINKS": LINKS, "PYTHONDONTWRITEBYTECODE": "1"}
@@ -44,6 +44,25 @@ class FirstSteps(test_launcher.Launcher):
             self.assertIn("there is no program yet, since it is not there", done.stderr)
             for way in WAYS:
                 self.assertIn(way, done.stderr, name)
+        # Nor do many jobs build it, each of which would wait for it, nor a batch script for a cluster.
+        line = "\t".join(["a", "clear", *map(str, FILES)])
+        self.file("jobs.tsv", line + "\n")
+        for words in (["run", "jobs.tsv", "out"], ["one", "jobs.tsv", "out", "1"], ["slurm", "jobs.tsv", "out"]):
+            for named in (None, str(self.root / "clearing")):
+                environment = self.environment if named is None else {**self.environment, "CLEARING": named}
+                given = {"stdin": subprocess.DEVNULL, "capture_output": True, "encoding": "utf-8", "timeout": 120}
+                done = subprocess.run([str(self.root / "tools/many.sh"), *words], cwd=self.folder, env=environment, **given)
+                told = (done.returncode, done.stdout, self.calls.read_text())
+                self.assertEqual(told, (8, "", ""), (words, done.stderr))
+                why = "there is no program yet, since it is not there"
+                for line in (why, WAYS[0], "or build it in the repository: ./clearing;"):
+                    self.assertIn(f"many.sh: {line}", done.stderr)
+        self.assertFalse((self.folder / "out").exists())
+        # Nor where the repository's script is named, which would begin it.
+        self.environment["CLEARING"] = str(self.root / "clearing")
+        done = self.ask("breaking.py", *FILES)
+        self.assertEqual((done.returncode, done.stdout, self.calls.read_text()), (8, "", ""), done.stderr)
+        self.assertIn("there is no program yet, since it is not there", done.stderr)
         # Nor where one is named that there is not.
         self.environment["CLEARING"] = "clearing"
         done = self.ask("breaking.py", *FILES)

@@ -24,7 +24,8 @@
 # and so does what a killed run left beside it, NAME.part+MACHINE.PROCESS.
 #
 # Ends with 0, with 1 where a job failed or is not finished, with 2 where the words, or a file or folder that they name, cannot
-# be used, and with 129, 130 or 143 where it was ended by a signal, HUP, INT or TERM, which ends all its jobs too.
+# be used, with 8 where the repository's program is not built yet, since no job builds it, and with 129, 130 or 143 where it was
+# ended by a signal, HUP, INT or TERM, which ends all its jobs too.
 #
 # Example: the network of each of a thousand seeds, in sums
 #   for seed in $(seq 1000); do
@@ -41,7 +42,7 @@ self=$(realpath -- "$0")
 root=$(dirname -- "$(dirname -- "$self")")
 program=${CLEARING:-$root/clearing}
 
-help() { sed -n '2,33s/^# \{0,1\}//p' "$self"; }
+help() { sed -n '2,34s/^# \{0,1\}//p' "$self"; }
 
 # A text in one line without what moves a terminal, or turns its letters round.
 shown() {
@@ -51,6 +52,18 @@ shown() {
 refuse() {
     printf 'many.sh: %s; --help says more\n' "$(shown "$1")" >&2
     exit 2
+}
+
+# A job would begin a build, which takes long, and would say so in a file of its own alone.
+must_be_built() {
+    if [ -n "${MANY_PROGRAM_SUM:-}" ] || ! [ "$program" -ef "$root/clearing" ]; then return 0; fi
+    why=$(CLEARING_BUILD=never "$program" 2>&1 >/dev/null </dev/null)
+    [ $? -eq 8 ] || return 0
+    for line in "${why#clearing: }" "to have the program install the wheel of a release: pip install FILE.whl" \
+        "or build it in the repository: ./clearing; it proves first, for 15 to 40 minutes"; do
+        printf 'many.sh: %s\n' "$(shown "$line")" >&2
+    done
+    exit 8
 }
 
 # The jobs, a line for each.
@@ -260,6 +273,7 @@ count=$(all_jobs | wc -l)
 bad=$(all_jobs | awk -F '\t' 'NF < 2 || $1 !~ /^[A-Za-z0-9._-]+$/ || seen[$1]++ { print NR; exit }')
 [ -z "$bad" ] || refuse "$jobs: job $bad: no name of its own and words, with a tab between any two"
 case $(realpath -- "$(command -v -- "$program")" 2>/dev/null) in */first-look) refuse "$program is a first look, which is not proved" ;; esac
+must_be_built
 case $task in
 slurm)
     shift 3

@@ -134,7 +134,7 @@ def program() -> str:
     elif not os.environ.get("CLEARING") and os.access(PACKED, os.X_OK):
         found = str(PACKED)
     elif not os.environ.get("CLEARING") and STANDS and beside.is_file():
-        found = built(str(beside))
+        found = str(beside)
     else:
         found = on_path(named)
     if found is None:
@@ -142,7 +142,8 @@ def program() -> str:
         raise Failed(f"cannot run {named}: {why}", 8, WAYS)
     if os.path.basename(os.path.realpath(found)) == "first-look":
         raise Failed(f"{named} is a first look, which is not proved; name the proved program by CLEARING", 2)
-    return found
+    # The script begins a build also where it was named.
+    return built(found) if STANDS and same_file(found, beside) else found
 
 
 def version() -> str:
