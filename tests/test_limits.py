@@ -114,6 +114,77 @@ class Rows(Case):
         self.assertEqual((status, output[: len(first)].decode(), output[-11:], message), (0, first, b"\nA,B,6,1,1\n", ""))
 
 
+class Large(Case):
+    """A network of 400 banks and 120,000 debts by the rule `order`. It is large enough that threads make what each worker keeps, that lists of
+    raises are moved and not copied, and that the lines of each scenario do not fit into the room through which they are written."""
+
+    BANKS, OWED = 400, 300
+
+    @classmethod
+    def setUpClass(cls):
+        cls.cash = [bank * 7919 % 4000 if bank % 3 else 0 for bank in range(cls.BANKS)]
+        cls.rows = [[((bank + 1 + 97 * k) % cls.BANKS, 1 + (bank * 31 + k * 17) % 48) for k in range(cls.OWED)] for bank in range(cls.BANKS)]
+
+    def setUp(self):
+        super().setUp()
+        banks = "".join(f"B{bank},{cash},order\n" for bank, cash in enumerate(self.cash))
+        debts = "".join(f"B{bank},B{to},1,{claim}\n" for bank, row in enumerate(self.rows) for to, claim in row)
+        self.files = ["--banks", self.file("banks.csv", BANKS.decode() + banks), "--debts", self.file("debts.csv", DEBTS.decode() + debts), *WIDE]
+
+    def least(self, cash):
+        """What is paid on each debt at least, bank by bank: from no payment on, all banks pay again until nothing changes."""
+        receipts, paid = [0] * self.BANKS, []
+        while True:
+            before, paid = paid, []
+            for has, row in zip(map(int.__add__, cash, receipts), self.rows):
+                left = has
+                for _, claim in row:
+                    paid.append(min(claim, left))
+                    left -= paid[-1]
+            if paid == before:
+                return paid
+            receipts = [0] * self.BANKS
+            for (to, _), units in zip((debt for row in self.rows for debt in row), paid):
+                receipts[to] += units
+
+    def lines(self, cash):
+        """The lines of payments of this network with other cash."""
+        debts = ((f"B{bank},B{to},1,{claim}" for bank, row in enumerate(self.rows) for to, claim in row))
+        return [f"{debt},{units}" for debt, units in zip(debts, self.least(cash))]
+
+    def test_any_number_of_workers_prints_the_least_payments(self):
+        wanted = self.lines(self.cash)
+        self.assertGreater(sum(line.endswith(",0") for line in wanted), 500)
+        for words in (["central"], *(["clear", "--workers", count] for count in (1, 2, 3, 4, 31, 64))):
+            done = clearing(*words, *self.files)
+            lines = done.stdout.decode().splitlines()
+            self.assertEqual((done.returncode, done.stderr, lines[1 : 1 + len(wanted)] == wanted), (0, b"", True), words)
+
+    def test_a_journal_of_four_workers_is_lawful(self):
+        journal = self.file("journal.csv", clearing("clear", "--workers", 4, "--show", "journal", *self.files).stdout)
+        done = clearing("replay", "--journal", journal, *self.files)
+        lines = done.stdout.decode().splitlines()
+        self.assertEqual((done.returncode, lines[0][:7], lines[3 : 3 + self.BANKS * self.OWED] == self.lines(self.cash)), (0, "lawful,", True))
+
+    def test_each_scenario_has_its_own_lines(self):
+        """More scenarios than threads, in file order, some of which take the cash of one bank and some a part of all."""
+        toml, shocks = [], [(0, None), (250, None), (0, 1), (1000, None), (300, 2), (0, 5), (100, None)]
+        for number, (cut, bank) in enumerate(shocks):
+            toml.append(f'[[scenario]]\nname = "shock {number}"\ncut = {cut}\n')
+            if bank is not None:
+                toml.append(f'[[scenario.loss]]\nbank = "B{bank}"\namount = {self.cash[bank]}\n')
+        done = clearing("stress", "--scenarios", self.file("scenarios.toml", "".join(toml)), *self.files)
+        self.assertEqual((done.returncode, done.stderr), (0, b""))
+        blocks = done.stdout.decode().split("\n\nscenario,")
+        self.assertEqual(len(blocks), len(shocks))
+        for number, ((cut, bank), block) in enumerate(zip(shocks, blocks)):
+            left = [0 if place == bank else cash - cash * cut // 1000 for place, cash in enumerate(self.cash)]
+            lines = block.splitlines()
+            at = lines.index("debtor,creditor,class,claim,paid") + 1
+            self.assertIn(f"shock {number}", lines[0])
+            self.assertEqual(lines[at : at + self.BANKS * self.OWED] == self.lines(left), True, number)
+
+
 class Words(Case):
     def test_it_is_a_word_of_each_task_that_reads_files(self):
         files, toml = files_of(TWELVE), TWELVE / "scenarios.toml"
@@ -168,7 +239,7 @@ class OtherFormsByWideLimits(test_tasks.OtherForms):
 
 def load_tests(loader, *_):
     """The tests of this module, without those that it took from another."""
-    cases = (Rows, Words, KnownTextsByWideLimits, OtherFormsByWideLimits)
+    cases = (Rows, Words, Large, KnownTextsByWideLimits, OtherFormsByWideLimits)
     return unittest.TestSuite(loader.loadTestsFromTestCase(case) for case in cases)
 
 
