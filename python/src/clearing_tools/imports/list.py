@@ -418,7 +418,7 @@ class ExposureList:
         if once:
             how = {"once": "taken once", "sum": "summed"}.get(self.words.duplicates, "")
             step = "leftOut" if self.words.duplicates == "once" else "summed"
-            amount = sum(filter(None, map(self.quiet, once)))
+            amount: Amount = sum(filter(None, map(self.quiet, once)))
             self.summary.tell("lines that are the same in every column", len(once), amount, how, step=step)
         for currency, (count, amount) in told.items():
             detail = f"at {shown(self.rates[currency])}: {shown(amount * self.rates[currency])}"
