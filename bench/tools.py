@@ -4,7 +4,8 @@
     bench/tools.py [ROW]..
 
 Prints a line for each row, or for these alone, such as `lint-names`: seconds of a processor, the least of three runs, and what was done.
-The row `matrix` has beside them how often that is the reading of its cells. The environment variable CLEARING names the program, which
+The row `matrix` has beside them how often that is the reading of its cells; `list` and `totals` are networks of the wide limits, and have
+beside them the most memory that any run took so far. The environment variable CLEARING names the program, which
 makes the journals. The rows `completion-..` want bash.
 """
 import os
@@ -141,6 +142,37 @@ def matrix(folder):
     return took, f"a matrix of 1,000 banks, {timing.ratio(took, reading)} times the reading of its cells"
 
 
+# What the importers take on networks of the wide limits.
+
+
+def list_of_a_million(folder):
+    """A list of a million lines on ten thousand banks, a debt each."""
+    draw, pairs = random.Random(5), {}
+    while len(pairs) < 1_000_000:
+        pair = draw.randrange(10_000), draw.randrange(10_000)
+        if pair[0] != pair[1]:
+            pairs[pair] = draw.randint(1, 40)
+    (folder / "list.csv").write_bytes(lines(b"debtor,creditor,amount\n", (b"Bank %05d,Bank %05d,%d" % (*pair, amount) for pair, amount in pairs.items())))
+    (folder / "table.csv").write_bytes(lines(b"bank,cash\n", (b"Bank %05d,%d" % (at, draw.randint(0, 500)) for at in range(10_000))))
+    words = ["from_list.py", folder / "list.csv", "--table", folder / "table.csv", "--banks", folder / "b.csv", "--debts", folder / "d.csv"]
+    return spent(tool(*words), folder, (0,)), f"a list of 1,000,000 lines, with {most_of_children()} MB"
+
+
+def totals_of_a_thousand(folder):
+    """The totals of a thousand banks, of which entropy makes a debt of nearly every pair."""
+    draw = random.Random(4)
+    owed = [draw.randint(2_000, 40_000) for _ in range(1_000)]
+    owes = draw.sample(owed, len(owed))
+    (folder / "t.csv").write_bytes(lines(b"bank,assets,liabilities,cash\n", (b"Bank %04d,%d,%d,9" % (at, *both) for at, both in enumerate(zip(owed, owes)))))
+    words = ["from_totals.py", folder / "t.csv", "--method=entropy", "--most=1000000", "--limits=wide", "--out"]
+    return spent(tool(*words, folder / "made"), folder, (0,)), f"the totals of 1,000 banks by entropy, with {most_of_children()} MB"
+
+
+def most_of_children():
+    """The most megabytes of memory that a run has taken so far."""
+    return round(resource.getrusage(resource.RUSAGE_CHILDREN).ru_maxrss / 1000)
+
+
 ROWS = {
     "lint-names": lint_names,
     "lint-rules": lint_rules,
@@ -155,6 +187,8 @@ ROWS = {
     "completion-lines": completion(lambda: b"\n" * 8_000_000 + b"A,1,order\n"),
     "completion-nul": completion(lambda: b"A,1,order\n" + b"\0" * 8_000_000),
     "matrix": matrix,
+    "list": list_of_a_million,
+    "totals": totals_of_a_thousand,
 }
 
 

@@ -1,19 +1,22 @@
 """The limits of networks in the tools: which are taken where nobody says so, what is told of it, and what keeps them."""
 import collections
+import random
 import subprocess
 import types
 import unittest
 
-from common import CHAIN, ROOT, Case, files_of, tool
+from common import CHAIN, ROOT, Case, files_of, needs_packages, tool
 
 import clearing_client as cc
 from clearing_client.format import MAX_CLAIM
 from clearing_client.limits import LIMITS, MOST
-from clearing_tools import cases, cli, files
+from clearing_tools import cases, cli, files, fullnames, money, texts
 from clearing_tools.checks import lint
+from clearing_tools.drawing import blocks
+from clearing_tools.drawing import network as drawing
 from clearing_tools.evidence import audit, parts
 from clearing_tools.exports import tidy
-from clearing_tools.report import tables
+from clearing_tools.report import page, player, tables
 from clearing_tools.report.charts import network
 
 DEBTS, JOURNAL = b"debtor,creditor,class,claim\n", b"stamp,debtor,creditor,class,to\n"
@@ -120,6 +123,64 @@ class Tools(Case):
 
 
 class LargeReports(unittest.TestCase):
+    def large(self, count, has_unpaid=True):
+        """What a report has of a network drawn at random, as far as is asked for here."""
+        rng = random.Random(count)
+        names = [f"N{at}" for at in range(count)]
+        debts = []
+        for _ in range(6 * count):
+            debtor, creditor, claim = rng.choice(names), rng.choice(names[: count // 3]), rng.randint(1, 500)
+            paid = rng.randint(0, claim) if has_unpaid and int(debtor[1:]) % 2 else claim
+            debts += [Owed(debtor, creditor, 1, claim, paid)] if debtor != creditor else []
+        owed, paid = collections.Counter(), collections.Counter()
+        for debt in debts:
+            owed[debt.debtor] += debt.claim
+            paid[debt.debtor] += debt.paid
+        banks = [
+            texts.Bank(name, 9, 0, 0, paid[name], owed[name], 0, "sound" if paid[name] == owed[name] else "contagion")
+            for name in names
+        ]
+        place = {name: at for at, name in enumerate(names)}
+        return types.SimpleNamespace(banks=banks, debts=debts, place=place, called=str, names=fullnames.FullNames(),
+                                     money=money.Money(None, None), cash=dict.fromkeys(names, 9), frames=None)
+
+    def test_of_very_many_banks_a_thousand_have_parts(self):
+        for has_unpaid in (True, False):
+            matter = self.large(3_000, has_unpaid)
+            chosen = tables.with_parts(matter)
+            self.assertLessEqual(len(chosen), 1_000)
+            self.assertGreater(len(chosen), 500)
+            unpaid = sorted(matter.banks, key=lambda bank: (bank.owed - bank.paid, bank.owed), reverse=True)
+            self.assertTrue({bank.name for bank in unpaid[:500]} <= chosen)
+            # All whom the picture names have one.
+            rows, columns = blocks.blocks_of(texts.flows_of(matter.debts, matter.banks), matter.banks)
+            self.assertEqual((len(rows.names), len(columns.names)), (12, 12))
+            self.assertTrue({*rows.names, *columns.names} <= set(chosen))
+        small = self.large(1_000)
+        self.assertEqual(len(tables.with_parts(small)), 1_000)
+
+    @needs_packages("markupsafe")
+    def test_the_name_of_a_bank_without_a_part_leads_to_its_row(self):
+        from markupsafe import Markup
+
+        matter = self.large(3_000)
+        names, chosen = page.Texts(matter, Markup), tables.with_parts(matter)
+        for at, bank in enumerate(matter.banks):
+            has_part = bank.name in chosen
+            self.assertEqual(names.link(bank.name), f'<a href="#{"bank" if has_part else "row"}-{at}">{bank.name}</a>')
+            self.assertEqual("<a " in names.head(at, bank.name), has_part)
+
+    def test_a_page_without_a_journal_has_no_debts_for_it(self):
+        matter = self.large(60)
+        flows = texts.flows_of(matter.debts, matter.banks)
+        drawn = drawing.drawing_of(flows, matter.banks, matter.money, "matrix", lambda bank: f"bank-{matter.place[bank.name]}")
+        without = player.data_of(matter, drawn)
+        self.assertFalse({"debts", "flowOf", "cash", "owed"} & set(without))
+        matter.frames = []
+        with_frames = player.data_of(matter, drawn)
+        self.assertEqual(len(with_frames["debts"]), 4 * len(matter.debts))
+        self.assertEqual({key: with_frames[key] for key in without}, {**without, "frames": []})
+
     def test_of_very_many_debts_the_largest_stand_and_the_others_as_one(self):
         owed = [Owed("A", f"B{n}", 1, 100 + n, 100 + n - (n % 3)) for n in range(30)]
         largest, others = tables.largest_of(owed, 10)

@@ -160,6 +160,15 @@ class View:
         return len(self.matter.banks) > tables.MANY_BANKS
 
     @property
+    def few_parts(self) -> str:
+        """Which banks have a part, where not all have."""
+        if len(self.matter.banks) <= tables.MOST_PARTS:
+            return ""
+        half = f"the {tables.MOST_PARTS // 2:,}"
+        which = f"{half} that leave most unpaid, and {half} to which most stays unpaid"
+        return f"Of {len(self.matter.banks):,} banks a part stands here for {which}."
+
+    @property
     def is_cut(self) -> bool:
         """Whether the part of a bank may have some of its debts alone."""
         return tables.most_each(self.matter) < len(self.matter.debts)
@@ -222,11 +231,19 @@ class Texts:
     def __init__(self, matter: Matter, markup: Any) -> None:
         self.matter, self.markup = matter, markup
         self.icons = {state: markup(svg.icon(state, words)) for state, words in tables.STATE_WORDS.items()}
+        self.with_parts = tables.with_parts(matter)
         self.links = {bank.name: self.link_to(at, bank.name) for at, bank in enumerate(matter.banks)}
 
     def link_to(self, at: int, name: str) -> Any:
-        """A bank's name, linked to its part."""
-        return self.markup('<a href="#bank-{}">{}</a>').format(at, self.name(self.matter.called(name)))
+        """A bank's name, linked to its part; where it has none, to its row."""
+        kind = "bank" if name in self.with_parts else "row"
+        return self.markup('<a href="#{}-{}">{}</a>').format(kind, at, self.name(self.matter.called(name)))
+
+    def head(self, place: int, head: str) -> Any:
+        """The name of a bank in its own row, linked to its part where it has one."""
+        name = self.name(head)
+        is_linked = self.matter.banks[place].name in self.with_parts
+        return self.markup('<a href="#bank-{}">{}</a>').format(place, name) if is_linked else name
 
     def name(self, text: str) -> Any:
         """A name as HTML, held apart where it may run from right to left."""

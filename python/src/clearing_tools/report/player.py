@@ -27,28 +27,34 @@ def data_of(matter: Any, drawn: Drawn) -> Dict[str, Any]:
         for at, bank in enumerate(matter.banks)
         if known.of(bank.name)
     }
-    outside = [outside_of(bank) for bank in matter.banks]
-    return {
+    page = {
         "names": names,
         "hidden": {at: bank.name for at, bank in enumerate(matter.banks) if names[at] != bank.name},
         "full": full,
         "state": [bank.state for bank in matter.banks],
-        "cash": [matter.cash[bank.name] for bank in matter.banks],
-        "owed": [bank.owed for bank in matter.banks],
-        "outside": outside,
-        "outsideFlow": [flow_of(bank.name, None) if units else -1 for bank, units in zip(matter.banks, outside)],
         "mantissa": str(int(unit * 10**money.places)),
         "places": money.places,
         "currency": money.currency,
         "bare": money.unit is None,
+        "flows": [[end(flow.debtor), end(flow.creditor), flow.claim, flow.paid] for flow in drawn.flows],
+        "frames": matter.frames,
+    }
+    if matter.frames is None:
+        # Nothing is played, and of a million debts none is needed.
+        return page
+    outside = [outside_of(bank) for bank in matter.banks]
+    return {
+        **page,
+        "cash": [matter.cash[bank.name] for bank in matter.banks],
+        "owed": [bank.owed for bank in matter.banks],
+        "outside": outside,
+        "outsideFlow": [flow_of(bank.name, None) if units else -1 for bank, units in zip(matter.banks, outside)],
         "debts": [
             part
             for debt in matter.debts
             for part in (place[debt.debtor], place[debt.creditor], debt.class_, debt.claim)
         ],
-        "flows": [[end(flow.debtor), end(flow.creditor), flow.claim, flow.paid] for flow in drawn.flows],
         "flowOf": [flow_of(debt.debtor, debt.creditor) for debt in matter.debts],
         "mostUnpaid": max(map(unpaid_on, drawn.flows), default=0),
         "widths": [LEAST_WIDTH, MOST_WIDTH],
-        "frames": matter.frames,
     }

@@ -1,7 +1,7 @@
 """The tables of a report, as text for its page and its documents, and as numbers for files of CSV."""
 import csv
 import io
-from typing import Any, Dict, Iterator, List, NamedTuple, Optional, Sequence, Tuple
+from typing import Any, Container, Dict, Iterator, List, NamedTuple, Optional, Sequence, Tuple
 
 from clearing_client.limits import LIMITS, STANDARD
 from clearing_client.steady import MARK, NOTE, WHY
@@ -17,6 +17,9 @@ MANY_BANKS = 40  # above that the part of one bank is shown at a time
 LEAST_EACH, MOST_ROWS = 10, 40_000
 """Of a network beyond the standard limits so many debts at least stand in the part of a bank on each side, and about so
 many in all."""
+MOST_PARTS = 1000
+"""With more banks, those have a part that leave most unpaid, and those to which most stays unpaid: half of these
+each."""
 MOST_PRINTED = 100  # with more banks those in default alone stand on paper, and of them
 MOST_FALLEN = 200  # those that leave most unpaid
 NONE, NOT = "0", "\u2013"  # none, and not applicable
@@ -366,7 +369,21 @@ def most_each(matter: Matter) -> int:
     """How many debts of one side stand in the part of a bank: all, unless the network passes the standard limits."""
     if len(matter.debts) <= LIMITS[STANDARD].debts:
         return len(matter.debts)
-    return max(LEAST_EACH, MOST_ROWS // len(matter.banks))
+    return LEAST_EACH if len(matter.banks) > MOST_PARTS else max(LEAST_EACH, MOST_ROWS // len(matter.banks))
+
+
+def with_parts(matter: Matter) -> Container[str]:
+    """The banks that have a part: all, unless there are very many. Where nothing stays unpaid, it is those that owe and
+    are owed most."""
+    if len(matter.banks) <= MOST_PARTS:
+        return matter.place
+    owes: Dict[str, Tuple[int, int]] = {bank.name: (shortfall_of(bank), due_of(bank)) for bank in matter.banks}
+    owed: Dict[str, Tuple[int, int]] = dict.fromkeys(owes, (0, 0))
+    for debt in matter.debts:
+        unpaid, claim = owed[debt.creditor]
+        owed[debt.creditor] = unpaid + debt.claim - debt.paid, claim + debt.claim
+    half = MOST_PARTS // 2
+    return {name for side in (owes, owed) for name in sorted(side, key=lambda one: side[one], reverse=True)[:half]}
 
 
 def largest_of(debts: Sequence[Any], most: int) -> Tuple[List[Any], List[Any]]:
@@ -401,7 +418,8 @@ def debts_of(matter: Matter, debts: Sequence[Any], side: int, outside: Tuple[int
 
 
 def parts_of_banks(matter: Matter) -> Iterator[Part]:
-    """The parts of the page for each bank, in file order."""
+    """The parts of the page for each bank that has one, in file order."""
+    chosen = with_parts(matter)
     owes: Dict[str, List[Any]] = {bank.name: [] for bank in matter.banks}
     is_owed: Dict[str, List[Any]] = {bank.name: [] for bank in matter.banks}
     for debt in matter.debts:
@@ -409,6 +427,8 @@ def parts_of_banks(matter: Matter) -> Iterator[Part]:
         is_owed[debt.creditor].append(debt)
     money = matter.money
     for at, bank in enumerate(matter.banks):
+        if bank.name not in chosen:
+            continue
         cash = matter.cash[bank.name]
         amounts = (
             money(cash),
