@@ -9,6 +9,9 @@ import unittest
 
 from common import PROGRAM, ROOT
 
+sys.path.insert(0, str(ROOT / "tests/system"))
+from model import share
+
 TEXT = (ROOT / "docs/INTERPRETING.md").read_text(encoding="utf-8")
 
 
@@ -47,6 +50,15 @@ class RealNumbers(unittest.TestCase):
         for words in ([], ["--one-class"], ["examples/core", "--two"]):
             done = subprocess.run([sys.executable, "examples/pro-rata/real.py", *words], cwd=ROOT, capture_output=True, encoding="utf-8")
             self.assertEqual((done.returncode, done.stdout, done.stderr), (1, "", "usage: python3 real.py FOLDER [--one-class]\n"))
+
+
+class Ties(unittest.TestCase):
+    def test_equal_claims_in_one_order_are_met_from_the_front_in_each_division(self):
+        """The 40 banks of its paragraph on rounding, by the plain model."""
+        said = ("Let 40 banks each owe the same 40 creditors 1 unit, in the same order, and have 20 units to pay with. By "
+                "`webster` the first 20 creditors are then paid in full by all, and the other 20 get nothing.")
+        self.assertIn(said, " ".join(TEXT.split()))
+        self.assertEqual(share("webster", 40 * (1,), 40 * (1,), 20), 20 * [1] + 20 * [0])
 
 
 class Table(unittest.TestCase):

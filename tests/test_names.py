@@ -158,6 +158,45 @@ def options_in(file, task=""):
     return "".join(helps + texts)
 
 
+def named_edits(text):
+    """The wrong bodies that the tables of a page name: each with its crate, and whether it has the sign of those beside
+    the gate. A name without a crate before it is of clear_top."""
+    table_of_edits = r"^\|.* a wrong body that the check must refuse \|\n\|[-|]+\n((?:\|.*\n)+)"
+    for table in re.findall(table_of_edits, text, re.MULTILINE):
+        for row in table.splitlines():
+            crate = "clear_top"
+            for name, sign in re.findall(r"`(\w+)`([°:]?)", row.rstrip("| ").rpartition(" | ")[2]):
+                if sign == ":":
+                    crate = name
+                else:
+                    yield crate, name, sign == "°"
+
+
+def wrong_edits(text):
+    """The wrong bodies that a page's tables name, and that do not stand where they say."""
+    return [f"{crate}: {name}" for crate, name, beside in named_edits(text)
+            if not (ROOT / "crates" / crate / ("edits" if beside else "must-fail") / f"{name}.edit").is_file()]
+
+
+def definitions_below(*paths):
+    """The files of definitions that some files cite, with these."""
+    found, ahead = set(), list(paths)
+    while ahead:
+        path = ahead.pop()
+        if path.is_file() and path not in found:
+            found.add(path)
+            text = path.read_text(encoding="utf-8")
+            used = re.findall(r"^use Rattle\.(\w+)\.specs\.([\w.]+)\.\{", text, re.MULTILINE)
+            ahead += [ROOT / "crates" / crate / "specs" / (name.replace(".", "/") + ".antt") for crate, name in used]
+    return found
+
+
+def theorem_of(text):
+    """The theorem as a page quotes it, in one line and without the signs of its form."""
+    quoted = re.search(r"(?:^>.*\n)+", text, re.MULTILINE)[0]
+    return " ".join(re.sub(r"^> ?|\*\*", "", quoted, flags=re.MULTILINE).split())
+
+
 def wrong_commands(text):
     """The commands that begin with no program, and the options of the repository's tools that the tools do not have."""
     lost = []
@@ -209,6 +248,55 @@ class Names(unittest.TestCase):
         laws = sum(len(re.findall(r"^pub fn ", path.read_text(), re.MULTILINE)) for path in ROOT.glob("crates/*/src/laws.rt"))
         tried = {name for path in ROOT.glob("crates/law_tests/src/*.rt") for name in re.findall(r"\w+::laws::\w+", path.read_text())}
         self.assertIn(f"`law_tests`, of {len(tried)} of the {laws} laws", (ROOT / "docs/CLAUSES.md").read_text())
+
+    def test_wrong_bodies_stand_where_the_tables_of_proved_say(self):
+        text = (ROOT / "docs/PROVED.md").read_text(encoding="utf-8")
+        self.assertGreater(len(list(named_edits(text))), 60)
+        self.assertEqual(wrong_edits(text), [])
+        self.assertEqual(text.count("a wrong body that the check must refuse |\n"), 3)
+        row = "| `check` | `record_left_out`°, `settle`: `one_round_only`, `none` |\n"
+        table = "| task | a wrong body that the check must refuse |\n|---|---|\n"
+        self.assertEqual(wrong_edits(table + row), ["clear_top: record_left_out", "settle: none"])
+
+    def test_proved_has_a_row_for_each_other_task(self):
+        text = (ROOT / "docs/PROVED.md").read_text(encoding="utf-8")
+        table = text.partition("## The other tasks")[2].partition("\n## ")[0]
+        source = (ROOT / "crates/clear_words/src/task.rt").read_text(encoding="utf-8")
+        tasks = re.findall(r'"([a-z-]+)" => Some\(Task::', source)
+        self.assertEqual(sorted(re.findall(r"^\| `([a-z-]+)` \|", table, re.MULTILINE)), sorted({*tasks} - {"clear"}))
+
+    def test_the_theorem_is_the_same_on_both_pages_and_has_each_phrase_of_its_table(self):
+        text = (ROOT / "docs/PROVED.md").read_text(encoding="utf-8")
+        theorem = theorem_of(text.partition("## The theorem, phrase by phrase")[2])
+        self.assertEqual(theorem_of((ROOT / "README.md").read_text(encoding="utf-8")), theorem)
+        rows = re.search(r"^\| phrase \|.*\n.*\n((?:\|.*\n)+)", text, re.MULTILINE)[1].splitlines()
+        phrases = [phrase for row in rows for phrase in row.split(" | ")[0].lstrip("| ").split("; ")]
+        self.assertGreater(len(phrases), 8)
+        self.assertEqual([phrase for phrase in phrases if phrase.lower() not in theorem.lower()], [])
+
+    def test_the_definitions_behind_the_least_list_are_those_that_proved_names(self):
+        text = " ".join((ROOT / "docs/PROVED.md").read_text(encoding="utf-8").split())
+        passage = text.partition("The definitions behind `least` and the verdict `judged` ")[2]
+        passage = passage.partition("They cite no other definitions of the repository")[0]
+        named, files = set(), []
+        for token in QUOTED.findall(passage):
+            if token.endswith(".antt"):
+                files.append(token)
+            else:
+                named |= {ROOT / "crates" / token / file for file in files}
+                files = []
+        specs = ROOT / "crates/clear_core/specs/Clearing.antt", ROOT / "crates/raise_journal/specs/Verdicts.antt"
+        self.assertEqual(named, definitions_below(*specs))
+        self.assertTrue(passage.startswith("stand in eight files: "))
+        self.assertEqual(len(named), 8)
+
+    def test_the_program_names_no_clock_and_takes_from_the_environment_its_words_alone(self):
+        said = {}
+        for crate in CRATES:
+            for path in (ROOT / "crates" / crate / "src").rglob("*.rt") if not crate.endswith("_tests") else ():
+                for name in re.findall(r"\b(?:env::\w+|std::time|Clock)\b", path.read_text(encoding="utf-8")):
+                    said.setdefault(crate, set()).add(name)
+        self.assertEqual(said, {"clear_main": {"env::Env", "env::args"}})
 
     def test_no_page_speaks_of_the_commit_that_it_stands_in(self):
         """What was measured or run names its commit, since a page outlives the one that it was written in."""

@@ -1,5 +1,6 @@
 """The table of what was run is made from docs/runs.tsv, and stands so in docs/PROVED.md."""
 import importlib.util
+import re
 import shutil
 import subprocess
 import sys
@@ -24,14 +25,27 @@ class Runs(Case):
         lines = ["2026-11-01\tabcdef0123\t0123456789\tedge.sh\t\t7\t1", "2026-11-02\tnone\tnone\traces.sh\t3 1\t1000\t0",
                  "2026-11-03\tabcdef0123+\t0123456789\tedge.sh\twords\t5\t2"]
         table = runs.table_of(runs.rows_of(HEAD + "\n".join(lines) + "\n"))
-        self.assertEqual(table, "| date | commit | program | `edge.sh` | `races.sh` | wrong |\n|---|---|---|---|---|---|\n"
-                                "| 2026-11-03 | `abcdef0+` | `01234567` | 12 | - | 3 |\n| 2026-11-02 | - | - | - | 1,000 | 0 |\n")
+        head = "| date | commit | program | " + "".join(f"`{script}` | " for script in runs.SCRIPTS) + "wrong |\n"
+        self.assertEqual(table, head + "|---" * 12 + "|\n"
+                                "| 2026-11-03 | `abcdef0+` | `01234567` | - | - | 12 | - | - | - | - | - | 3 |\n"
+                                "| 2026-11-02 | - | - | - | - | - | - | - | 1,000 | - | - | 0 |\n")
+
+    def test_each_script_that_records_has_a_column(self):
+        """Those that write a line by --record are those of the columns, and PROVED says what each of them tries."""
+        scripts = [*ROOT.glob("tests/system/*.sh"), *ROOT.glob("tools/dev/*.py")]
+        told = {path.name: path.read_text(encoding="utf-8") for path in scripts}
+        named = {name for name, text in told.items() if re.search(rf"{re.escape(name)} \[?--record", text)}
+        self.assertEqual(sorted(named | {"test.sh"}), sorted(runs.SCRIPTS), "test.sh has lines of old runs")
+        text = (ROOT / "docs/PROVED.md").read_text(encoding="utf-8").partition("## What was run")[2]
+        listed = re.findall(r"^- `(?:[\w/]+/)?([\w.]+)` ", text, re.MULTILINE)
+        self.assertEqual(sorted(listed), sorted(runs.SCRIPTS))
 
     def test_runs_without_a_commit_stand_in_one_row(self):
         lines = ["2026-11-03\tabcdef0123\t0123456789\tedge.sh\t\t5\t0", "2026-11-04\tnone\tnone\traces.sh\t\t7\t0",
                  "2026-11-05\tnone\t9999999999\tedge.sh\t\t2\t1"]
         rows = runs.table_of(runs.rows_of(HEAD + "\n".join(lines) + "\n")).splitlines()[2:]
-        self.assertEqual(rows, ["| 2026-11-03 | `abcdef0` | `01234567` | 5 | - | 0 |", "| 2026-11-05 | - | - | 2 | 7 | 1 |"])
+        self.assertEqual(rows, ["| 2026-11-03 | `abcdef0` | `01234567` | - | - | 5 | - | - | - | - | - | 0 |",
+                                "| 2026-11-05 | - | - | - | - | 2 | - | - | 7 | - | - | 1 |"])
 
     def test_a_file_in_another_form_is_told(self):
         for text, told in (("date\n", "another head"), (HEAD + "2026-11-01\tx\n", "line 2"), (HEAD + "d\tc\tp\ts\ta\tmany\t0\n", "line 2")):

@@ -84,6 +84,16 @@ class Words(unittest.TestCase):
                 found += [(path.name, fault) for fault in wording.faults_in(path.read_text(encoding="utf-8"))]
         self.assertEqual(found, [])
 
+    def test_nothing_says_that_what_is_printed_is_proved(self):
+        """The computation is proved. That the program reads the files and writes its output rightly is tested."""
+        kinds = ("*.md", "*.cff", "docs/*.*", "tools/*.sh", "r/DESCRIPTION", "r/man/*.Rd", "r/vignettes/*")
+        kinds += ("python/*.md", "python/src/**/*.py")
+        pages = [path for kind in kinds for path in sorted(ROOT.glob(kind)) if path.suffix not in (".svg", ".png")]
+        proved = r"(?i)\b(results?|answers?|prints|outputs?|texts?) (?:is|are) proved\b"
+        self.assertRegex("What it prints is proved.", proved)
+        texts = {str(path.relative_to(ROOT)): " ".join(path.read_text(encoding="utf-8").split()) for path in pages}
+        self.assertEqual([name for name, text in texts.items() if re.search(proved, text)], [])
+
     @needs_checkout
     def test_comments_of_the_crates_give_no_reason_for_a_default(self):
         """A label compares. It says not why a bank defaults."""

@@ -218,7 +218,8 @@ Section: science
 Priority: optional
 Description: proved settlement simulator for networks of banks
  Computes who pays what when banks owe each other more than they have, in whole
- units and by a bankruptcy rule for each bank. What it prints is proved.
+ units and by a bankruptcy rule for each bank. Its computation is proved; that
+ it reads files and writes its output rightly is tested.
 CONTROL
 # Python keeps what it read of the tools beside them, where it may.
 cat >"$tree/DEBIAN/prerm" <<'PRERM'

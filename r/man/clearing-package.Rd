@@ -2,8 +2,8 @@
 \alias{clearing-package}
 \docType{package}
 \title{Who pays what when banks owe each other more than they have}
-\description{Calls the program \command{clearing}, whose results are proved. A network is made of data frames by
-\code{\link{bank_network}}, or read by \code{\link{read_case}}. Each task of the program is a function that gives data frames:
+\description{Calls the program \command{clearing}. Its computation is proved; that it reads files and writes its output rightly is
+tested. A network is made of data frames by \code{\link{bank_network}}, or read by \code{\link{read_case}}. Each task of the program is a function that gives data frames:
 \code{\link{clear}}, \code{\link{defaults}}, \code{\link{stress}} and others.}
 \details{All amounts are whole units of account. R has whole numbers exactly up to \eqn{2^{53}}{2^53}, and what is greater is an error.
 The program is the one that the environment variable \code{CLEARING} names, else \command{clearing} on the path. A fault of it

@@ -7,7 +7,7 @@
 In:  docs/runs.tsv, to which the scripts of tests/system add a line where they are started with --record.
 Out: a row for each program, the newest first: when it was run, the commit of its sources, its checksum, and for each script the cases
      that all its runs tried, and how many of them were wrong. A file that says none of a commit or a program knows none; runs
-     without a commit stand together in one row, the last.
+     without a commit stand together in one row, the last. Each script that can add a line has a column, with a dash where it has not.
 
 Ends with 0, or with 1 and a message where the file is not in its form, or the document has no place for the table.
 """
@@ -18,6 +18,10 @@ import sys
 
 DOCS = pathlib.Path(__file__).resolve().parents[2] / "docs"
 HEADER = ["date", "commit", "program", "script", "arguments", "cases", "wrong"]
+# The scripts that add lines: each has its column, so that a reader sees of which no run is recorded.
+SCRIPTS = (
+    "allocations.sh", "compare.sh", "edge.sh", "edits.py", "mutations.sh", "races.sh", "same_build.sh", "test.sh",
+)
 # The table in the document: what begins with its head.
 PLACE = re.compile(r"^\| date \|.*\n(?:\|.*\n)+", re.MULTILINE)
 
@@ -54,7 +58,7 @@ def cell(sums, script):
 
 def table_of(rows):
     """The table, as Markdown."""
-    scripts = sorted({row["script"] for row in rows})
+    scripts = sorted({row["script"] for row in rows} | set(SCRIPTS))
     lines = ["| date | commit | program | " + " | ".join(f"`{script}`" for script in scripts) + " | wrong |", "|---" * (len(scripts) + 4) + "|"]
     for row, sums in sums_of(rows):
         commit, program = row["commit"][:7] + "+" * row["commit"].endswith("+"), row["program"][:8]

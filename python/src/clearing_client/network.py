@@ -59,8 +59,8 @@ class Network:
     debts   a DataFrame or a dict of columns `debtor`, `creditor`, `class`, `claim`; records (dicts, `Debt`s or tuples
             in that order, or without the class); a dict from (debtor, creditor) or (debtor, creditor, class) to the
             claim; or the name of a debts file
-    rule    the rule of the banks where there is no column `rule`: `webster` (pro rata), `jefferson`, `adams`, `equal`,
-            `losses` or `order`
+    rule    the rule of the banks where there is no column `rule`: `webster` (in proportion over many divisions),
+            `jefferson`, `adams`, `equal`, `losses` or `order`
     class_  the class of the debts where there is no column `class`
     limits  `standard` (1,000 banks, 20,000 debts, 10,000,000 units owed) or `wide` (10,000 banks, 1,000,000 debts,
             25,000,000 units owed). Without it the limits are the standard ones, or the wide ones for a network that is
@@ -269,7 +269,7 @@ class Network:
     def defaults(
         self, workers: int = 4, sweeps: int = 1, timeout: Optional[float] = None, limits: Limits = None
     ) -> Defaults:
-        """How each bank stands after clearing, who defaults, and whether it is its own doing.
+        """How each bank stands after clearing: who defaults, and with which label.
 
         >>> net = Network({"A": 7, "B": 1, "C": 0}, {("A", "B"): 10, ("B", "C"): 9})
         >>> [(bank.bank, bank.state) for bank in net.defaults().standings]

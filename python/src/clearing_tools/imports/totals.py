@@ -22,9 +22,10 @@ Out: in --out FOLDER the files banks.csv and debts.csv; with --samples N the fol
             the more likely the more what one has left differs from the other, and load all that both have left; of
             --tries runs (20, fewer for more than 120 banks) the one of fewest claims
   sample    networks at random, by a sampler over cycles of claims as that of Gandy and Veraart (2017), in whole units:
-            each claim is there with the probability --density (0.3, or less, so that about 16,000 claims come), and its
-            size is geometric. --steps (200 for each pair of banks, 2,000,000 at most) are made before the first sample
-            and a tenth of them before each other; it is told where the chain has not come to rest before the first
+            each claim is there with the probability --density (0.3, or less, so that at most about four fifths of the
+            most debts come), and its size is geometric. --steps (200 for each pair of banks, 2,000,000 at most) are
+            made before the first sample and a tenth of them before each other; it is told where the chain has not come
+            to rest before the first
 --seed S (1) is the number from which `sparse` and `sample` draw; the same seed makes the same networks for good.
 
 In every network the claims of each bank come exactly to its totals in whole units. Amounts are read and rounded, lines
