@@ -4,6 +4,7 @@ import subprocess
 from common import ODD_NAMES, ROOT, Case
 
 import clearing_client
+from clearing_client import limits
 
 # Prints its words, one a line; fails with the number after `fail`, and counts its runs in a file.
 PROGRAM = """#!/bin/sh
@@ -67,6 +68,46 @@ class Many(Case):
         done = self.many("run", jobs, "out", 1)
         told = "case: a case/banks.csv is not the file that was described\n"
         self.assertEqual((done.stdout, done.stderr, self.runs()), ("4 done, 0 failed\n", 2 * told, 6))
+
+    def test_the_wide_limits_are_taken_where_a_case_says_them_or_the_network_needs_them(self):
+        net, wide = clearing_client.Network({"A": 7}, {}), ["--limits=wide"]
+        for said in ("wide", "standard", None):
+            clearing_client.Case(net, limits=said).write(self.folder / f"says {said}")
+        head, standard = b"debtor,creditor,class,claim\n", limits.LIMITS["standard"]
+        banks = [b"name,cash,rule\n" + b"".join(b"N%d,1,order\n" % n for n in range(count)) for count in (1000, 1001)]
+        debts = [head + b"A,B,1,0\n" * count for count in (20_000, 20_001)]
+        owed = [head + b'A,B,1,9999999\r\n"B","A","1"," %d "\r\n,,,\r\n' % more for more in (1, 2)]
+        pairs = [
+            (banks[0], debts[0]), (banks[1], head), (banks[0], debts[1]), (banks[0], owed[0]), (banks[0], owed[1]),
+            (banks[0].ljust(standard.bytes["banks"] + 1, b"\n"), head), (banks[0], head.ljust(standard.bytes["debts"] + 1, b"\n")),
+            (banks[0].replace(b"\n", b"\r") + b",,\r" * 9, debts[0].replace(b"\n", b"\r\n") + b"\n" * 9), (b"\xff" * 99, b'"'),
+        ]  # fmt: skip
+        lines, want, told = [], {}, set()
+        for at, pair in enumerate(pairs):
+            words = [f"--{what}={at}{what}.csv" for what in ("banks", "debts")]
+            for what, data in zip(("banks", "debts"), pair):
+                self.file(f"{at}{what}.csv", data)
+            passed = limits.beyond(*pair)
+            lines.append([f"n{at}", "clear", *words])
+            want[f"n{at}"] = ["clear", *words, *(wide if passed else [])]
+            if passed:
+                told.add(f"many.sh: n{at}: the network is read by the wide limits, as it has {passed}; --limits wide says so")
+        self.assertEqual((len(told), limits.beyond(*pairs[7])), (5, None))
+        # What a job says decides, and then its case.
+        large = ["--banks", "1banks.csv", "--debts", "1debts.csv"]
+        lines += [["said", "clear", *large, "--limits", "standard"], ["case", "clear", "--case=says standard", *large]]
+        want.update(said=["clear", *large, "--limits", "standard"], case=["clear", *large])
+        for said, more in (("wide", wide), ("standard", []), ("None", [])):
+            lines.append([said, "defaults", "--case", f"says {said}"])
+            want[said] = ["defaults", *(f"--{what}=says {said}/{what}.csv" for what in ("banks", "debts")), *more]
+        jobs = self.file("jobs.tsv", "".join("\t".join(line) + "\n" for line in lines))
+        done = self.many("run", jobs, "out", 4)
+        self.assertEqual((done.returncode, done.stdout, set(done.stderr.splitlines())), (0, f"{len(lines)} done, 0 failed\n", told))
+        for name, words in want.items():
+            self.assertEqual((self.folder / "out" / f"{name}.out").read_text().splitlines(), words)
+        # The words that were added are among those beside the result, which stands.
+        self.assertIn("word --limits=wide\n", (self.folder / "out/n1.job").read_text())
+        self.assertEqual((self.many("run", jobs, "out").stderr, self.runs()), ("", len(lines)))
 
     def test_all_jobs_are_run_side_by_side(self):
         jobs = self.file("jobs.tsv", "".join(f"job-{at}\tgen\t{at}\n" for at in range(30)) + "bad\tfail\t6\n")

@@ -13,7 +13,8 @@
 #       are made of letters, digits, `.`, `_` and `-`. Lines end with LF or CR LF; a line without a byte is no job. Names of files in it
 #       are from the folder that the command is run in. The environment variable CLEARING names the program, the repository's where it is
 #       not set. The words `--case FOLDER` stand for the banks file and the debts file of a case, and for its scenarios in a job of
-#       stress or outcomes, as far as the job names no such file itself.
+#       stress or outcomes, as far as the job names no such file itself. A job that does not say --limits is run by `--limits=wide`
+#       where its case says `limits: wide`, or says nothing and the network passes the standard limits, which is told.
 # Out:  in FOLDER, for each job, NAME.out with what it prints, where its status is 0, or 7 (a journal that is not lawful and complete),
 #       and beside it NAME.job with its words and the SHA-256 checksums of the program and of the files that it reads; else
 #       NAME.failed with the status and the message, and no NAME.out. `run` ends with a line of counts: of the jobs whose result
@@ -106,6 +107,38 @@ tell_other() { # the folder, the file
         printf 'case: %s is not the file that was described\n' "$(shown "$1/$2")" >&2
 }
 
+# The limits that the description of a case says, or nothing.
+said_by_case() { # the folder
+    [ ! -f "$1/datapackage.json" ] || case $(tr -d ' \t\r\n\0' <"$1/datapackage.json") in
+    *'"limits":"wide"'*) echo wide ;;
+    *'"limits":"standard"'*) echo standard ;;
+    esac
+}
+
+# What two files have that passes the standard limits, in words, or nothing. What is no file is left to the program.
+beyond() { # the banks file, the debts file
+    [ -f "$1" ] && [ -r "$1" ] && [ -f "$2" ] && [ -r "$2" ] || return 0
+    for kind in banks debts; do
+        [ "$(stat -L -c %s -- "$1")" -le 8388608 ] || { echo "a $kind file of more than 8,388,608 bytes"; return; }
+        set -- "$2" "$1"
+    done
+    [ "$(records_in "$1" | cut -d ' ' -f 1)" -le 1001 ] || { echo "more than 1,000 banks"; return; }
+    records_in "$2" | {
+        read -r count owed
+        if [ "$count" -gt 20001 ]; then echo "more than 20,000 debts"; fi
+        if [ "$count" -le 20001 ] && [ "$owed" -gt 10000000 ]; then echo "claims of more than 10,000,000 units"; fi
+    }
+}
+
+# How many records a file has, with its header, and the sum of the last fields below it, as far as they are numbers.
+records_in() { # the file
+    tr '\r' '\n' <"$1" | LC_ALL=C awk -F , '
+        { field = $NF; gsub(/[, \t"\047]/, ""); if ($0 != "") count++ }
+        { gsub(/^[ \t"\047]+|[ \t"\047]+$/, "", field) }
+        NR > 1 && length(field) <= 20 && field ~ /^[0-9]+$/ { sum += field; if (sum > 1e9) sum = 1e9 }
+        END { printf "%d %d\n", count, sum }'
+}
+
 # Who may not read the files that the words name may not read what is made of them.
 keep_private() { # the words
     before=
@@ -151,21 +184,32 @@ one() { # its line
     set -- ${line#*	}
     unset IFS
     # The files of a case in its place, behind the other words.
-    case_at= said= is_next= task=$1
+    case_at= said= is_next= task=$1 banks= debts= before=
     for word; do
         shift
         if [ -n "$is_next" ]; then
             case_at=$word is_next=
             continue
         fi
+        case $before in
+        --banks) banks=$word ;;
+        --debts) debts=$word ;;
+        esac
+        before=$word
         case $word in
         --case) is_next=1; continue ;;
         --case=*) case_at=${word#*=}; continue ;;
-        --banks | --banks=* | --debts | --debts=* | --scenarios | --scenarios=*) said="$said ${word%%=*}" ;;
+        --banks=*) banks=${word#*=} ;;
+        --debts=*) debts=${word#*=} ;;
+        esac
+        case $word in
+        --banks | --banks=* | --debts | --debts=* | --scenarios | --scenarios=* | --limits | --limits=*) said="$said ${word%%=*}" ;;
         esac
         set -- "$@" "$word"
     done
+    passed=
     if [ -n "$case_at" ]; then
+        banks=${banks:-$case_at/banks.csv} debts=${debts:-$case_at/debts.csv}
         for what in banks debts scenarios; do
             case "$said " in *" --$what "*) continue ;; esac
             file=$what.csv
@@ -177,11 +221,20 @@ one() { # its line
             set -- "$@" "--$what=$case_at/$file"
         done
     fi
+    case "$said " in
+    *" --limits "*) ;;
+    *)
+        by=$(said_by_case "$case_at")
+        [ -n "$by" ] || passed=$(beyond "$banks" "$debts")
+        [ "$by" != wide ] && [ -z "$passed" ] || set -- "$@" --limits=wide
+        ;;
+    esac
     key=$(key_of "$@")
     keep_private "$@"
     # What is there already is no place to write to.
     set -C
     [ -f "$at.out" ] && [ -f "$at.job" ] && [ "$(cat "$at.job")" = "$key" ] && return 0
+    [ -z "$passed" ] || printf 'many.sh: %s: the network is read by the wide limits, as it has %s; --limits wide says so\n' "$name" "$passed" >&2
     rm -f -- "$at.out" "$at.job"
     "$program" "$@" >"$part" 2>"$part.err" </dev/null
     status=$? changed=
