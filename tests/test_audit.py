@@ -11,7 +11,7 @@ import model  # noqa: E402
 
 from clearing_tools.evidence import audit  # noqa: E402
 
-# A defaults by its own doing, B by contagion, C is sound with something to spare, D owes nothing, and E has no debts at all. Of its
+# A has the label fundamental, B contagion, C is sound with something to spare, D owes nothing, and E has no debts at all. Of its
 # last debt A pays nothing.
 BANKS = "name,cash,rule,outside\nA,7,webster,0\nB,1,order,2\nC,20,equal,3\nD,0,adams,0\nE,2,losses,0\n"
 DEBTS = "debtor,creditor,class,claim\nA,B,1,6\nA,C,1,4\nB,C,2,5\nC,D,1,5\nC,A,2,1\nA,D,2,3\n"

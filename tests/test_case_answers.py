@@ -3,13 +3,14 @@ import csv
 import io
 import tomllib
 import unittest
+import warnings
 from decimal import Decimal
 
 import common
 from common import TWELVE, Case, needs_packages
 
 import clearing_client as cc
-from clearing_client.steady import half
+from clearing_client.steady import half, other_units, unsteady, within_limits
 
 BANKS = [("A", 7, "webster"), ("B", 1, "webster"), ("C", 0, "webster"), ("D", 9, "webster")]
 DEBTS = [("A", "B", 1, 7), ("B", "C", 1, 8), ("D", "A", 1, 2)]
@@ -236,6 +237,22 @@ class Standing(Case):
     def test_a_unit_half_as_large_is_left_out_beyond_the_limits(self):
         large = cc.Network([("A", 1, "order"), ("B", 0, "order")], [("A", "B", 1, 600_000)])
         self.assertNotIn("unit /2", cc.stands(large).variations)
+        rich = [bank._replace(cash=10**12 // 2 + more) for bank in large.banks for more in (0, 1)]
+        self.assertEqual([within_limits([bank], [], 2) for bank in rich], [True, False] * 2)
+
+    def test_a_unit_half_as_large_is_tried_by_the_wide_limits_where_the_standard_ones_have_no_room(self):
+        # A pays B 2 and C 1 of 2 each. In units of half the worth it pays each 3 of 4, and B owes 4.
+        banks = [("A", 3, "webster"), *((name, 0, "order") for name in "BCD"), *((name, 10**7, "order") for name in "EF")]
+        debts = [("A", "B", 1, 2), ("A", "C", 1, 2), ("A", "D", 2, 10), ("B", "D", 1, 2)]
+        large = [(*pair, class_, 500_000) for class_ in range(1, 10) for pair in (("E", "F"), ("F", "E"), ("E", "C"))]
+        needed = ((9, None, "standard"), (18, None, "wide"), (18, "standard", "wide"), (24, None, "wide"))
+        for count, said, limits in needed:
+            with self.subTest(count=count, said=said), warnings.catch_warnings():
+                warnings.simplefilter("error")
+                net = cc.Network(banks, debts + large[:count], limits=said if count <= 20 else "wide")
+                self.assertEqual(other_units(net)["unit /2"].limits, limits)
+                self.assertEqual((unsteady(net), cc.stands(net).unsteady), (["B"], ["B"]))
+        self.assertNotIn("unit /2", other_units(cc.Network(banks, debts + large[:25], limits="wide")))
 
     def test_the_command_marks_what_is_otherwise(self):
         place = self.folder / "case"

@@ -229,6 +229,11 @@ class Numbers(Desk):
         self.assertEqual(desk.answer(at, "unit")[-1]["banks"], [1])
         self.assertEqual(self.by_costs(files, 500), [1])
         self.assertEqual(desk.answer(0, "unit", case=1)[-1]["banks"], [1, 2])
+        # Amounts twice as large come to 18 million units, for which the wide limits have room: half the unit alone moves B.
+        large = "".join(f"E,C,{at},500000\nE,D,{at},500000\n" for at in range(1, 10))
+        banks = "A,3,webster\nB,0,order\nC,0,order\nD,0,order\nE,9000000,order\n"
+        files = self.net(banks, "A,B,1,2\nA,C,1,2\nA,D,2,10\nB,D,1,2\n" + large)
+        self.assertEqual(self.desk(files).answer(0, "unit")[-1]["banks"], [1])
 
     def by_costs(self, files, keep):
         """The banks that are otherwise in `costs` where all amounts are halved or doubled."""

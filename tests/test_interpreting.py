@@ -1,16 +1,18 @@
 """The table of docs/INTERPRETING.md: the program beside pro rata in real numbers, on three networks."""
 import importlib.util
 import os
+import pathlib
 import re
 import shlex
 import subprocess
 import sys
+import tempfile
 import unittest
 
 from common import PROGRAM, ROOT
 
 sys.path.insert(0, str(ROOT / "tests/system"))
-from model import share
+from model import Bank, Debt, Net, estate, least, share, state
 
 TEXT = (ROOT / "docs/INTERPRETING.md").read_text(encoding="utf-8")
 
@@ -31,10 +33,17 @@ def by_program(name):
 
 
 def in_real_numbers(name, *words, end="greatest"):
-    run = [sys.executable, "examples/pro-rata/real.py", f"examples/{name}", *words]
+    run = [sys.executable, "examples/pro-rata/real.py", ROOT / "examples" / name, *words]
     printed = subprocess.run(run, cwd=ROOT, capture_output=True, encoding="utf-8", check=True).stdout
     found = re.search(rf"^{end}: paid ([\d.]+), banks that leave debts unpaid: (\d+)$", printed, re.MULTILINE)
     return f"{float(found[1]):,.1f}", found[2]
+
+
+def real_module():
+    spec = importlib.util.spec_from_file_location("real", ROOT / "examples/pro-rata/real.py")
+    real = importlib.util.module_from_spec(spec)
+    spec.loader.exec_module(real)
+    return real
 
 
 class RealNumbers(unittest.TestCase):
@@ -52,6 +61,21 @@ class RealNumbers(unittest.TestCase):
             self.assertEqual((done.returncode, done.stdout, done.stderr), (1, "", "usage: python3 real.py FOLDER [--one-class]\n"))
 
 
+    def test_a_step_goes_over_all_debts_a_few_times_however_many_banks_there_are(self):
+        class Counted(list):
+            passes = 0
+
+            def __iter__(self):
+                self.passes += 1
+                return super().__iter__()
+
+        names = [f"B{at}" for at in range(100)]
+        debts = Counted((one, other, "1", 1.0) for one, other in zip(names, names[1:]))
+        # Nobody has anything, so that one step shows that nothing moves.
+        self.assertEqual(set(real_module().repeated(dict.fromkeys(names, 0.0), debts, len(debts) * [0.0])), {0.0})
+        self.assertLess(debts.passes, 5)
+
+
 class Ties(unittest.TestCase):
     def test_equal_claims_in_one_order_are_met_from_the_front_in_each_division(self):
         """The 40 banks of its paragraph on rounding, by the plain model."""
@@ -59,6 +83,29 @@ class Ties(unittest.TestCase):
                 "`webster` the first 20 creditors are then paid in full by all, and the other 20 get nothing.")
         self.assertIn(said, " ".join(TEXT.split()))
         self.assertEqual(share("webster", 40 * (1,), 40 * (1,), 20), 20 * [1] + 20 * [0])
+
+    def test_what_they_receive_turns_with_the_order_and_evens_out_where_each_debtor_has_its_own(self):
+        """The same banks, where each creditor owes 20 units on, which is what each would receive in proportion."""
+        one_order = [(debtor, 40 + creditor) for debtor in range(40) for creditor in range(40)]
+        own_order = [(debtor, 40 + (debtor + place) % 40) for debtor in range(40) for place in range(40)]
+        banks = [Bank(f"B{at}", 20 * (at < 40), "webster", 0) for at in range(81)]
+        front, back = 20 * [40] + 20 * [0], 20 * [0] + 20 * [40]
+        for pairs, received in ((one_order, front), (one_order[::-1], back), (own_order, 40 * [20])):
+            net = Net(banks, [Debt(*pair, 1, 1) for pair in pairs] + [Debt(40 + at, 80, 1, 20) for at in range(40)])
+            paid = least(net)
+            self.assertEqual([estate(net, paid, at) for at in range(40, 80)], received)
+            states = ["sound" if units >= 20 else "contagion" for units in received]
+            self.assertEqual([state(net, paid, at) for at in range(40, 80)], states)
+            # What a debtor pays in all is exact.
+            self.assertEqual({sum(paid[at] for at in row) for row in net.rows[:40]}, {20})
+        place = tempfile.TemporaryDirectory()
+        self.addCleanup(place.cleanup)
+        folder = pathlib.Path(place.name)
+        rows = [f"{bank.name},{bank.cash},{bank.rule}" for bank in banks]
+        lines = [f"B{a},B{b},1,1" for a, b in one_order] + [f"B{40 + at},B80,1,20" for at in range(40)]
+        (folder / "banks.csv").write_text("\n".join(["name,cash,rule", *rows, ""]))
+        (folder / "debts.csv").write_text("\n".join(["debtor,creditor,class,claim", *lines, ""]))
+        self.assertEqual(in_real_numbers(folder), ("1,600.0", "40"))
 
 
 class Table(unittest.TestCase):
@@ -81,9 +128,7 @@ class Table(unittest.TestCase):
         self.assertEqual(in_real_numbers("gridlock", end="least"), ("0.0", "3"))
 
     def test_debt_by_debt_the_distance_is_what_it_says(self):
-        spec = importlib.util.spec_from_file_location("real", ROOT / "examples/pro-rata/real.py")
-        real = importlib.util.module_from_spec(spec)
-        spec.loader.exec_module(real)
+        real = real_module()
         banks, debts = real.read(ROOT / "examples/core", False)
         exact = real.repeated(banks, debts, [claim for *_, claim in debts])
         rows = [row for row in told("bounds", "core") if len(row) == 6 and row[3].isdigit()]

@@ -5,7 +5,7 @@ import subprocess
 import types
 import unittest
 
-from common import CHAIN, ROOT, Case, files_of, needs_packages, tool
+from common import CHAIN, ROOT, Case, files_of, needs_modules, needs_packages, python_with, tool
 
 import clearing_client as cc
 from clearing_client.format import MAX_CLAIM
@@ -16,7 +16,7 @@ from clearing_tools.drawing import blocks
 from clearing_tools.drawing import network as drawing
 from clearing_tools.evidence import audit, parts
 from clearing_tools.exports import tidy
-from clearing_tools.report import page, player, tables
+from clearing_tools.report import page, player, stands, tables
 from clearing_tools.report.charts import network
 
 DEBTS, JOURNAL = b"debtor,creditor,class,claim\n", b"stamp,debtor,creditor,class,to\n"
@@ -111,15 +111,31 @@ class Tools(Case):
         self.assertEqual(tool("breaking.py", *self.files).stdout, "bank,cut,state\n")
         self.assertEqual(tool("breaking.py", *files_of(CHAIN)).returncode, 1)
 
+    @needs_modules("numpy")
     def test_estimates_keep_as_many_claims_as_the_limits_have(self):
         table = self.file("t.csv", "bank,assets,liabilities,cash\n" + "".join(f"N{n},{1000 + n},{1000 + n},{n % 7}\n" for n in range(143)))
         words = ["from_totals.py", table, "--out", self.folder / "made"]
-        kept = lambda *more: (self.told(*words, *more), (self.folder / "made/debts.csv").read_bytes().count(b"\n") - 1)
-        told, count = kept("--limits", "wide")
-        self.assertEqual(count, 143 * 142)
-        self.assertIn("limits: wide, as was said: clearing reads the files by --limits wide\n", told)
+        python = python_with("numpy")
+        debts = self.folder / "made/debts.csv"
+        kept = lambda *more: (self.told(*words, *more, python=python), debts.read_bytes().count(b"\n") - 1)
+        needed = "as the standard ones have at most 1,000 banks, 20,000 debts and 10,000,000 units owed"
+        for more, what in (([], needed), (["--limits", "wide"], "as was said")):
+            told, count = kept(*more)
+            self.assertEqual(count, 143 * 142)
+            self.assertIn(f"limits: wide, {what}: clearing reads the files by --limits wide\n", told)
+        told, count = kept("--limits", "standard")
+        self.assertLessEqual(count, 20_000)
+        self.assertNotIn("limits:", told)
         self.assertEqual(kept("--most", 20_200)[1], 20_200)
-        self.assertEqual(tool(*words, "--most", 20_200, "--limits", "standard").returncode, 2)
+        self.assertEqual(tool(*words, "--most", 20_200, "--limits", "standard", python=python).returncode, 2)
+        # A bank that owes nothing, or is owed nothing, has no claims on that side: these need no wide limits.
+        rows = [(f"N{n}", *((1000, 0) if n % 2 else (0, 1000))) for n in range(282)]
+        for times, unit in ((1, 1), (90, 2)):
+            lines = [f"{name},{times * owed},{times * owes},1\n" for name, owed, owes in rows]
+            self.file("t.csv", "".join(["bank,assets,liabilities,cash\n", *lines]))
+            told, count = kept("--unit", "auto")
+            self.assertEqual((count, "limits:" in told), (141 * 141, False))
+            self.assertIn(f"units of {unit};", told)
 
 
 class LargeReports(unittest.TestCase):
@@ -195,6 +211,25 @@ class LargeReports(unittest.TestCase):
         self.assertEqual((len(told.rows), told.more), (10, 20))
         for word in ("claim", "paid", "unpaid"):
             self.assertEqual(sum(int(getattr(row, word)) for row in [*told.rows, told.rest]), int(getattr(told, word)))
+
+    def test_half_the_unit_is_tried_by_the_wide_limits_where_the_standard_ones_have_no_room(self):
+        asked = []
+        program = types.SimpleNamespace(put=lambda name, data: name, ask=lambda name, *words: asked.append(words),
+                                        result=lambda *_: types.SimpleNamespace(standings=[]))
+        header = ["debtor", "creditor", "class", "claim"]
+        for claims, limits, may, words in (
+            (9 * [500_000], "standard", True, []), (18 * [500_000], "standard", True, ["--limits", "wide"]),
+            (24 * [500_000], "wide", True, ["--limits", "wide"]), (3 * [500_000], "wide", True, ["--limits", "wide"]),
+            (26 * [500_000], "wide", False, None), ([500_001], "standard", False, None),
+        ):  # fmt: skip
+            debts = [[f"A{at}", "B", "1", str(claim)] for at, claim in enumerate(claims)]
+            files = stands.Files(["name", "cash", "rule"], [["B", "1", "order"]], header, debts)
+            one = stands.Stands(program, files, ("b.csv", "d.csv"), [], None, limits)
+            self.assertEqual(one.may_double(), may, claims)
+            if may:
+                one.by_unit(stands.HALF)
+                files = ("--banks", "banks-half-unit.csv", "--debts", "debts-half-unit.csv")
+                self.assertEqual(asked.pop()[1:], (*files, *words))
 
     def test_the_numbers_of_the_picture_have_the_largest_flows_and_one_for_all_others(self):
         flows = [network.Flow(f"A{n}", f"B{n}", 10, 10 - n % 2) for n in range(20_003)]

@@ -79,8 +79,10 @@ class Many(Case):
         owed = [head + b'A,B,1,9999999\r\n"B","A","1"," %d "\r\n,,,\r\n' % more for more in (1, 2)]
         pairs = [
             (banks[0], debts[0]), (banks[1], head), (banks[0], debts[1]), (banks[0], owed[0]), (banks[0], owed[1]),
-            (banks[0].ljust(standard.bytes["banks"] + 1, b"\n"), head), (banks[0], head.ljust(standard.bytes["debts"] + 1, b"\n")),
-            (banks[0].replace(b"\n", b"\r") + b",,\r" * 9, debts[0].replace(b"\n", b"\r\n") + b"\n" * 9), (b"\xff" * 99, b'"'),
+            (banks[0].ljust(standard.bytes["banks"] + 1, b"\n"), head),
+            (banks[0], head.ljust(standard.bytes["debts"] + 1, b"\n")),
+            (banks[0].replace(b"\n", b"\r") + b",,\r" * 9, debts[0].replace(b"\n", b"\r\n") + b"\n" * 9),
+            (b"\xff" * 99, b'"'),
         ]  # fmt: skip
         lines, want, told = [], {}, set()
         for at, pair in enumerate(pairs):
@@ -91,7 +93,8 @@ class Many(Case):
             lines.append([f"n{at}", "clear", *words])
             want[f"n{at}"] = ["clear", *words, *(wide if passed else [])]
             if passed:
-                told.add(f"many.sh: n{at}: the network is read by the wide limits, as it has {passed}; --limits wide says so")
+                what = f"the network is read by the wide limits, as it has {passed}; --limits wide says so"
+                told.add(f"many.sh: n{at}: {what}")
         self.assertEqual((len(told), limits.beyond(*pairs[7])), (5, None))
         # What a job says decides, and then its case.
         large = ["--banks", "1banks.csv", "--debts", "1debts.csv"]
@@ -102,7 +105,8 @@ class Many(Case):
             want[said] = ["defaults", *(f"--{what}=says {said}/{what}.csv" for what in ("banks", "debts")), *more]
         jobs = self.file("jobs.tsv", "".join("\t".join(line) + "\n" for line in lines))
         done = self.many("run", jobs, "out", 4)
-        self.assertEqual((done.returncode, done.stdout, set(done.stderr.splitlines())), (0, f"{len(lines)} done, 0 failed\n", told))
+        self.assertEqual((done.returncode, done.stdout), (0, f"{len(lines)} done, 0 failed\n"))
+        self.assertEqual(set(done.stderr.splitlines()), told)
         for name, words in want.items():
             self.assertEqual((self.folder / "out" / f"{name}.out").read_text().splitlines(), words)
         # The words that were added are among those beside the result, which stands.

@@ -62,6 +62,9 @@ class Package(Case):
         printed = self.r(code)
         self.assertIn("8256671", printed)
         self.assertIn('"lawful"', printed)
+        # What Birk leaves unpaid, in euros, and a network of 1,001 banks.
+        self.assertRegex(printed, "Birk +113331000\n")
+        self.assertIn('[1] "wide"\n', printed)
 
     def test_its_networks_and_version_are_those_of_the_repository(self):
         for file in sorted((PACKAGE / "inst/extdata/twelve-banks").iterdir()):

@@ -95,7 +95,7 @@ class Tables(InTheBrowser):
         expected = {}
         banks, debts = ([line.split(",") for line in file.read_text(encoding="utf-8").splitlines()] for file in (files[1], files[3]))
         halves = lambda rows, at: [rows[0]] + [[*row[:at], str(round(int(row[at]) / 2)), *row[at + 1 :]] for row in rows[1:]]
-        for name, changed in {"as given": (banks, debts), "each bank by webster, pro rata": ([banks[0]] + [[*row[:2], "webster"] for row in banks[1:]], debts),
+        for name, changed in {"as given": (banks, debts), "each bank by webster, in proportion": ([banks[0]] + [[*row[:2], "webster"] for row in banks[1:]], debts),
                               "each bank pays one after another (order)": ([banks[0]] + [[*row[:2], "order"] for row in banks[1:]], debts),
                               "unit twice as large": (halves(banks, 1), halves(debts, 3)), "debts in reverse order": (banks, [debts[0], *debts[:0:-1]])}.items():
             both = [self.file(word, "".join(",".join(row) + "\n" for row in rows)) for word, rows in zip(("b.csv", "d.csv"), changed)]

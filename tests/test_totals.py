@@ -495,10 +495,11 @@ class Totals(Case):
 
     def test_too_many_claims_of_entropy_are_cut_with_their_totals_kept(self):
         many = "bank,assets,liabilities,cash\n" + "".join(f"N{n},{1000 + n},{1000 + n},{n % 7}\n" for n in range(143))
-        told = self.made_of(many)
+        told = self.made_of(many, "--limits", "standard")
         debts = self.debts()
         self.check_totals(debts, many)
         self.assertLessEqual(len(debts), 20_000)
+        self.assertNotIn("limits:", told)
         self.assertRegex(
             told,
             "claims left out by --most: 306; [0-9,]+ in all; the largest [0-9]+; the others are fitted to the same "

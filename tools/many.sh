@@ -109,7 +109,7 @@ tell_other() { # the folder, the file
 
 # The limits that the description of a case says, or nothing.
 said_by_case() { # the folder
-    [ ! -f "$1/datapackage.json" ] || case $(tr -d ' \t\r\n\0' <"$1/datapackage.json") in
+    [ -z "$1" ] || [ ! -f "$1/datapackage.json" ] || case $(tr -d ' \t\r\n\0' <"$1/datapackage.json") in
     *'"limits":"wide"'*) echo wide ;;
     *'"limits":"standard"'*) echo standard ;;
     esac

@@ -141,8 +141,9 @@ plt.show()
 # ## Whole units and real numbers
 #
 # Pro rata in the literature is in real numbers: a bank in default pays each creditor the same share of its claim (Eisenberg and Noe 2001). The
-# rule `webster` is pro rata in whole units. Here is the real one in numpy, by their fictitious default algorithm: start from everybody
-# paying in full, find who cannot, solve the linear equations for those, and go on until nobody else falls.
+# rule `webster` shares in proportion over many divisions, in whole units. Here is the real one in numpy, by their fictitious
+# default algorithm: start from everybody paying in full, find who cannot, solve the linear equations for those, and go on until nobody
+# else falls.
 
 # %%
 def pro_rata(claims, cash):

@@ -6,8 +6,9 @@ A bank in default pays each debt of a class the same share of its claim, whateve
 With --one-class all debts have one class, as Eisenberg and Noe (2001) have them.
 
 Goes down from all debts paid in full to the greatest payments, and up from nothing paid to the least, until no payment
-moves by more than a ten millionth. Prints of each what is paid on all debts, in units to a tenth, and how many banks leave
-debts unpaid; and then the names of those that do so by the greatest payments.
+moves by more than a ten millionth. Each step goes over all debts a few times. Prints of each what is paid on all debts,
+in units to a tenth, and how many banks leave debts unpaid; and then the names of those that do so by the greatest
+payments.
 """
 import csv
 import os
@@ -26,26 +27,32 @@ def read(folder, one_class):
     ]
 
 
-def paid_at_once(banks, debts, paid):
+def owed_by(debts):
+    """What each bank owes in each class, the classes in order."""
+    owed = {}
+    for debtor, _, rank, claim in debts:
+        owed[rank, debtor] = owed.get((rank, debtor), 0) + claim
+    return sorted(owed.items())
+
+
+def paid_at_once(banks, debts, owed, paid):
     """What each debt is paid when each bank divides its cash and what it received of these payments."""
     left = dict(banks)
     for (_, creditor, _, _), amount in zip(debts, paid):
         left[creditor] += amount
     share = {}
-    for rank in sorted({debt[2] for debt in debts}):
-        for bank in banks:
-            owed = sum(claim for debtor, _, place, claim in debts if (debtor, place) == (bank, rank))
-            given = min(owed, max(left[bank], 0))
-            left[bank] -= given
-            share[bank, rank] = given / owed if owed else 0
-    return [claim * share[debtor, rank] for debtor, _, rank, claim in debts]
+    for (rank, bank), due in owed:
+        given = min(due, max(left[bank], 0))
+        left[bank] -= given
+        share[rank, bank] = given / due if due else 0
+    return [claim * share[rank, debtor] for debtor, _, rank, claim in debts]
 
 
 def repeated(banks, debts, paid):
     """What is paid once it no longer moves, beginning with these payments."""
-    last = None
+    owed, last = owed_by(debts), None
     while last is None or max(map(abs, (a - b for a, b in zip(paid, last))), default=0) > 1e-7:
-        paid, last = paid_at_once(banks, debts, paid), paid
+        paid, last = paid_at_once(banks, debts, owed, paid), paid
     return paid
 
 

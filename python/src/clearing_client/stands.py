@@ -47,7 +47,7 @@ Ask = Callable[[], Dict[str, Place]]
 
 def stands(one: Union[Case, Network]) -> Stands:
     """How each bank is as it is, and in these variations: a unit worth twice as much (amounts halved, to the nearest,
-    a half to even), and half as much where the limits let; the debts in reversed order; `webster` for all; one class,
+    a half to even), and half as much where the wide limits let; the debts in reversed order; `webster` for all; one class,
     where the limits let; default that keeps 950, 900 and 800 per mille; and the greatest payments in place of the
     least.
 
@@ -71,15 +71,14 @@ def answered(ask: Ask) -> Dict[str, Place]:
 def variations_of(network: Network) -> Dict[str, Ask]:
     """What is asked in each variation, by its name."""
     banks, debts = list(network.banks), list(network.debts)
-    networks = {
-        "as it is": network,
-        **other_units(network),
+    changed = {
         "debts reversed": Network(banks, debts[::-1]),
         "all webster": Network([bank._replace(rule="webster") for bank in banks], debts),
     }
     if (single := in_one_class(debts)) is not None:
-        networks["one class"] = Network(banks, single)
-    networks = {name: network._alike(net) for name, net in networks.items()}
+        changed["one class"] = Network(banks, single)
+    networks = {"as it is": network, **other_units(network)}
+    networks.update((name, network._alike(net)) for name, net in changed.items())
     asked: Dict[str, Ask] = {name: asking(places_of, net) for name, net in networks.items()}
     for keep in KEEPS:
         asked[f"keeps {keep}"] = asking(places_with_costs, network, keep)

@@ -2,7 +2,8 @@
 
 Amounts are whole units, and rules round to them. Where a bank is in another state at twice or half the unit, or begins
 or ceases to keep anything, what is said of it is within the rounding of a unit. Whatever shows a figure of such a bank
-shows `NOTE` beside it, or `MARK`, and what it means once, as `WHY` has it."""
+shows `NOTE` beside it, or `MARK`, and what it means once, as `WHY` has it. Half the unit is tried where amounts twice as
+large are within the wide limits; else twice the unit is tried alone."""
 from __future__ import annotations
 
 from typing import Callable, Dict, List, Mapping, NamedTuple, Optional, Sequence, Union
@@ -10,7 +11,7 @@ from typing import Callable, Dict, List, Mapping, NamedTuple, Optional, Sequence
 from .case import Case
 from .compare import as_case
 from .format import MAX_CASH, MAX_CLAIM, MAX_OUTSIDE
-from .limits import LIMITS
+from .limits import MOST, WIDE
 from .network import Network
 from .records import Bank, Debt
 
@@ -64,12 +65,13 @@ def places_of(network: Network) -> Dict[str, Place]:
 
 def other_units(network: Network) -> Dict[str, Network]:
     """The network where a unit is worth twice as much (amounts halved, to the nearest, a half to even), and half as
-    much where the limits let."""
+    much where the wide limits let, by which it is then read if it needs them."""
     banks, debts = list(network.banks), list(network.debts)
-    found = {"unit x2": scaled(banks, debts, half)}
-    if within_limits(banks, debts, 2, LIMITS[network.limits].owed):
-        found["unit /2"] = scaled(banks, debts, lambda units: 2 * units)
-    return {name: network._alike(net) for name, net in found.items()}
+    found = {"unit x2": network._alike(scaled(banks, debts, half))}
+    if within_limits(banks, debts, 2):
+        net = network._alike(scaled(banks, debts, lambda units: 2 * units))
+        found["unit /2"] = net._by_limits(WIDE) if net._beyond else net
+    return found
 
 
 def half(units: int) -> int:
@@ -86,8 +88,8 @@ def scaled(banks: List[Bank], debts: List[Debt], scale: Callable[[int], int]) ->
     )
 
 
-def within_limits(banks: List[Bank], debts: List[Debt], times: int, most: int) -> bool:
-    """Whether all amounts so many times as large are within the limits, and all claims together at most so much."""
+def within_limits(banks: List[Bank], debts: List[Debt], times: int) -> bool:
+    """Whether all amounts so many times as large are within the wide limits."""
     is_bank = all(times * bank.cash <= MAX_CASH and times * bank.outside <= MAX_OUTSIDE for bank in banks)
     claims = [debt.claim for debt in debts]
-    return is_bank and times * max(claims, default=0) <= MAX_CLAIM and times * sum(claims) <= most
+    return is_bank and times * max(claims, default=0) <= MAX_CLAIM and times * sum(claims) <= MOST.owed

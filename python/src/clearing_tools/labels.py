@@ -20,9 +20,9 @@ RULE_WORDS = {
     "order": "debts in the order of the file",
     "equal": "the same to each debt",
     "losses": "the same loss to each debt",
-    "jefferson": "pro rata, rounded down (Jefferson)",
-    "webster": "pro rata, to the nearest (Webster)",
-    "adams": "pro rata, rounded up (Adams)",
+    "jefferson": "in proportion (Jefferson)",
+    "webster": "in proportion (Webster)",
+    "adams": "in proportion (Adams)",
 }
 
 

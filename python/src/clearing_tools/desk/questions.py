@@ -10,7 +10,7 @@ from typing import Any, Callable, Dict, Iterator, List, Optional, Sequence, Tupl
 
 from clearing_client import errors, steady
 from clearing_client.format import MAX_CUT, MAX_KEEP
-from clearing_client.limits import LIMITS, of_counts, words_of
+from clearing_client.limits import words_of
 from clearing_client.network import Network
 from clearing_client.records import Bank, Debt
 from clearing_client.results import Costs, Defaults, Impact, Outcomes, Rescue, Rescues
@@ -269,8 +269,7 @@ def unit_pieces(desk: Desk, runs: OwnRuns, place: Place, state: State, bank: Opt
         for one in found.banks
     }
     scales: List[Callable[[int], int]] = [steady.half]
-    needed = of_counts(len(banks), len(debts), sum(debt.claim for debt in debts))
-    if steady.within_limits(banks, debts, 2, LIMITS[desk.case.said_limits or needed].owed):
+    if steady.within_limits(banks, debts, 2):
         scales.append(lambda units: 2 * units)
     answers: List[steady.Places] = []
     for scale in scales:

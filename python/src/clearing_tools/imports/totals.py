@@ -15,17 +15,17 @@ Out: in --out FOLDER the files banks.csv and debts.csv; with --samples N the fol
 
 --method says which of the networks that have these totals:
   entropy   claims as even as the totals allow, each bank owing each: maximum entropy, by iterative proportional fitting
-            (the usual one; it understates contagion, see Upper 2011). Of more than --most claims (20,000, or 1,000,000
-            by --limits wide or of more than 1,000 banks) so many stay: some by which the totals can be kept, at most
-            two for each bank, then the largest; they are fitted anew to the same totals, and what was left out is told
+            (the usual one; it understates contagion, see Upper 2011). Of more than --most claims (1,000,000, or 20,000
+            by --limits standard) so many stay: some by which the totals can be kept, at most two for each bank, then
+            the largest; they are fitted anew to the same totals, and what was left out is told
   sparse    few claims: minimum density, in the manner of Anand, Craig and von Peter (2015): pairs of banks are drawn,
             the more likely the more what one has left differs from the other, and load all that both have left; of
             --tries runs (20, fewer for more than 120 banks) the one of fewest claims
   sample    networks at random, by a sampler over cycles of claims as that of Gandy and Veraart (2017), in whole units:
             each claim is there with the probability --density (0.3, or less, so that at most about four fifths of the
-            most debts come), and its size is geometric. --steps (200 for each pair of banks, 2,000,000 at most) are
-            made before the first sample and a tenth of them before each other; it is told where the chain has not come
-            to rest before the first
+            most debts come: 16,000, or 800,000 by --limits wide or of more than 1,000 banks), and its size is
+            geometric. --steps (200 for each pair of banks, 2,000,000 at most) are made before the first sample and a
+            tenth of them before each other; it is told where the chain has not come to rest before the first
 --seed S (1) is the number from which `sparse` and `sample` draw; the same seed makes the same networks for good.
 
 In every network the claims of each bank come exactly to its totals in whole units. Amounts are read and rounded, lines
@@ -100,7 +100,8 @@ def add_own(add: Callable[..., Any]) -> None:
     add(
         "--most",
         type=cli.number_in(1, MOST.debts),
-        help=f"so many claims of entropy, the largest ({LIMITS[STANDARD].debts:,}; {MOST.debts:,} by --limits wide)",
+        help=f"so many claims of entropy, the largest ({MOST.debts:,}; "
+        f"{LIMITS[STANDARD].debts:,} by --limits standard)",
     )
     add(
         "--rest",
@@ -128,10 +129,18 @@ def parsed(words: Optional[Sequence[str]] = None) -> argparse.Namespace:
     return asked
 
 
-def limits_of(words: argparse.Namespace, banks: int) -> Limits:
-    """The limits by which claims and a unit are chosen: those that were said, else those that --most and the banks
-    need."""
-    return LIMITS[words.limits or of_counts(banks, words.most or 0, 0)]
+def limits_of(words: argparse.Namespace, banks: int, claims: int = 0) -> Limits:
+    """The limits by which claims and a unit are chosen: those that were said, else those that the banks need, and
+    --most or so many claims."""
+    return LIMITS[words.limits or of_counts(banks, words.most or claims, 0)]
+
+
+def claims_of(words: argparse.Namespace, owes: Sequence[Amount], owed: Sequence[Amount]) -> int:
+    """How many claims a method makes by itself: entropy one of each bank that is owed on each other that owes. The
+    others make as many as they are let."""
+    if words.method != "entropy":
+        return 0
+    return sum(map(bool, owes)) * sum(map(bool, owed)) - sum(bool(out and in_) for out, in_ in zip(owes, owed))
 
 
 # Totals in whole units
@@ -497,7 +506,7 @@ def made(words: argparse.Namespace) -> Made:
     """The files that the words ask for, each with its text, what is read, and the summary."""
     faults, summary = Faults(), Summary()
     table, banks, owes, owed = read_totals(words, faults, summary)
-    words.most = words.most or limits_of(words, len(banks)).debts
+    words.most = words.most or limits_of(words, len(banks), claims_of(words, owes, owed)).debts
     known = read_known(words, faults)
     faults.end_if_any()
     unit, totals, networks, cut, told = networks_in_units(table, banks, owes, owed, known, words, faults)

@@ -8,7 +8,7 @@ from typing import Callable, Dict, List, NamedTuple, Sequence, Set, Tuple
 
 from clearing_client import texts as forms
 from clearing_client.format import MAX_CASH, MAX_CLAIM, MAX_OUTSIDE
-from clearing_client.limits import LIMITS, words_of
+from clearing_client.limits import MOST, WIDE, needed, words_of
 from clearing_client.results import Bounds, Defaults, Outcomes, Rescues
 from clearing_client.scenarios import Scenario, Scenarios
 from clearing_client.steady import MARK, Place, half
@@ -80,9 +80,12 @@ class Stands:
         """Writes a changed file into the folder, and answers its name."""
         return str(self.program.put(name, text_of(header, rows)))
 
-    def cleared(self, key: str, words: str, banks: str, debts: str, unit: Unit = AS_GIVEN) -> Change:
-        """The case with these files, whose amounts are in a unit, cleared, against the first."""
-        by = words_of(self.limits)
+    def cleared(
+        self, key: str, words: str, banks: str, debts: str, unit: Unit = AS_GIVEN, limits: str = ""
+    ) -> Change:
+        """The case with these files, whose amounts are in a unit, cleared by some limits, or its own, against the
+        first."""
+        by = words_of(limits or self.limits)
         path = self.program.ask(f"defaults-{key}.csv", "defaults", "--banks", banks, "--debts", debts, *by)
         found: Defaults = self.program.result("defaults", Defaults, path)
         outside = {row[0]: unit.amount(int(row[3])) for row in self.files.banks if len(row) > 3}
@@ -123,20 +126,21 @@ class Stands:
         return self.cleared(rule, words, self.put(f"banks-{rule}.csv", self.files.banks_header, rows), self.names[1])
 
     def by_unit(self, unit: Unit) -> Change:
-        """The case in another unit."""
+        """The case in another unit, by the wide limits where its amounts need them."""
         banks = [[row[0], in_unit(row[1], unit), row[2], *(in_unit(cell, unit) for cell in row[3:])]
                  for row in self.files.banks]
         debts = [[*row[:3], in_unit(row[3], unit)] for row in self.files.debts]
         banks_file = self.put(f"banks-{unit.key}.csv", self.files.banks_header, banks)
         debts_file = self.put(f"debts-{unit.key}.csv", self.files.debts_header, debts)
-        return self.cleared(unit.key, unit.words, banks_file, debts_file, unit)
+        is_large = needed(text_of(self.files.banks_header, banks), text_of(self.files.debts_header, debts)) == WIDE
+        return self.cleared(unit.key, unit.words, banks_file, debts_file, unit, WIDE if is_large else self.limits)
 
     def may_double(self) -> bool:
-        """Whether amounts twice as large are within the limits."""
+        """Whether amounts twice as large are within the wide limits."""
         claims = [2 * int(row[3]) for row in self.files.debts]
         banks = [(2 * int(row[1]), *(2 * int(cell) for cell in row[3:])) for row in self.files.banks]
         is_bank = all(cash <= MAX_CASH and max(outside, default=0) <= MAX_OUTSIDE for cash, *outside in banks)
-        return is_bank and max(claims, default=0) <= MAX_CLAIM and sum(claims) <= LIMITS[self.limits].owed
+        return is_bank and max(claims, default=0) <= MAX_CLAIM and sum(claims) <= MOST.owed
 
     def by_order(self) -> Change:
         """The case with its debts in reverse order."""
@@ -155,7 +159,7 @@ class Stands:
         """All changes, the first as it was given."""
         first = self.change("as given", dict(self.base), self.unpaid)._replace(against="")
         rules = [
-            self.by_rule("webster", "each bank by webster, pro rata"),
+            self.by_rule("webster", "each bank by webster, in proportion"),
             self.by_rule("order", "each bank pays one after another (order)"),
         ]
         units = [self.by_unit(unit) for unit in (TWICE, HALF) if unit is TWICE or self.may_double()]
