@@ -21,7 +21,7 @@ In:   FOLDER             the case: a folder with the two files and what belongs 
 Out:  --out              the report: the finding, the analyst's text, a summary of five sentences (six where default
       costs), the picture of
                          the network, charts with a message each, whether it stands, a table of banks, a part for each
-                         bank, what the
+                         bank (of more than 1,000 for those of which, or to which, most stays unpaid), what the
                          model leaves out, the journal to be played, and the evidence: commands, statuses and checksums
 
 The tool asks `clearing` for everything (the environment variable CLEARING names another program). Without d3 the page
