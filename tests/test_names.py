@@ -186,7 +186,7 @@ def definitions_below(*paths):
         if path.is_file() and path not in found:
             found.add(path)
             text = path.read_text(encoding="utf-8")
-            used = re.findall(r"^use Rattle\.(\w+)\.specs\.([\w.]+)\.\{", text, re.MULTILINE)
+            used = re.findall(r"^(?:pub )?use Rattle\.(\w+)\.specs\.([\w.]+)\.\{", text, re.MULTILINE)
             ahead += [ROOT / "crates" / crate / "specs" / (name.replace(".", "/") + ".antt") for crate, name in used]
     return found
 
@@ -287,8 +287,8 @@ class Names(unittest.TestCase):
                 files = []
         specs = ROOT / "crates/clear_core/specs/Clearing.antt", ROOT / "crates/raise_journal/specs/Verdicts.antt"
         self.assertEqual(named, definitions_below(*specs))
-        self.assertTrue(passage.startswith("stand in eight files: "))
-        self.assertEqual(len(named), 8)
+        self.assertTrue(passage.startswith("stand in nine files: "))
+        self.assertEqual(len(named), 9)
 
     def test_the_program_names_no_clock_and_takes_from_the_environment_its_words_alone(self):
         said = {}
