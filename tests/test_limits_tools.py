@@ -1,6 +1,7 @@
 """The limits of networks in the tools: which are taken where nobody says so, what is told of it, and what keeps them."""
 import collections
 import random
+import re
 import subprocess
 import types
 import unittest
@@ -185,6 +186,29 @@ class LargeReports(unittest.TestCase):
             has_part = bank.name in chosen
             self.assertEqual(names.link(bank.name), f'<a href="#{"bank" if has_part else "row"}-{at}">{bank.name}</a>')
             self.assertEqual("<a " in names.head(at, bank.name), has_part)
+
+    def test_all_others_together_do_not_hide_the_debtors_by_name(self):
+        owed = [Owed(f"N{at}", f"C{at}", 1, 400 - at, 0) for at in range(12)] + [Owed("N0", "C1", 1, 100, 0)]
+        few, many = [Owed(f"M{at}", f"D{at}", 1, 40, 0) for at in range(30)], [Owed(f"M{at}", f"D{at}", 1, 40, 0) for at in range(300)]
+        for others, most, broken in ((few, 1_200, 0), (many, 400, 1)):
+            debts = owed + others
+            names = sorted({name for debt in debts for name in (debt.debtor, debt.creditor)})
+            owes = {debt.debtor for debt in debts}
+            banks = [texts.Bank(name, 0, 0, 0, 0, 500, 0, "fundamental" if name in owes else "sound") for name in names]
+            drawn = drawing.drawing_of(texts.flows_of(debts, banks), banks, money.Money(None, None), "matrix")
+            cells = re.findall(r'<g class="flow cell( over)?".*?<title>(.*?)</title><rect class="sq".*? width="([0-9.]+)"', drawn.body)
+            self.assertEqual((len(cells), drawn.most), (14, most))
+            sides = {title: float(side) for _, title, side in cells}
+            self.assertEqual([title for over, title, _ in cells if over], [
+                "300 others in default to 300 others that stand: 0 of 12,000 paid"] * broken)
+            # Areas are amounts up to the largest that has one.
+            for title, side in sides.items():
+                unpaid = int(title.split(" of ")[1].split()[0].replace(",", ""))
+                self.assertAlmostEqual(side, 32 * min(1, unpaid / most) ** 0.5, delta=0.06, msg=title)
+            words = [words for _, words in drawn.legend]
+            self.assertIn(f"unpaid; area: the amount; the largest is {most:,} units", [said.replace("\u00a0", " ") for said in words])
+            self.assertEqual([said.replace("\u00a0", " ") for said in words if "together" in said], [
+                "unpaid by many together, more than the areas show: up to 12,000 units"] * broken)
 
     def test_a_page_without_a_journal_has_no_debts_for_it(self):
         matter = self.large(60)

@@ -1,8 +1,9 @@
 """A network of many banks as a matrix by blocks: the debtors that leave most unpaid and the creditors to whom most
 stays unpaid, each by name, and all others in two blocks, those in default and those that stand. The area of a square is
-what stays unpaid, on one scale; a square that is too small is drawn at 3 pixels."""
+what stays unpaid, on one scale; a square that is too small is drawn at 3 pixels. Where the others leave far more than
+a debtor by name, the scale is that of the debtors by name, and what passes it is a square with a broken edge."""
 import math
-from typing import Dict, List, NamedTuple, Sequence, Tuple
+from typing import Dict, List, NamedTuple, Sequence, Set, Tuple
 
 from .. import runner
 from ..labels import count, say_bank, say_flow
@@ -15,6 +16,7 @@ NAMED = 12
 CELL, SIZE = 36.0, 12
 MOST_LEFT, MOST_TOP, LEAN = 196.0, 140.0, 50
 LEAST_SIDE = 3.0
+MOST_TIMES = 4  # so many times the largest square of a debtor by name may be what the scale holds
 # Blocks of the other banks in default, of those that stand, and of the world outside; no bank has such a name.
 DEFAULT, STAND, OUTSIDE = "\n", "\n\n", "\n\n\n"
 
@@ -71,7 +73,8 @@ class Matrix:
             self.words[way, STAND] = f"{count(block.stand, 'other')} that stand{'s' if block.stand == 1 else ''}"
         self.row_of, self.column_of = self.blocks(self.rows), self.blocks(self.columns)
         self.flows = self.summed(flows)
-        self.most = max((unpaid_on(flow) for flow in self.flows), default=0)
+        self.largest = max(map(unpaid_on, self.flows), default=0)
+        self.most = self.scaled(set(rows.names))
         self.left = min(34 + self.widest("row", self.rows), MOST_LEFT)
         self.top = min(24 + self.widest("column", self.columns) * math.sin(math.radians(LEAN)), MOST_TOP)
 
@@ -95,6 +98,11 @@ class Matrix:
             claim, paid = pairs.get(ends, (0, 0))
             pairs[ends] = claim + flow.claim, paid + flow.paid
         return [Flow(*pair, *sums) for pair, sums in pairs.items()]
+
+    def scaled(self, named: Set[str]) -> int:
+        """What the largest square that has an area stands for: all others together do not hide the debtors by name."""
+        most = max((unpaid_on(flow) for flow in self.flows if flow.debtor in named), default=0)
+        return most if 0 < MOST_TIMES * most < self.largest else self.largest
 
     def called(self, way: str, name: str) -> str:
         """What a row or a column is called."""
@@ -145,12 +153,14 @@ class Matrix:
     def square(self, at: int, flow: Flow) -> str:
         """What stays unpaid from a row to a column."""
         unpaid = unpaid_on(flow)
-        side = max(LEAST_SIDE, (CELL - 4) * math.sqrt(unpaid / self.most)) if unpaid else LEAST_SIDE
+        side = max(LEAST_SIDE, (CELL - 4) * math.sqrt(min(1.0, unpaid / self.most))) if unpaid else LEAST_SIDE
+        kind = " done" if not unpaid else " over" if unpaid > self.most else ""
+        may = ' data-over=""' if self.largest > self.most else ""
         x = self.left + CELL * (self.columns.index(str(flow.creditor)) + 0.5)
         y = self.top + CELL * (self.rows.index(flow.debtor) + 0.5)
         said = flow._replace(debtor=self.called("row", flow.debtor), creditor=self.called("column", str(flow.creditor)))
         return (
-            f'<g class="flow cell{"" if unpaid else " done"}" data-flow="{at}" data-middle="{x:.1f} {y:.1f}">'
+            f'<g class="flow cell{kind}" data-flow="{at}"{may} data-middle="{x:.1f} {y:.1f}">'
             f"<title>{svg.text_of(say_flow(said, self.money))}</title>"
             f'<rect class="sq" x="{x - side / 2:.1f}" y="{y - side / 2:.1f}" width="{side:.1f}"'
             f' height="{side:.1f}"/></g>'
@@ -172,7 +182,7 @@ def draw(
     body += [matrix.row(at, name) for at, name in enumerate(matrix.rows)]
     body += [matrix.square(at, flow) for at, flow in enumerate(matrix.flows)]
     flows_drawn = [flow._replace(creditor=None if flow.creditor == OUTSIDE else flow.creditor) for flow in matrix.flows]
-    return Drawn("".join(body), matrix.box(), legend_of(matrix, banks), flows_drawn, matrix.row_of, matrix.column_of)
+    return Drawn("".join(body), matrix.box(), legend_of(matrix, banks), flows_drawn, matrix.row_of, matrix.column_of, matrix.most)
 
 
 def legend_of(matrix: Matrix, banks: Sequence[Bank]) -> List[Tuple[str, str]]:
@@ -181,10 +191,13 @@ def legend_of(matrix: Matrix, banks: Sequence[Bank]) -> List[Tuple[str, str]]:
     unpaid = sum(shortfall_of(bank) > 0 for bank in banks)
     square = sample('<g class="cell"><rect class="sq" x="1" y="1" width="14" height="14"/></g>', 16)
     paid = sample('<g class="cell done"><rect class="sq" x="6" y="6" width="4" height="4"/></g>', 16)
+    over = sample('<g class="cell over"><rect class="sq" x="1" y="1" width="14" height="14"/></g>', 16)
     most = f"; the largest is {matrix.money.in_short(matrix.most)}" if matrix.most else ""
+    more = f"unpaid by many together, more than the areas show: up to {matrix.money.in_short(matrix.largest)}"
     said = f"A row is a debtor, a column a creditor: the {len(shown)} with most unpaid, all others in two blocks. "
     return [
         (square, f"unpaid; area: the amount{most}"),
+        *[(over, more)] * (matrix.largest > matrix.most),
         (paid, "owed, and paid in full"),
         *states_in(shown),
         ("", said + f"Of {count(len(banks), 'bank')} {unpaid:,} leave something unpaid."),

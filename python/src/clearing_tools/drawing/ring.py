@@ -41,7 +41,7 @@ class Place(NamedTuple):
 class Drawn(NamedTuple):
     """A drawing of the network: its elements, the box that it fills, its legend (a sample and its words), and the
     flows that it has by their numbers. Flows of many banks may be drawn as one: `rows` tell as whose flow a debtor's
-    is drawn, `columns` a creditor's."""
+    is drawn, `columns` a creditor's. `most` is what the widest line or the largest area stands for."""
 
     body: str
     box: List[float]
@@ -49,6 +49,7 @@ class Drawn(NamedTuple):
     flows: List[Flow]
     rows: Dict[str, str]
     columns: Dict[str, str]
+    most: int = 0
 
     def flow_at(self) -> Dict[Tuple[str, Optional[str]], int]:
         """The numbers of the flows by whose they are drawn."""
@@ -354,7 +355,7 @@ def draw(
     ring = Ring(flows, banks, money, scale, link, say)
     body = ring.debts() + ring.nodes() + ring.amounts()
     own = {bank.name: bank.name for bank in banks}
-    return Drawn(body, ring.box(), legend_of(banks, ring.places), ring.flows, own, own)
+    return Drawn(body, ring.box(), legend_of(banks, ring.places), ring.flows, own, own, ring.most)
 
 
 STATES_SAID = {

@@ -2,7 +2,7 @@
 from typing import Any, Dict, Optional
 
 from .. import labels
-from ..drawing.ring import LEAST_WIDTH, MOST_WIDTH, Drawn, unpaid_on
+from ..drawing.ring import LEAST_WIDTH, MOST_WIDTH, Drawn
 from .tables import outside_of
 
 
@@ -55,6 +55,6 @@ def data_of(matter: Any, drawn: Drawn) -> Dict[str, Any]:
             for part in (place[debt.debtor], place[debt.creditor], debt.class_, debt.claim)
         ],
         "flowOf": [flow_of(debt.debtor, debt.creditor) for debt in matter.debts],
-        "mostUnpaid": max(map(unpaid_on, drawn.flows), default=0),
+        "mostUnpaid": drawn.most,
         "widths": [LEAST_WIDTH, MOST_WIDTH],
     }

@@ -17,6 +17,7 @@ export const sideFor = (unpaid, most) => (unpaid > 0 && most ? Math.max(3, 32 * 
 export const drawFlow = (group, unpaid, most, widths) => {
   group.classList.toggle("done", unpaid <= 0);
   if (group.dataset.middle) {
+    group.classList.toggle("over", "over" in group.dataset && unpaid > most);
     const [x, y] = group.dataset.middle.split(" ").map(Number), side = sideFor(unpaid, most), square = group.querySelector(".sq");
     for (const [name, value] of Object.entries({ x: x - side / 2, y: y - side / 2, width: side, height: side })) square.setAttribute(name, value.toFixed(1));
     return;
