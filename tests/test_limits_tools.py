@@ -1,5 +1,6 @@
 """The limits of networks in the tools: which are taken where nobody says so, what is told of it, and what keeps them."""
 import collections
+import decimal
 import random
 import re
 import subprocess
@@ -18,7 +19,7 @@ from clearing_tools.drawing import network as drawing
 from clearing_tools.evidence import audit, parts
 from clearing_tools.exports import tidy
 from clearing_tools.report import page, player, stands, tables
-from clearing_tools.report.charts import network
+from clearing_tools.report.charts import network, scenarios
 
 DEBTS, JOURNAL = b"debtor,creditor,class,claim\n", b"stamp,debtor,creditor,class,to\n"
 BANKS = b"name,cash,rule\n" + b"".join(b"N%d,0,order\n" % n for n in range(1001))
@@ -209,6 +210,27 @@ class LargeReports(unittest.TestCase):
             self.assertIn(f"unpaid; area: the amount; the largest is {most:,} units", [said.replace("\u00a0", " ") for said in words])
             self.assertEqual([said.replace("\u00a0", " ") for said in words if "together" in said], [
                 "unpaid by many together, more than the areas show: up to 12,000 units"] * broken)
+
+    def test_scenarios_are_told_by_two_digits_at_least(self):
+        euros = money.Money(decimal.Decimal(1000), "EUR")
+        for said, totals, cash, words, numbers in (
+            (money.Money(), (700_257, 910_905), 3_960_878, "thousand units", ["700", "911", "3,961"]),
+            (money.Money(), (12_000_000, 0), 3_960_878, "million units", ["12", "0", "4"]),
+            (money.Money(), (70, 91), 396, "units", ["70", "91", "396"]),
+            (euros, (1_493_329, 6_610_000), 9_000_000, "EUR billion", ["1.49", "6.61", "9.00"]),
+            (euros, (93_329, 6_610_000), 9_000_000, "EUR million", ["93", "6,610", "9,000"]),
+        ):  # fmt: skip
+            cases = [scenarios.Case(f"S{at}", {"A": total}, {}, [], at * cash) for at, total in enumerate(totals)]
+            scale = scenarios.scale_for(said, cases)
+            self.assertEqual((scale.words, [*map(scale.number, (*totals, cash))]), (words, numbers))
+
+    def test_a_scenario_is_told_in_units_as_in_a_currency(self):
+        for said, sums, told in (
+            (money.Money(), (700, 910), "In the worst of one scenario 910 units stay unpaid, 210 units more than as things are"),
+            (money.Money(None, "EUR"), (700, 910), "In the worst of one scenario EUR 910 stays unpaid, EUR 210 more than as things are"),
+        ):
+            cases = [scenarios.Case("S", {"A": total}, {}, [], at) for at, total in enumerate(sums)]
+            self.assertEqual(scenarios.title_of(types.SimpleNamespace(money=said, amount=said), cases), told)
 
     def test_a_page_without_a_journal_has_no_debts_for_it(self):
         matter = self.large(60)

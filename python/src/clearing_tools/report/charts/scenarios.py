@@ -3,7 +3,7 @@ from typing import Dict, List, NamedTuple, Optional, Sequence, Tuple
 
 from ...drawing import lettering, svg
 from ...labels import count, listed, shown
-from ...money import Scale
+from ...money import Money, Scale
 from ...texts import Bank, shortfall_of
 from ..matter import Matter, Scenario, counted
 from .figure import MIDDLE, PHONE, SMALL, WHOLE, WIDE, LARGE, Data, Figure, scale_of, step_words
@@ -65,7 +65,8 @@ def title_of(matter: Matter, cases: List[Case]) -> str:
     worst = max(cases[1:], key=lambda case: case.total)
     more = worst.total - base.total
     than = f"{matter.amount(more)} more than as things are" if more >= 0 else "less than as things are"
-    return f"In the worst of {counted(len(cases) - 1, 'scenario')} {matter.amount(worst.total)} stays unpaid, {than}"
+    stays = matter.money.verb(worst.total, "stays", "stay")
+    return f"In the worst of {counted(len(cases) - 1, 'scenario')} {matter.amount(worst.total)} {stays} unpaid, {than}"
 
 
 def leading(cases: Sequence[Case]) -> List[str]:
@@ -165,6 +166,16 @@ def wide(scene: Scene, cases: List[Case]) -> svg.Svg:
     return chart
 
 
+def scale_for(money: Money, cases: List[Case]) -> Scale:
+    """The scale of the chart: as a sentence has the largest amount, or that of a table where a row would have less than
+    two digits of what stays unpaid."""
+    amounts = [part for case in cases for part in (case.total, case.cash)]
+    scale = money.short_scale_of(amounts)
+    least = min((case.total for case in cases if case.total), default=0)
+    is_told = not least or not scale.is_rounded or scale.value(least) * 10**scale.places >= 10
+    return scale if is_told else money.scale_of(amounts)
+
+
 def charts_of(matter: Matter, cases: List[Case], scale: Scale) -> Dict[str, svg.Svg]:
     """The chart at each width."""
     names = leading(cases)
@@ -196,7 +207,7 @@ def figure_of(matter: Matter) -> Figure:
     """The figure, where there are scenarios."""
     cases = cases_of(matter)
     drawn = shown_of(cases)
-    scale = matter.money.short_scale_of([part for case in drawn for part in (case.total, case.cash)])
+    scale = scale_for(matter.money, drawn)
     names = [matter.said(name) for name in leading(drawn)]
     order = f". Unpaid by {listed(names)}, in this order" if names else ""
     others = (
