@@ -195,7 +195,7 @@ class Doing(InTheBrowser):
         self.assertGreater(len(fallen), 1)
         more = sum(int(row[3]) - int(row[2]) for row in now) - sum(int(row[3]) - int(row[2]) for row in self.base())
         self.assertEqual(self.text("told"),
-            f"{' and '.join(fallen)} join those in default; {more:,} units more stays unpaid")
+            f"{' and '.join(fallen)} join those in default; {more:,} units more stay unpaid")
         # The most first; a head of the table sorts it, and sorts it the other way.
         order = [row[0] for row in sorted(self.rows(), key=lambda row: -int(row[4].replace(",", "").replace("−", "-")))]
         self.assertEqual([row[0] for row in self.rows()][:6], order[:6])
@@ -789,6 +789,16 @@ class Doing(InTheBrowser):
         self.js("document.querySelector('.way button').click()")
         self.assertEqual(claims(), sum(int(debt[3]) for debt in debts))
         self.assertTrue(self.js("return document.querySelectorAll('#picture .side.holds').length"))
+
+    def test_the_blocks_of_very_many_banks_have_whole_names(self):
+        self.open(large(self.folder, 1_400, 2_800))
+        names = self.js("return [...document.querySelectorAll('#picture .side > text')].map(e => e.textContent)")
+        ranks = [(70 * at + 1, 70 * at + 70) for at in range(20)]
+        self.assertEqual(names[:20], [f"{first:,}{'th' if first % 100 == 11 else 'st'} to {last:,}th" for first, last in ranks])
+        self.assertEqual(names[20:], [f"{first:,}–{last:,}" for first, last in ranks])
+        # None of them leaves the picture.
+        self.assertTrue(self.js("const b = document.querySelector('#picture svg').getBoundingClientRect(); return [...document.querySelectorAll('#picture .side > text')]"
+                                ".every(e => { const t = e.getBoundingClientRect(); return t.left >= b.left && t.right <= b.right && t.top >= b.top; })"))
 
     def test_a_refused_change_is_told_at_its_field(self):
         self.open()

@@ -143,9 +143,13 @@ test("the title says who joins those in default, and what more is unpaid", () =>
   const say = (units) => `${units}`, title = (before, now, isSame = false) => told(before, now, isSame, (bank) => NAMES[bank], say);
   assert.equal(title(BASE, NOW), "A joins those in default; B is in default no more; 1 less stays unpaid");
   assert.equal(title(BASE, BASE, true), "Two of four banks are in default; 11 stays unpaid");
+  const inUnits = (before, now, isSame) => told(before, now, isSame, (bank) => NAMES[bank], (units) => `${units} ${units === 1 ? "unit" : "units"}`);
+  assert.equal(inUnits(BASE, NOW, false), "A joins those in default; B is in default no more; 1 unit less stays unpaid");
+  assert.equal(inUnits(BASE, BASE, true), "Two of four banks are in default; 11 units stay unpaid");
   assert.equal(title(BASE, BASE), "Nothing differs");
   const three = view(["contagion", 0, 5, 1, 0], ["contagion", 1, 9, 4, 0], ["contagion", 3, 4, 0, 7], ["fundamental", 2, 8, 2, 0]);
   assert.equal(title(BASE, three), "A and C join those in default; 8 more stays unpaid");
+  assert.equal(inUnits(BASE, three, false), "A and C join those in default; 8 units more stay unpaid");
   const less = view(["sound", 10, 5, 5, 4], ["contagion", 1, 9, 4, 0], ["sound", 3, 0, 0, 7], ["fundamental", 2, 8, 2, 0]);
   assert.equal(title(BASE, less), "The same banks are in default; as much stays unpaid");
 });

@@ -74,19 +74,22 @@ export const sorted = (found, key, turned) => {
 /** Whether anything of a row is another than before. */
 export const differs = (row) => row.was !== row.is || row.unpaidMore !== 0 || row.keepsMore !== 0;
 
+/** That an amount stays unpaid: several units are many, and an amount of a currency is one. */
+const stays = (said, more = "") => `${said}${more} ${said.endsWith("units") ? "stay" : "stays"} unpaid`;
+
 /** The title of a state against another. `name` gives a bank's name in a sentence, `say` an amount. */
 export const told = (before, now, isSame, name, say) => {
   const is = sums(now), more = is.unpaid - sums(before).unpaid;
   if (isSame) {
     const count = is.defaults ? `${word(is.defaults)} of ${word(now.state.length)} banks` : "No bank";
-    return `${count[0].toUpperCase()}${count.slice(1)} ${is.defaults === 1 || !is.defaults ? "is" : "are"} in default; ${say(is.unpaid)} stays unpaid`;
+    return `${count[0].toUpperCase()}${count.slice(1)} ${is.defaults === 1 || !is.defaults ? "is" : "are"} in default; ${stays(say(is.unpaid))}`;
   }
   const falls = fallen(before, now), rises = saved(before, now), parts = [];
   if (falls.length) parts.push(`${listed(falls.map(name), 3)} ${falls.length === 1 ? "joins" : "join"} those in default`);
   if (rises.length) parts.push(`${listed(rises.map(name), 3)} ${rises.length === 1 ? "is" : "are"} in default no more`);
   if (!parts.length && !rows(before, now).some(differs)) return "Nothing differs";
   if (!parts.length) parts.push(is.defaults ? "The same banks are in default" : "No bank is in default");
-  parts.push(more ? `${say(Math.abs(more))} ${more > 0 ? "more" : "less"} stays unpaid` : "as much stays unpaid");
+  parts.push(more ? stays(say(Math.abs(more)), more > 0 ? " more" : " less") : "as much stays unpaid");
   return parts.join("; ");
 };
 

@@ -18,9 +18,9 @@ export const blocksOf = (banks, groups, owed) => {
   });
 };
 
-/** What a block is called: its group, its one bank, or the ranks of its banks by size. */
-const nameOf = (context, block, rank) => (block.banks.length === 1 ? context.network.shown[block.banks[0]] : block.name
-  ?? `${ordinal(rank)} to ${ordinal(rank + block.banks.length - 1)}`);
+/** What a block is called: its group, its one bank, or the ranks of its banks by size, above a column as short as can be. */
+const nameOf = (context, block, rank, isShort = false) => (block.banks.length === 1 ? context.network.shown[block.banks[0]] : block.name
+  ?? (isShort ? `${number(rank)}–${number(rank + block.banks.length - 1)}` : `${ordinal(rank)} to ${ordinal(rank + block.banks.length - 1)}`));
 const ordinal = (count) => `${number(count)}${count % 100 > 10 && count % 100 < 14 ? "th" : ["th", "st", "nd", "rd"][count % 10] ?? "th"}`;
 
 /** Where the matrix is opened: the banks of its rows and of its columns. */
@@ -32,7 +32,8 @@ export const showMatrix = (context, matter, place, wide) => {
   here.blocks ??= [blocksOf(here.rows ?? all, groups, owed), blocksOf(here.columns ?? all, groups, owed)];
   const [rows, columns] = here.blocks;
   const sums = sumsOf(matter, rows, columns), again = () => { showMatrix(context, matter, place, wide); };
-  const left = 168, top = 114, cell = Math.min(36, Math.max(20, (wide - left - 8) / columns.length));
+  const left = 168, top = 114, lean = 44; // the names of the last columns lean over the edge
+  const cell = Math.min(36, Math.max(20, (wide - left - lean) / columns.length));
   const svg = draw("svg", { class: "net matrix", width: Math.round(wide), height: Math.round(top + cell * rows.length + 8), role: "group", "aria-label": "The network as a matrix",
     viewBox: `0 0 ${Math.round(wide)} ${Math.round(top + cell * rows.length + 8)}` });
   const most = Math.max(1, ...sums.map((sum) => Math.abs(sum.more))), claims = Math.max(1, ...sums.map((sum) => sum.claim));
@@ -57,7 +58,7 @@ export const showMatrix = (context, matter, place, wide) => {
   rank = 1;
   columns.forEach((block, at) => {
     const words = nameOf(context, block, rank);
-    grid.append(sideOf(context, matter, block, words, cell * (at + 0.5), -8, true, () => open(block, here.rows, false, `${words} as creditors`)));
+    grid.append(sideOf(context, matter, block, nameOf(context, block, rank, true), cell * (at + 0.5), -8, true, () => open(block, here.rows, false, `${words} as creditors`)));
     rank += block.banks.length;
   });
   svg.append(draw("text", { class: "axis", x: 0, y: top - 24 }, "debtors in rows,"), draw("text", { class: "axis", x: 0, y: top - 8 }, "creditors in columns"), grid);
