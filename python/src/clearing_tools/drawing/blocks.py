@@ -182,7 +182,8 @@ def draw(
     body += [matrix.row(at, name) for at, name in enumerate(matrix.rows)]
     body += [matrix.square(at, flow) for at, flow in enumerate(matrix.flows)]
     flows_drawn = [flow._replace(creditor=None if flow.creditor == OUTSIDE else flow.creditor) for flow in matrix.flows]
-    return Drawn("".join(body), matrix.box(), legend_of(matrix, banks), flows_drawn, matrix.row_of, matrix.column_of, matrix.most)
+    legend = legend_of(matrix, banks)
+    return Drawn("".join(body), matrix.box(), legend, flows_drawn, matrix.row_of, matrix.column_of, matrix.most)
 
 
 def legend_of(matrix: Matrix, banks: Sequence[Bank]) -> List[Tuple[str, str]]:
