@@ -60,7 +60,6 @@ class RealNumbers(unittest.TestCase):
             done = subprocess.run([sys.executable, "examples/pro-rata/real.py", *words], cwd=ROOT, capture_output=True, encoding="utf-8")
             self.assertEqual((done.returncode, done.stdout, done.stderr), (1, "", "usage: python3 real.py FOLDER [--one-class]\n"))
 
-
     def test_a_step_goes_over_all_debts_a_few_times_however_many_banks_there_are(self):
         class Counted(list):
             passes = 0

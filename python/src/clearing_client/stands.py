@@ -47,9 +47,9 @@ Ask = Callable[[], Dict[str, Place]]
 
 def stands(one: Union[Case, Network]) -> Stands:
     """How each bank is as it is, and in these variations: a unit worth twice as much (amounts halved, to the nearest,
-    a half to even), and half as much where the wide limits let; the debts in reversed order; `webster` for all; one class,
-    where the limits let; default that keeps 950, 900 and 800 per mille; and the greatest payments in place of the
-    least.
+    a half to even), and half as much where the wide limits let; the debts in reversed order; `webster` for all; one
+    class, where the limits let; default that keeps 950, 900 and 800 per mille; and the greatest payments in place of
+    the least.
 
     >>> found = stands(Network({"A": 3, "B": 0}, {("A", "B"): 3}))
     >>> found.unsteady, [places.words() for places in found.banks["A"].values()][:2]

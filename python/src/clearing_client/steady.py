@@ -2,8 +2,8 @@
 
 Amounts are whole units, and rules round to them. Where a bank is in another state at twice or half the unit, or begins
 or ceases to keep anything, what is said of it is within the rounding of a unit. Whatever shows a figure of such a bank
-shows `NOTE` beside it, or `MARK`, and what it means once, as `WHY` has it. Half the unit is tried where amounts twice as
-large are within the wide limits; else twice the unit is tried alone."""
+shows `NOTE` beside it, or `MARK`, and what it means once, as `WHY` has it. Half the unit is tried where amounts twice
+as large are within the wide limits; else twice the unit is tried alone."""
 from __future__ import annotations
 
 from typing import Callable, Dict, List, Mapping, NamedTuple, Optional, Sequence, Union
