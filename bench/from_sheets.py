@@ -31,18 +31,22 @@ STEPS = ("import", "check", "stands", "make evidence", "check evidence", "report
 MOST_BANKS = 1000
 
 
+def tool(name: str) -> List[str]:
+    """The words of a command of bin/, by the Python that runs this."""
+    return [sys.executable, str(ROOT / "bin" / name)]
+
+
 def commands_of(found: sheets.Sheets) -> Dict[str, List[str]]:
     """The commands of each step, in the folder of the sheets."""
-    tool = lambda name: [sys.executable, str(ROOT / "tools" / name)]  # noqa: E731
-    evidence = str(ROOT / "tools" / "evidence.sh")
+    evidence = str(ROOT / "bin/clearing-evidence")
     case = ["--case", "case", "--keep-sources", "--currency=EUR", "--as-of=2026-01-31", f"--title={found.what}"]
     steps = [
         [*tool(found.tool), *found.words, *case],
-        [*tool("case.py"), "check", "case"],
-        [*tool("case.py"), "stands", "case"],
+        [*tool("clearing-case"), "check", "case"],
+        [*tool("clearing-case"), "stands", "case"],
         [evidence, "make", "evidence", "--case", "case"],
         [evidence, "check", "evidence"],
-        [*tool("report.py"), "case", "--out", "report.html"],
+        [*tool("clearing-report"), "case", "--out", "report.html"],
     ]
     return dict(zip(STEPS, steps))
 

@@ -5,20 +5,22 @@ nothing of it before.
     bench/install.py [--root FOLDER] [--python NAME] WHEEL
 
 FOLDER is the userland of a distribution for this processor, such as debootstrap makes, with Python 3.9 or later and
-its venv; what is done there is done by chroot, which wants root. Without it all is done on this machine. NAME is the Python,
-python3 where none is named. Each way begins with an environment of its own, into which the wheel is installed without a
-network, and ends where the answer is there:
+its venv; what is done there is done by chroot, which wants root. Without it all is done on this machine. NAME is the
+Python, python3 where none is named. Each way begins with an environment of its own, into which the wheel is installed
+without a network, and ends where the answer is there:
 
   answer   the payments of the twelve banks
   report   their report, a page, by the jinja2 of the userland
   desk     the first page of their desk, by the bottle of the userland
 
-Prints what the userland is, a line for each way with its seconds by the clock and what came, or what the tool says is
-missing, and how many commands tell their words by --help. Ends with 0 where all came, else with 1.
+Prints what the userland is and how many processes are at work on this machine, by its load of a minute; a line for each
+way with its seconds by the clock, its seconds of a processor, and what came, or what the tool says is missing; and how
+many commands tell their words by --help. Ends with 0 where all came, else with 1.
 """
 import argparse
 import os
 import pathlib
+import resource
 import shutil
 import subprocess
 import sys
@@ -145,6 +147,12 @@ def name_of(land: Userland) -> str:
     return land.run("sh", "-c", names).stdout.strip()
 
 
+def worked() -> float:
+    """The seconds of a processor that all runs took that have ended."""
+    taken = resource.getrusage(resource.RUSAGE_CHILDREN)
+    return taken.ru_utime + taken.ru_stime
+
+
 def helped(land: Userland, commands: str) -> Came:
     """How many commands tell their words."""
     names = sorted(path.name for path in (land.place / "answer/bin").glob("clearing-*"))
@@ -165,12 +173,14 @@ def main() -> int:
         land = Userland(root, words.python, pathlib.Path(folder))
         for path in (words.wheel, *BANKS.glob("*.csv")):
             shutil.copy(path, land.place)
-        print(f"{name_of(land)}; {words.wheel.name}, {words.wheel.stat().st_size:,} bytes", flush=True)
+        size = words.wheel.stat().st_size
+        print(f"{name_of(land)}; {words.wheel.name}, {size:,} bytes; load {os.getloadavg()[0]:.1f}", flush=True)
         all_came = True
         for way in WAYS:
-            began = time.monotonic()
+            began, before = time.monotonic(), worked()
             came, what = way(land, land.install(way.__name__, words.wheel))
-            print(f"{way.__name__}\t{time.monotonic() - began:.1f} s\t{what}", flush=True)
+            clock = time.monotonic() - began
+            print(f"{way.__name__}\t{clock:.1f} s\t{worked() - before:.1f} s\t{what}", flush=True)
             all_came = all_came and came
         came, what = helped(land, land.inside(land.place / "answer/bin"))
         print(what)

@@ -1,15 +1,18 @@
 #!/usr/bin/env python3
-"""What a report of the largest network costs: its page, its making, the browser, paper, and the memory of a long journal.
+"""What a report of the largest network costs: its page, its making, the browser, paper, and the memory of a long
+journal.
 
     bench/report.py [--runs N]
 
-The network has 1,000 banks, 20,000 debts and a hundred scenarios; that of the journal is a ring of ten banks round which
-one unit goes two million raises. Prints a line for each figure with the bound that it is held to. Making is told by
-the clock and of a processor, with the program's own answers apart. The page is ready where its scripts have run. By the
-clock a figure means something on a quiet machine alone. The least of the runs is told. The environment variable CLEARING names the program. Wants Debian's
-packages chromium, chromium-driver, python3-selenium, python3-jinja2, node-d3 and poppler-utils; what is missing is left out.
+The network has 1,000 banks, 20,000 debts and a hundred scenarios; that of the journal is a ring of ten banks round
+which one unit goes two million raises. Prints a line for each figure with the bound that it is held to. Making is
+told by the clock and of a processor, with the program's own answers apart. The page is ready where its scripts have
+run. By the clock a figure means something on a quiet machine alone. The least of the runs is told. The environment
+variable CLEARING names the program. Wants Debian's packages chromium, chromium-driver, python3-selenium,
+python3-jinja2, node-d3 and poppler-utils; what is missing is left out.
 
-Ends with 0, with 1 where a page cannot be made or a figure is beyond its bound, and with 2 where the words are not understood.
+Ends with 0, with 1 where a page cannot be made or a figure is beyond its bound, and with 2 where the words are not
+understood.
 """
 import argparse
 import base64
@@ -21,12 +24,13 @@ import subprocess
 import sys
 import tempfile
 import time
-from typing import Any, Dict, Iterator, List, NamedTuple, Optional, Sequence, Tuple
+from typing import Any, Dict, Iterator, List, NamedTuple, Optional, Tuple
 
 BENCH = pathlib.Path(__file__).resolve().parent
 ROOT = BENCH.parent
 sys.dont_write_bytecode = True
 sys.path[:0] = [str(BENCH)]
+import frame  # noqa: E402
 import inputs  # noqa: E402
 
 RAISES = 2_000_000
@@ -40,7 +44,7 @@ MEMORY = """
 import resource
 from clearing_tools import cases, files
 from clearing_tools.report import gather
-words = gather.parser()
+words = gather.build_parser()
 asked = words.parse_args()
 files.write_all(gather.written_of(cases.take_case(words, asked), asked), [])
 print(resource.getrusage(resource.RUSAGE_SELF).ru_maxrss / 1000)
@@ -57,6 +61,7 @@ class Line(NamedTuple):
     bound: Optional[float] = None
 
     def __str__(self) -> str:
+        """The line that is printed."""
         bound = "" if self.bound is None else f"below {self.bound:g}"
         return f"{self.what:<58}{self.value:>9.2f} {self.unit:<6}{bound}".rstrip()
 
@@ -64,14 +69,6 @@ class Line(NamedTuple):
 def program() -> str:
     """The program, by its whole name."""
     return os.path.abspath(os.environ.get("CLEARING") or ROOT / "clearing")
-
-
-def python_with(module: str) -> Optional[str]:
-    """A Python that has a module: this one, or the system's."""
-    for name in (sys.executable, "/usr/bin/python3"):
-        if subprocess.run([name, "-c", f"import {module}"], capture_output=True).returncode == 0:
-            return name
-    return None
 
 
 def largest(folder: pathlib.Path) -> List[str]:
@@ -86,27 +83,27 @@ def largest(folder: pathlib.Path) -> List[str]:
 
 def ring(folder: pathlib.Path) -> List[str]:
     """A ring of ten banks round which one unit goes until all is paid."""
-    names = [f"K{at}" for at in range(10)]
-    banks = [(name, int(name == "K0"), "order") for name in names]
-    write(folder, banks, [(names[at], names[(at + 1) % 10], 1, RAISES // 10) for at in range(10)])
+    banks: List[inputs.Bank] = [(f"K{at}", int(at == 0), "order") for at in range(10)]
+    write(folder, banks, [(f"K{at}", f"K{(at + 1) % 10}", 1, RAISES // 10) for at in range(10)])
     return ["--banks", "banks.csv", "--debts", "debts.csv"]
 
 
-def write(folder: pathlib.Path, banks: Sequence[Tuple[Any, ...]], debts: Sequence[Tuple[Any, ...]]) -> None:
-    """Writes the two files of a network."""
-    for name, head, rows in (("banks.csv", inputs.BANKS_HEADER, banks), ("debts.csv", inputs.DEBTS_HEADER, debts)):
-        (folder / name).write_text(head + "".join(",".join(map(str, row)) + "\n" for row in rows))
+def write(folder: pathlib.Path, banks: List[inputs.Bank], debts: List[inputs.Debt]) -> None:
+    """Writes the two files of a network whose banks owe nothing outside."""
+    (folder / "banks.csv").write_text(inputs.text_of(inputs.BANKS_HEADER, banks))
+    (folder / "debts.csv").write_text(inputs.text_of(inputs.DEBTS_HEADER, debts))
 
 
 def made(python: str, words: List[str], folder: pathlib.Path) -> Dict[str, float]:
-    """Makes the page once: the seconds by the clock, those without the program's answers, and of the tool's processor."""
+    """Makes the page once: the seconds by the clock, those without the program's answers, and of the tool's
+    processor."""
     log, timed = folder / "answers.log", folder / "timed"
     log.write_text("")
     timed.write_text(TIMED.format(program=program(), log=log))
     timed.chmod(0o755)
     before, start = os.times(), time.perf_counter()
     subprocess.run(
-        [python, "-B", str(ROOT / "tools/report.py"), *words, "--out", "report.html"],
+        [python, "-B", str(ROOT / "bin/clearing-report"), *words, "--out", "report.html"],
         cwd=folder,
         env={**os.environ, "CLEARING": str(timed)},
         stdin=subprocess.DEVNULL,
@@ -128,10 +125,10 @@ def browser() -> Any:
     from selenium import webdriver
     from selenium.webdriver.chrome.service import Service
 
-    options = webdriver.ChromeOptions()
+    options: Any = webdriver.ChromeOptions()
     options.binary_location = shutil.which("chromium") or ""
-    for word in ("--headless=new", "--no-sandbox", "--disable-gpu", "--disable-dev-shm-usage", "--window-size=1280,900"):
-        options.add_argument(word)
+    for word in ("headless=new", "no-sandbox", "disable-gpu", "disable-dev-shm-usage", "window-size=1280,900"):
+        options.add_argument(f"--{word}")
     return webdriver.Chrome(service=Service(shutil.which("chromedriver") or ""), options=options)
 
 
@@ -191,7 +188,7 @@ def lines_of(runs: int, python: str, folder: pathlib.Path) -> Iterator[Line]:
     yield Line("made, by the clock without the program's answers", best["rest"], "s")
     yield Line("made, of a processor without the program's answers", best["tool"], "s")
     yield Line("the program's answers, of a processor", best["answers"], "s")
-    if shutil.which("chromium") and shutil.which("pdfinfo") and python_with("selenium") == sys.executable:
+    if shutil.which("chromium") and shutil.which("pdfinfo") and frame.python_with("selenium") == sys.executable:
         ready, spent, pages = looked_at(page, max(runs, 3))
         yield Line("ready in the browser, by the clock", ready, "s", 1.5)
         yield Line("ready in the browser, of a processor", spent, "s")
@@ -203,7 +200,7 @@ def main() -> int:
     parser = argparse.ArgumentParser(description=__doc__, formatter_class=argparse.RawDescriptionHelpFormatter)
     parser.add_argument("--runs", metavar="N", type=int, default=1, help="how often the page is made (1)")
     asked = parser.parse_args()
-    python = python_with("jinja2")
+    python = frame.python_with("jinja2")
     if python is None:
         print("bench/report.py: no Python here has jinja2 (Debian's package python3-jinja2)", file=sys.stderr)
         return 1

@@ -14,23 +14,16 @@ The environment variable CLEARING names the program, else it is the repository's
 else to do: the line above the table has the load that the machine had before, beside the day, the commit and the
 program's checksum.
 """
-import argparse
-import datetime
-import hashlib
 import os
 import pathlib
-import re
-import subprocess
 import sys
-import tempfile
+from typing import List
 
-BENCH = pathlib.Path(__file__).resolve().parent
-ROOT = BENCH.parent
 sys.dont_write_bytecode = True
-sys.path.insert(0, str(BENCH))
-import inputs  # noqa: E402
-import measure  # noqa: E402
+sys.path.insert(0, str(pathlib.Path(__file__).resolve().parent))
+import frame  # noqa: E402
 import timing  # noqa: E402
+from jobs import Program, jobs_of_tasks  # noqa: E402
 
 # Networks, and what the page calls them.
 NETWORKS = {
@@ -43,101 +36,61 @@ NETWORKS = {
 }
 TASKS = """check central replay defaults stress outcomes bounds rescue rescues breaking impact costs cost-bounds
     compress""".split()
-# What stands between these lines of the page is the table, with a line above it.
-PLACE = re.compile(r"(?<=^<!-- bench/speed\.py -->\n).*?(?=^<!-- end -->$)", re.MULTILINE | re.DOTALL)
 
 
-def figures(program, name, options):
-    """What the rows have of a network: milliseconds, ratios, and the most memory."""
-    jobs, _ = measure.jobs_of_tasks(program, TASKS, name)
-    best = timing.least(jobs, options.runs, options.limit, {})
+def figures(program: Program, name: str, options: frame.Options) -> List[str]:
+    """What the rows have of a network, a cell each: milliseconds, ratios, and the most memory."""
+    jobs = jobs_of_tasks(program, TASKS, name).jobs
+    best = timing.least(jobs, options.runs, options.limit)
     held = {task: timing.memory(words) for task, words in jobs.items() if best[task]}
     known = [(float(most), task) for task, most in held.items() if most != "-"]
     memory = f"{max(known)[0]:.0f} (`{max(known)[1]}`)" if known else "-"
     return [timing.ms(best["clear"]), *(shown(best[task], best["clear"], options.limit) for task in TASKS), memory]
 
 
-def shown(took, base, limit):
-    """How many times the one time is of the other, in two digits."""
+def shown(took: timing.Time, base: timing.Time, limit: float) -> str:
+    """How many times the one time is of the other, in two digits; or that a run passed the limit in seconds."""
     if took is None or base is None:
         return f"over {limit:.0f} s"
     times = took / base
     return f"{times:.2f}" if times < 1 else f"{times:.1f}" if times < 10 else f"{times:,.0f}"
 
 
-def source():
-    """The commit of the sources, with a sign where they have changes beside it."""
-    def git(*words):
-        return subprocess.run(["git", "-C", ROOT, *words], capture_output=True, encoding="utf-8").stdout.strip()
-
-    changed = git("status", "--porcelain", "--", "crates", "crates.txt", "bench")
-    return (git("rev-parse", "--short=7", "HEAD") or "none") + "+" * bool(changed)
-
-
-def table(program, options):
+def table(program: Program, options: frame.Options) -> str:
     """The table with the line above it."""
-    load = os.getloadavg()[0]
+    said = frame.said(program.path, options.runs, os.getloadavg()[0])
     names = options.inputs or list(NETWORKS)
     columns = [figures(program, name, options) for name in names]
-    checksum = hashlib.sha256(pathlib.Path(program.path).read_bytes()).hexdigest()[:8]
-    runs = "one run" if options.runs == 1 else f"the least of {options.runs} runs by turns"
-    said = (
-        f"{datetime.date.today()}, `{source()}`, the program `{checksum}`, {runs} on {os.cpu_count()} processors, "
-        f"which had a load of {load:.1f} before:"
-    )
     heads = ["`clear`, ms", *(f"`{task}`" for task in TASKS), "most memory, MB"]
-    lines = [
-        "| task | " + " | ".join(NETWORKS.get(name, f"`{name}`") for name in names) + " |",
-        "|---" * (len(names) + 1) + "|",
-        *("| " + " | ".join([head, *cells]) + " |" for head, *cells in zip(heads, *columns)),
-    ]
-    return f"{said}\n\n" + "".join(line + "\n" for line in lines)
+    rows = [[head, *cells] for head, *cells in zip(heads, *columns)]
+    return f"{said}\n\n" + frame.markdown(["task", *(NETWORKS.get(name, f"`{name}`") for name in names)], rows)
 
 
-def options_of(words):
-    parser = argparse.ArgumentParser(
-        prog="speed.py",
-        usage="bench/speed.py [OPTION ..] [INPUT ..]",
-        description=__doc__,
-        formatter_class=argparse.RawDescriptionHelpFormatter,
-    )
+def options_of(words: List[str]) -> frame.PageOptions:
+    """What the words say. Faulty words end the script with 2."""
+    parser = frame.parser_of("speed.py", "[OPTION ..] [INPUT ..]", __doc__)
     parser.add_argument("inputs", metavar="INPUT", nargs="*")
-    parser.add_argument("--runs", type=int, default=5, metavar="N", help="how often each job is run (5)")
-    parser.add_argument(
-        "--limit", type=float, default=120, metavar="SECONDS", help="the longest time of a run (120)"
-    )
-    parser.add_argument("--write", action="store_true", help="put the table into the page")
-    parser.add_argument(
-        "--page", type=pathlib.Path, default=ROOT / "docs/SPEED.md", metavar="FILE", help="the page (docs/SPEED.md)"
-    )
-    options = parser.parse_args(words)
-    unknown = [name for name in options.inputs if name not in inputs.NETWORKS]
-    if unknown:
-        parser.error(f"no network {', '.join(unknown)}; there are {', '.join(sorted(inputs.NETWORKS))}")
-    if options.runs < 1:
-        parser.error("a run at least")
+    frame.add_page(parser)
+    options = frame.options_of(parser, words, frame.PageOptions())
+    frame.check_networks(parser, options.inputs)
     return options
 
 
-def main(words):
+def main(words: List[str]) -> int:
+    """Measures, and prints the table or puts it into the page. The status."""
     options = options_of(words)
-    page = options.page.resolve()
-    try:
-        text = page.read_text(encoding="utf-8") if options.write else ""
-        if options.write and len(PLACE.findall(text)) != 1:
-            raise timing.Fault(f"{page} has no place for the table, or several")
-        program = measure.Program()
-        with tempfile.TemporaryDirectory() as folder:
-            os.chdir(folder)
-            made = table(program, options)
-        if options.write:
-            page.write_text(PLACE.sub(lambda _: made, text), encoding="utf-8")
+    path = options.page.resolve()
+
+    def work() -> None:
+        """The work itself; a Fault where the page has no place."""
+        page = frame.Page(path, "speed.py") if options.write else None
+        made = table(Program(), options)
+        if page:
+            page.put(made)
         else:
             print(made, end="")
-    except (timing.Fault, OSError, subprocess.CalledProcessError) as fault:
-        print(f"speed.py: {fault}", file=sys.stderr)
-        return 1
-    return 0
+
+    return frame.ended("speed.py", work)
 
 
 if __name__ == "__main__":

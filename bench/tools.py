@@ -3,10 +3,10 @@
 
     bench/tools.py [ROW]..
 
-Prints a line for each row, or for these alone, such as `lint-names`: seconds of a processor, the least of three runs, and what was done.
-The row `matrix` has beside them how often that is the reading of its cells; `list` and `totals` are networks of the wide limits, and have
-beside them the most memory that any run took so far. The environment variable CLEARING names the program, which
-makes the journals. The rows `completion-..` want bash.
+Prints a line for each row, or for these alone, such as `lint-names`: seconds of a processor, the least of three runs,
+and what was done. The row `matrix` has beside them how often that is the reading of its cells; `list` and `totals`
+are networks of the wide limits, and have beside them the most memory that any run took so far. The environment
+variable CLEARING names the program, which makes the journals. The rows `completion-..` want bash.
 """
 import os
 import pathlib
@@ -15,6 +15,7 @@ import resource
 import subprocess
 import sys
 import tempfile
+from typing import Callable, Dict, Iterable, List, NamedTuple, Sequence, Tuple, Union
 
 BENCH = pathlib.Path(__file__).resolve().parent
 ROOT = BENCH.parent
@@ -25,28 +26,48 @@ import timing  # noqa: E402
 
 RUNS = 3
 BANKS, DEBTS = inputs.BANKS_HEADER.encode(), inputs.DEBTS_HEADER.encode()
-READ = "import csv, sys; from decimal import Decimal; print(sum(Decimal(cell) for row in list(csv.reader(open(sys.argv[1])))[1:] for cell in row[1:]))"
+READ = """import csv, sys
+from decimal import Decimal
+print(sum(Decimal(cell) for row in list(csv.reader(open(sys.argv[1])))[1:] for cell in row[1:]))
+"""
 COMPLETE = f'source "{ROOT}/tools/clearing.bash"; COMP_LINE=$1 COMP_POINT=${{#1}}; _clearing clearing "" 2>/dev/null'
 
+Word = Union[str, pathlib.Path]
 
-def spent(words, folder, ends=(0, 1)):
-    """Seconds of a processor that a run takes, the least of some; it ends with one of these statuses."""
+
+class Spent(NamedTuple):
+    """What a row tells: seconds of a processor, and what was done in them."""
+
+    seconds: float
+    what: str
+
+
+Row = Callable[[pathlib.Path], Spent]
+"""A row, which is measured in an empty folder."""
+
+
+def spent(words: Sequence[Word], folder: pathlib.Path, ends: Sequence[int] = (0, 1)) -> float:
+    """Seconds of a processor that a run in a folder takes, the least of some. A Fault where it ends with none of these
+    statuses."""
+    run = [str(word) for word in words]
     least = float("inf")
     for _ in range(RUNS):
         before = resource.getrusage(resource.RUSAGE_CHILDREN)
-        done = subprocess.run(list(map(str, words)), cwd=folder, stdin=subprocess.DEVNULL, stdout=subprocess.DEVNULL, stderr=subprocess.PIPE)
+        nothing = subprocess.DEVNULL
+        done = subprocess.run(run, cwd=folder, stdin=nothing, stdout=nothing, stderr=subprocess.PIPE)
         after = resource.getrusage(resource.RUSAGE_CHILDREN)
         if done.returncode not in ends:
-            raise timing.Fault(f"{words[1]}: status {done.returncode}: {done.stderr.decode(errors='replace')[-300:]}")
+            raise timing.Fault(f"{run[1]}: status {done.returncode}: {done.stderr.decode(errors='replace')[-300:]}")
         least = min(least, after.ru_utime + after.ru_stime - before.ru_utime - before.ru_stime)
     return least
 
 
-def tool(name, *words):
-    return [sys.executable, ROOT / "tools" / name, *words]
+def tool(name: str, *words: Word) -> Sequence[Word]:
+    """The words of a command of bin/."""
+    return [sys.executable, ROOT / "bin" / name, *words]
 
 
-def lines(head, records):
+def lines(head: bytes, records: Iterable[bytes]) -> bytes:
     """A file of a header and a record for each line."""
     return head + b"".join(record + b"\n" for record in records)
 
@@ -54,80 +75,100 @@ def lines(head, records):
 # What lint takes.
 
 
-def lint(folder, banks, debts, **more):
-    """The run of lint on some files."""
-    words = []
+def lint(folder: pathlib.Path, banks: bytes, debts: bytes, **more: bytes) -> float:
+    """The seconds of lint on files with some contents: banks, debts, and others by the names of their options."""
+    words: Sequence[Word] = ()
     for option, content in {"banks": banks, "debts": debts, **more}.items():
         (folder / option).write_bytes(content)
-        words += [f"--{option}", folder / option]
-    return spent(tool("lint.py", *words), folder)
+        words = [*words, f"--{option}", folder / option]
+    return spent(tool("clearing-lint", *words), folder)
 
 
-def ring_of(banks):
-    return lines(BANKS, (b"B%d,1,order" % n for n in range(banks))), lines(DEBTS, (b"B%d,B%d,1,1" % (n % banks, (n + 1 + n // banks) % banks) for n in range(15_000)))
+def ring_of(banks: int) -> Tuple[bytes, bytes]:
+    """The two files of so many banks, with 15,000 debts in rings of several widths."""
+    debts = (b"B%d,B%d,1,1" % (n % banks, (n + 1 + n // banks) % banks) for n in range(15_000))
+    return lines(BANKS, (b"B%d,1,order" % n for n in range(banks))), lines(DEBTS, debts)
 
 
-def lint_names(folder):
+def lint_names(folder: pathlib.Path) -> Spent:
+    """Debtors who are no banks, though they nearly have the name of one."""
     banks = lines(BANKS, (b"Bank %d of the north,1,order" % n for n in range(1000)))
-    return lint(folder, banks, lines(DEBTS, (b"Bank %d of the South,Bank 1 of the north,1,1" % n for n in range(60_000)))), "60,000 unknown names by 1,000 banks"
+    debts = lines(DEBTS, (b"Bank %d of the South,Bank 1 of the north,1,1" % n for n in range(60_000)))
+    return Spent(lint(folder, banks, debts), "60,000 unknown names by 1,000 banks")
 
 
-def lint_rules(folder):
+def lint_rules(folder: pathlib.Path) -> Spent:
+    """Rules that are none, though they nearly have the name of one."""
     banks = lines(BANKS, (b"B%d,1,jeferson%d" % (n, n) for n in range(100_000)))
-    return lint(folder, banks, lines(DEBTS, (b"B%d,B%d,1,1" % (n, n + 1) for n in range(15_000)))), "100,000 unknown rules"
+    debts = lines(DEBTS, (b"B%d,B%d,1,1" % (n, n + 1) for n in range(15_000)))
+    return Spent(lint(folder, banks, debts), "100,000 unknown rules")
 
 
-def lint_journal(folder):
-    journal = lines(b"stamp,debtor,creditor,class,to\n", (b"1,B%d,B%d,2,1" % (n % 900, (n + 1) % 900) for n in range(20_000)))
-    return lint(folder, *ring_of(900), journal=journal), "20,000 raises on unknown debts"
+def lint_journal(folder: pathlib.Path) -> Spent:
+    """A journal that raises what nobody owes."""
+    raises = (b"1,B%d,B%d,2,1" % (n % 900, (n + 1) % 900) for n in range(20_000))
+    journal = lines(b"stamp,debtor,creditor,class,to\n", raises)
+    return Spent(lint(folder, *ring_of(900), journal=journal), "20,000 raises on unknown debts")
 
 
-def lint_keys(folder):
+def lint_keys(folder: pathlib.Path) -> Spent:
+    """A scenario with keys that mean nothing."""
     keys = lines(b'[[scenario]]\nname = "a"\n', (b"nam%d = 1" % n for n in range(60_000)))
-    return lint(folder, *ring_of(900), scenarios=keys), "a scenario of 60,000 unknown keys"
+    return Spent(lint(folder, *ring_of(900), scenarios=keys), "a scenario of 60,000 unknown keys")
 
 
 # What an audit takes.
 
 
-def audit(folder, banks, debts, *how):
-    """The audit of the journal of a run."""
-    inputs.write(str(folder / "n"), banks, debts)
-    files = ["--banks", folder / "n-banks.csv", "--debts", folder / "n-debts.csv"]
+def audit(folder: pathlib.Path, network: inputs.Network, *how: str) -> Spent:
+    """The audit of the journal of a run of the program on a network, by one worker and further words."""
+    inputs.write(str(folder / "n"), *network)
+    files: Sequence[Word] = ["--banks", folder / "n-banks.csv", "--debts", folder / "n-debts.csv"]
+    program = os.environ.get("CLEARING") or ROOT / "clearing"
     with open(folder / "journal.csv", "wb") as journal:
-        subprocess.run([os.environ.get("CLEARING") or ROOT / "clearing", "clear", *files, "--show", "journal", "--workers", "1", *how], stdout=journal, check=True)
-    raises = sum(1 for _ in open(folder / "journal.csv", "rb")) - 2
-    return spent(tool("audit.py", *files, "--journal", folder / "journal.csv"), folder, (0,)), f"{raises:,} raises"
+        run = [program, "clear", *files, "--show", "journal", "--workers", "1", *how]
+        subprocess.run(run, stdout=journal, check=True)
+    with open(folder / "journal.csv", "rb") as journal_lines:
+        raises = sum(1 for _ in journal_lines) - 2
+    took = spent(tool("clearing-audit", *files, "--journal", folder / "journal.csv"), folder, (0,))
+    return Spent(took, f"{raises:,} raises")
 
 
-def audit_raises(folder):
-    return audit(folder, *inputs.ring(10, 100_000, 1), "--sweeps", "1000")
+def audit_raises(folder: pathlib.Path) -> Spent:
+    """A million raises on ten debts."""
+    return audit(folder, inputs.ring(10, 100_000, 1), "--sweeps", "1000")
 
 
-def audit_banks(folder):
-    return audit(folder, *inputs.largest("mixed"))
+def audit_banks(folder: pathlib.Path) -> Spent:
+    """The largest network of the standard limits."""
+    return audit(folder, inputs.largest("mixed"))
 
 
-def audit_units(folder):
+def audit_units(folder: pathlib.Path) -> Spent:
     """Thirty banks with claims of thousands of units each."""
     draw = random.Random(5)
     pairs = sorted({tuple(draw.sample(range(30), 2)) for _ in range(600)})
-    return audit(folder, [(f"N{n}", draw.randrange(200_000), inputs.RULES[n % 6]) for n in range(30)],
-                 [(f"N{a}", f"N{b}", draw.choice([1, 1, 2, 3]), draw.randint(0, 16_000)) for a, b in pairs])
+    banks: List[inputs.Bank] = [(f"N{n}", draw.randrange(200_000), inputs.RULES[n % 6]) for n in range(30)]
+    debts = [(f"N{a}", f"N{b}", draw.choice([1, 1, 2, 3]), draw.randint(0, 16_000)) for a, b in pairs]
+    return audit(folder, inputs.Network(banks, debts))
 
 
 # What the completion takes, and a matrix.
 
 
-def completion(content):
-    def row(folder):
+def completion(content: Callable[[], bytes]) -> Row:
+    """A row that completes the names of banks, of a banks file with this content below its header."""
+    def row(folder: pathlib.Path) -> Spent:
+        """The row."""
         (folder / "banks.csv").write_bytes(BANKS + content())
         line = "clearing rescue --banks banks.csv --debts d.csv --bank "
-        return spent(["bash", "--norc", "-c", COMPLETE, "bash", line], folder), "names of banks completed in 8 MB"
+        took = spent(["bash", "--norc", "-c", COMPLETE, "bash", line], folder)
+        return Spent(took, "names of banks completed in 8 MB")
+
     return row
 
 
-def matrix(folder):
+def matrix(folder: pathlib.Path) -> Spent:
     """A thousand banks, each of which owes up to nineteen others."""
     draw, names = random.Random(1), [f"Bank {at}" for at in range(1000)]
     rows = ["," + ",".join(names) + ",cash"]
@@ -138,42 +179,49 @@ def matrix(folder):
         rows.append(f"{name}," + ",".join(row) + f",{draw.randrange(1000)}")
     (folder / "m.csv").write_text("\n".join(rows) + "\n")
     reading = spent([sys.executable, "-c", READ, folder / "m.csv"], folder, (0,))
-    took = spent(tool("from_matrix.py", folder / "m.csv", "--unit", "0.01", "--banks", folder / "b.csv", "--debts", folder / "d.csv"), folder, (0,))
-    return took, f"a matrix of 1,000 banks, {timing.ratio(took, reading)} times the reading of its cells"
+    to: Sequence[Word] = ["--banks", folder / "b.csv", "--debts", folder / "d.csv"]
+    took = spent(tool("clearing-from-matrix", folder / "m.csv", "--unit", "0.01", *to), folder, (0,))
+    return Spent(took, f"a matrix of 1,000 banks, {timing.ratio(took, reading)} times the reading of its cells")
 
 
 # What the importers take on networks of the wide limits.
 
 
-def list_of_a_million(folder):
+def list_of_a_million(folder: pathlib.Path) -> Spent:
     """A list of a million lines on ten thousand banks, a debt each."""
-    draw, pairs = random.Random(5), {}
+    draw = random.Random(5)
+    pairs: Dict[Tuple[int, int], int] = {}
     while len(pairs) < 1_000_000:
         pair = draw.randrange(10_000), draw.randrange(10_000)
         if pair[0] != pair[1]:
             pairs[pair] = draw.randint(1, 40)
-    (folder / "list.csv").write_bytes(lines(b"debtor,creditor,amount\n", (b"Bank %05d,Bank %05d,%d" % (*pair, amount) for pair, amount in pairs.items())))
-    (folder / "table.csv").write_bytes(lines(b"bank,cash\n", (b"Bank %05d,%d" % (at, draw.randint(0, 500)) for at in range(10_000))))
-    words = ["from_list.py", folder / "list.csv", "--table", folder / "table.csv", "--banks", folder / "b.csv", "--debts", folder / "d.csv"]
-    return spent(tool(*words), folder, (0,)), f"a list of 1,000,000 lines, with {most_of_children()} MB"
+    rows = (b"Bank %05d,Bank %05d,%d" % (*pair, amount) for pair, amount in pairs.items())
+    (folder / "list.csv").write_bytes(lines(b"debtor,creditor,amount\n", rows))
+    rows = (b"Bank %05d,%d" % (at, draw.randint(0, 500)) for at in range(10_000))
+    (folder / "table.csv").write_bytes(lines(b"bank,cash\n", rows))
+    to: Sequence[Word] = ["--banks", folder / "b.csv", "--debts", folder / "d.csv"]
+    took = spent(tool("clearing-from-list", folder / "list.csv", "--table", folder / "table.csv", *to), folder, (0,))
+    return Spent(took, f"a list of 1,000,000 lines, with {most_of_children()} MB")
 
 
-def totals_of_a_thousand(folder):
+def totals_of_a_thousand(folder: pathlib.Path) -> Spent:
     """The totals of a thousand banks, of which entropy makes a debt of nearly every pair."""
     draw = random.Random(4)
     owed = [draw.randint(2_000, 40_000) for _ in range(1_000)]
     owes = draw.sample(owed, len(owed))
-    (folder / "t.csv").write_bytes(lines(b"bank,assets,liabilities,cash\n", (b"Bank %04d,%d,%d,9" % (at, *both) for at, both in enumerate(zip(owed, owes)))))
-    words = ["from_totals.py", folder / "t.csv", "--method=entropy", "--most=1000000", "--limits=wide", "--out"]
-    return spent(tool(*words, folder / "made"), folder, (0,)), f"the totals of 1,000 banks by entropy, with {most_of_children()} MB"
+    rows = (b"Bank %04d,%d,%d,9" % (at, *both) for at, both in enumerate(zip(owed, owes)))
+    (folder / "t.csv").write_bytes(lines(b"bank,assets,liabilities,cash\n", rows))
+    how = ["--method=entropy", "--most=1000000", "--limits=wide", "--out"]
+    took = spent(tool("clearing-from-totals", folder / "t.csv", *how, folder / "made"), folder, (0,))
+    return Spent(took, f"the totals of 1,000 banks by entropy, with {most_of_children()} MB")
 
 
-def most_of_children():
-    """The most megabytes of memory that a run has taken so far."""
+def most_of_children() -> int:
+    """The most megabytes of memory, of a million bytes, that a run has taken so far."""
     return round(resource.getrusage(resource.RUSAGE_CHILDREN).ru_maxrss / 1000)
 
 
-ROWS = {
+ROWS: Dict[str, Row] = {
     "lint-names": lint_names,
     "lint-rules": lint_rules,
     "lint-journal": lint_journal,
@@ -192,13 +240,14 @@ ROWS = {
 }
 
 
-def main(names):
+def main(names: Sequence[str]) -> None:
+    """Prints the rows of some names, or all."""
     for name in names or ROWS:
         if name not in ROWS:
             sys.exit(f"tools.py: no row {name}; there are {', '.join(ROWS)}")
         with tempfile.TemporaryDirectory() as folder:
-            seconds, words = ROWS[name](pathlib.Path(folder))
-        print(f"{name:18} {seconds:6.2f} s  {words}", flush=True)
+            row = ROWS[name](pathlib.Path(folder))
+        print(f"{name:18} {row.seconds:6.2f} s  {row.what}", flush=True)
 
 
 if __name__ == "__main__":

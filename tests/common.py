@@ -26,10 +26,21 @@ def clearing(*words):
     return subprocess.run([PROGRAM, *map(str, words)], stdin=subprocess.DEVNULL, capture_output=True)
 
 
+def file_of(name):
+    """The file of a command, which stands in bin/, or of a script for developers, such as `dev/man.py`."""
+    return ROOT / ("tools" if "/" in name or name.endswith(".sh") else "bin") / name
+
+
+def run_of(name, python=None):
+    """The words that run one of the tools: a file of Python by the Python that runs the tests, or by another."""
+    path = file_of(name)
+    return [python or sys.executable, str(path)] if path.read_bytes().startswith(b"#!/usr/bin/env python3\n") else [str(path)]
+
+
 def tool(name, *words, python=None, cwd=None):
     """A run of one of the tools, with its status, output and messages as text; by another Python where one is named."""
     return subprocess.run(
-        [python or sys.executable, str(ROOT / "tools" / name), *map(str, words)],
+        [*run_of(name, python), *map(str, words)],
         cwd=cwd,
         stdin=subprocess.DEVNULL,
         capture_output=True,

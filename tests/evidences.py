@@ -7,7 +7,9 @@ import subprocess
 
 from common import HUB, PROGRAM, ROOT, Case
 
-SCRIPT = str(ROOT / "tools/evidence.sh")
+SCRIPT = str(ROOT / "bin/clearing-evidence")
+# What of the tools checks evidence by itself.
+PARTS = ("__init__.py", "files.py", "finding.py", "running.py", "runner.py", "saying.py", "evidence")
 
 SCENARIOS = """[[scenario]]
 name = "half"
@@ -54,11 +56,11 @@ class EvidenceCase(Case):
     def without_program(self, *words, **more):
         """A run of a copy of the tool alone, where no program is built."""
         package = pathlib.Path("python/src/clearing_tools")
-        for name in ("tools/evidence.sh", "tools/evidence.py", *(package / part for part in ("__init__.py", "files.py", "runner.py", "evidence"))):
+        for name in ("bin/clearing-evidence", *(package / part for part in PARTS)):
             if not (self.folder / name).exists():
                 (self.folder / name).parent.mkdir(parents=True, exist_ok=True)
                 (shutil.copytree if (ROOT / name).is_dir() else shutil.copy)(ROOT / name, self.folder / name)
         environment = {key: value for key, value in os.environ.items() if key != "CLEARING"}
         environment["PYTHONDONTWRITEBYTECODE"] = "1"
-        run = [str(self.folder / "tools/evidence.sh"), *map(str, words)]
+        run = [str(self.folder / "bin/clearing-evidence"), *map(str, words)]
         return subprocess.run(run, env=environment, stdin=subprocess.DEVNULL, capture_output=True, **more)

@@ -10,14 +10,10 @@ import unittest
 from decimal import Decimal
 
 from browser import Browsing
-from common import ODD_NAMES, ROOT, Case, all_names, clearing, python_with, tool
+from common import ODD_NAMES, ROOT, Case, all_names, clearing, files_of, python_with, tool
 
 PYTHON = python_with("jinja2")
 TWELVE = ROOT / "examples/twelve-banks"
-
-
-def files_of(folder):
-    return ["--banks", folder / "banks.csv", "--debts", folder / "debts.csv"]
 
 
 def largest(folder):
@@ -132,7 +128,7 @@ class Reader(html.parser.HTMLParser):
 class Report(Case):
     def page(self, files, *more, status=0, message=""):
         out = self.folder / "report.html"
-        done = tool("report.py", *files, "--out", out, *more, python=PYTHON)
+        done = tool("clearing-report", *files, "--out", out, *more, python=PYTHON)
         self.assertEqual((done.returncode, done.stdout), (status, ""), done.stderr)
         self.assertIn(message, done.stderr)
         return out.read_text(encoding="utf-8") if not status else ""

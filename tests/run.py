@@ -85,7 +85,7 @@ def line_of(passed, failed, skipped):
 
 
 @functools.cache
-def python_with(names):
+def python_for(names):
     """A Python that has these packages: the one that runs this, or the system's; else the one that runs this."""
     for python in (sys.executable, "/usr/bin/python3"):
         with contextlib.suppress(OSError):
@@ -111,7 +111,7 @@ def run_here(module, without):
 
 def run_beside(module, without):
     """What a run of one module in another process prints, and its three counts. A run that broke off is a test that failed."""
-    python = sys.executable if without or not module.startswith("test_client_") else python_with("pandas, numpy, networkx")
+    python = sys.executable if without or not module.startswith("test_client_") else python_for("pandas, numpy, networkx")
     run = [python, str(HERE / "run.py"), "--here", module, without]
     done = subprocess.run(run, stdin=subprocess.DEVNULL, stdout=subprocess.PIPE, stderr=subprocess.STDOUT,
                           encoding="utf-8", errors="backslashreplace")

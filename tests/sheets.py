@@ -35,12 +35,13 @@ def put_rows(folder: pathlib.Path, name: str, rows: Sequence[Sequence[Any]], **f
     """Writes a sheet of records."""
     text = io.StringIO()
     csv.writer(text, lineterminator="\r\n", **form).writerows(rows)
-    (folder / name).write_text(text.getvalue(), encoding="utf-8", newline="")
+    (folder / name).write_bytes(text.getvalue().encode())
 
 
 def claims_of(banks: int, debts: int, seed: int = 1) -> Dict[Any, int]:
     """Claims at random, by the places of debtor and creditor."""
-    chance, found = random.Random(seed), {}
+    chance = random.Random(seed)
+    found: Dict[Any, int] = {}
     while len(found) < min(debts, banks * (banks - 1)):
         debtor, creditor = chance.randrange(banks), chance.randrange(banks)
         if debtor != creditor:
@@ -78,7 +79,7 @@ def a_workbook(folder: pathlib.Path, size: int) -> Sheets:
     sheet.merge_cells(start_row=2, end_row=2, start_column=2, end_column=banks + 1)
     book.save(folder / "claims.xlsx")
     words = ["claims.xlsx", "--skip=2", "--cash=Cash", "--label-column=Full name", "--unit=0.25"]
-    return Sheets("a workbook with merged heads", "from_matrix.py", words, full_of(1))
+    return Sheets("a workbook with merged heads", "clearing-from-matrix", words, full_of(1))
 
 
 def its_german_twin(folder: pathlib.Path, size: int) -> Sheets:
@@ -93,7 +94,7 @@ def its_german_twin(folder: pathlib.Path, size: int) -> Sheets:
     sums = ["Summe", *map(german, map(sum, zip(*rows))), german(sum(cash)), ""]
     put_rows(folder, "zwilling.csv", [["TEUR", *names, "Kasse", "Name"], *lines, sums], delimiter=";")
     words = ["zwilling.csv", "--thousands=.", "--drop=Summe", "--cash=Kasse", "--label-column=Name", "--unit=0.25"]
-    return Sheets("its German twin", "from_matrix.py", words, full_of(1))
+    return Sheets("its German twin", "clearing-from-matrix", words, full_of(1))
 
 
 def a_list_of_a_database(folder: pathlib.Path, size: int) -> Sheets:
@@ -108,7 +109,7 @@ def a_list_of_a_database(folder: pathlib.Path, size: int) -> Sheets:
     words = ["exposures.csv", "--table=banks.csv", "--debtor=DEBTOR_LEI", "--creditor=CREDITOR_LEI", "--amount=AMT"]
     words += ["--rate=CCY=rates.csv", "--leave-out=self,empty", "--sum", "--unit=auto", "--label-column=legal_name"]
     words += ["--group-column=parent", "--country-column=country"]
-    return Sheets("a list out of SQL with LEI codes", "from_list.py", words, full_of(2))
+    return Sheets("a list out of SQL with LEI codes", "clearing-from-list", words, full_of(2))
 
 
 def sums_off_by_one(folder: pathlib.Path, size: int) -> Sheets:
@@ -122,7 +123,7 @@ def sums_off_by_one(folder: pathlib.Path, size: int) -> Sheets:
     lines.append(["Total", *sums, sum(map(sum, rows)), cash, ""])
     put_rows(folder, "rounded.csv", [["", *names, "Total", "cash", "name"], *lines])
     words = ["rounded.csv", "--drop=Total", "--label-column=name", "--unit=1000", "--round"]
-    return Sheets("a matrix whose sums miss by one", "from_matrix.py", words, full_of(3))
+    return Sheets("a matrix whose sums miss by one", "clearing-from-matrix", words, full_of(3))
 
 
 def totals_alone(folder: pathlib.Path, size: int) -> Sheets:
@@ -133,7 +134,7 @@ def totals_alone(folder: pathlib.Path, size: int) -> Sheets:
     rows = [[f"T{at}", owed[at], owes[at], 1000 * (at % 70), full_of(at)] for at in range(size)]
     put_rows(folder, "totals.csv", [["bank", "assets", "liabilities", "cash", "name"], *rows])
     words = ["totals.csv", "--method=sparse", "--unit=1000", "--label-column=name"]
-    return Sheets("totals alone", "from_totals.py", words, full_of(4))
+    return Sheets("totals alone", "clearing-from-totals", words, full_of(4))
 
 
 def many_banks(folder: pathlib.Path, size: int) -> Sheets:
@@ -144,7 +145,7 @@ def many_banks(folder: pathlib.Path, size: int) -> Sheets:
     banks = [[full_of(at), 1000 * (at % 900), 500 * (at % 7)] for at in range(size)]
     put_rows(folder, "table.csv", [["bank", "cash", "outside"], *banks], delimiter=";")
     words = ["long.csv", "--table=table.csv", "--unit=1000", "--round"]
-    return Sheets("many banks", "from_list.py", words, full_of(5))
+    return Sheets("many banks", "clearing-from-list", words, full_of(5))
 
 
 def in_cents(folder: pathlib.Path, size: int) -> Sheets:
@@ -155,7 +156,7 @@ def in_cents(folder: pathlib.Path, size: int) -> Sheets:
     banks = [[f"C{at}", f"€{900 * (at % 50) + 0.99:,.2f}", full_of(at)] for at in range(size)]
     put_rows(folder, "cash.csv", [["bank", "cash", "name"], *banks])
     words = ["cents.csv", "--table=cash.csv", "--unit=0.01", "--label-column=name"]
-    return Sheets("amounts in cents", "from_list.py", words, full_of(6))
+    return Sheets("amounts in cents", "clearing-from-list", words, full_of(6))
 
 
 SETS: Dict[str, Callable[[pathlib.Path, int], Sheets]] = {

@@ -29,13 +29,13 @@ SCRIPT = ROOT / "python/src/clearing_tools/desk/script/account.mjs"
 PLANTED = {
     "claims are not counted": ("base.banks[bank].cash + claims - one.owed", "base.banks[bank].cash - one.owed"),
     "the loss is left out": ("left = whole - loss - sum(", "left = whole - sum("),
-    "what is owed outside is left out": ("- outside - found.lost[bank]\n", "- found.lost[bank]\n"),
-    "costs of default are left out": ("- outside - found.lost[bank]\n", "- outside\n"),
+    "what is owed outside is left out": ("- outside - cleared.lost[bank]\n", "- cleared.lost[bank]\n"),
+    "costs of default are left out": ("- outside - cleared.lost[bank]\n", "- outside\n"),
     "costs stand with what is owed outside": (
-        "return Account(whole, loss, unpaid, outside, found.lost[bank], left)",
-        "return Account(whole, loss, unpaid, outside + found.lost[bank], 0, left)",
+        "return Account(whole, loss, unpaid, outside, cleared.lost[bank], left)",
+        "return Account(whole, loss, unpaid, outside + cleared.lost[bank], 0, left)",
     ),
-    "the loss is that of another bank": ("found.left[bank]", "found.left[bank - 1]"),
+    "the loss is that of another bank": ("cleared.left[bank]", "cleared.left[bank - 1]"),
     "a debt stands for all of a debtor": ("one[0] += claim", "one[0] = max(one[0], claim)"),
     "what is paid is what is unpaid": ("one[1] += paid", "one[1] += claim - paid"),
     "the last debtor has no line": ("return sorted(lines, ", "return sorted(lines[:-1], "),
@@ -181,13 +181,13 @@ class Accounts(unittest.TestCase):
             found = found._replace(banks=[bank._replace(equity=bank.equity + 1) for bank in found.banks])
             try:
                 return made.account_of(asked.base, found, 0) is not None
-            except runner.Failed:
+            except runner.ToolError:
                 return False
         for bank in range(len(asked.net.banks)):
             try:
                 if asked.faults(bank, made.account_of(asked.base, found, bank)):
                     return True
-            except runner.Failed:
+            except runner.ToolError:
                 return True
         return False
 

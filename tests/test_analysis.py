@@ -1,6 +1,4 @@
-"""The tools that ask what would break a network, against an independent computation."""
-import array
-import bisect
+"""The tools that ask what would break a network, against the plain model."""
 import functools
 import importlib.util
 import os
@@ -15,118 +13,43 @@ import threading
 import time
 import unittest.mock
 
-from common import PROGRAM, ROOT, Case, tool
+from common import PROGRAM, ROOT, Case, file_of, run_of, tool
 
 sys.path.insert(0, str(ROOT / "tests/system"))
 import model  # noqa: E402
+import quick  # noqa: E402
 
+from clearing_client.records import Debt, Harm  # noqa: E402
 from clearing_tools import runner  # noqa: E402
-from clearing_tools.analysis import draws  # noqa: E402
+from clearing_tools.analysis import breaking, draws, impact, queries  # noqa: E402
 from clearing_tools.drawing import style  # noqa: E402
 from clearing_tools.evidence import audit  # noqa: E402
 
 EXAMPLES = ROOT / "examples"
+# The same networks are cleared hundreds of times: it pays to put more units into their order once.
+quick.SORTED = 200_000
 
 # The smallest network with all that counts: A owes outside too, B hangs on A, C on B, and D stands alone.
 SMALL_BANKS = "name,cash,rule,outside\nA,12,webster,4\nB,3,equal,0\nC,2,order,1\nD,5,adams,0\n"
 SMALL_DEBTS = "debtor,creditor,class,claim\nA,B,1,6\nA,C,2,3\nB,C,1,4\nB,A,2,3\nC,A,1,2\nC,D,1,3\n"
 
 
-S = 10**12
-
-# How many units of a claim come before a level t, by each rule; no two units of a claim come between two levels.
-BEFORE = {
-    "equal": lambda c, t: min(c, t),
-    "losses": lambda c, t: max(0, c + t - 10**6),
-    "jefferson": lambda c, t: min(c, max(0, t * c - 1) // S),
-    "webster": lambda c, t: min(c, (max(0, t * c - 1) // S + 1) // 2),
-    "adams": lambda c, t: min(c, max(0, t * c - 1) // S + (t > 0)),
-}
-
-
-def award(rule, claims, units):
-    """What a class of claims gets of so many units: the greatest level that they reach, and a unit each for what they leave."""
-    if rule == "order":
-        given = []
-        for claim in claims:
-            given.append(min(claim, units))
-            units -= given[-1]
-        return given
-    before = BEFORE[rule]
-    low, high = 0, 10**6 if rule in ("equal", "losses") else 3 * S
-    while low < high:
-        middle = (low + high + 1) // 2
-        low, high = (middle, high) if sum(before(c, middle) for c in claims) <= units else (low, middle - 1)
-    given = [before(c, low) for c in claims]
-    left = units - sum(given)
-    for x, claim in enumerate(claims):
-        if left and before(claim, low + 1) > given[x]:
-            given[x] += 1
-            left -= 1
-    return given
-
-
-@functools.lru_cache(maxsize=None)
-def share(rule, claims, classes, units):
-    """What each debt of a bank gets of so many units."""
-    shares = [0] * len(claims)
-    for rank in sorted(set(classes)):
-        own = [x for x in range(len(claims)) if classes[x] == rank]
-        part = min(units, sum(claims[x] for x in own))
-        units -= part
-        for x, given in zip(own, award(rule, [claims[x] for x in own], part)):
-            shares[x] = given
-    return shares
-
-
 class Solver:
-    """Least payments from nothing paid, each bank paying again where it received more. Where little is owed, what a bank gives is
-    looked up in the order of all its units, and else found by levels."""
+    """How banks stand by the least payments of the plain model, which are those of its quicker ways, as the networks are large."""
 
     def __init__(self, banks, debts):
         self.net = audit.read_network(banks, debts)
-        count = len(self.net.banks)
-        self.rows = [[] for _ in range(count)]
-        self.columns = [[] for _ in range(count)]
-        for x, debt in enumerate(self.net.debts):
-            self.rows[debt.debtor].append(x)
-            self.columns[debt.creditor].append(x)
-        self.owed = [sum(self.net.debts[x].claim for x in row) for row in self.rows]
         self.cash = [bank.cash for bank in self.net.banks]
-        self.claims = [tuple(self.net.debts[x].claim for x in row) for row in self.rows]
-        self.classes = [tuple(self.net.debts[x].rank for x in row) for row in self.rows]
-        # For each debt, after how many units of its debtor it gets each of its own.
-        self.turns = None
-        if sum(self.owed) <= 2_000_000:
-            self.turns = [array.array("I") for _ in self.net.debts]
-            for division in audit.divisions(self.net):
-                for unit, (_, x) in enumerate(division.turns, 1):
-                    self.turns[x].append(unit)
-
-    def share(self, i, units):
-        if self.turns is not None:
-            return [bisect.bisect_right(self.turns[x], units) for x in self.rows[i]]
-        return share(self.net.banks[i].rule, self.claims[i], self.classes[i], units)
+        banks = [model.Bank(bank.name.decode(), bank.cash, bank.rule, bank.outside) for bank in self.net.banks]
+        self.plain = model.Net(banks, [model.Debt(*debt) for debt in self.net.debts])
+        # How banks divide does not depend on their cash, and is kept from here on.
+        quick.least(self.plain)
 
     @functools.lru_cache(maxsize=None)
     def standings(self, cash):
         """For each bank what it keeps and how it stands, with this cash."""
-        banks, debts = self.net
-        received, paid, spent = [0] * len(banks), [0] * len(debts), [0] * len(banks)
-        waiting = list(range(len(banks)))
-        while waiting:
-            moved = set()
-            for i in waiting:
-                spend = min(self.owed[i], max(0, cash[i] + received[i] - banks[i].outside))
-                if spend > spent[i]:
-                    spent[i] = spend
-                    for x, units in zip(self.rows[i], self.share(i, spend)):
-                        if units > paid[x]:
-                            received[debts[x].creditor] += units - paid[x]
-                            paid[x] = units
-                            moved.add(debts[x].creditor)
-            waiting = sorted(moved)
-        net = audit.Network([bank._replace(cash=units) for bank, units in zip(banks, cash)], debts)
+        paid = quick.least(model.with_cash(self.plain, lambda i, bank: cash[i]))
+        net = audit.Network([bank._replace(cash=units) for bank, units in zip(self.net.banks, cash)], self.net.debts)
         return [(numbers[1] + numbers[4], numbers, state) for numbers, state in audit.standings(net, paid)]
 
     def after(self, cut=0, losses={}):
@@ -156,7 +79,7 @@ class Analysis(Case):
     def generated(self):
         """A network of 200 banks, some of them in default."""
         banks, debts = self.file("g-banks.csv"), self.file("g-debts.csv")
-        self.made("gen_files.py", "--seed", 5, "--size", 200, "--tries", 500, "--banks", banks, "--debts", debts)
+        self.made("clearing-gen-files", "--seed", 5, "--size", 200, "--tries", 500, "--banks", banks, "--debts", debts)
         return ["--banks", banks, "--debts", debts]
 
     def networks(self):
@@ -170,30 +93,11 @@ class Analysis(Case):
         return Solver(words[1].read_bytes(), words[3].read_bytes())
 
     def test_the_help_of_impact_says_what_the_program_calls_a_column(self):
-        self.assertIn("`defaults`, which `clearing impact` calls `falls`", " ".join(self.made("impact.py", "--help").split()))
-
-    def test_the_independent_computation_is_that_of_the_model(self):
-        chance = random.Random(2)
-        for _ in range(300):
-            claims = tuple(chance.randint(0, 9) for _ in range(chance.randint(1, 5)))
-            classes = tuple(chance.randint(1, 2) for _ in claims)
-            for rule in model.RULES:
-                units = chance.randint(0, sum(claims) + 1)
-                self.assertEqual(share(rule, claims, classes, units), model.share(rule, claims, classes, units), (rule, claims, units))
-        solver = self.solver(self.small())
-        banks = [model.Bank(bank.name.decode(), bank.cash, bank.rule, bank.outside) for bank in solver.net.banks]
-        net = model.Net(banks, [model.Debt(*debt) for debt in solver.net.debts])
-        for cut in range(0, 1001, 50):
-            left = model.shocked(net, model.Scenario("", cut, [(0, 1)]))
-            paid = model.least(left)
-            states = [model.state(left, paid, i) for i in range(len(banks))]
-            self.assertEqual([standing[2] for standing in solver.after(cut, {0: 1})], states)
-            estates = [model.estate(left, paid, i) for i in range(len(banks))]
-            self.assertEqual([standing[1][0] for standing in solver.after(cut, {0: 1})], estates)
+        self.assertIn("`defaults`, which `clearing impact` calls `falls`", " ".join(self.made("clearing-impact", "--help").split()))
 
     def test_breaking_cuts(self):
         for name, words in self.networks():
-            solver, found = self.solver(words), records(self.made("breaking.py", *words))
+            solver, found = self.solver(words), records(self.made("clearing-breaking", *words))
             self.assertEqual([bank for bank, _, _ in found], [bank.name.decode() for bank in solver.net.banks])
             for i, (bank, cut, state) in enumerate(found):
                 with self.subTest(network=name, bank=bank):
@@ -205,7 +109,7 @@ class Analysis(Case):
                         self.assertEqual(solver.after(cut - 1)[i][2], "sound")
         # Every cut, on the small network.
         words = self.small()
-        solver, found = self.solver(words), records(self.made("breaking.py", *words))
+        solver, found = self.solver(words), records(self.made("clearing-breaking", *words))
         for i, (_, cut, _) in enumerate(found):
             self.assertEqual([k for k in range(1001) if solver.after(k)[i][2] != "sound"], list(range(int(cut), 1001)))
         self.assertEqual({int(cut) <= 1000 for _, cut, _ in found}, {True, False})
@@ -215,7 +119,7 @@ class Analysis(Case):
         for words, of in ((self.small(), 0), (example("twelve-banks"), 9), (example("core"), 2), (self.generated(), 7)):
             solver = self.solver(words)
             name = solver.net.banks[of].name.decode()
-            text = self.made("breaking.py", *words, "--loss", name)
+            text = self.made("clearing-breaking", *words, "--loss", name)
             self.assertTrue(text.startswith("bank,loss,state\n"))
             for i, (bank, loss, state) in enumerate(records(text)):
                 loss = int(loss)
@@ -224,8 +128,8 @@ class Analysis(Case):
                 self.assertLessEqual(loss, solver.cash[of] + 1)
                 if loss:
                     self.assertEqual(after(loss - 1), "sound")
-        self.refused("breaking.py", 4, "no bank has the name 'Z'\n", *words, "--loss", "Z")
-        self.refused("breaking.py", 4, "no bank has the name 'jura '; is it 'Jura'?\n", *example("twelve-banks"), "--loss", "jura ")
+        self.refused("clearing-breaking", 4, "no bank has the name 'Z'\n", *words, "--loss", "Z")
+        self.refused("clearing-breaking", 4, "no bank has the name 'jura '; is it 'Jura'?\n", *example("twelve-banks"), "--loss", "jura ")
 
     def test_impacts(self):
         for name, words in self.networks():
@@ -233,7 +137,7 @@ class Analysis(Case):
                 solver = self.solver(words)
                 names = [bank.name.decode() for bank in solver.net.banks]
                 matrix, fallen = self.file("matrix.csv"), self.file("fallen.csv")
-                ranking = records(self.made("impact.py", *words, "--matrix", matrix, "--defaults", fallen))
+                ranking = records(self.made("clearing-impact", *words, "--matrix", matrix, "--defaults", fallen))
                 before, lost, down, ranks = solver.after(), [], [], []
                 for i, bank in enumerate(names):
                     after = solver.after(0, {i: solver.cash[i]})
@@ -260,7 +164,7 @@ class Analysis(Case):
                 names = [bank.name.decode() for bank in solver.net.banks]
                 short = [i for i, standing in enumerate(solver.after()) if standing[2] != "sound"]
                 saved = self.file("saved.csv")
-                found = records(self.made("rescues.py", *words, "--saved", saved))
+                found = records(self.made("clearing-rescues", *words, "--saved", saved))
                 self.assertEqual(sorted(bank for bank, *_ in found), sorted(names[i] for i in short))
                 given = lambda i, units: solver.standings(tuple(c + units * (i == j) for j, c in enumerate(solver.cash)))
                 listed, per_unit = [], []
@@ -286,7 +190,7 @@ class Analysis(Case):
         past = self.file("past.csv", f"year,cut,{names[3]},{names[1]}\n2001,10,0,100\n2008,600,900,50.5\n2020,100,5e1,-4\n2021,2000,0,0\n")
         losses = [(10, {1: 100}), (600, {3: 900, 1: 51}), (100, {3: 50}), (1000, {})]
         each = self.file("each.csv")
-        first, second, third = self.made("draws.py", *words, "--past", past, "--draws", 60, "--seed", 4, "--each", each).split("\n\n")
+        first, second, third = self.made("clearing-draws", *words, "--past", past, "--draws", 60, "--seed", 4, "--each", each).split("\n\n")
         chance = random.Random(4)
         drawn = [losses[int(chance.random() * 4)] for _ in range(60)]
         lines, columns, causes = [], [], [[0, 0] for _ in solver.cash]
@@ -327,7 +231,7 @@ class Analysis(Case):
         table = self.file("wild.csv", "of,mean,deviation\ncut,500,2000\nA,6,100\nD,0,1\n")
         each = [self.file(f"each-{n}.csv") for n in (1, 2, 3)]
         for file, seed in zip(each, (3, 3, 4)):
-            self.made("draws.py", *words, "--moments", table, "--draws", 40, "--seed", seed, "--each", file)
+            self.made("clearing-draws", *words, "--moments", table, "--draws", 40, "--seed", seed, "--each", file)
         texts = [file.read_text() for file in each]
         self.assertEqual(texts[0], texts[1])
         self.assertNotEqual(texts[0], texts[2])
@@ -344,22 +248,22 @@ class Analysis(Case):
             ("--past", "year,A\n2001\n", "as many fields"), ("--past", "year,A\n", "no line below"), ("--past", "year,A\n1,inf\n", "'inf'"),
             ("--past", b"year,A\n\xff,1\n", "UTF-8"),
         ]:
-            self.refused("draws.py", 4, message, *words, option, self.file("table.csv", text))
-        self.refused("draws.py", 3, "cannot read", *words, "--past", self.folder / "none.csv")
-        self.refused("draws.py", 2, "one of the arguments", *words)
+            self.refused("clearing-draws", 4, message, *words, option, self.file("table.csv", text))
+        self.refused("clearing-draws", 3, "cannot read", *words, "--past", self.folder / "none.csv")
+        self.refused("clearing-draws", 2, "one of the arguments", *words)
 
     # All four.
 
     def commands(self):
         past = self.file("past.csv", "year,cut\n2001,10\n2008,600\n")
-        return [["breaking.py"], ["impact.py"], ["rescues.py"], ["draws.py", "--past", past, "--draws", "9"]]
+        return [["clearing-breaking"], ["clearing-impact"], ["clearing-rescues"], ["clearing-draws", "--past", past, "--draws", "9"]]
 
     def writers(self):
         """Each tool, with each option that names a file of records to write."""
         for command, options in zip(self.commands(), [["--output"], ["--ranking", "--matrix", "--defaults"], ["--output", "--saved"], ["--output", "--each"]]):
             for option in options:
                 yield [*command, *self.short(), option]
-        yield ["shock.py", *self.short()[:2], "--scenarios", self.file("s.toml", '[[scenario]]\nname = "s"\n'), "--scenario", 1, "--output"]
+        yield ["clearing-shock", *self.short()[:2], "--scenarios", self.file("s.toml", '[[scenario]]\nname = "s"\n'), "--scenario", 1, "--output"]
 
     def test_names_of_any_kind(self):
         """The same numbers as with plain names."""
@@ -371,7 +275,7 @@ class Analysis(Case):
         for kind, each in (("plain", [f"P{k}" for k in range(10)]), ("hostile", names)):
             words = ["--banks", self.file("b.csv", banks.replace("{}", "").format(*each)), "--debts", self.file("d.csv", debts.format(*each))]
             texts = [self.made(*command, *words) for command in self.commands()]
-            texts.append(self.made("breaking.py", *words, "--loss=" + each[4]))
+            texts.append(self.made("clearing-breaking", *words, "--loss=" + each[4]))
             made[kind] = texts
         plain = ["\n".join(",".join([names[int(line[1])] if line[:1] == "P" else line.split(",")[0], *line.split(",")[1:]])
                            for line in text.split("\n")) for text in made["plain"]]
@@ -412,7 +316,7 @@ class Analysis(Case):
         self.folder.chmod(0o777)
         for name, *words in self.writers():
             with self.subTest(tool=name, option=words[-1]):
-                run = [*prefix, sys.executable, "-B", str(ROOT / "tools" / name)]
+                run = [*prefix, sys.executable, "-B", str(file_of(name))]
                 tried = [[*run, "--help"], [*prefix, sys.executable, "-c", "import os, sys; sys.exit(not os.access(sys.argv[1], os.X_OK))", PROGRAM]]
                 if any(subprocess.run(each, capture_output=True).returncode for each in tried):
                     self.skipTest("another user may not read the tools or the program")
@@ -446,7 +350,7 @@ class Analysis(Case):
         self.assertEqual((kept.read_text(), kept.stat().st_mode & 0o777, link.is_symlink()), ("new", 0o600, True))
         self.assertEqual(kinds, ["svg"])
         for place, figure in ((kept, Broken()), (self.folder / "none.svg", Broken()), (self.folder / "none" / "a.svg", Figure()), (full, Figure())):
-            with self.assertRaisesRegex(runner.Failed, f"cannot write {place}: ") as failed:
+            with self.assertRaisesRegex(runner.ToolError, f"cannot write {place}: ") as failed:
                 style.save(figure, str(place), folders=False)
             self.assertEqual((failed.exception.status, kept.read_text()), (1, "new"))
         full.unlink()
@@ -458,7 +362,7 @@ class Analysis(Case):
                 with self.subTest(tool=name, option=words[-1], place=place):
                     self.refused(name, 5, f"cannot write {place}: ", *words, place)
             with open("/dev/full", "wb") as full:
-                done = subprocess.run([sys.executable, str(ROOT / "tools" / name), *map(str, words[:-1])], stdout=full, stderr=subprocess.PIPE)
+                done = subprocess.run([*run_of(name), *map(str, words[:-1])], stdout=full, stderr=subprocess.PIPE)
             self.assertEqual((done.returncode, b"cannot write the output" in done.stderr), (5, True))
 
     def test_failures_are_told(self):
@@ -472,7 +376,7 @@ class Analysis(Case):
         program = self.file("program", f"#!/bin/sh\n{script}\nexec '{PROGRAM}' \"$@\"\n")
         program.chmod(0o755)
         running = subprocess.Popen(
-            [sys.executable, str(ROOT / "tools" / name), *map(str, words)], env={**os.environ, "CLEARING": str(program)},
+            [*run_of(name), *map(str, words)], env={**os.environ, "CLEARING": str(program)},
             stdin=subprocess.DEVNULL, stdout=subprocess.PIPE, stderr=subprocess.PIPE, **more)
         self.addCleanup(running.stdout.close)
         self.addCleanup(running.stderr.close)
@@ -481,7 +385,7 @@ class Analysis(Case):
     def test_answers_that_are_none_are_told(self):
         words = self.short()
         # A program that says that all banks are sound in the last scenario of a file.
-        running = self.with_program(LYING % PROGRAM, "breaking.py", *words, "--loss", "A")
+        running = self.with_program(LYING % PROGRAM, "clearing-breaking", *words, "--loss", "A")
         output, messages = running.communicate(timeout=60)
         self.assertEqual((running.returncode, output), (1, b""), messages)
         self.assertIn("milder_shock_hurts_nobody", messages.decode())
@@ -505,7 +409,7 @@ class Analysis(Case):
             output = self.folder / "out.csv"
             begun = self.folder / f"{command[0]}.begun"
             running = self.with_program(f'case $1 in {ASKED}) echo $$ >>"{begun}"; exec sleep 60;; esac', *command, *words,
-                                        "--ranking" if command[0] == "impact.py" else "--output", output, start_new_session=True)
+                                        "--ranking" if command[0] == "clearing-impact" else "--output", output, start_new_session=True)
             deadline = time.monotonic() + 30
             while not begun.exists() and time.monotonic() < deadline:
                 time.sleep(0.02)
@@ -535,7 +439,7 @@ def begins(*given, **more):
 subprocess.Popen.__init__ = begins
 if sys.argv[3] == "tools":
     from clearing_tools import runner
-    runner.Asking().run([os.environ["CLEARING"]])
+    runner.ProgramRuns().run([os.environ["CLEARING"]])
 else:
     import clearing_client as cc
     cc.Network({"A": 1}, {}).check()
@@ -554,7 +458,7 @@ else:
         class Fault(BaseException):
             pass
 
-        asking, started, begun, ended = runner.Asking(), threading.Event(), [], []
+        asking, started, begun, ended = runner.ProgramRuns(), threading.Event(), [], []
 
         def work(item):
             if item == "fault":
@@ -565,11 +469,11 @@ else:
             time.sleep(0.2)
             ended.append(item)
 
-        with unittest.mock.patch("clearing_tools.runner.processors", lambda: 2), self.assertRaises(Fault):
+        with unittest.mock.patch("clearing_tools.running.processors", lambda: 2), self.assertRaises(Fault):
             asking.all(work, ["fault", "write", *range(50)], "thing")
         self.assertEqual((sorted(map(str, ended)), len(ended) < 10), (sorted(map(str, begun)), True))
         # A run that ends with its child alive, which holds its output, is not waited for; and no run begins any more.
-        asking, sent = runner.Asking(), time.monotonic()
+        asking, sent = runner.ProgramRuns(), time.monotonic()
         begun = self.folder / "begun"
 
         def run(item):
@@ -579,7 +483,7 @@ else:
                 raise Fault
             asking.run(["sh", "-c", f"sleep 30 & echo $! >'{begun}.part'; mv '{begun}.part' '{begun}'; wait"])
 
-        with unittest.mock.patch("clearing_tools.runner.processors", lambda: 2), self.assertRaises(Fault):
+        with unittest.mock.patch("clearing_tools.running.processors", lambda: 2), self.assertRaises(Fault):
             asking.all(run, ["fault", "run"], "thing")
         os.kill(int(begun.read_text()), signal.SIGKILL)
         self.assertLess(time.monotonic() - sent, 20)
@@ -590,14 +494,14 @@ else:
         """At any moment, of the group of processes too, as at a terminal: the status is 130, and no file is left."""
         past = self.file("past.csv", "year,cut\n" + "".join(f"{cut},{cut}\n" for cut in range(1000)))
         banks, debts = self.file("g-banks.csv"), self.file("g-debts.csv")
-        self.made("gen_files.py", "--seed", 5, "--size", 600, "--tries", 9000, "--banks", banks, "--debts", debts)
+        self.made("clearing-gen-files", "--seed", 5, "--size", 600, "--tries", 9000, "--banks", banks, "--debts", debts)
         banks.write_text("".join(line if at == 0 else ",".join([line.split(",")[0], "9", line.split(",")[2]])
                                  for at, line in enumerate(banks.read_text().splitlines(keepends=True))))
         place = self.folder / "place"
         place.mkdir()
         for tries in range(6):
             running = subprocess.Popen(
-                [sys.executable, str(ROOT / "tools/draws.py"), "--banks", str(banks), "--debts", str(debts), "--past", str(past), "--draws", "9999"],
+                [sys.executable, str(ROOT / "bin/clearing-draws"), "--banks", str(banks), "--debts", str(debts), "--past", str(past), "--draws", "9999"],
                 env={**os.environ, "CLEARING": PROGRAM, "TMPDIR": str(place)}, stdin=subprocess.DEVNULL, stdout=subprocess.PIPE,
                 stderr=subprocess.PIPE, start_new_session=True)
             deadline = time.monotonic() + 30
@@ -612,7 +516,7 @@ else:
     def test_a_terminal_is_told_how_far_it_is(self):
         pty = importlib.import_module("pty")
         main, other = pty.openpty()
-        running = subprocess.Popen([sys.executable, str(ROOT / "tools/breaking.py"), *map(str, self.small()), "--loss", "A"],
+        running = subprocess.Popen([sys.executable, str(ROOT / "bin/clearing-breaking"), *map(str, self.small()), "--loss", "A"],
                                    stdout=subprocess.DEVNULL, stderr=other)
         os.close(other)
         said = b""
@@ -623,12 +527,12 @@ else:
             pass
         os.close(main)
         self.assertEqual(running.wait(), 0)
-        self.assertIn(b"breaking.py: group of scenarios 0 of ", said)
+        self.assertIn(b"clearing-breaking: group of scenarios 0 of ", said)
         self.assertTrue(said.endswith(b"\r\x1b[K"))
 
     def test_pictures_are_drawn_where_matplotlib_is(self):
         for command in self.commands():
-            if command[0] == "rescues.py":
+            if command[0] == "clearing-rescues":
                 continue
             for name, words in (("svg", self.small()), ("png", self.small())):
                 picture = self.folder / f"picture.{name}"
@@ -658,3 +562,30 @@ if __name__ == "__main__":
     import unittest
 
     unittest.main()
+
+
+class Once(unittest.TestCase):
+    """How often the debts are gone over, which on the largest networks is what a tool takes."""
+
+    class Debts(list):
+        """Debts that count how often they are gone over."""
+
+        times = 0
+
+        def __iter__(self):
+            self.times += 1
+            return super().__iter__()
+
+    def test_the_debts_are_gone_over_once_however_many_banks_fall(self):
+        names = [f"B{number}" for number in range(200)]
+        debts = self.Debts(Debt(one, other, 1, 1 + at % 3) for at, (one, other) in enumerate(zip(names, [*names[1:], names[0]])))
+        network = queries.Network(names, [at % 2 for at in range(200)], ["order"] * 200, [at % 5 == 0 for at in range(200)], debts)
+        fallen = impact.fallen_of(network, [Harm(one, of, 1, True) for one in names for of in (one, names[0])])
+        self.assertEqual((debts.times, len(fallen)), (1, 400))
+        for at, (one, of, state) in enumerate(fallen):
+            place = at // 2
+            spare = (1 + (place - 1) % 200 % 3) - (1 + place % 3) - (place % 5 == 0)
+            self.assertEqual((one, state), (names[place], "fundamental" if of == one and spare < 0 else "contagion"), place)
+        debts.times = 0
+        depths = list(breaking.depths_of(network, 1000, range(200)))
+        self.assertEqual((debts.times, 0 < len(depths) <= 200), (1, True))

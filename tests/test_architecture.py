@@ -1,4 +1,6 @@
-"""The picture of the architecture is that of crates.txt and the sources as they are."""
+"""The picture of the architecture is that of crates.txt and the sources as they are; neither has anything that nothing
+uses, and each lemma says in words what it states."""
+import collections
 import importlib.util
 import re
 import unittest
@@ -9,6 +11,21 @@ from common import ROOT, tool
 SPEC = importlib.util.spec_from_file_location("architecture", ROOT / "tools/dev/architecture.py")
 architecture = importlib.util.module_from_spec(SPEC)
 SPEC.loader.exec_module(architecture)
+# A call, or a function that is passed on; and a function that a file offers, with the first line of its body, which a law has not.
+CALL = re.compile(r"(?<!fn )\b(\w+)\b(?=\(|::<|\)|,)")
+OFFERED = re.compile(r"^( *)pub (?:const )?fn (\w+)(?:.*\n)*?^ *(\{\}|\{)$", re.MULTILINE)
+# A name in a file of definitions or of proofs, a line that opens a block of them, the first line of a lemma, and a line
+# that begins with a name, after the words that say what it is the name of.
+NAME = re.compile(r"[^\W\d][\w'-]*")
+BLOCK = re.compile(r" *(?:pub )?(?P<kind>module|record|data)\b")
+LEMMA = re.compile(r" *(?:(?:pub|abbrev|unfoldable) )*(?P<name>[^\s(){}\[\],;:=.]+) :(?: |$)")
+HEAD = re.compile(r"(?P<indent> *)(?P<kind>(?:(?:pub|abbrev|unfoldable|record|module) )*)(?P<name>[^\W\d][\w'-]*)(?= *[({:=]| [\w(\[])")
+
+
+def code_of(path):
+    """A file without its comments, its imports and its contracts."""
+    lines = path.read_text(encoding="utf-8").splitlines()
+    return "\n".join(line for line in lines if not re.match(r" *(//|(ghost )?(pub )?use |requires |ensures )", line))
 
 
 class Picture(unittest.TestCase):
@@ -38,11 +55,11 @@ class Picture(unittest.TestCase):
 
     def test_its_figures_are_constants_of_the_code(self):
         text = " ".join((ROOT / "docs/ARCHITECTURE.md").read_text(encoding="utf-8").split())
-        for words, file, constant in (("after a round of 512 visits", "settle/src/drives.rt", "MANY_VISITS: u64 = 512;"),
+        for words, file, constant in (("after a round of 512 visits", "settle/src/teams.rt", "MANY_VISITS: u64 = 512;"),
                                       ("through a room of 64 KB", "raise_journal/src/lib.rt", "ROOM: usize = 65_536;"),
-                                      ("in a buffer of 256 bytes", "net_csv/src/line.rt", "MAX_LINE: usize = 256;"),
+                                      ("in a buffer of 256 bytes", "clr_edge/src/line.rt", "MAX_LINE: usize = 256;"),
                                       ("is tried 64 times", "clr_host/src/std_sink.rt", "TRIES: u32 = 64;"),
-                                      ("those of up to eight workers", "settle/src/teams.rt", "FEW_WORKERS: usize = 8;")):
+                                      ("those of up to eight workers", "settle/src/noting.rt", "FEW_WORKERS: usize = 8;")):
             with self.subTest(words=words):
                 self.assertIn(words, text)
                 self.assertIn(constant, (ROOT / "crates" / file).read_text(encoding="utf-8"))
@@ -61,6 +78,91 @@ class Picture(unittest.TestCase):
         self.assertEqual(parts["settle"], "starts threads")
         self.assertEqual(parts["pay_words"], "words that threads share")
         self.assertEqual(parts["clear_core"], "")
+
+
+class Unused(unittest.TestCase):
+    def test_what_the_program_does_not_call_stands_in_modules_called_plain(self):
+        texts = {path: code_of(path) for path in sorted((ROOT / "crates").glob("*/src/**/*.rt"))
+                 if not re.match(r".*_tests$|net_samples$", path.relative_to(ROOT / "crates").parts[0])}
+        called = {name for path, text in texts.items() if path.name != "plain.rt" for name in CALL.findall(text)}
+        offered = [(path, deep, name) for path, text in texts.items() for deep, name, body in OFFERED.findall(text) if body != "{}"]
+        self.assertEqual([f"{path.relative_to(ROOT)}: {name}" for path, _, name in offered
+                          if path.name not in ("plain.rt", "mem_sink.rt") and name not in called], [], "a sink in memory is there for tests")
+        self.assertEqual([f"{path.relative_to(ROOT)}: {name}" for path, deep, name in offered
+                          if path.name == "plain.rt" and not deep and name in called], [], "of methods the name alone does not tell")
+
+    def test_each_crate_names_all_that_it_is_listed_to_stand_on(self):
+        self.assertEqual([f"{crate} is listed to stand on {other}, which none of its files names"
+                          for crate, others in listed().items() for other in others if other not in named_in(crate)], [])
+
+    def test_each_definition_and_lemma_that_a_file_offers_is_named_elsewhere(self):
+        self.assertEqual(unnamed(ROOT / "crates"), [], "worked cases apart, which are shown where they stand")
+
+
+class Comments(unittest.TestCase):
+    def test_each_lemma_has_a_comment_above_it(self):
+        files = sorted((ROOT / "crates").glob("*/proofs/*.antt"))
+        self.assertEqual([f"{path.relative_to(ROOT)}:{lemma}" for path in files
+                          for lemma in without_comment(path.read_text(encoding="utf-8").splitlines())], [])
+
+    def test_a_lemma_without_one_is_named(self):
+        lines = ["-- what it says", "pub first : ℕ", "first = 1", "", "abbrev second : ℕ", "second = 2", "",
+                 "record Pair : Type 0 where", "  left : ℕ", "", "-- of some n", "module _ (n : ℕ) where",
+                 "  third : ℕ", "  third = other", "    where", "      other : ℕ", "      other = n", "",
+                 "pub fourth : ℕ → ℕ", "    → ℕ"]
+        self.assertEqual(without_comment(lines), ["5: second", "13: third", "19: fourth"])
+
+
+def without_comment(lines):
+    """The lemmas and definitions of a file of proofs that have no comment on the line above them. Those are in no
+    record and in no `where`: they begin at the left, or in a module two columns for each module round them."""
+    lost, above, open_blocks = [], "", []
+    for number, line in enumerate(lines, 1):
+        indent = len(line) - len(line.lstrip())
+        if line.strip() and line.strip()[0] not in ")}]":
+            open_blocks = [(deep, kind) for deep, kind in open_blocks if deep < indent]
+        block, lemma = BLOCK.match(line), LEMMA.match(line)
+        if block:
+            open_blocks.append((indent, block["kind"]))
+        elif lemma and indent == 2 * len(open_blocks) and all(kind == "module" for _, kind in open_blocks):
+            if not above.lstrip().startswith("--"):
+                lost.append(f"{number}: {lemma['name']}")
+        above = line
+    return lost
+
+
+def listed():
+    """What crates.txt lists for each crate: crates of the repository and of the toolchain."""
+    lines = [line.split("#")[0] for line in (ROOT / "crates.txt").read_text(encoding="utf-8").splitlines()]
+    return {name.split()[0]: crates.split() for name, crates in (line.split(":") for line in lines if line.strip())}
+
+
+def named_in(crate):
+    """The crates that the sources, definitions and proofs of a crate name, among other words before two colons."""
+    files = [path for part in ("src", "specs", "proofs") for path in (ROOT / "crates" / crate / part).rglob("*")
+             if path.suffix in (".rt", ".antt")]
+    text = "\n".join(re.sub(r"//.*|--.*", "", path.read_text(encoding="utf-8")) for path in files)
+    return {name for pair in re.findall(r"\bRattle\.(\w+)\.|\b(\w+)::", text) for name in pair}
+
+
+def unnamed(crates):
+    """The definitions and lemmas that a file of specs/ or proofs/ offers to others, and that only the lines that begin with their names
+    name. The parts of a record are not looked for, since a tactic reads them without their names."""
+    files = [path for part in ("src", "specs", "proofs") for path in crates.glob(f"*/{part}/**/*") if path.suffix in (".rt", ".antt")]
+    texts = {path: re.sub(r"--.*|//.*", "", path.read_text(encoding="utf-8")) for path in files}
+    named = collections.Counter(word for text in texts.values() for word in NAME.findall(text))
+    lost = []
+    for path in sorted(path for path in files if path.parent.name in ("specs", "proofs") and not path.stem.endswith("Cases")):
+        heads = [head for head in map(HEAD.match, texts[path].splitlines()) if head]
+        begun = collections.Counter((head["indent"], head["name"]) for head in heads)
+        above = []
+        for head in heads:
+            above = [line for line in above if len(line["indent"]) < len(head["indent"])]
+            in_record = above and "record" in above[-1]["kind"].split()
+            if "pub" in head["kind"].split() and not in_record and named[head["name"]] == begun[head["indent"], head["name"]]:
+                lost.append(f"{path.relative_to(crates)}: {head['name']}")
+            above.append(head)
+    return lost
 
 
 if __name__ == "__main__":

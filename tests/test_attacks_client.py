@@ -11,7 +11,7 @@ import unittest.mock
 from common import HUB, PROGRAM, ROOT, TWELVE, Case, clearing, files_of
 
 import clearing_client as cc
-from clearing_client import Network, Raise, Scenario, Scenarios, asked, texts
+from clearing_client import Network, Raise, Scenario, Scenarios, request, texts
 
 SCENARIOS = [Scenario("as it is"), Scenario("half", 500), Scenario("one loses", losses={"Hub": 7})]
 
@@ -130,7 +130,7 @@ class Lying(Case):
         made, net, seed = random.Random(20261130), self.net(TWELVE), 0
         whole = {name: clearing(name, *files_of(TWELVE)).stdout for name in ("clear", "defaults", "bounds", "breaking", "rescues", "impact", "compress", "check")}
         kept = {name: texts.parse(text.decode()) for name, text in whole.items()}
-        asked_ = asked.Asked(net._banks, net._debts)
+        taken = request.Request(net._banks, net._debts)
         for _ in range(400):
             name = made.choice(sorted(whole))
             data = bytearray(whole[name])
@@ -141,7 +141,7 @@ class Lying(Case):
             seed += 1
             try:
                 result = texts.parse(data.decode())
-                asked_.check(result)
+                taken.check(result)
             except (cc.ClearingError, UnicodeDecodeError):
                 continue
             self.assertNotEqual(result, kept[name], (name, at))
@@ -178,11 +178,11 @@ class Fields(Case):
                 at = made.randrange(len(data) + 1)
                 data[at : at + made.choice((0, 1))] = made.choice((b" ", b"\t", b",", b"\n", b"\r", b'"', b"7", b"x", b""))
             read = []
-            for way in (asked.plain_columns, lambda *_: None):
-                with unittest.mock.patch.object(asked, "plain_columns", way):
+            for way in (request.plain_columns, lambda *_: None):
+                with unittest.mock.patch.object(request, "plain_columns", way):
                     quick += way(bytes(data), 2) is not None
                     try:
-                        read.append(asked.columns_of(bytes(data), 2))
+                        read.append(request.columns_of(bytes(data), 2))
                     except cc.TextError:
                         read.append(None)
             self.assertEqual(read[0], read[1], bytes(data))

@@ -12,11 +12,11 @@ import time
 import unittest
 import unittest.mock
 
-from common import ROOT
+from common import PACKAGES, ROOT
 from evidences import EvidenceCase, evidence
 
 from clearing_tools.evidence import audit, checking, parts, source  # noqa: E402
-from clearing_tools.runner import Failed  # noqa: E402
+from clearing_tools.runner import ToolError  # noqa: E402
 
 SHEET = "lender,borrower,amount\nB,A,10\nA,B,4\n"
 CONFINED = ROOT / "python/src/clearing_tools/evidence/confined.py"
@@ -86,7 +86,7 @@ class Commands(EvidenceCase):
             command.write(b"word\tx\n" * 3_000_000)
         self.sums_anew(folder)
         limit = lambda: resource.setrlimit(resource.RLIMIT_AS, (150 << 20, 150 << 20))
-        done = subprocess.run([str(ROOT / "tools/evidence.sh"), "check", str(folder)], preexec_fn=limit, capture_output=True, encoding="utf-8")
+        done = subprocess.run([str(ROOT / "bin/clearing-evidence"), "check", str(folder)], preexec_fn=limit, capture_output=True, encoding="utf-8")
         self.assertEqual(done.returncode, 3, done.stderr)
         self.assertIn("source/command.tsv: it is longer than 100,000 bytes", done.stdout)
 
@@ -141,7 +141,7 @@ class Confined(EvidenceCase):
             done = subprocess.run([sys.executable, "-c", code.format(str(ROOT / "python/src"), deed)], capture_output=True, encoding="utf-8")
             self.assertIn(how, done.stdout + done.stderr)
         # A tool that goes on is ended.
-        with unittest.mock.patch.object(source, "MOST_SECONDS", 0.01), self.assertRaisesRegex(Failed, "takes longer than"):
+        with unittest.mock.patch.object(source, "MOST_SECONDS", 0.01), self.assertRaisesRegex(ToolError, "takes longer than"):
             source.run_tool("from_list.py", ["m.csv"], self.folder)
 
 
@@ -205,16 +205,16 @@ class Sizes(EvidenceCase):
         copy.mkdir()
 
         def full(file, block):
-            raise parts.NoRoom("No space left on device")
+            raise parts.NoRoomError("No space left on device")
 
-        with unittest.mock.patch.object(parts, "write_copy", full), self.assertRaises(parts.NoRoom):
+        with unittest.mock.patch.object(parts, "write_copy", full), self.assertRaises(parts.NoRoomError):
             checking.Checking(folder, copy)
         # A folder of temporary files that has no room at all.
         where = self.folder / "none"
         where.mkdir()
-        code = ("import resource, runpy, sys; resource.setrlimit(resource.RLIMIT_FSIZE, (300, 300)); import signal; signal.signal(signal.SIGXFSZ, signal.SIG_IGN)\n"
-                f"sys.argv = ['evidence.sh', 'check', {str(folder)!r}]; runpy.run_path({str(ROOT / 'tools/evidence.py')!r}, run_name='__main__')")
-        done = subprocess.run([sys.executable, "-c", code], capture_output=True, encoding="utf-8", env={**os.environ, "TMPDIR": str(where)})
+        code = ("import resource, sys; resource.setrlimit(resource.RLIMIT_FSIZE, (300, 300)); import signal; signal.signal(signal.SIGXFSZ, signal.SIG_IGN)\n"
+                f"sys.argv = ['evidence.sh', 'check', {str(folder)!r}]; from clearing_tools.evidence.evidence import main; main()")
+        done = subprocess.run([sys.executable, "-c", code], capture_output=True, encoding="utf-8", env={**os.environ, "TMPDIR": str(where), "PYTHONPATH": str(PACKAGES)})
         self.assertEqual(done.returncode, 1, done.stderr)
         self.assertIn("no copy can be made in the folder of temporary files", done.stderr)
         self.assertNotIn("cannot be read", done.stdout + done.stderr)
@@ -239,7 +239,7 @@ class Sizes(EvidenceCase):
         self.assertNotIn(4 << 30, inner[4:])
 
     def test_a_run_beyond_its_limits_is_ended(self):
-        asking = checking.runner.Asking(checking.runner.Limits(seconds=1, memory=200 << 20))
+        asking = checking.runner.ProgramRuns(checking.runner.Limits(seconds=1, memory=200 << 20))
         self.assertEqual(asking.run([sys.executable, "-c", "while True: pass"])[0], -24)
         status, _, said = asking.run([sys.executable, "-c", "import time; time.sleep(0.3); bytearray(1 << 30)"])
         self.assertEqual((status, b"MemoryError" in said), (1, True))

@@ -7,7 +7,6 @@ import shutil
 import signal
 import stat
 import subprocess
-import sys
 import tempfile
 import threading
 import time
@@ -18,7 +17,7 @@ from common import CHAIN, HUB, PROGRAM, ROOT, Case, tool
 
 from clearing_tools import files  # noqa: E402
 from clearing_tools.evidence import shock  # noqa: E402
-from clearing_tools.runner import Failed  # noqa: E402
+from clearing_tools.runner import ToolError  # noqa: E402
 
 ANOTHER = 54321
 FILES = ["--banks", HUB / "banks.csv", "--debts", HUB / "debts.csv"]
@@ -32,8 +31,8 @@ def writers():
     def by_shock(name):
         try:
             shock.write(os.fspath(name), b"new\n")
-        except shock.Failed as fault:
-            raise Failed(str(fault)) from fault
+        except shock.ScenarioError as fault:
+            raise ToolError(str(fault)) from fault
 
     yield by_shock
 
@@ -64,7 +63,7 @@ class Planted(Case):
             self.others(plain)
             self.others(folder)
             for name in (plain, folder / ".bashrc", chain, folder / "new"):
-                with self.assertRaisesRegex(Failed, "a link of another user"):
+                with self.assertRaisesRegex(ToolError, "a link of another user"):
                     write(name)
             self.assertEqual((victim.read_text(), inner.read_text(), sorted(os.listdir(self.folder / "home"))), ("kept\n", "kept\n", [".bashrc"]))
             for path in (plain, folder, chain):
@@ -85,7 +84,7 @@ class Planted(Case):
             # Somebody listens, so that a write would go through.
             listening = os.open(pipe, os.O_RDONLY | os.O_NONBLOCK)
             try:
-                with self.assertRaisesRegex(Failed, "a pipe of another user"):
+                with self.assertRaisesRegex(ToolError, "a pipe of another user"):
                     write(pipe)
                 self.assertEqual(os.read(listening, 10), b"")
             finally:
@@ -102,7 +101,7 @@ class Planted(Case):
             return real(source, name, **more)
 
         with unittest.mock.patch("clearing_tools.files.os.link", planted):
-            with self.assertRaisesRegex(Failed, "File exists"):
+            with self.assertRaisesRegex(ToolError, "File exists"):
                 files.write_all({target: "new\n"})
         self.assertEqual((victim.read_text(), target.read_text()), ("kept\n", "old\n"))
 
@@ -133,7 +132,7 @@ class Planted(Case):
                     os.chown(way, ANOTHER, ANOTHER, follow_symlinks=False)
                 return real(*words)
 
-            with unittest.mock.patch.object(files, between, exchanged), self.assertRaises(Failed):
+            with unittest.mock.patch.object(files, between, exchanged), self.assertRaises(ToolError):
                 write(way / "new")
             self.assertEqual((len(done), os.listdir(victim)), (1, []), number)
             way.unlink()
@@ -147,7 +146,7 @@ class Planted(Case):
                 try:
                     files.write_all({way / "new": "x"})
                     counts[True] += 1
-                except Failed:
+                except ToolError:
                     counts[False] += 1
         finally:
             until.set()
@@ -164,7 +163,7 @@ class Planted(Case):
         # When all runs have begun.
         self.program(f'[ "$1" = defaults ] && sleep 1 && for part in "{place}"/.part-*; do [ -h "$part" ] || {{ mv "$part" "{place}/moved-$$"; ln -s "{victim}" "$part"; }}; done\n'
                      f'exec {PROGRAM} "$@"\n')
-        done = subprocess.run([str(ROOT / "tools/evidence.sh"), "make", str(place / "evidence"), *map(str, FILES)], capture_output=True, encoding="utf-8")
+        done = subprocess.run([str(ROOT / "bin/clearing-evidence"), "make", str(place / "evidence"), *map(str, FILES)], capture_output=True, encoding="utf-8")
         self.assertEqual(os.listdir(victim), [], done.stderr)
 
     def test_a_way_goes_where_its_name_leads(self):
@@ -185,7 +184,7 @@ class Planted(Case):
             os.unlink(name)
         loop = self.folder / "loop"
         loop.symlink_to("loop")
-        with self.assertRaises((Failed, OSError)):
+        with self.assertRaises((ToolError, OSError)):
             files.Way(str(loop / "x"))
         self.assertLess(len(os.listdir("/proc/self/fd")), 40)
 
@@ -196,17 +195,17 @@ class Planted(Case):
             place.mkdir(exist_ok=True)
             place.chmod(mode)
             for task in (["run", jobs, place, 1], ["one", jobs, place, 1]):
-                done = subprocess.run([str(ROOT / "tools/many.sh"), *map(str, task)], capture_output=True, encoding="utf-8")
+                done = subprocess.run([str(ROOT / "bin/clearing-many"), *map(str, task)], capture_output=True, encoding="utf-8")
                 self.assertEqual((done.returncode, sorted(os.listdir(place))), (2, []), (oct(mode), done.stderr))
                 self.assertIn("others can write", done.stderr)
         if os.geteuid() == 0:
             place.chmod(0o755)
             os.chown(place, ANOTHER, ANOTHER)
-            done = subprocess.run([str(ROOT / "tools/many.sh"), "run", str(jobs), str(place), "1"], capture_output=True, encoding="utf-8")
+            done = subprocess.run([str(ROOT / "bin/clearing-many"), "run", str(jobs), str(place), "1"], capture_output=True, encoding="utf-8")
             self.assertEqual((done.returncode, sorted(os.listdir(place))), (2, []), done.stderr)
             os.chown(place, 0, 0)
         place.chmod(0o755)
-        done = subprocess.run([str(ROOT / "tools/many.sh"), "run", str(jobs), str(place), "1"], capture_output=True, encoding="utf-8")
+        done = subprocess.run([str(ROOT / "bin/clearing-many"), "run", str(jobs), str(place), "1"], capture_output=True, encoding="utf-8")
         self.assertEqual(done.returncode, 0, done.stderr)
 
     def test_many_follows_no_link_in_its_folder(self):
@@ -218,7 +217,7 @@ class Planted(Case):
         self.assertIsNone(plant)
         for status in ("0", "6"):
             shutil.rmtree(self.folder / "results", ignore_errors=True)
-            subprocess.run([str(ROOT / "tools/many.sh"), "run", str(jobs), str(self.folder / "results"), "1"], capture_output=True,
+            subprocess.run([str(ROOT / "bin/clearing-many"), "run", str(jobs), str(self.folder / "results"), "1"], capture_output=True,
                            env={**os.environ, "STATUS": status})
             self.assertEqual(victim.read_text(), "kept\n", status)
 
@@ -243,12 +242,12 @@ class BelowDev(unittest.TestCase):
             name.write_bytes((CHAIN / name.name).read_bytes())
         scenarios = self.folder / "s.toml"
         scenarios.write_text('[[scenario]]\nname = "a"\n')
-        with self.assertRaisesRegex(Failed, "also read"):
+        with self.assertRaisesRegex(ToolError, "also read"):
             files.write_all({banks: "x"}, [banks])
         net = ["--banks", banks, "--debts", debts]
         for name, words in [
-            ("to_matrix.py", [*net, "--out", banks]), ("breaking.py", [*net, "--output", banks]), ("impact.py", [*net, "--matrix", debts]),
-            ("shock.py", ["--banks", banks, "--scenarios", scenarios, "--scenario", 1, "--output", scenarios]), ("report.py", [*net, "--out", banks]),
+            ("clearing-to-matrix", [*net, "--out", banks]), ("clearing-breaking", [*net, "--output", banks]), ("clearing-impact", [*net, "--matrix", debts]),
+            ("clearing-shock", ["--banks", banks, "--scenarios", scenarios, "--scenario", 1, "--output", scenarios]), ("clearing-report", [*net, "--out", banks]),
         ]:
             done = tool(name, *words)
             self.assertNotEqual(done.returncode, 0, name)
@@ -277,23 +276,23 @@ class WhoMayRead(Case):
     def test_what_is_made_of_files_that_are_not_for_all_is_not_for_all(self):
         net = self.private()
         for name, words, made in [
-            ("breaking.py", ["--output"], "breaking.csv"), ("impact.py", ["--matrix"], "impact.csv"), ("rescues.py", ["--output"], "rescues.csv"),
-            ("to_matrix.py", ["--out"], "matrix.csv"), ("report.py", ["--out"], "report.html"),
+            ("clearing-breaking", ["--output"], "breaking.csv"), ("clearing-impact", ["--matrix"], "impact.csv"), ("clearing-rescues", ["--output"], "rescues.csv"),
+            ("clearing-to-matrix", ["--out"], "matrix.csv"), ("clearing-report", ["--out"], "report.html"),
         ]:
             done = tool(name, *net, *words, self.folder / made)
             self.assertEqual(done.returncode, 0, (name, done.stderr))
             self.assertEqual(oct(permitted(self.folder / made)), "0o600", name)
         scenarios = self.file("s.toml", '[[scenario]]\nname = "a"\n')
-        done = tool("shock.py", *net[:2], "--scenarios", scenarios, "--scenario", 1, "--output", self.folder / "left.csv")
+        done = tool("clearing-shock", *net[:2], "--scenarios", scenarios, "--scenario", 1, "--output", self.folder / "left.csv")
         self.assertEqual((done.returncode, oct(permitted(self.folder / "left.csv"))), (0, "0o600"), done.stderr)
-        made = subprocess.run([str(ROOT / "tools/evidence.sh"), "make", self.folder / "evidence", *map(str, net)], capture_output=True)
+        made = subprocess.run([str(ROOT / "bin/clearing-evidence"), "make", self.folder / "evidence", *map(str, net)], capture_output=True)
         self.assertEqual(made.returncode, 0, made.stderr)
         self.assertEqual(oct(permitted(self.folder / "evidence")), "0o700")
         for path in (self.folder / "evidence").rglob("*"):
             self.assertEqual(permitted(path) & 0o077, 0, path)
         jobs = self.file("jobs.tsv", "\t".join(["a", "check", *map(str, net)]) + "\n" + "\t".join(["b", "check", f"--banks={net[1]}", *map(str, net[2:])]) + "\n"
                          + "\t".join(["c", "check", *map(str, FILES)]) + "\n" + "\t".join(["d", "check", *map(str, net), "--bad"]) + "\n")
-        subprocess.run([str(ROOT / "tools/many.sh"), "run", str(jobs), str(self.folder / "many"), "1"], capture_output=True)
+        subprocess.run([str(ROOT / "bin/clearing-many"), "run", str(jobs), str(self.folder / "many"), "1"], capture_output=True)
         modes = {path.name: oct(permitted(path)) for path in (self.folder / "many").iterdir()}
         self.assertEqual(modes, {"a.out": "0o600", "a.job": "0o600", "b.out": "0o600", "b.job": "0o600", "c.out": "0o644", "c.job": "0o644", "d.failed": "0o600"})
 
@@ -310,7 +309,7 @@ class WhoMayRead(Case):
         program = self.file("slow", '#!/bin/sh\ncase $1 in clear) exec sleep 60;; esac\nexec "$REAL" "$@"\n')
         program.chmod(0o755)
         environment = {**os.environ, "CLEARING": str(program), "REAL": PROGRAM, "PYTHONDONTWRITEBYTECODE": "1"}
-        running = subprocess.Popen([sys.executable, str(ROOT / "tools/evidence.py"), "make", str(place / "evidence"), *map(str, FILES)], env=environment,
+        running = subprocess.Popen([str(ROOT / "bin/clearing-evidence"), "make", str(place / "evidence"), *map(str, FILES)], env=environment,
                                    stdout=subprocess.PIPE, stderr=subprocess.PIPE, start_new_session=True,
                                    # A caller that ignores the signal, as nohup does, would hand that down.
                                    preexec_fn=lambda: signal.signal(signal.SIGHUP, signal.SIG_DFL))

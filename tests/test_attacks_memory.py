@@ -5,11 +5,10 @@ import os
 import pathlib
 import resource
 import subprocess
-import sys
 import unittest
 
 import test_hostile
-from common import HUB, PROGRAM, ROOT, Case, clearing
+from common import HUB, PROGRAM, Case, clearing, run_of
 from evidences import EvidenceCase
 
 from clearing_tools.evidence import audit, bounds  # noqa: E402
@@ -20,8 +19,7 @@ FILES = ["--banks", HUB / "banks.csv", "--debts", HUB / "debts.csv"]
 def limited(megabytes, *words, python=None, seconds=120):
     """A run of a tool that has so much memory."""
     limit = lambda: resource.setrlimit(resource.RLIMIT_AS, (megabytes << 20, megabytes << 20))
-    run = [python or sys.executable] if str(words[0]).endswith(".py") else []
-    return subprocess.run([*run, str(ROOT / "tools" / words[0]), *map(str, words[1:])], preexec_fn=limit, timeout=seconds, stdin=subprocess.DEVNULL,
+    return subprocess.run([*run_of(words[0], python), *map(str, words[1:])], preexec_fn=limit, timeout=seconds, stdin=subprocess.DEVNULL,
                           capture_output=True, encoding="utf-8", errors="replace", env={**os.environ, "CLEARING": os.path.realpath(PROGRAM)})
 
 
@@ -42,9 +40,9 @@ class Scenarios(EvidenceCase):
             with self.subTest(about):
                 file = self.file("s.toml", document)
                 said = clearing("stress", *FILES, "--scenarios", file).stderr.decode().strip().removeprefix("clearing: ")
-                shock = limited(500, "shock.py", "--banks", HUB / "banks.csv", "--scenarios", file, "--scenario", 1)
-                self.assertEqual((shock.returncode, shock.stderr.strip().removeprefix("shock.py: ")), (4, said))
-                lint = limited(500, "lint.py", *FILES, "--scenarios", file)
+                shock = limited(500, "clearing-shock", "--banks", HUB / "banks.csv", "--scenarios", file, "--scenario", 1)
+                self.assertEqual((shock.returncode, shock.stderr.strip().removeprefix("clearing-shock: ")), (4, said))
+                lint = limited(500, "clearing-lint", *FILES, "--scenarios", file)
                 self.assertEqual((lint.returncode, lint.stderr), (1, ""))
                 kind = said.split(": ")[1]
                 self.assertIn(f": {kind}:", lint.stdout.split("\n")[0])
@@ -54,7 +52,7 @@ class Scenarios(EvidenceCase):
         for about in ("points", "some points", "many tables", "nested"):
             (folder / "inputs/scenarios.toml").write_text(DEEP[about])
             self.sums_anew(folder)
-            done = limited(500, "evidence.sh", "check", folder)
+            done = limited(500, "clearing-evidence", "check", folder)
             self.assertEqual((done.returncode, "Traceback" in done.stderr), (3, False), (about, done.stderr))
             self.assertIn("inputs: scenarios row 0: ", done.stderr, about)
 
@@ -74,7 +72,7 @@ class Fields(Case):
     def judged(self, **files):
         """What audit.py says of files of which one is hostile, with a tenth of the memory that it took once."""
         words = [word for option in ("banks", "debts", "journal") for word in (f"--{option}", self.file(option, files[option]))]
-        done = limited(400, "audit.py", *words)
+        done = limited(400, "clearing-audit", *words)
         self.assertNotIn("Traceback", done.stderr)
         return done.returncode, done.stderr.strip()
 
@@ -103,10 +101,10 @@ class Bounded(Case):
         os.truncate(sparse, 12 << 30)
         sheet = self.file("sheet.csv", "debtor,creditor,amount\nA,B,1\n")
         for name, words in [
-            ("draws.py", [*FILES, "--draws", 2, "--moments", "/dev/zero"]), ("draws.py", [*FILES, "--draws", 2, "--past", sparse]),
-            ("tidy.py", ["/dev/zero", "--folder", self.folder / "tables"]), ("tidy.py", [sparse, "--folder", self.folder / "tables"]),
-            ("evidence.sh", ["make", self.folder / "evidence", "--source", f"from_list.py {sparse} --table {sheet}"]),
-            ("evidence.sh", ["make", self.folder / "evidence", "--source", f"from_list.py {sheet} --table {sparse}"]),
+            ("clearing-draws", [*FILES, "--draws", 2, "--moments", "/dev/zero"]), ("clearing-draws", [*FILES, "--draws", 2, "--past", sparse]),
+            ("clearing-tidy", ["/dev/zero", "--folder", self.folder / "tables"]), ("clearing-tidy", [sparse, "--folder", self.folder / "tables"]),
+            ("clearing-evidence", ["make", self.folder / "evidence", "--source", f"from_list.py {sparse} --table {sheet}"]),
+            ("clearing-evidence", ["make", self.folder / "evidence", "--source", f"from_list.py {sheet} --table {sparse}"]),
         ]:
             with self.subTest(name, words=words):
                 done = limited(1200, name, *words)
@@ -125,7 +123,7 @@ class Endless(unittest.TestCase):
         runs, seen = [], set()
         for name, words, _, how in lines.each():
             for at, word in enumerate(words):
-                if isinstance(word, pathlib.Path) and lines.inputs in word.parents and (name, word.name) not in seen and name != "why.py":
+                if isinstance(word, pathlib.Path) and lines.inputs in word.parents and (name, word.name) not in seen and name != "clearing-why":
                     seen.add((name, word.name))
                     endless = (sparse, "/dev/zero")[len(seen) % 2] if word.name != "jobs.tsv" else sparse
                     runs.append((name, lines.placed([*words[:at], endless, *words[at + 1 :]], lines.out / f"place-{len(seen)}"), how.get("python"), word.name))

@@ -6,7 +6,7 @@ import sys
 import unittest
 
 import test_hostile
-from common import HUB, PROGRAM, ROOT, Case
+from common import HUB, PROGRAM, ROOT, Case, run_of
 
 FILES = ["--banks", HUB / "banks.csv", "--debts", HUB / "debts.csv"]
 MADE_UP = "x\nchecked: all files are fine\x1b[2J\x9b1A\u202e"
@@ -30,7 +30,7 @@ class Hostile(unittest.TestCase):
         seen = set()
         for name, words, asks, how in lines.each():
             for at, word in enumerate(words):
-                if not (isinstance(word, pathlib.Path) and lines.inputs in word.parents) or (name, word.name) in seen or name in ("why.py", "evidence.sh", "many.sh"):
+                if not (isinstance(word, pathlib.Path) and lines.inputs in word.parents) or (name, word.name) in seen or name in ("clearing-why", "clearing-evidence", "clearing-many"):
                     continue
                 seen.add((name, word.name))
                 for about, text in ways(word.read_text(encoding="utf-8")):
@@ -51,7 +51,7 @@ class Hostile(unittest.TestCase):
         seen = set()
         for name, words, asks, how in lines.each():
             for at, word in enumerate(words):
-                if isinstance(word, pathlib.Path) and lines.inputs in word.parents and name not in seen and name != "why.py":
+                if isinstance(word, pathlib.Path) and lines.inputs in word.parents and name not in seen and name != "clearing-why":
                     seen.add(name)
                     done = lines.attempt(name, *lines.placed([*words[:at], MADE_UP, *words[at + 1 :]], lines.out / f"place-{len(seen)}"), **how)
                     said = (done.stdout + done.stderr).decode(errors="replace")
@@ -64,7 +64,7 @@ class Hostile(unittest.TestCase):
 
 class Words(test_hostile.Place):
     def test_no_word_moves_a_terminal(self):
-        for path in sorted((ROOT / "tools").glob("*.py")):
+        for path in sorted((ROOT / "bin").iterdir()):
             for words in ([f"--none={MADE_UP}"], [MADE_UP, MADE_UP, MADE_UP], ["check", MADE_UP], ["make", self.out / "place", "--banks", MADE_UP, "--debts", MADE_UP]):
                 done = self.attempt(path.name, *words)
                 said = (done.stdout + done.stderr).decode(errors="replace")
@@ -77,24 +77,24 @@ class Words(test_hostile.Place):
 class Streams(Case):
     def run_closed(self, close, *words):
         environment = {**os.environ, "CLEARING": os.path.realpath(PROGRAM)}
-        return subprocess.run(["sh", "-c", f'exec "$@" {close}', "sh", sys.executable, *map(str, words)], env=environment, capture_output=True, encoding="utf-8")
+        return subprocess.run(["sh", "-c", f'exec "$@" {close}', "sh", *map(str, words)], env=environment, capture_output=True, encoding="utf-8")
 
     def test_a_closed_stream_is_no_file(self):
         """What is said goes to no file that took the number of a closed stream, and an output that cannot be written is told."""
         scenarios = self.file("s.toml", '[[scenario]]\nname = "a"\n')
         for name, words in [
-            ("lint.py", FILES), ("audit.py", [*FILES, "--journal", HUB / "debts.csv"]), ("shock.py", ["--banks", HUB / "banks.csv", "--scenarios", scenarios, "--scenario", 1]),
-            ("evidence.py", ["check", self.folder]), ("breaking.py", FILES), ("to_matrix.py", FILES),
+            ("clearing-lint", FILES), ("clearing-audit", [*FILES, "--journal", HUB / "debts.csv"]), ("clearing-shock", ["--banks", HUB / "banks.csv", "--scenarios", scenarios, "--scenario", 1]),
+            ("clearing-evidence", ["check", self.folder]), ("clearing-breaking", FILES), ("clearing-to-matrix", FILES),
         ]:
-            done = self.run_closed("2>&-", ROOT / "tools" / name, *words)
+            done = self.run_closed("2>&-", *run_of(name), *words)
             self.assertNotIn("Traceback", done.stdout + done.stderr, name)
-            done = self.run_closed(">&-", ROOT / "tools" / name, *words)
+            done = self.run_closed(">&-", *run_of(name), *words)
             self.assertNotIn("Traceback", done.stderr, name)
             self.assertNotEqual(done.returncode, 0, (name, done.stderr))
             out = self.folder / "out"
-            if name in ("breaking.py", "to_matrix.py"):
-                option = "--output" if name == "breaking.py" else "--out"
-                done = self.run_closed("<&- 2>&-", ROOT / "tools" / name, *words, option, out)
+            if name in ("clearing-breaking", "clearing-to-matrix"):
+                option = "--output" if name == "clearing-breaking" else "--out"
+                done = self.run_closed("<&- 2>&-", *run_of(name), *words, option, out)
                 self.assertEqual(done.returncode, 0, name)
                 self.assertNotIn(name, out.read_text())
 
@@ -102,7 +102,7 @@ class Streams(Case):
         sheet = self.file("sheet.csv", "debtor,creditor,amount\nA,B,1\n")
         for encoding in ("zlib", "base64", "rot13", "hex", "no\0ne", "\x1b[2J"):
             done = subprocess.run([sys.executable, "-c", "import sys; sys.path.insert(0, sys.argv.pop(1)); sys.argv[0] = 'from_list.py'\n"
-                                   f"sys.argv[1:] = [sys.argv[1], '--encoding', {encoding!r}]\nfrom clearing_tools.imports.list import main; main()",
+                                   f"sys.argv[1:] = [sys.argv[1], '--encoding', {encoding!r}]\nfrom clearing_tools.imports.exposure_list import main; main()",
                                    str(ROOT / "python/src"), str(sheet)], capture_output=True, encoding="utf-8")
             self.assertEqual(done.returncode, 2, (encoding, done.stderr))
             self.assertNotIn("Traceback", done.stderr, encoding)

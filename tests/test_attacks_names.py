@@ -11,7 +11,7 @@ from unittest import mock
 
 from common import ROOT, Case, needs, needs_modules, python_with, tool
 
-from clearing_tools.checks import lint  # noqa: E402
+from clearing_tools.checks import field_hints, linter  # noqa: E402
 from clearing_tools.exports import graphml  # noqa: E402
 
 FORMULAS = ["=cmd|' /C calc'!A0", "+1+1", "@SUM(A1)", "-2+3", "=HYPERLINK(1)"]
@@ -23,7 +23,7 @@ class Formulas(Case):
     def test_lint_warns_of_them_and_of_no_others(self):
         banks = self.file("banks.csv", "name,cash,rule\n" + "".join(f"{name},1,order\n" for name in FORMULAS + PLAIN))
         debts = self.file("debts.csv", "debtor,creditor,class,claim\n")
-        done = tool("lint.py", "--banks", banks, "--debts", debts)
+        done = tool("clearing-lint", "--banks", banks, "--debts", debts)
         self.assertEqual(done.returncode, 0, done.stdout)
         warned = [line for line in done.stdout.splitlines() if "takes the name" in line]
         self.assertEqual(len(warned), len(FORMULAS), done.stdout)
@@ -43,7 +43,7 @@ class Xml(Case):
         defaults = self.file("defaults.csv", "bank,estate,paid,owed,equity,state\n" + "".join(f"{name},1,0,0,1,sound\n" for name in BARRED)
                              + f"total,{len(BARRED)},0,0,{len(BARRED)},0\ncash,{len(BARRED)}\n")
         payments, graph = self.file("payments.csv", "debtor,creditor,class,claim,paid\n"), self.folder / "g.graphml"
-        done = tool("to_graphml.py", payments, defaults, "--out", graph, python=python_with("networkx"))
+        done = tool("clearing-to-graphml", payments, defaults, "--out", graph, python=python_with("networkx"))
         self.assertEqual((done.returncode, done.stderr), (0, ""))
         nodes = tree.parse(graph).getroot().iter("{http://graphml.graphdrawing.org/xmlns}node")
         self.assertEqual([node.get("id") for node in nodes], [graphml.xml_name(name) for name in BARRED])
@@ -55,7 +55,7 @@ class Bounded(Case):
     def faults(self, *files, **more):
         """The faults of some files, and how many searches were made for the hints on them."""
         with mock.patch("difflib.get_close_matches", wraps=difflib.get_close_matches) as searches:
-            return lint.faults_of(*files, **more), searches.call_count
+            return linter.faults_of(*files, **more), searches.call_count
 
     def test_many_unknown_names_have_few_searches(self):
         banks = b"name,cash,rule\n" + b"".join(b"Bank %d of the north,1,order\n" % n for n in range(1000))
@@ -65,14 +65,14 @@ class Bounded(Case):
         self.assertTrue(0 < searches <= 50, searches)
         # The hints are those of before.
         few = b"debtor,creditor,class,claim\nBANK 7 of the north,Bank 1 of the north,1,1\n"
-        self.assertIn("the banks file has 'Bank 7 of the north'", lint.faults_of(banks, few)[0].hint)
+        self.assertIn("the banks file has 'Bank 7 of the north'", linter.faults_of(banks, few)[0].hint)
 
     def test_many_other_faults_have_few_searches(self):
         banks = b"name,cash,rule\n" + b"".join(b"B%d,1,jeferson%d\n" % (n, n) for n in range(100_000))
         debts = b"debtor,creditor,class,claim\n" + b"".join(b"B%d,B%d,1,1\n" % (n, n + 1) for n in range(15_000))
         faults, searches = self.faults(banks, debts)
         self.assertGreater(len(faults), 100_000)
-        self.assertTrue(0 < searches <= lint.MOST_HINTS + 50, searches)
+        self.assertTrue(0 < searches <= field_hints.MOST_HINTS + 50, searches)
         good = b"name,cash,rule\n" + b"".join(b"B%d,1,order\n" % n for n in range(900))
         net = b"debtor,creditor,class,claim\n" + b"".join(b"B%d,B%d,1,1\n" % (n % 900, (n + 1 + n // 900) % 900) for n in range(15_000))
         journal = b"stamp,debtor,creditor,class,to\n" + b"".join(b"1,B%d,B%d,2,1\n" % (n % 900, (n + 1) % 900) for n in range(20_000))
@@ -81,7 +81,7 @@ class Bounded(Case):
         keys = b'[[scenario]]\nname = "a"\n' + b"".join(b"nam%d = 1\n" % n for n in range(60_000))
         faults, searches = self.faults(good, net, scenarios=keys)
         self.assertGreaterEqual(len(faults), 60_000)
-        self.assertTrue(0 < searches <= lint.MOST_HINTS, searches)
+        self.assertTrue(0 < searches <= field_hints.MOST_HINTS, searches)
 
 
 @needs("bash")

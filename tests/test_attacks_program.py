@@ -7,7 +7,7 @@ import subprocess
 import sys
 import unittest
 
-from common import CHAIN, HUB, PROGRAM, ROOT, Case
+from common import CHAIN, HUB, PROGRAM, ROOT, Case, file_of, run_of
 
 PLANTED = "#!/bin/sh\ntouch {}\necho planted\n"
 # Commands that scripts and tools call, each of which is planted.
@@ -21,18 +21,19 @@ STARTERS = {"Popen", "run", "call", "check_call", "check_output", "getoutput", "
 MODULES = {"subprocess", "os", "shutil", "asyncio", "pty", "sysconfig", "distutils"}
 # The only places that do, and what each starts.
 PLACES = {
-    ("clearing_tools/runner.py", "on_path"): "finds", ("clearing_client/program.py", "on_path"): "finds",
-    ("clearing_tools/runner.py", "run_on"): "the program, or Python", ("clearing_tools/runner.py", "said_by"): "what on_path finds",
-    ("clearing_tools/runner.py", "built"): "the repository's script", ("clearing_tools/evidence/source.py", "run_tool"): "Python", ("clearing_client/program.py", "started"): "the program",
+    ("clearing_tools/finding.py", "on_path"): "finds", ("clearing_client/program.py", "on_path"): "finds",
+    ("clearing_tools/running.py", "run_on"): "the program, or Python", ("clearing_tools/finding.py", "printed_by"): "what on_path finds",
+    ("clearing_tools/finding.py", "built"): "the repository's script", ("clearing_tools/evidence/source.py", "run_tool"): "Python", ("clearing_client/program.py", "started"): "the program",
     ("clearing_tools/report/document.py", "in_browser"): "the browser that on_path finds",
-    ("clearing_tools/many.py", "main"): "the wheel's own script, by the system's shell",
+    ("clearing_tools/many/job.py", "status_of"): "the program", ("clearing_tools/many/command.py", "check_program"): "the repository's script",
     ("clearing_client/program.py", "find_program"): "a file that CLEARING names",
 }
 GUARD = """# Of the path the absolute entries alone count: no command is one that the working folder has.
 set -f; IFS=: path=; for entry in $PATH; do case $entry in /*) path=$path:$entry ;; esac; done
 PATH=${path#:} && export PATH; unset IFS; set +f
 """
-SCRIPTS = [ROOT / "clearing", ROOT / "first-look", *sorted((ROOT / "tools").glob("*.sh"))]
+SCRIPTS = [ROOT / "clearing", ROOT / "first-look", *sorted((ROOT / "tools").glob("*.sh")), *(file_of(f"dev/{name}.sh") for name in ("clean", "quick", "release", "test")),
+           *(path for path in (ROOT / "bin").iterdir() if path.read_bytes().startswith(b"#!/bin/sh"))]
 
 
 def starters_in(path):
@@ -125,11 +126,11 @@ class Planted(Case):
         """In both packages nothing else finds or starts one; what finds one, and what lets signals wait, are the same in both."""
         packages = ROOT / "python/src"
         found = {(str(path.relative_to(packages)), name) for path in packages.rglob("*.py") for name in starters_in(path)}
-        self.assertEqual(found - set(PLACES), set(), "finds or starts a program by a way of its own; take runner.on_path or said_by")
+        self.assertEqual(found - set(PLACES), set(), "finds or starts a program by a way of its own; take runner.on_path or printed_by")
         self.assertEqual(set(PLACES) - found, set(), "is listed, and starts nothing")
-        for told in ("on_path", "signals_wait"):
+        for told, module in (("on_path", "finding"), ("signals_wait", "running")):
             both = [next(ast.unparse(node) for node in ast.walk(ast.parse((packages / name).read_text())) if getattr(node, "name", "") == told)
-                    for name in ("clearing_tools/runner.py", "clearing_client/program.py")]
+                    for name in (f"clearing_tools/{module}.py", "clearing_client/program.py")]
             self.assertEqual(*both, told)
         # What looks for it finds it.
         probe = self.file("probe.py", "import subprocess\ndef f():\n    subprocess.run(['rt'])\ndef g():\n    from shutil import which\n")
@@ -143,14 +144,13 @@ class Planted(Case):
         script = self.folder / "script"
         script.mkdir()
         for name, words, statuses in [
-            ("report.py", [*net, "--out", "OUT.html"], [0]), ("report.py", [*net, "--out", "OUT.pdf"], [0, 2]), ("evidence.sh", ["make", "OUT-evidence", *net], [0]), ("many.sh", ["run", jobs, "OUT-many", 1], [0]),
-            ("install.sh", ["OUT-prefix"], [0]), ("../first-look", ["check"], [8]), ("clean.sh", ["--dry-run"], [0, 1]), ("quick.sh", [], [2]),
-            ("test.sh", ["--help"], [0]), ("release.sh", [], [2]), ("evidence.sh", ["check", "OUT-evidence"], [0]),
+            ("clearing-report", [*net, "--out", "OUT.html"], [0]), ("clearing-report", [*net, "--out", "OUT.pdf"], [0, 2]), ("clearing-evidence", ["make", "OUT-evidence", *net], [0]), ("clearing-many", ["run", jobs, "OUT-many", 1], [0]),
+            ("install.sh", ["OUT-prefix"], [0]), ("../first-look", ["check"], [8]), ("dev/clean.sh", ["--dry-run"], [0, 1]), ("dev/quick.sh", [], [2]),
+            ("dev/test.sh", ["--help"], [0]), ("dev/release.sh", [], [2]), ("clearing-evidence", ["check", "OUT-evidence"], [0]),
         ]:
-            run = [sys.executable] if name.endswith(".py") else []
             path = os.pathsep.join([".", "", "bin", os.path.dirname(sys.executable), "/usr/bin", "/bin"])
             place = [str(word).replace("OUT", str(self.folder / "made")) for word in words]
-            done = self.run_in(self.work, [*run, ROOT / "tools" / name, *place], CLEARING=os.path.abspath(PROGRAM), PATH=path, XDG_CACHE_HOME=str(script))
+            done = self.run_in(self.work, [*run_of(name), *place], CLEARING=os.path.abspath(PROGRAM), PATH=path, XDG_CACHE_HOME=str(script))
             self.assertFalse(self.mark.exists(), (name, "a planted command ran", done.stderr))
             self.assertIn(done.returncode, statuses, (name, done.stdout, done.stderr))
 
@@ -169,17 +169,17 @@ class Planted(Case):
         net = ["--banks", HUB / "banks.csv", "--debts", HUB / "debts.csv"]
         moments = self.file("moments.csv", "of,mean,deviation\nSouth,1,1\n")
         jobs = self.file("jobs.tsv", "\t".join(["a", "check", *map(str, net)]) + "\n")
-        made = self.run_in(self.folder, [ROOT / "tools/evidence.sh", "make", self.folder / "evidence", *net], CLEARING=PROGRAM)
+        made = self.run_in(self.folder, [ROOT / "bin/clearing-evidence", "make", self.folder / "evidence", *net], CLEARING=PROGRAM)
         self.assertEqual(made.returncode, 0, made.stderr)
         client = "import sys, clearing_client as cc; print(cc.Network(*sys.argv[1:]).clear().total)"
         tools = [
-            ("breaking.py", net), ("impact.py", net), ("rescues.py", net), ("draws.py", [*net, "--moments", moments, "--draws", 2]),
-            ("report.py", [*net, "--out", self.folder / "OUT.html"]), ("evidence.sh", ["make", self.folder / "OUT-evidence", *net]),
-            ("evidence.sh", ["check", self.folder / "evidence"]), ("many.sh", ["run", jobs, self.folder / "OUT-many", 1]),
-            ("many.sh", ["one", jobs, self.folder / "OUT-many", 1]), ("-c", [client, CHAIN / "banks.csv", CHAIN / "debts.csv"]),
+            ("clearing-breaking", net), ("clearing-impact", net), ("clearing-rescues", net), ("clearing-draws", [*net, "--moments", moments, "--draws", 2]),
+            ("clearing-report", [*net, "--out", self.folder / "OUT.html"]), ("clearing-evidence", ["make", self.folder / "OUT-evidence", *net]),
+            ("clearing-evidence", ["check", self.folder / "evidence"]), ("clearing-many", ["run", jobs, self.folder / "OUT-many", 1]),
+            ("clearing-many", ["one", jobs, self.folder / "OUT-many", 1]), ("-c", [client, CHAIN / "banks.csv", CHAIN / "debts.csv"]),
         ]
         for number, (name, words) in enumerate(tools):
-            run = [sys.executable, "-c"] if name == "-c" else [*([sys.executable] if name.endswith(".py") else []), ROOT / "tools" / name]
+            run = [sys.executable, "-c"] if name == "-c" else run_of(name)
             for entry in (".", "", "bin", "./bin"):
                 place = [str(word).replace("OUT", f"{number}-{entry.replace('/', '-')}") for word in words]
                 path = os.pathsep.join([entry, str(self.honest), os.path.dirname(sys.executable), "/usr/bin", "/bin"])

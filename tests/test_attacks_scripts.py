@@ -69,7 +69,7 @@ class Many(Case):
         program = self.file(f"x\ntouch {str(mark).replace('/', '_')}\n: it's", "#!/bin/sh\necho ran\n")
         program.chmod(0o755)
         environment = {**os.environ, "CLEARING": str(program)}
-        printed = subprocess.run([str(ROOT / "tools/many.sh"), "slurm", str(jobs), str(self.folder / "out\n")], env=environment, capture_output=True, encoding="utf-8")
+        printed = subprocess.run([str(ROOT / "bin/clearing-many"), "slurm", str(jobs), str(self.folder / "out\n")], env=environment, capture_output=True, encoding="utf-8")
         self.assertEqual((printed.returncode, printed.stderr), (0, ""))
         before = sorted(os.listdir(self.folder))
         done = subprocess.run(["sh", "-c", printed.stdout], env={**os.environ, "SLURM_ARRAY_TASK_ID": "1"}, cwd=self.folder, capture_output=True, encoding="utf-8")
@@ -81,7 +81,7 @@ class Many(Case):
         banks = self.file("banks.csv", (HUB / "banks.csv").read_bytes())
         jobs = self.file("jobs.tsv", "\t".join(["a", "check", "--banks", str(banks), *map(str, FILES[2:])]) + "\n")
         self.program(f'echo >>"{banks}"\necho done\n')
-        done = subprocess.run([str(ROOT / "tools/many.sh"), "run", str(jobs), str(self.folder / "out"), "1"], capture_output=True, encoding="utf-8")
+        done = subprocess.run([str(ROOT / "bin/clearing-many"), "run", str(jobs), str(self.folder / "out"), "1"], capture_output=True, encoding="utf-8")
         self.assertEqual((done.returncode, done.stdout), (1, "0 done, 1 failed\n"))
         self.assertEqual((self.folder / "out/a.failed").read_text(), "status 0, but a file or the program changed while the job ran\n")
         self.assertEqual(sorted(os.listdir(self.folder / "out")), ["a.failed"])
@@ -91,23 +91,11 @@ class Reporting(Case):
     def test_an_input_that_changes_is_told(self):
         banks = self.file("banks.csv", (HUB / "banks.csv").read_bytes())
         self.program(f'[ "$1" != bounds ] || echo >>"{banks}"\nexec {shlex.quote(os.path.realpath(PROGRAM))} "$@"\n')
-        self.refused("report.py", 1, "banks.csv changed while the report was made", "--banks", banks, *FILES[2:], "--out", self.folder / "page.html")
+        self.refused("clearing-report", 1, "banks.csv changed while the report was made", "--banks", banks, *FILES[2:], "--out", self.folder / "page.html")
         self.assertFalse((self.folder / "page.html").exists())
 
 
 class Launching(unittest.TestCase):
-    def test_words_of_the_environment_begin_no_build(self):
-        launcher = test_launcher.Launcher("test_it_is_built_once")
-        launcher.setUp()
-        self.addCleanup(launcher.doCleanups)
-        root = launcher.built()
-        calls = launcher.calls.read_text()
-        for steps in ("1", "4", "1.1.0", "x; touch y"):
-            done = launcher.run_at(root, "a", CLEARING_STEPS=steps, PYTHONPATH=":")
-            self.assertEqual((done.returncode, done.stdout, done.stderr), (0, "a here\n", ""), steps)
-        self.assertEqual(launcher.calls.read_text(), calls)
-        self.assertFalse((root / "crates/clear_main/out/build.mark").exists())
-
     def test_the_toolchain_imports_nothing_of_the_working_folder(self):
         launcher = test_launcher.Launcher("test_it_is_built_once")
         launcher.setUp()
@@ -123,7 +111,7 @@ class Importing(Case):
         mark = self.folder / "mark"
         for name in ("argparse", "hashlib", "tempfile", "pathlib", "json", "tomllib"):
             self.file(f"{name}.py", f"open({str(mark)!r}, 'w')\n")
-        done = subprocess.run([str(ROOT / "tools/evidence.sh"), "check", "."], cwd=self.folder, env={**os.environ, "PYTHONPATH": ":"}, capture_output=True)
+        done = subprocess.run([str(ROOT / "bin/clearing-evidence"), "check", "."], cwd=self.folder, env={**os.environ, "PYTHONPATH": ":"}, capture_output=True)
         self.assertEqual(done.returncode, 3)
         self.assertFalse(mark.exists())
 
@@ -143,7 +131,7 @@ class Ended(Case):
         self.program('echo begun >>"$BEGUN"\nwhile :; do sleep 0.2; done\n')
         environment = {**os.environ, "BEGUN": str(self.folder / "begun")}
         environment.pop("MANY_SESSION", None)
-        running = subprocess.Popen([str(ROOT / "tools/many.sh"), *map(str, words)], env=environment, stdin=subprocess.DEVNULL, stdout=subprocess.PIPE,
+        running = subprocess.Popen([str(ROOT / "bin/clearing-many"), *map(str, words)], env=environment, stdin=subprocess.DEVNULL, stdout=subprocess.PIPE,
                                    stderr=subprocess.PIPE, encoding="utf-8", start_new_session=True)
         self.addCleanup(running.stdout.close)
         self.addCleanup(running.stderr.close)
@@ -174,7 +162,7 @@ class Ended(Case):
             self.assertEqual(self.running(), 0, words)
         # The same command goes on.
         self.program("echo done\n")
-        done = subprocess.run([str(ROOT / "tools/many.sh"), "run", str(jobs), str(self.folder / "a")], stdin=subprocess.DEVNULL, capture_output=True, encoding="utf-8")
+        done = subprocess.run([str(ROOT / "bin/clearing-many"), "run", str(jobs), str(self.folder / "a")], stdin=subprocess.DEVNULL, capture_output=True, encoding="utf-8")
         self.assertEqual((done.returncode, done.stdout), (0, "20 done, 0 failed\n"), done.stderr)
         self.assertEqual({path.suffix for path in (self.folder / "a").iterdir()}, {".out", ".job"})
 
@@ -182,7 +170,7 @@ class Ended(Case):
         self.program('echo "$*"\n')
         jobs = self.file("jobs.tsv", "a\tgen\t1\n")
         with open(jobs) as given:
-            done = subprocess.run([str(ROOT / "tools/many.sh"), "one", "/dev/stdin", str(self.folder / "f"), "1"], stdin=given, capture_output=True, encoding="utf-8")
+            done = subprocess.run([str(ROOT / "bin/clearing-many"), "one", "/dev/stdin", str(self.folder / "f"), "1"], stdin=given, capture_output=True, encoding="utf-8")
         self.assertEqual((done.returncode, (self.folder / "f/a.out").read_text()), (0, "gen 1\n"), done.stderr)
 
 

@@ -109,7 +109,7 @@ class Audit(Case):
 
     def test_a_generated_network_of_200_holds(self):
         banks, debts = self.file("banks.csv"), self.file("debts.csv")
-        self.made("gen_files.py", "--seed", 47, "--size", 200, "--tries", 800, "--banks", banks, "--debts", debts)
+        self.made("clearing-gen-files", "--seed", 47, "--size", 200, "--tries", 800, "--banks", banks, "--debts", debts)
         made = self.made_files(banks.read_text(), debts.read_text(), "--workers", 2)
         lines, status = self.judged(made)
         self.assertEqual((lines[1:4], status), (["nobody can pay more", "payments same", "defaults same"], 0))
@@ -201,20 +201,20 @@ class Audit(Case):
         made = self.made_files(BANKS, DEBTS, "--workers", 1)
         words = self.words(made)
         told = "7 raises lawful\nnobody can pay more\npayments same\ndefaults same\nrounds 3: not checked\n"
-        self.assertEqual(self.made("audit.py", *words), told)
-        self.assertEqual(self.made("audit.py", *words[:6]), told.replace("payments same", "payments: none given").replace(
+        self.assertEqual(self.made("clearing-audit", *words), told)
+        self.assertEqual(self.made("clearing-audit", *words[:6]), told.replace("payments same", "payments: none given").replace(
             "defaults same", "defaults: none given"))
-        self.refused("audit.py", 3, "cannot read", *words[:5], self.folder / "none.csv")
-        self.refused("audit.py", 2, "--journal", *words[:4])
+        self.refused("clearing-audit", 3, "cannot read", *words[:5], self.folder / "none.csv")
+        self.refused("clearing-audit", 2, "--journal", *words[:4])
         self.file("debts.csv", DEBTS.replace("B,C,2", "B,X,2"))
-        self.refused("audit.py", 4, "audit.py: debts row 3: unknown bank (8)", *words)
+        self.refused("clearing-audit", 4, "audit.py: debts row 3: unknown bank (8)", *words)
         self.file("debts.csv", DEBTS)
         self.file("payments.csv", made["payments"].replace("A,B,1,6,5", "A,B,1,6,6"))
-        done = tool("audit.py", *words)
+        done = tool("clearing-audit", *words)
         self.assertEqual((done.returncode, done.stderr), (1, ""))
         self.assertIn("payments differ: line 2 is 'A,B,1,6,6', and by the journal 'A,B,1,6,5'\ndefaults same\n", done.stdout)
         self.file("journal.csv", made["journal"].replace("1,A,B,1,4", "1,A,B,1,5"))
-        done = tool("audit.py", *words)
+        done = tool("clearing-audit", *words)
         self.assertEqual((done.returncode, done.stdout.splitlines()[0]),
                          (7, "raise 1 is not lawful: 0 is paid, and its debtor may pay 4"))
 

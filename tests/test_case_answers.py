@@ -74,7 +74,7 @@ class Compared(Case):
             unit="2",
             labels=[cc.Label("A", full="Alpha & Söhne")],
         ).write(other)
-        told = self.made("case.py", "compare", one, other, "--page", self.folder / "p.html")
+        told = self.made("clearing-case", "compare", one, other, "--page", self.folder / "p.html")
         rows = list(csv.DictReader(io.StringIO(told)))
         self.assertEqual(
             (rows[0]["bank"], rows[0]["full"], rows[0]["change"], rows[0]["paid_more"], rows[0]["note"]),
@@ -90,7 +90,7 @@ class Compared(Case):
         place = self.folder / "one"
         cc.Case(one_unit(), labels=[cc.Label("B", full="Beta")]).write(place)
         rows = list(
-            csv.DictReader(io.StringIO(self.made("case.py", "compare", place, place, "--page", self.folder / "p")))
+            csv.DictReader(io.StringIO(self.made("clearing-case", "compare", place, place, "--page", self.folder / "p")))
         )
         self.assertEqual([row["note"] for row in rows], ["", "one unit decides", "one unit decides"])
         page = (self.folder / "p").read_text()
@@ -106,7 +106,7 @@ class Compared(Case):
 
         place, book = self.folder / "one", self.folder / "book.xlsx"
         cc.Case(network(), unit="2.5", currency="EUR").write(place)
-        self.made("case.py", "compare", place, place, "--output", book)
+        self.made("clearing-case", "compare", place, place, "--output", book)
         rows = list(openpyxl.load_workbook(book)["banks"].iter_rows(values_only=True))
         self.assertEqual((rows[0][0], rows[0][-1], rows[1][0], rows[1][4]), ("bank", "note", "A", 17.5))
 
@@ -149,7 +149,7 @@ class Many(Case):
         for at, net in enumerate(self.nets()):
             folders.append(self.folder / str(at))
             cc.Case(net, unit="10").write(folders[-1])
-        told = self.made("case.py", "ensemble", *folders, "--picture", self.folder / "p.svg")
+        told = self.made("clearing-case", "ensemble", *folders, "--picture", self.folder / "p.svg")
         head = "task,bank,defaults,fundamental,networks,unsteady,sentence\n"
         self.assertTrue(
             told.startswith(f"{head}defaults,A,2,2,5,2,A defaults in 2 of 5 networks; one unit decides in 2\n")
@@ -262,7 +262,7 @@ class Standing(Case):
             ),
             labels=[cc.Label("B", full="Beta")],
         ).write(place)
-        rows = list(csv.DictReader(io.StringIO(self.made("case.py", "stands", place))))
+        rows = list(csv.DictReader(io.StringIO(self.made("clearing-case", "stands", place))))
         self.assertEqual(
             [(row["bank"], row["full"], row["as it is"], row["unit x2"], row["note"]) for row in rows],
             [
@@ -270,7 +270,7 @@ class Standing(Case):
                 ("C", "", "sound", "sound at 0 *", "one unit decides"),
             ],
         )
-        self.assertEqual(len(self.made("case.py", "stands", place, "--all").splitlines()), 4)
+        self.assertEqual(len(self.made("clearing-case", "stands", place, "--all").splitlines()), 4)
 
 
 class Shocks(Case):
@@ -284,7 +284,7 @@ class Shocks(Case):
 
     def test_amounts_become_units_and_what_is_rounded_is_told(self):
         sheet = self.file("s.csv", 'bank,a bad year,worse still\nKemi,"1,000,400.00",5000000\nElbe,,700\nIsar,2000,-\n')
-        told = self.made("case.py", "scenarios", self.place, sheet, "--decimal=.")
+        told = self.made("clearing-case", "scenarios", self.place, sheet, "--decimal=.")
         self.assertEqual(
             self.scenarios(),
             [
@@ -297,7 +297,7 @@ class Shocks(Case):
             f"rows read: 3; {sheet}\nscenarios made: 2; 4 losses; 6,003,000 in all, in units of 1,000: 6,003\n"
             "losses rounded: 2; by 700 together, the largest by 400\n",
         )
-        self.assertEqual(common.tool("case.py", "check", self.place).stdout, "the case is as it is described\n")
+        self.assertEqual(common.tool("clearing-case", "check", self.place).stdout, "the case is as it is described\n")
         self.printed(
             "stress",
             "--banks",
@@ -307,11 +307,11 @@ class Shocks(Case):
             "--scenarios",
             self.place / "scenarios.toml",
         )
-        self.refused("case.py", 1, "is there; say --replace to write over it", "scenarios", self.place, sheet)
+        self.refused("clearing-case", 1, "is there; say --replace to write over it", "scenarios", self.place, sheet)
 
     def test_a_sheet_in_millions(self):
         sheet = self.file("s.csv", "bank,x\nKemi,2.0005\n")
-        told = self.made("case.py", "scenarios", self.place, sheet, "--amounts-in=1000000")
+        told = self.made("clearing-case", "scenarios", self.place, sheet, "--amounts-in=1000000")
         self.assertEqual(self.scenarios(), [{"name": "x", "loss": [{"bank": "Kemi", "amount": 2000}]}])
         self.assertIn("scenarios made: 1; 1 loss; 2 in all, in units of 0.001: 2,000\n", told)
         self.assertIn("losses rounded: 1; by 0.0005 together", told)
@@ -319,7 +319,7 @@ class Shocks(Case):
     def test_shares_are_those_of_cash(self):
         cash = {bank.name: bank.cash for bank in cc.Case.read(self.place).network.banks}
         sheet = self.file("s.csv", "scenario,Kemi,Elbe,note\nstorm,25%,1,x\ndrought,0.333,,y\n")
-        self.made("case.py", "scenarios", self.place, sheet, "--rows", "--share", "--ignore", "note")
+        self.made("clearing-case", "scenarios", self.place, sheet, "--rows", "--share", "--ignore", "note")
         storm, drought = self.scenarios()
         self.assertEqual(
             storm["loss"],
@@ -341,7 +341,7 @@ class Shocks(Case):
                 "101 scenarios, 1 more than the most, 100",
             ),
         ]:
-            self.refused("case.py", 1, told, "scenarios", self.place, self.file("s.csv", text), *words)
+            self.refused("clearing-case", 1, told, "scenarios", self.place, self.file("s.csv", text), *words)
             self.assertFalse((self.place / "scenarios.toml").exists())
 
 

@@ -26,7 +26,7 @@ class Sheets(Case):
         """The case that an importer makes of sheets; what it tells stands in `told`."""
         place = self.folder / "case"
         self.text = self.told(tool, *words, "--case", place, "--keep-sources", "--currency=EUR")
-        self.assertEqual(self.made("case.py", "check", place), "the case is as it is described\n")
+        self.assertEqual(self.made("clearing-case", "check", place), "the case is as it is described\n")
         return cc.Case.read(place)
 
     def evidence_holds(self):
@@ -59,12 +59,12 @@ class Sheets(Case):
         place = self.folder / "m.xlsx"
         place.write_bytes(data.getvalue())
         words = ["--skip=1", "--cash=Cash", "--label-column=Name", "--unit=0.5"]
-        first = self.case("from_matrix.py", place, *words)
+        first = self.case("clearing-from-matrix", place, *words)
         self.assertEqual(
             (first.labels["A"].full, str(first.amount(first.network.debts[0].claim))), ("Alpha, Inc.", "1234.5")
         )
         twin = self.file("m.csv", "Bank;A;B;Cash;Name\nA;0;1.234,50;30;Alpha, Inc.\nB;2;0;40;Beta\n")
-        self.told("from_matrix.py", twin, *words[1:], "--thousands=.", "--case", self.folder / "twin")
+        self.told("clearing-from-matrix", twin, *words[1:], "--thousands=.", "--case", self.folder / "twin")
         self.assertEqual(cc.Case.read(self.folder / "twin").network.debts, first.network.debts)
         self.evidence_holds()
 
@@ -87,7 +87,7 @@ class Sheets(Case):
         )
         rates = self.file("rates.csv", "currency,rate\nEUR,1\nUSD,0.5\n")
         case = self.case(
-            "from_list.py",
+            "clearing-from-list",
             listed,
             "--table",
             table,
@@ -116,16 +116,16 @@ class Sheets(Case):
             ",A,B,C,Sum,cash\nA,0,40001,60002,100003,3\nB,20001,0,80001,100002,4\nC,30001,10001,0,40002,5\n"
             "Sum,50003,50002,140003,240007,12\n",
         )
-        self.case("from_matrix.py", sheet, "--drop=Sum")
+        self.case("clearing-from-matrix", sheet, "--drop=Sum")
         self.assertIn("control totals off by rounding: 2; 2 in all; the largest by 1; Sum in ", self.text)
         self.evidence_holds()
 
     def test_totals_and_the_networks_that_have_them(self):
         sheet = self.file("t.csv", "bank,assets,liabilities,cash\nA,100,60,20\nB,50,90,10\nC,70,40,30\nD,30,60,5\n")
-        self.case("from_totals.py", sheet, "--method=sparse")
+        self.case("clearing-from-totals", sheet, "--method=sparse")
         self.evidence_holds()
         self.told(
-            "from_totals.py",
+            "clearing-from-totals",
             sheet,
             "--method=sample",
             "--samples=4",
@@ -134,7 +134,7 @@ class Sheets(Case):
             self.folder / "draws",
             "--title=A draw",
         )
-        told = self.made("case.py", "ensemble", *(self.folder / "draws" / str(at) for at in range(1, 5)))
+        told = self.made("clearing-case", "ensemble", *(self.folder / "draws" / str(at) for at in range(1, 5)))
         self.assertIn(" of 4 networks", told)
 
     def test_many_banks(self):
@@ -147,15 +147,15 @@ class Sheets(Case):
         ]
         listed = self.file("l.csv", "debtor,creditor,amount\n" + "\n".join(dict.fromkeys(lines)) + "\n")
         table = self.file("t.csv", "bank,cash\n" + "".join(f"{name},{at}\n" for at, name in enumerate(names)))
-        case = self.case("from_list.py", listed, "--table", table, "--sum", "--unit=0.5")
+        case = self.case("clearing-from-list", listed, "--table", table, "--sum", "--unit=0.5")
         self.assertEqual(len(case.network.banks), 200)
         self.evidence_holds()
 
     def test_amounts_in_cents(self):
         sheet = self.file("m.csv", "EUR;A;B;cash\nA;0;1.250,75;99,01\nB;3,10;0;1.000,00\n")
-        case = self.case("from_matrix.py", sheet, "--thousands=.", "--unit=0.01")
+        case = self.case("clearing-from-matrix", sheet, "--thousands=.", "--unit=0.01")
         self.assertEqual((str(case.unit), str(case.amount(case.network.debts[0].claim))), ("0.01", "1250.75"))
-        self.assertIn("cash EUR 1,099.01\n", self.made("case.py", "show", self.folder / "case"))
+        self.assertIn("cash EUR 1,099.01\n", self.made("clearing-case", "show", self.folder / "case"))
         self.evidence_holds()
 
 

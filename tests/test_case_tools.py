@@ -44,7 +44,7 @@ class Imported(Case):
         self.place = self.folder / "case"
 
     def make(self, *words, text=MATRIX):
-        return self.told("from_matrix.py", self.file("m.csv", text), *SAID, *LABELS, "--case", self.place, *words)
+        return self.told("clearing-from-matrix", self.file("m.csv", text), *SAID, *LABELS, "--case", self.place, *words)
 
     def test_a_case_has_what_the_words_and_the_sheet_say(self):
         told = self.make("--keep-sources", "--leave-out=self")
@@ -76,12 +76,12 @@ class Imported(Case):
         self.assertEqual((str(case.unit), str(case.amount(13))), ("500", "6500"))
         self.assertIn(cc.ImportLine("debts in the sheet", 6, "24500"), case.summary.read)
         for word in ("0", "-1", "x"):
-            self.refused("from_matrix.py", 2, "is not a number above 0", "m.csv", "--amounts-in", word, "--case", "x")
+            self.refused("clearing-from-matrix", 2, "is not a number above 0", "m.csv", "--amounts-in", word, "--case", "x")
 
     def test_the_two_files_are_those_without_a_case(self):
         self.make()
         self.told(
-            "from_matrix.py", self.folder / "m.csv", *PLAIN, "--banks", self.folder / "b", "--debts", self.folder / "d"
+            "clearing-from-matrix", self.folder / "m.csv", *PLAIN, "--banks", self.folder / "b", "--debts", self.folder / "d"
         )
         self.assertEqual((self.place / "banks.csv").read_bytes(), (self.folder / "b").read_bytes())
         self.assertEqual((self.place / "debts.csv").read_bytes(), (self.folder / "d").read_bytes())
@@ -98,7 +98,7 @@ class Imported(Case):
         before = (self.place / "banks.csv").read_bytes()
         sheet = self.file("m.csv", MATRIX.replace("B,2,0,8,4", "B,2,0,8,9"))
         self.refused(
-            "from_matrix.py",
+            "clearing-from-matrix",
             1,
             "it is there; nothing is written over it; say --replace",
             sheet,
@@ -107,14 +107,14 @@ class Imported(Case):
             self.place,
         )
         self.assertEqual((self.place / "banks.csv").read_bytes(), before)
-        self.told("from_matrix.py", sheet, *PLAIN, "--case", self.place, "--replace")
+        self.told("clearing-from-matrix", sheet, *PLAIN, "--case", self.place, "--replace")
         case = cc.Case.read(self.place)
         self.assertEqual((case.title, case.labels, case.notes), ("Three banks", {}, ()))
         self.assertIn(b'name = "half"', case.scenarios)
         self.assertFalse((self.place / "sources").exists() or (self.place / "labels.csv").exists())
         (self.place / "thesis.docx").write_text("years of work")
         self.refused(
-            "from_matrix.py", 1, "which is no part of a case", sheet, *PLAIN, "--case", self.place, "--replace"
+            "clearing-from-matrix", 1, "which is no part of a case", sheet, *PLAIN, "--case", self.place, "--replace"
         )
 
     def test_nothing_behind_a_link_is_written_over_or_removed(self):
@@ -134,7 +134,7 @@ class Imported(Case):
                     os.symlink(target, self.place / name)
                     told = f"{name} is a link, or stands behind one"
                     line = [sheet, *PLAIN, "--unit=0.25", "--case", self.place, "--replace", *words]
-                    self.refused("from_matrix.py", 1, told, *line)
+                    self.refused("clearing-from-matrix", 1, told, *line)
                     self.assertEqual((self.place / "banks.csv").read_bytes(), described)
                     self.assertTrue((self.place / name).is_symlink())
                     self.assertEqual({path.name: path.read_bytes() for path in other.iterdir()}, before)
@@ -156,7 +156,7 @@ class Imported(Case):
         listed = self.file("l.csv", "debtor,creditor,amount\nA,B,10\n")
         table = self.file("t.csv", "bank,cash,full\nA,1,Alpha\nB,2,Beta\n")
         self.told(
-            "from_list.py",
+            "clearing-from-list",
             listed,
             "--table",
             table,
@@ -172,7 +172,7 @@ class Imported(Case):
         )
         totals = self.file("s.csv", "bank,assets,liabilities,cash\nA,20,30,1\nB,30,20,2\nC,10,10,3\n")
         self.told(
-            "from_totals.py",
+            "clearing-from-totals",
             totals,
             "--method=sample",
             "--samples=2",
@@ -187,7 +187,7 @@ class Imported(Case):
     def test_words_of_a_case_want_one(self):
         sheet = self.file("m.csv", MATRIX)
         self.refused(
-            "from_matrix.py",
+            "clearing-from-matrix",
             2,
             "--title is for --case",
             sheet,
@@ -197,9 +197,9 @@ class Imported(Case):
             "--debts",
             self.folder / "d",
         )
-        self.refused("from_matrix.py", 2, "the following arguments are required: --banks, --debts", sheet)
+        self.refused("clearing-from-matrix", 2, "the following arguments are required: --banks, --debts", sheet)
         self.refused(
-            "from_matrix.py",
+            "clearing-from-matrix",
             2,
             "the following arguments are required: --debts",
             sheet,
@@ -208,15 +208,15 @@ class Imported(Case):
             "--case",
             self.place,
         )
-        self.refused("from_matrix.py", 2, "'2026-02-30' is no date", sheet, "--as-of=2026-02-30", "--case", self.place)
-        self.refused("from_matrix.py", 2, "'euro' is not a currency", sheet, "--currency=euro", "--case", self.place)
+        self.refused("clearing-from-matrix", 2, "'2026-02-30' is no date", sheet, "--as-of=2026-02-30", "--case", self.place)
+        self.refused("clearing-from-matrix", 2, "'euro' is not a currency", sheet, "--currency=euro", "--case", self.place)
 
 
 class Taken(Case):
     """Tools that take a case in place of the two files."""
 
     FILES = ["--banks", CHAIN / "banks.csv", "--debts", CHAIN / "debts.csv"]
-    TOOLS = ["breaking.py", "impact.py", "rescues.py", "to_matrix.py", "lint.py"]
+    TOOLS = ["clearing-breaking", "clearing-impact", "clearing-rescues", "clearing-to-matrix", "clearing-lint"]
 
     def setUp(self):
         super().setUp()
@@ -228,7 +228,7 @@ class Taken(Case):
         for name in self.TOOLS:
             with self.subTest(tool=name):
                 plain = self.made(name, *self.FILES)
-                done = common.tool(name, *(["--unit=1"] if name == "to_matrix.py" else []), self.place)
+                done = common.tool(name, *(["--unit=1"] if name == "clearing-to-matrix" else []), self.place)
                 self.assertEqual((done.returncode, done.stdout), (0, plain))
                 self.assertIn(done.stderr, ("", ONE_UNIT))
                 # A folder with the two files alone is a case too.
@@ -236,23 +236,23 @@ class Taken(Case):
 
     @needs_packages("matplotlib")
     def test_a_picture_has_full_names(self):
-        done = common.tool("impact.py", self.place, "--picture", self.folder / "p.svg")
+        done = common.tool("clearing-impact", self.place, "--picture", self.folder / "p.svg")
         self.assertEqual((done.returncode, done.stderr), (0, ONE_UNIT))
         self.assertTrue({">Alpha<", ">B ≈<"} <= set(texts_of(self.folder / "p.svg")))
 
     def test_rescues_tell_the_banks_that_one_unit_decides(self):
-        done = common.tool("rescues.py", self.place)
+        done = common.tool("clearing-rescues", self.place)
         self.assertEqual((done.returncode, done.stderr), (0, ONE_UNIT))
 
     @needs_packages("matplotlib")
     def test_pictures_of_breaking_and_of_draws_have_full_names_the_currency_and_marks(self):
         picture, past = self.folder / "p.svg", self.file("past.csv", "time,A,B\none,9,1\ntwo,2,3\n")
-        done = common.tool("breaking.py", self.place, "--picture", picture)
+        done = common.tool("clearing-breaking", self.place, "--picture", picture)
         self.assertEqual((done.returncode, done.stderr), (0, ONE_UNIT))
         self.assertTrue({">Alpha<", ">B ≈<"} <= set(texts_of(picture)), texts_of(picture))
-        common.tool("breaking.py", self.place, "--loss=A", "--picture", picture)
+        common.tool("clearing-breaking", self.place, "--loss=A", "--picture", picture)
         self.assertIn(">loss of Alpha, in units<", texts_of(picture))
-        done = common.tool("draws.py", self.place, "--past", past, "--draws=20", "--picture", picture)
+        done = common.tool("clearing-draws", self.place, "--past", past, "--draws=20", "--picture", picture)
         self.assertEqual((done.returncode, done.stderr), (0, ONE_UNIT))
         want = {">Alpha<", ">B ≈<", ">unpaid in the network, EUR<"}
         self.assertTrue(want <= set(texts_of(picture)), texts_of(picture))
@@ -264,9 +264,9 @@ class Taken(Case):
         texts = {task: self.file(f"{task}.txt", self.printed(task, *self.FILES, *more)) for task, more in words.items()}
         picture = self.folder / "p.svg"
         for words in (
-            ["who_pays.py", texts["clear"], texts["defaults"], "--output", picture],
-            ["shortfalls.py", texts["defaults"], picture],
-            ["stress_map.py", texts["stress"], picture],
+            ["clearing-who-pays", texts["clear"], texts["defaults"], "--output", picture],
+            ["clearing-shortfalls", texts["defaults"], picture],
+            ["clearing-stress-map", texts["stress"], picture],
         ):
             with self.subTest(tool=words[0]):
                 done = common.tool(*words, "--case", self.place)
@@ -275,19 +275,19 @@ class Taken(Case):
                 self.assertIn("Alpha", text)
                 self.assertIn("B ≈", text)
         output = ["--output", self.place / "labels.csv", "--case", self.place]
-        self.refused("who_pays.py", 1, "nothing is written over it", texts["clear"], texts["defaults"], *output)
+        self.refused("clearing-who-pays", 1, "nothing is written over it", texts["clear"], texts["defaults"], *output)
 
     def test_what_is_said_beside_decides(self):
         files = {
             "case": self.place,
             "banks": self.file("b.csv", (CHAIN / "banks.csv").read_text().replace("A,", "A,9", 1)),
         }
-        done = common.tool("to_matrix.py", files["case"], "--unit=1", "--banks", files["banks"])
+        done = common.tool("clearing-to-matrix", files["case"], "--unit=1", "--banks", files["banks"])
         self.assertEqual(
-            done.stdout, self.made("to_matrix.py", "--banks", files["banks"], "--debts", CHAIN / "debts.csv")
+            done.stdout, self.made("clearing-to-matrix", "--banks", files["banks"], "--debts", CHAIN / "debts.csv")
         )
-        self.assertIn("0.0", self.made("to_matrix.py", self.place))
-        self.assertNotIn("0.0", self.made("to_matrix.py", self.place, "--unit=1"))
+        self.assertIn("0.0", self.made("clearing-to-matrix", self.place))
+        self.assertNotIn("0.0", self.made("clearing-to-matrix", self.place, "--unit=1"))
 
     def test_a_file_that_is_another_is_told_in_a_line(self):
         with open(self.place / "banks.csv", "a") as file:
@@ -305,14 +305,14 @@ class Taken(Case):
             self.refused(name, 2, "the following arguments are required: --banks, --debts")
 
     def test_no_file_of_a_case_is_written_over(self):
-        self.refused("breaking.py", 2, "would be written over", self.place, "--output", self.place / "labels.csv")
-        self.refused("breaking.py", 2, "would be written over", self.place, "--output", self.place / "datapackage.json")
+        self.refused("clearing-breaking", 2, "would be written over", self.place, "--output", self.place / "labels.csv")
+        self.refused("clearing-breaking", 2, "would be written over", self.place, "--output", self.place / "datapackage.json")
 
     def test_amounts_are_those_of_the_unit(self):
         text = self.file("d.csv", self.printed("clear", *self.FILES))
-        self.made("tidy.py", text, "--case", self.place, "--folder", self.folder / "tidy")
+        self.made("clearing-tidy", text, "--case", self.place, "--folder", self.folder / "tidy")
         plain = (self.folder / "tidy" / "d-payments.csv").read_text()
-        self.made("tidy.py", text, "--unit", "0.01", "--folder", self.folder / "tidy2")
+        self.made("clearing-tidy", text, "--unit", "0.01", "--folder", self.folder / "tidy2")
         self.assertEqual(plain, (self.folder / "tidy2" / "d-payments.csv").read_text())
 
 
@@ -323,9 +323,9 @@ class Command(Case):
         shutil.copytree(TWELVE, self.place)
 
     def test_a_folder_is_described_shown_and_checked(self):
-        self.assertIn("case: it has no datapackage.json", self.made("case.py", "check", self.place))
+        self.assertIn("case: it has no datapackage.json", self.made("clearing-case", "check", self.place))
         self.made(
-            "case.py",
+            "clearing-case",
             "refresh",
             self.place,
             "--title",
@@ -343,9 +343,9 @@ class Command(Case):
             "--text",
             self.file("t.md", "What *they* owe.\n"),
         )
-        self.assertEqual(self.made("case.py", "check", self.place), "the case is as it is described\n")
+        self.assertEqual(self.made("clearing-case", "check", self.place), "the case is as it is described\n")
         self.assertEqual(
-            self.made("case.py", "show", self.place),
+            self.made("clearing-case", "show", self.place),
             (
                 "title: Twelve banks\nas of: 2026-01-31\ntest: solvency\ndefault keeps: 900 per mille\n"
                 "amounts: in EUR; a unit of account is EUR 1,000\nbanks: 12; cash EUR 25,120,002,000\n"
@@ -354,34 +354,34 @@ class Command(Case):
         )
 
     def test_what_was_changed_is_told_until_it_is_described_anew(self):
-        self.made("case.py", "refresh", self.place)
+        self.made("clearing-case", "refresh", self.place)
         with open(self.place / "debts.csv", "a") as file:
             file.write("Nobody,Kemi,1,7\n")
-        done = common.tool("case.py", "check", self.place)
+        done = common.tool("clearing-case", "check", self.place)
         self.assertEqual(done.returncode, 1)
         self.assertIn("case: debts.csv is not the file that was described\n", done.stdout)
         self.assertIn("unknown bank (8)", done.stdout)
         text = (self.place / "debts.csv").read_text().replace("Nobody,Kemi,1,7\n", "")
         (self.place / "debts.csv").write_text(text)
-        self.made("case.py", "refresh", self.place)
-        self.assertEqual(common.tool("case.py", "check", self.place).returncode, 0)
+        self.made("clearing-case", "refresh", self.place)
+        self.assertEqual(common.tool("clearing-case", "check", self.place).returncode, 0)
 
     def test_labels_of_no_bank_are_told(self):
         (self.place / "labels.csv").write_text("bank,short,full,group,country\nKemmi,,Kemin Pankki,,FI\n")
-        self.made("case.py", "refresh", self.place)
-        done = common.tool("case.py", "check", self.place)
+        self.made("clearing-case", "refresh", self.place)
+        done = common.tool("clearing-case", "check", self.place)
         self.assertEqual(
             (done.returncode, done.stdout), (1, "case: labels.csv has 1 names of no bank, such as Kemmi\n1 told\n")
         )
 
     def test_a_description_that_is_wrong_is_refused_with_its_key(self):
-        self.made("case.py", "refresh", self.place)
+        self.made("clearing-case", "refresh", self.place)
         path = self.place / "datapackage.json"
         document = json.loads(path.read_text())
         document["clearing"]["unit"] = "1,000"
         path.write_text(json.dumps(document))
         for task in ("show", "check", "refresh"):
-            self.refused("case.py", 4, "clearing.unit: '1,000' is not of the form", task, self.place)
+            self.refused("clearing-case", 4, "clearing.unit: '1,000' is not of the form", task, self.place)
 
 
 if __name__ == "__main__":

@@ -1,4 +1,4 @@
-"""tools/clean.sh removes what builds left, and nothing else: tried in a small repository."""
+"""tools/dev/clean.sh removes what builds left, and nothing else: tried in a small repository."""
 import os
 import shutil
 import subprocess
@@ -13,8 +13,8 @@ class Clean(Case):
     def setUp(self):
         super().setUp()
         self.root = self.folder / "a repository"
-        (self.root / "tools").mkdir(parents=True)
-        shutil.copy(ROOT / "tools/clean.sh", self.root / "tools")
+        (self.root / "tools/dev").mkdir(parents=True)
+        shutil.copy(ROOT / "tools/dev/clean.sh", self.root / "tools/dev")
         for name in ("low", "clear_main", "un built"):
             (self.root / "crates" / name / "src").mkdir(parents=True)
             (self.root / "crates" / name / "src/main.rt").write_text("")
@@ -33,7 +33,7 @@ class Clean(Case):
 
     def ran(self, *words, **more):
         environment = {"PATH": "/usr/bin:/bin", "HOME": str(self.folder), "XDG_CACHE_HOME": str(self.folder / "cache"), **more}
-        return subprocess.run([str(self.root / "tools/clean.sh"), *words], env=environment, cwd=self.folder, stdin=subprocess.DEVNULL,
+        return subprocess.run([str(self.root / "tools/dev/clean.sh"), *words], env=environment, cwd=self.folder, stdin=subprocess.DEVNULL,
                               capture_output=True, encoding="utf-8")
 
     def files(self):
@@ -110,7 +110,7 @@ class Clean(Case):
             done = self.ran(*words)
             self.assertEqual((done.returncode, done.stdout, done.stderr), (2, "", "clean.sh: error: the only word is --dry-run\n"))
         self.assertEqual(self.files(), before)
-        self.assertIn("tools/clean.sh [--dry-run]", self.ran("--help").stdout)
+        self.assertIn("tools/dev/clean.sh [--dry-run]", self.ran("--help").stdout)
 
 
 if __name__ == "__main__":

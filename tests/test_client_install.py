@@ -41,8 +41,11 @@ DISTRIBUTIONS = {"docx": "python-docx", "markdown_it": "markdown-it-py", "markup
 
 
 def imported(path: pathlib.Path) -> Iterator[str]:
-    """The packages that a file of Python imports, also those that it names in a call that imports or wants them."""
-    for node in ast.walk(ast.parse(path.read_bytes())):
+    """The packages that a file of Python imports, also those that it names in a call that imports or wants them. What stands there for
+    the check of types alone is not imported."""
+    tree = ast.parse(path.read_bytes())
+    tree.body = [node for node in tree.body if not (isinstance(node, ast.If) and ast.unparse(node.test) == "TYPE_CHECKING")]
+    for node in ast.walk(tree):
         if isinstance(node, ast.Import):
             yield from (each.name.partition(".")[0] for each in node.names)
         elif isinstance(node, ast.ImportFrom) and not node.level:
@@ -161,8 +164,6 @@ class Install(Case):
         self.assertEqual(build.extras(), told.pop("optional-dependencies"))
         self.assertEqual(build.project(), told)
         self.assertEqual(build.commands(), "".join(f"{name} = {function}\n" for name, function in scripts.items()))
-        tools = {path.stem for path in (ROOT / "tools").glob("*.py")}
-        self.assertEqual({name.removeprefix("clearing-").replace("-", "_") for name in scripts}, tools)
 
     @unittest.skipUnless(hasattr(sys, "stdlib_module_names"), "without the names of Python's own modules (Python 3.10)")
     def test_the_extras_are_what_the_sources_import(self):

@@ -1,12 +1,17 @@
 """Sheets as they really come, through the Python package: for each what happens, and that what is made sums to the
 sheet to the unit that is told."""
+import ast
+import json
 import re
+import subprocess
+import sys
 import unittest
 from fractions import Fraction
 
-from common import Case, needs_packages, there
+from common import PACKAGES, Case, needs_packages, there, tool
 
 import clearing_client as cc
+from clearing_tools.runner import ToolError
 
 NAMES = ["Crédit", "Bank B", "Cassa"]
 CLAIMS = {(0, 1): "1234567.25", (1, 2): "89012.50", (2, 0): "3.75"}
@@ -380,3 +385,127 @@ class Sheets(Case):
             cc.Network.from_matrix("m.csv", nonsense=True)
         with self.assertRaisesRegex(cc.SheetError, "cannot read m.csv: No such file"):
             cc.Network.from_matrix("m.csv")
+
+
+LIST = "debtor,creditor,amount\nA,B,5\nX,B,3\nA,Y,4\nB,A,zz\n"
+BANKS = "bank,cash\nA,1\nB,2\n"
+FAULTS = {
+    "list": (LIST, {"table": BANKS}, 3),
+    "matrix": (",A,B,cash\nA,x,1,y\nB,2,,1\n", {}, 2),
+    "totals": ("bank,assets,liabilities,cash\nA,x,1,1\nB,2,y,1\nC,1,1,z\n", {}, 3),
+}
+"""A sheet of each kind with faults, its options, and how many faults it has at least."""
+
+
+class Faults(Case):
+    def test_all_faults_are_told_as_the_command_tells_them(self):
+        for kind, (sheet, options, least) in FAULTS.items():
+            path = self.file("sheet.csv", sheet)
+            named = {key: self.file(f"{key}.csv", text) for key, text in options.items()}
+            with self.assertRaises(cc.SheetError) as caught:
+                getattr(cc.Network, f"from_{kind}")(path, **named)
+            where = [f"--out={self.folder}/out"] if kind == "totals" else [f"--{one}={self.folder}/o" for one in ("banks", "debts")]
+            words = [f"--{key}={name}" for key, name in named.items()]
+            done = tool(f"clearing-from-{kind}", *words, *where, path)
+            told = tuple(line.partition(": ")[2] for line in done.stderr.splitlines())
+            self.assertEqual((caught.exception.faults, str(caught.exception)), (told, "\n".join(told)), kind)
+            self.assertGreaterEqual(len(told), least, told)
+
+    def test_no_line_of_a_fault_of_a_tool_is_lost(self):
+        fault = ToolError("one", 3, ["two"])
+        again = fault.with_status(5)
+        self.assertEqual((str(fault), again.lines, again.status), ("one\ntwo", ["one", "two"], 5))
+
+
+# Prints what is one for the whole process, before and after a call, with other threads or without.
+STATE = """
+import csv, decimal, gc, io, json, locale, os, signal, sys, threading, warnings
+sys.path.insert(0, {packages!r})
+csv.field_size_limit({limit})
+
+def state():
+    mask = os.umask(0o22)
+    os.umask(mask)
+    return [csv.field_size_limit(), id(sys.stdout), id(sys.stderr), list(map(str, warnings.filters)), mask, gc.isenabled(), os.getcwd(),
+            sorted(os.environ.items()), [str(signal.getsignal(n)) for n in (1, 2, 15)], str(decimal.getcontext()), locale.getlocale(),
+            sys.getrecursionlimit()]
+
+import clearing_client as cc
+SHEETS = {sheets!r}
+
+def call():
+    faults = []
+    for kind, sheet, options in SHEETS:
+        try:
+            getattr(cc.Network, "from_" + kind)(sheet, **options)
+        except cc.SheetError as fault:
+            faults.append(str(fault))
+    return faults
+
+# What a first call imports may have warnings of its own to pass over; what is ours is not among them.
+before = state()
+first = call()
+print(json.dumps([before == state(), len(first)]))
+before, seen, wrong = state(), [], []
+
+def others():
+    while not ended.is_set():
+        try:
+            seen.append(len(next(csv.reader(["x" * ({limit} - 1)]))[0]))
+        except Exception as fault:
+            wrong.append(str(fault))
+
+ended = threading.Event()
+threads = [threading.Thread(target=lambda: [call() == first or wrong.append("other faults") for _ in range(3)]) for _ in range(4)]
+other = threading.Thread(target=others)
+for one in [other, *threads]:
+    one.start()
+for one in threads:
+    one.join()
+ended.set()
+other.join()
+print(json.dumps([before == state(), bool(seen), wrong[:3]]))
+"""
+
+
+class Process(Case):
+    """A call from Python leaves what is one for the whole process as it was."""
+
+    def sheets(self):
+        """Calls of each kind, with and without faults."""
+        table = str(self.file("table.csv", BANKS))
+        for kind, (sheet, options, _) in FAULTS.items():
+            named = {key: str(self.file(f"{kind}-{key}.csv", text)) for key, text in options.items()}
+            yield kind, str(self.file(f"{kind}-wrong.csv", sheet)), named
+        yield "list", str(self.file("right.csv", "debtor,creditor,amount\nA,B,5\n")), {"table": table}
+        yield "list", str(self.file("long.csv", f'debtor,creditor,amount\nA,"{" " * 300_000}B",5\n')), {"table": table}
+        yield "matrix", str(self.file("none.csv", "")), {}
+        yield "matrix", str(self.folder / "right.csv"), {"nonsense": True}
+        yield "matrix", str(self.folder / "right.csv"), {"help": True}
+        if there("openpyxl"):
+            import openpyxl
+
+            book = openpyxl.Workbook()
+            for row in (["debtor", "creditor", "amount"], ["A", "B", 5]):
+                book.active.append(row)
+            book.save(self.folder / "book.xlsx")
+            yield "list", str(self.folder / "book.xlsx"), {"table": table}
+
+    def test_calls_leave_the_process_as_it_was(self):
+        sheets = list(self.sheets())
+        for limit in (1000, 131_072):
+            script = STATE.format(packages=str(PACKAGES), limit=limit, sheets=sheets)
+            done = subprocess.run([sys.executable, "-c", script], capture_output=True, encoding="utf-8")
+            self.assertEqual((done.returncode, done.stderr), (0, ""), done.stderr)
+            self.assertEqual([json.loads(line) for line in done.stdout.splitlines()], [[True, 6], [True, True, []]])
+
+    def test_fields_are_read_within_the_one_block_that_lets_them_be_long(self):
+        limits, outside = [], []
+        for path in sorted(PACKAGES.rglob("*.py")):
+            tree = ast.parse(path.read_text(encoding="utf-8"))
+            limits += [path.name for node in ast.walk(tree) if isinstance(node, ast.Attribute) and node.attr == "field_size_limit"]
+            for function in [node for node in ast.walk(tree) if isinstance(node, ast.FunctionDef)]:
+                text = ast.unparse(function)
+                if re.search(r"csv\.(Dict)?[rR]eader\(", text) and "with long_fields(" not in text:
+                    outside.append(f"{path.name}: {function.name}")
+        self.assertEqual((set(limits), outside), ({"fields.py"}, []))

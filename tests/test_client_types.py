@@ -1,4 +1,8 @@
-"""The packages are typed, a program that uses them wrongly is told apart, and no name is idle."""
+"""The packages and the scripts beside them are typed, a program that uses the packages wrongly is told apart, and no name is idle."""
+import ast
+import builtins
+import configparser
+import re
 import shutil
 import subprocess
 import unittest
@@ -6,37 +10,47 @@ import unittest
 from common import ROOT, Case
 
 MYPY, FLAKE8 = shutil.which("mypy"), shutil.which("flake8")
+SOURCES = sorted((ROOT / "python/src").rglob("*.py"))
+SCRIPTS = sorted([ROOT / "python/build.py", *(ROOT / "bench").rglob("*.py"), *(ROOT / "tools/dev").glob("*.py")])
+# What is checked at once, seen from python/: two of the scripts are called build.
+AT_ONCE = (["src", "build.py", "../bench"], ["../tools/dev"])
+
+
+def functions_in(paths):
+    """Each function of some files, with its place and name, by which a fault tells it."""
+    for path in paths:
+        for node in ast.walk(ast.parse(path.read_text(encoding="utf-8"))):
+            if isinstance(node, ast.FunctionDef):
+                yield f"{path.relative_to(ROOT)}:{node.lineno} {node.name}", node
 
 
 @unittest.skipUnless(MYPY, "without mypy (Debian's package mypy)")
 class Types(Case):
-    def mypy(self, *words):
-        cache = self.folder / "cache"
-        line = [MYPY, "--cache-dir", str(cache), "--config-file", str(ROOT / "python/pyproject.toml"), *map(str, words)]
-        return subprocess.run(line, cwd=ROOT / "python", capture_output=True, encoding="utf-8")
+    def mypy(self, *words, cwd=ROOT / "python"):
+        line = [MYPY, "--cache-dir", str(self.folder / "cache"), "--config-file", "pyproject.toml", *map(str, words)]
+        return subprocess.run(line, cwd=cwd, capture_output=True, encoding="utf-8")
 
-    def test_the_packages_have_their_types_and_keep_them(self):
-        done = self.mypy("src")
-        self.assertEqual(done.returncode, 0, done.stdout + done.stderr)
+    def test_the_packages_and_the_scripts_have_their_types_and_keep_them(self):
+        for words in AT_ONCE:
+            done = self.mypy(*words)
+            self.assertEqual(done.returncode, 0, done.stdout + done.stderr)
 
-    def test_the_rooms_that_are_typed_stay_so(self):
-        """As `mypy --strict` has them, without what other rooms may leave; and in lines of at most 120 columns."""
-        rooms = [*sorted((ROOT / "python/src/clearing_client").glob("*.py")), *sorted((ROOT / "python/src/clearing_tools/evidence").glob("*.py")),
-                 *(ROOT / f"python/src/clearing_tools/{name}.py" for name in ("cli", "files", "runner", "texts"))]
-        others = ",".join(f"clearing_tools.{room}.*" for room in ("analysis", "checks", "desk", "drawing", "exports", "imports", "report"))
-        settings = f"[mypy]\nstrict = True\npython_version = 3.9\nmypy_path = src\n[mypy-{others}]\nignore_errors = True\n[mypy-tomllib.*]\nignore_missing_imports = True\n"
-        line = [MYPY, "--cache-dir", str(self.folder / "cache"), "--config-file", str(self.file("strict.ini", settings)), *map(str, rooms)]
-        done = subprocess.run(line, cwd=ROOT / "python", capture_output=True, encoding="utf-8")
-        self.assertEqual(done.returncode, 0, done.stdout + done.stderr)
-        wide = [f"{path.name}:{at}" for path in rooms for at, text in enumerate(path.read_text(encoding="utf-8").split("\n"), 1) if len(text) > 120]
-        self.assertEqual(wide, [])
-
-    def test_the_packages_have_no_idle_name(self):
-        if not FLAKE8:
-            self.skipTest("without flake8 (Debian's package flake8)")
-        line = [FLAKE8, "--config", ROOT / "python/.flake8", ROOT / "python/src", ROOT / "python/build.py", ROOT / "tools/dev", ROOT / "tests"]
-        done = subprocess.run(line, capture_output=True, encoding="utf-8")
-        self.assertEqual((done.returncode, done.stdout), (0, ""))
+    def test_a_function_without_types_is_told_in_each_room(self):
+        """In a copy, in which a file of each folder has such a function."""
+        for name in ("python", "bench", "tools/dev"):
+            shutil.copytree(ROOT / name, self.folder / name, ignore=shutil.ignore_patterns("__pycache__"))
+        (self.folder / "tests").mkdir()
+        shutil.copy(ROOT / "tests/sheets.py", self.folder / "tests")
+        rooms = sorted({path.relative_to(ROOT).parent for path in [*SOURCES, *SCRIPTS]})
+        self.assertGreater(len(rooms), 13)
+        for number, room in enumerate(rooms):
+            # A script's module has no package before its name, so that no two may be called the same.
+            path = self.folder / ("python/build.py" if str(room) == "python" else room / f"untyped{number}.py")
+            with open(path, "a", encoding="utf-8") as file:
+                file.write("\n\ndef same(value):\n    return value\n")
+        lines = [line for words in AT_ONCE for line in self.mypy(*words, cwd=self.folder / "python").stdout.splitlines()]
+        found = [(self.folder / "python" / line.partition(":")[0]).resolve() for line in lines if line.endswith("[no-untyped-def]")]
+        self.assertEqual(sorted(path.parent.relative_to(self.folder.resolve()) for path in found), rooms, "\n".join(lines))
 
     def test_who_uses_it_sees_the_types(self):
         right = "import clearing_client as cc\nnet = cc.Network({'A': 7}, [])\npaid: int = net.clear().payments[0].paid\n"
@@ -46,6 +60,85 @@ class Types(Case):
                       "net.defaults().payments\n", "net.stress(7)\n"):
             done = self.mypy(self.file("wrong.py", right + wrong))
             self.assertEqual((done.returncode, done.stdout.count("error:")), (1, 1), done.stdout + done.stderr)
+
+
+class Sources(unittest.TestCase):
+    def test_no_module_is_let_off(self):
+        """What is strict is so for each module: an exception names libraries alone, and a line let off says why."""
+        text = (ROOT / "python/pyproject.toml").read_text(encoding="utf-8").partition("[tool.mypy]\n")[2]
+        settings, *exceptions = text.split("[[tool.mypy.overrides]]\n")
+        self.assertIn("strict = true\n", settings)
+        self.assertNotIn("false", text)
+        for exception in exceptions:
+            self.assertNotIn("clearing", exception)
+            keys = re.findall(r"^(\w+) =", exception, re.MULTILINE)
+            self.assertEqual(keys, ["module", "ignore_missing_imports"])
+        for path in [*SOURCES, *SCRIPTS]:
+            for line in path.read_text(encoding="utf-8").split("\n"):
+                self.assertNotRegex(line, r"# type: ignore(?!\[[a-z, -]+\]  # \w)", path.name)
+
+    def test_any_stands_where_no_type_can_be_said_alone(self):
+        """Each module with its lines: a column's values by a name that is a text, and words that go on to a call."""
+        found = {}
+        for path in SOURCES:
+            for line in path.read_text(encoding="utf-8").split("\n"):
+                if re.search(r"\bAny\b", line) and not re.match(r"(from typing import|    [\w, ]+,$)", line):
+                    found.setdefault(path.name, []).append(line.strip())
+        self.assertEqual(found, {
+            "case.py": ['def of_files(cls, banks: File, debts: File, **more: Any) -> "Case":'],
+            "table.py": ["def column(self, name: str) -> List[Any]:"],
+        })
+
+    def test_names_say_what_they_are(self):
+        """What a command line says is `args`, an exception ends with Error or Warning, no local is a bare participle, and no module
+        but `format` has the name of something that Python has built in."""
+        riddles, parsed = [], 0
+        for path in SOURCES:
+            if path.stem in dir(builtins) and path.stem != "format":
+                riddles.append(f"module {path.name}")
+            for node in ast.walk(ast.parse(path.read_text(encoding="utf-8"))):
+                if isinstance(node, (ast.arg, ast.Name)):
+                    is_bound = isinstance(node, ast.arg) or isinstance(node.ctx, ast.Store)
+                    name = node.arg if isinstance(node, ast.arg) else node.id
+                    riddles += [f"{path.name}:{node.lineno} {name}"] if is_bound and name in ("asked", "told", "said", "wanted") else []
+                if isinstance(node, ast.ClassDef):
+                    is_fault = any(ast.unparse(base).endswith(("Error", "Exception", "Warning")) for base in node.bases)
+                    riddles += [f"{path.name} {node.name}"] if is_fault and not node.name.endswith(("Error", "Warning")) else []
+                if isinstance(node, ast.Assign) and isinstance(node.value, ast.Call) and ast.unparse(node.value.func).endswith("parse_args"):
+                    parsed += 1
+                    riddles += [f"{path.name}:{node.lineno}"] if not re.match(r"\(?(parser, )?args\b", ast.unparse(node.targets[0])) else []
+        self.assertEqual(riddles, [])
+        self.assertGreater(parsed, 15)
+
+    def test_a_function_has_some_40_lines(self):
+        lines = {name: node.end_lineno - node.lineno + 1 for name, node in functions_in([*SOURCES, *SCRIPTS])}
+        self.assertEqual({name: count for name, count in lines.items() if count > 44}, {})
+        self.assertGreater(max(lines.values()), 30)
+
+    def test_a_function_of_a_script_has_at_most_six_parameters_and_says_what_it_does(self):
+        found = dict(functions_in(SCRIPTS))
+        self.assertGreater(len(found), 250)
+        for name, node in found.items():
+            given = [node.args.vararg, node.args.kwarg, *node.args.posonlyargs, *node.args.args, *node.args.kwonlyargs]
+            self.assertLessEqual(len(list(filter(None, given))), 6, name)
+            if not node.name.startswith("__"):
+                self.assertTrue(ast.get_docstring(node), name)
+
+    def test_lines_have_the_one_length_of_the_settings(self):
+        settings = configparser.ConfigParser()
+        settings.read(ROOT / "python/.flake8")
+        most = settings.getint("flake8", "max-line-length")
+        wide = [f"{path.relative_to(ROOT)}:{at}" for path in [*SOURCES, *SCRIPTS]
+                for at, text in enumerate(path.read_text(encoding="utf-8").split("\n"), 1) if len(text) > most]
+        self.assertEqual((most, wide), (120, []))
+
+    def test_the_packages_and_the_scripts_have_no_idle_name(self):
+        if not FLAKE8:
+            self.skipTest("without flake8 (Debian's package flake8)")
+        # Lines of tests may be longer.
+        for words in (["python/src", "python/build.py", "tools/dev", "bench"], ["--max-line-length=250", "tests"]):
+            done = subprocess.run([FLAKE8, "--config", "python/.flake8", *words], cwd=ROOT, capture_output=True, encoding="utf-8")
+            self.assertEqual((done.returncode, done.stdout), (0, ""))
 
 
 if __name__ == "__main__":

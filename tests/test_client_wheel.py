@@ -2,6 +2,7 @@
 import hashlib
 import os
 import pathlib
+import shlex
 import subprocess
 import sys
 import unittest
@@ -40,8 +41,7 @@ class Wheel(Case):
             entry = archive.getinfo(build.PLACE)
             self.assertEqual((archive.read(entry), oct(entry.external_attr >> 16)), (b"\x7fELFGLIBC_2.34", "0o100755"))
             told = archive.read(f"{build.full_name()}.dist-info/entry_points.txt").decode()
-            self.assertIn("\nclearing-many = clearing_tools.many:main\n", told)
-            self.assertEqual(oct(archive.getinfo(build.MANY).external_attr >> 16), "0o100755")
+            self.assertIn("\nclearing-many = clearing_tools.many.command:main\n", told)
             # The command is the program itself.
             self.assertNotIn("\nclearing = ", told)
             entry = archive.getinfo(build.command_place())
@@ -50,10 +50,10 @@ class Wheel(Case):
             for line in ("Provides-Extra: desk", "Requires-Dist: bottle; extra == 'desk'", "Provides-Extra: all"):
                 self.assertIn(line + "\n", metadata)
             self.assertIn("Root-Is-Purelib: false\n", archive.read(f"{build.full_name()}.dist-info/WHEEL").decode())
-        # The plain one has neither program nor command, and the same program makes the same bytes.
+        # The plain one has no program, and the same program makes the same bytes.
         with zipfile.ZipFile(self.folder / build.build_wheel(self.folder)) as archive:
-            self.assertEqual({build.PLACE, build.command_place(), build.MANY} & set(archive.namelist()), set())
-            self.assertNotIn("many:main", archive.read(f"{build.full_name()}.dist-info/entry_points.txt").decode())
+            self.assertEqual({build.PLACE, build.command_place()} & set(archive.namelist()), set())
+            self.assertEqual(archive.read(f"{build.full_name()}.dist-info/entry_points.txt").decode(), told)
         before = name.read_bytes()
         self.assertEqual(self.wheel(self.folder / "program").read_bytes(), before)
 
@@ -90,7 +90,7 @@ class Wheel(Case):
         self.assertEqual((done.returncode, done.stdout.decode()), (0, printed("breaking", *FILES)), done.stderr)
         # Each command tells its words.
         commands = sorted(path.name for path in (place / "bin").glob("clearing-*"))
-        self.assertEqual(len(commands), len(list((ROOT / "tools").glob("*.py"))) + 1)
+        self.assertEqual(len(commands), len(list((ROOT / "bin").iterdir())))
         for name in commands:
             done = run(place / "bin" / name, "--help")
             self.assertEqual((done.returncode, done.stderr), (0, b""), name)
@@ -102,7 +102,7 @@ class Wheel(Case):
         self.assertEqual((done.returncode, done.stdout, done.stderr), (0, b"2 done, 0 failed\n", b""))
         self.assertEqual((self.folder / "results/b.out").read_text(), printed("clear", *FILES, "--workers", 1))
         done = run(place / "bin/clearing-many", "slurm", "jobs.tsv", "results")
-        self.assertIn(f"CLEARING='{packed}' exec '{packed.parents[2] / build.MANY}' one ".encode(), done.stdout)
+        self.assertIn(f"CLEARING={shlex.quote(str(packed))} exec {shlex.quote(str(place / 'bin/clearing-many'))} one ".encode(), done.stdout)
 
     @unittest.skipUnless(has_venv(), "without venv (Debian's package python3-venv)")
     def test_its_command_is_the_program_by_whatever_name_it_is_found(self):
@@ -151,14 +151,14 @@ class Wheel(Case):
         if program.read_bytes()[:4] != b"\x7fELF":
             self.skipTest("the tested program is a script")
         self.file("wrong", None).mkdir()
-        altered = {**build.sources(), build.PLACE: program.read_bytes(), build.MANY: b""}
+        altered = {**build.sources(), build.PLACE: program.read_bytes()}
         altered["clearing_tools/imports/generated.py"] = b"raise SystemExit(9)\n"
         wrong = self.folder / "wrong" / build.write_wheel(self.folder / "wrong", altered, build.tag_of(altered[build.PLACE]))
         for wheel, status, line in (
             (self.wheel(program), 0, "[1-9][0-9]* passed, 0 failed"),
             (wrong, 1, "0 passed, [1-9][0-9]* failed"),
         ):
-            run = [str(ROOT / "tools/test.sh"), "--wheel", str(wheel), "test_gen_files"]
+            run = [str(ROOT / "tools/dev/test.sh"), "--wheel", str(wheel), "test_gen_files"]
             environment = {**OFFLINE, "PYTHON": sys.executable}
             done = subprocess.run(run, env=environment, stdin=subprocess.DEVNULL, capture_output=True, encoding="utf-8")
             self.assertEqual(done.returncode, status, done.stdout + done.stderr)

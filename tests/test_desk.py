@@ -152,13 +152,13 @@ class Numbers(Desk):
 
     def test_what_is_asked_of_a_bank_is_what_the_tools_say(self):
         desk = self.desk()
-        breaking = dict(line.split(",", 1) for line in self.made("breaking.py", *files_of(TWELVE)).splitlines())
-        impact = {line.split(",")[0]: line.split(",")[1:] for line in self.made("impact.py",
+        breaking = dict(line.split(",", 1) for line in self.made("clearing-breaking", *files_of(TWELVE)).splitlines())
+        impact = {line.split(",")[0]: line.split(",")[1:] for line in self.made("clearing-impact",
             *files_of(TWELVE)).splitlines()}
         fallen = self.file("fallen.csv")
-        self.made("impact.py", *files_of(TWELVE), "--ranking", self.file("r.csv"), "--defaults", fallen)
+        self.made("clearing-impact", *files_of(TWELVE), "--ranking", self.file("r.csv"), "--defaults", fallen)
         saves = self.file("saves.csv")
-        self.made("rescues.py", *files_of(TWELVE), "--output", self.file("o.csv"), "--saved", saves)
+        self.made("clearing-rescues", *files_of(TWELVE), "--output", self.file("o.csv"), "--saved", saves)
         saved = {}
         for line in saves.read_text().splitlines()[1:]:
             saved.setdefault(line.split(",")[0], []).append(line.split(",")[1])
@@ -328,7 +328,7 @@ class Numbers(Desk):
         from clearing_tools.desk import state as states
         from clearing_tools.desk.runs import Desk as Table
         from clearing_tools.desk.runs import Runs, base_of
-        from clearing_tools.runner import Failed
+        from clearing_tools.runner import ToolError
 
         os.environ["CLEARING"] = PROGRAM
         runs = Runs(str(self.folder))
@@ -336,7 +336,7 @@ class Numbers(Desk):
         found = Table(runs, base, Folder()).cleared(states.AS_IT_IS)
         wrong = found._replace(banks=[bank._replace(equity=bank.equity + 1) for bank in found.banks])
         account.account_of(base, found, 3)
-        with self.assertRaises(Failed):
+        with self.assertRaises(ToolError):
             account.account_of(base, wrong, 3)
 
     def test_the_debts_of_a_bank_are_those_of_the_program(self):
@@ -610,14 +610,14 @@ class Faults(Desk):
     def test_files_that_are_refused_at_the_start(self):
         faulty = self.file("faulty.csv", "name,cash,rule\nA,x,order\n")
         for words, status, said in (
-            (["--banks", faulty, "--debts", TWELVE / "debts.csv"], 4, "desk.py: banks row 1: number (4)\n"),
+            (["--banks", faulty, "--debts", TWELVE / "debts.csv"], 4, "clearing-desk: banks row 1: number (4)\n"),
             (["--banks", self.folder / "none.csv", "--debts", TWELVE / "debts.csv"], 3, "cannot read"),
             ([*files_of(TWELVE), "--scenarios", self.file("s.toml", "[[scenario]]\n")], 4,
-                "desk.py: scenarios row 1: shape (17)\n"),
+                "clearing-desk: scenarios row 1: shape (17)\n"),
             ([*files_of(TWELVE), "--labels", self.file("l.csv", "name,label\n")], 4, "the first row is not code,name"),
             ([*files_of(TWELVE), "--idle", "0"], 2, "is no number of minutes above 0"),
         ):
-            done = tool("desk.py", *words, "--no-browser", python=Running.__init__.__globals__["PYTHON"])
+            done = tool("clearing-desk", *words, "--no-browser", python=Running.__init__.__globals__["PYTHON"])
             self.assertEqual((done.returncode, done.stdout), (status, ""), done.stderr)
             self.assertIn(said, done.stderr)
 
@@ -685,7 +685,7 @@ class TakenAway(Desk):
         for at, kept in enumerate(view["equity"]):
             part = page.partition(f'<section id="bank-{at}"')[2].partition("</p>")[0]
             self.assertIn(f" and {kept:,} unit{'' if kept == 1 else 's'} is left.", part)
-        self.assertIn("tools/report.py --banks banks.csv --debts debts.csv", page)
+        self.assertIn("clearing-report --banks banks.csv --debts debts.csv", page)
         with zipfile.ZipFile(io.BytesIO(desk.see(f"/take/{view['id']}/evidence"))) as archive:
             archive.extractall(self.folder)
         # The changes are a scenario: the files are as they were given, and what it leaves is the state.
@@ -703,7 +703,7 @@ class TakenAway(Desk):
 
     def checked(self, folder):
         """A folder of evidence holds by its own check, whose lines are given."""
-        done = subprocess.run([str(ROOT / "tools/evidence.sh"), "check", str(folder)], capture_output=True,
+        done = subprocess.run([str(ROOT / "bin/clearing-evidence"), "check", str(folder)], capture_output=True,
             encoding="utf-8")
         self.assertEqual(done.returncode, 0, done.stdout + done.stderr)
         return done.stdout
@@ -853,7 +853,7 @@ class Sessions(Desk):
                         archive.writestr(name, data)
             elif content is not None:
                 path.write_bytes(content)
-            done = tool("desk.py", "--session", path, "--no-browser", python=Running.__init__.__globals__["PYTHON"])
+            done = tool("clearing-desk", "--session", path, "--no-browser", python=Running.__init__.__globals__["PYTHON"])
             self.assertEqual((done.returncode, done.stdout), (status, ""), (said, done.stderr))
             self.assertIn(said, done.stderr)
         # Names that lead elsewhere are passed over.
@@ -892,7 +892,7 @@ class Sessions(Desk):
         self.assertEqual(self.held(other.see("/other/1")), self.held(view))
         self.assertEqual(other.see("/other/1/3")["account"], other.see("/bank/0/3")["account"])
         # A case in another unit is not held against this one.
-        done = tool("desk.py", *files_of(TWELVE), "--against", folder, "--no-browser",
+        done = tool("clearing-desk", *files_of(TWELVE), "--against", folder, "--no-browser",
             python=Running.__init__.__globals__["PYTHON"])
         self.assertEqual((done.returncode, done.stdout), (4, ""))
         self.assertIn("in another unit or currency", done.stderr)
@@ -1233,7 +1233,7 @@ class Attacks(Desk):
         browser.chmod(0o755)
         from desk import PYTHON
 
-        process = subprocess.Popen([PYTHON, "-B", str(ROOT / "tools/desk.py"), *map(str, files_of(TWELVE))],
+        process = subprocess.Popen([PYTHON, "-B", str(ROOT / "bin/clearing-desk"), *map(str, files_of(TWELVE))],
             stdout=subprocess.PIPE, encoding="utf-8",
                                    env={**os.environ, "BROWSER": str(browser)}, stderr=subprocess.PIPE)
         self.addCleanup(lambda: (process.terminate(), process.communicate()))

@@ -1,7 +1,7 @@
 """The commands in the guide and beside the examples print what stands there.
 
 In a block of the language `console` a line that begins with `$ ` is a command of the shell, and what follows is what it
-prints, both streams together. The blocks of a page are run in order in a copy of its examples, tools and package,
+prints, both streams together. The blocks of a page are run in order in a copy of its examples, commands and package,
 where `./clearing` is the program.
 
 `python3 test_docs.py PAGE` runs a page and writes anew what its commands print.
@@ -14,6 +14,7 @@ import shutil
 import subprocess
 import sys
 import tempfile
+import unittest
 
 from common import PROGRAM, ROOT, Case
 
@@ -56,7 +57,7 @@ def page_run(text):
     """The text of a page, with what its commands print now."""
     with tempfile.TemporaryDirectory() as name:
         folder = pathlib.Path(name)
-        for part in ("examples", "python", "tools"):
+        for part in ("examples", "python", "bin"):
             shutil.copytree(ROOT / part, folder / part)
         script = folder / "clearing"
         script.write_text(f'#!/bin/sh\nexec {shlex.quote(PROGRAM)} "$@"\n')
@@ -114,6 +115,37 @@ class Pages(Case):
             self.assertTrue(
                 any(name in entry.partition(")")[0] and f"({year})" in entry for entry in listed), (name, year)
             )
+
+
+class Crates(unittest.TestCase):
+    def test_the_files_of_a_crate_that_changes_begin_with_are_there(self):
+        """CONTRIBUTING names them after the crate that they belong to."""
+        text = (ROOT / "CONTRIBUTING.md").read_text(encoding="utf-8")
+        self.assertEqual(lost_files(text), [])
+        self.assertEqual(lost_files("1. `settle` (`src/none.rt`)\n2. `settle` (`src/plan.rt`)\n"), ["settle: src/none.rt"])
+
+
+def lost_files(text):
+    """The files of src/, specs/ and proofs/ that an item of a list names, and that none of the item's crates has."""
+    lost = []
+    for item in re.split(r"\n(?=\d+\. |- |\n)", text):
+        crates = [name for name in re.findall(r"`([a-z_]+)`", item) if (ROOT / "crates" / name).is_dir()]
+        lost += [f"{', '.join(crates)}: {file}" for file in re.findall(r"`((?:src|specs|proofs)/[\w/]+\.(?:rt|antt))`", item)
+                 if crates and not any((ROOT / "crates" / crate / file).is_file() for crate in crates)]
+    return lost
+
+
+class Commits(unittest.TestCase):
+    def test_each_commit_that_a_document_names_is_there(self):
+        git = ["git", "-C", str(ROOT)]
+        shallow = subprocess.run([*git, "rev-parse", "--is-shallow-repository"], capture_output=True, encoding="utf-8")
+        if shallow.stdout != "false\n":
+            self.skipTest("the folder has no history")
+        named = {commit for path in [ROOT / "README.md", *(ROOT / "docs").glob("*.md")]
+                 for commit in re.findall(r"`([0-9a-f]{7})`", path.read_text(encoding="utf-8"))}
+        found = subprocess.run([*git, "cat-file", "--batch-check=%(objecttype)"], input="\n".join(sorted(named)), capture_output=True,
+                               encoding="utf-8").stdout.splitlines()
+        self.assertEqual([(name, kind) for name, kind in zip(sorted(named), found, strict=True) if kind != "commit"], [])
 
 
 if __name__ == "__main__":

@@ -9,7 +9,9 @@ import sys
 import time
 
 from common import HUB, PROGRAM, ROOT, clearing, needs
-from evidences import SCENARIOS, EvidenceCase, evidence
+from evidences import SCENARIOS, SCRIPT, EvidenceCase, evidence
+
+from clearing_tools.evidence.parts import OLDER_README
 
 TWELVE = ROOT / "examples/twelve-banks"
 
@@ -33,14 +35,20 @@ class Evidence(EvidenceCase):
     # The banks that a scenario leaves.
 
     def test_without_what_it_needs_it_says_so_in_a_line(self):
-        for names in (["evidence.sh"], ["evidence.sh", "evidence.py"]):
-            place = self.folder / str(len(names)) / "tools"
-            place.mkdir(parents=True)
-            for name in names:
-                shutil.copy(ROOT / "tools" / name, place)
-            done = subprocess.run([str(place / "evidence.sh"), "check", str(self.folder)], capture_output=True, encoding="utf-8")
-            self.assertEqual((done.returncode, done.stdout), (2, ""))
-            self.assertRegex(done.stderr, r"\Aevidence\.sh: needs tools/evidence\.sh, tools/evidence\.py and python/src [^\n]*\n\Z")
+        place = self.folder / "bin"
+        place.mkdir()
+        shutil.copy(SCRIPT, place)
+        done = subprocess.run([str(place / "clearing-evidence"), "check", str(self.folder)], capture_output=True, encoding="utf-8")
+        self.assertEqual((done.returncode, done.stdout), (2, ""))
+        self.assertRegex(done.stderr, r"\Aclearing-evidence: needs bin/clearing-evidence and python/src [^\n]*\n\Z")
+
+    def test_a_folder_that_was_made_before_the_commands_stood_in_bin_is_checked(self):
+        folder = self.folder / "evidence"
+        self.assertEqual(evidence("make", folder, "--banks", HUB / "banks.csv", "--debts", HUB / "debts.csv").returncode, 0)
+        for text, status in ((OLDER_README, 0), (OLDER_README.replace("audit.py", "other.py"), 3)):
+            (folder / "README.txt").write_text(text)
+            self.sums_anew(folder)
+            self.assertEqual(evidence("check", folder).returncode, status)
 
     def test_a_text_of_what_was_changed_belongs_to_a_folder(self):
         text = self.file("said.txt", "Hub: cash 5 in place of 4.\n")
@@ -56,7 +64,7 @@ class Evidence(EvidenceCase):
 
     def test_a_shock_leaves_what_stress_clears(self):
         generated = [self.file("b.csv"), self.file("d.csv")]
-        self.made("gen_files.py", "--seed", 3, "--size", 200, "--tries", 900, "--banks", generated[0], "--debts", generated[1])
+        self.made("clearing-gen-files", "--seed", 3, "--size", 200, "--tries", 900, "--banks", generated[0], "--debts", generated[1])
         wild = "".join(f'[[scenario]]\nname = "{n}"\ncut = {37 * n}\n' + "".join(
             f'[[scenario.loss]]\nbank = "N{(n * k) % 200}"\namount = {k * k}\n' for k in range(1, 9)) for n in range(1, 5))
         hostile, hostile_scenarios = self.hostile_files()
@@ -71,8 +79,8 @@ class Evidence(EvidenceCase):
             for number, block in enumerate(blocks, 1):
                 left = self.file("left.csv")
                 shocked = ["--banks", banks, "--scenarios", scenarios, "--scenario", number]
-                self.assertEqual(self.made("shock.py", *shocked, "--output", left), "")
-                self.assertEqual(self.made("shock.py", *shocked), left.read_text())
+                self.assertEqual(self.made("clearing-shock", *shocked, "--output", left), "")
+                self.assertEqual(self.made("clearing-shock", *shocked), left.read_text())
                 files = ["--banks", left, "--debts", debts]
                 made = self.printed("clear", *files) + self.printed("defaults", *files)
                 self.assertEqual(block.split("\n", 1)[1].rstrip("\n"), made.rstrip("\n"))
@@ -84,7 +92,7 @@ class Evidence(EvidenceCase):
         plain, marked = self.file("s.toml", SCENARIOS), self.file("marked.toml", b"\xef\xbb\xbf" + SCENARIOS.encode())
         words = ["--banks", banks, "--debts", debts, "--scenarios"]
         self.assertEqual(self.printed("stress", *words, plain), self.printed("stress", *words, marked))
-        left = [self.made("shock.py", "--banks", banks, "--scenarios", name, "--scenario", 2) for name in (plain, marked)]
+        left = [self.made("clearing-shock", "--banks", banks, "--scenarios", name, "--scenario", 2) for name in (plain, marked)]
         self.assertEqual(left[0], left[1])
         folder = self.folder / "evidence"
         done = evidence("make", folder, *words, marked, "--bank", "South")
@@ -97,7 +105,7 @@ class Evidence(EvidenceCase):
             name = self.file("more.toml", text)
             done = clearing("stress", *words, name)
             self.assertEqual((done.returncode, done.stderr), (4, b"clearing: scenarios row 0: toml (16)\n"))
-            self.refused("shock.py", 4, "scenarios row 0: toml (16)", "--banks", banks, "--scenarios", name, "--scenario", 1)
+            self.refused("clearing-shock", 4, "scenarios row 0: toml (16)", "--banks", banks, "--scenarios", name, "--scenario", 1)
 
     def test_a_scenario_that_is_refused_is_refused_alike(self):
         head = '[[scenario]]\nname = "a"\n'
@@ -110,7 +118,7 @@ class Evidence(EvidenceCase):
             done = clearing("stress", "--banks", HUB / "banks.csv", "--debts", HUB / "debts.csv", "--scenarios", scenarios)
             self.assertEqual(done.returncode, 4, text)
             message = done.stderr.decode().removeprefix("clearing: ")
-            self.refused("shock.py", 4, "shock.py: " + message, "--banks", HUB / "banks.csv", "--scenarios", scenarios, "--scenario", 1)
+            self.refused("clearing-shock", 4, "clearing-shock: " + message, "--banks", HUB / "banks.csv", "--scenarios", scenarios, "--scenario", 1)
 
     def test_a_shock_keeps_its_inputs(self):
         banks, scenarios = self.file("b.csv", (HUB / "banks.csv").read_bytes()), self.file("s.toml", SCENARIOS)
@@ -118,10 +126,10 @@ class Evidence(EvidenceCase):
         link.symlink_to(banks)
         words = ["--banks", banks, "--scenarios", scenarios]
         for output in (banks, scenarios, link):
-            self.refused("shock.py", 2, "would be written over", *words, "--scenario", 1, "--output", output)
-        self.refused("shock.py", 2, "none of the number 4", *words, "--scenario", 4)
-        self.refused("shock.py", 3, "cannot read", *words[:3], self.folder / "none", "--scenario", 1)
-        self.refused("shock.py", 5, "cannot write", *words, "--scenario", 1, "--output", self.folder / "none" / "x")
+            self.refused("clearing-shock", 2, "would be written over", *words, "--scenario", 1, "--output", output)
+        self.refused("clearing-shock", 2, "none of the number 4", *words, "--scenario", 4)
+        self.refused("clearing-shock", 3, "cannot read", *words[:3], self.folder / "none", "--scenario", 1)
+        self.refused("clearing-shock", 5, "cannot write", *words, "--scenario", 1, "--output", self.folder / "none" / "x")
         self.assertEqual((banks.read_bytes(), scenarios.read_text()), ((HUB / "banks.csv").read_bytes(), SCENARIOS))
 
     # Making and checking.
@@ -166,7 +174,7 @@ class Evidence(EvidenceCase):
 
     def test_a_generated_network_of_200_is_checked(self):
         banks, debts = self.file("b.csv"), self.file("d.csv")
-        self.made("gen_files.py", "--seed", 9, "--size", 200, "--tries", 600, "--banks", banks, "--debts", debts)
+        self.made("clearing-gen-files", "--seed", 9, "--size", 200, "--tries", 600, "--banks", banks, "--debts", debts)
         scenarios = self.file("s.toml", "".join(f'[[scenario]]\nname = "{cut}"\ncut = {cut}\n' for cut in (150, 600)))
         folder = self.folder / "evidence"
         self.assertEqual(evidence("make", folder, "--banks", banks, "--debts", debts, "--scenarios", scenarios).returncode, 0)
@@ -285,7 +293,7 @@ class Evidence(EvidenceCase):
             more = ["--scenarios", self.file("s.toml", SCENARIOS), "--bank", "South"]
             done = evidence(*words, *more, program=str(program))
             self.assertEqual((done.returncode, done.stdout), (status, b""), done.stderr)
-            self.assertTrue(done.stderr.startswith(b"evidence.sh: "), done.stderr)
+            self.assertTrue(done.stderr.startswith(b"clearing-evidence: "), done.stderr)
             self.nothing_is_left(words[1])
         for more, status, message in [
             (["--bank", "Nobody"], 4, b"words row 0: unknown bank (8)"),
@@ -310,7 +318,7 @@ class Evidence(EvidenceCase):
     def test_changes_are_told_where_they_are_of_the_repository(self):
         copy, sources = self.folder / "copy", "crates/one/src"
         own = {**os.environ, "GIT_CONFIG_GLOBAL": "/dev/null", "CLEARING": PROGRAM}
-        for part in ("tools", "python"):
+        for part in ("bin", "python"):
             shutil.copytree(ROOT / part, copy / part, ignore=shutil.ignore_patterns("tests", "__pycache__"))
         (copy / sources).mkdir(parents=True)
         (copy / sources / "lib.rt").write_text("old\n")
@@ -322,8 +330,8 @@ class Evidence(EvidenceCase):
         ask = [sys.executable, "-B", "-c", "from clearing_tools.evidence import evidence; print(evidence.commit_of())"]
         # What is written, and whether it is a change: an output of one's own is none, and nor is what a build makes.
         for name, is_change in [
-            ("mine.csv", False), ("tools/mine.csv", False), (f"{sources}/out/x", False), (f"{sources}/lib.rt", True),
-            (f"{sources}/new.rt", True), ("tools/evidence.sh", True),
+            ("mine.csv", False), ("bin/mine.csv", False), (f"{sources}/out/x", False), (f"{sources}/lib.rt", True),
+            (f"{sources}/new.rt", True), ("bin/clearing-evidence", True),
         ]:
             path = copy / name
             before = path.read_bytes() if path.exists() else None
@@ -338,16 +346,16 @@ class Evidence(EvidenceCase):
         # Both tools say so.
         self.file("copy/mine.csv", "mine")
         folder, page = self.folder / "evidence", self.folder / "page.html"
-        for words in (["evidence.py", "make", folder], ["report.py", "--out", page]):
-            run = [sys.executable, "-B", copy / "tools" / words[0], *words[1:], "--banks", HUB / "banks.csv", "--debts", HUB / "debts.csv"]
-            subprocess.run(run, env=own, check=True, capture_output=True)
+        for words in (["clearing-evidence", "make", folder], ["clearing-report", "--out", page]):
+            run = [copy / "bin" / words[0], *words[1:], "--banks", HUB / "banks.csv", "--debts", HUB / "debts.csv"]
+            subprocess.run(run, env={**own, "PYTHONDONTWRITEBYTECODE": "1"}, check=True, capture_output=True)
         self.assertEqual((folder / "versions.txt").read_text().split("\n")[0], f"repository {commit}")
         self.assertIn(f">{commit}<", page.read_text(encoding="utf-8"))
 
     def test_the_guide_makes_each_folder_once(self):
         text = (ROOT / "docs/GUIDE.md").read_text(encoding="utf-8")
         commands = "".join(re.findall(r"^```\w*\n(.*?)^```$", text, re.MULTILINE | re.DOTALL)).replace("\\\n", " ").split("\n")
-        made = [name for line in commands for name in re.findall(r"(?:report\.py .*--keep|evidence\.sh make) (\S+)", line)]
+        made = [name for line in commands for name in re.findall(r"(?:clearing-report .*--keep|clearing-evidence make) (\S+)", line)]
         self.assertGreater(len(made), 1)
         self.assertEqual(sorted(made), sorted(set(made)))
 
@@ -358,7 +366,7 @@ class Evidence(EvidenceCase):
         program.chmod(0o755)
         for number in (signal.SIGINT, signal.SIGTERM):
             running = subprocess.Popen(
-                [sys.executable, str(ROOT / "tools/evidence.py"), "make", str(place / "evidence"),
+                [SCRIPT, "make", str(place / "evidence"),
                  "--banks", str(HUB / "banks.csv"), "--debts", str(HUB / "debts.csv")],
                 env={**os.environ, "CLEARING": str(program), "PYTHONDONTWRITEBYTECODE": "1"},
                 stdout=subprocess.PIPE, stderr=subprocess.PIPE, start_new_session=True,

@@ -65,7 +65,7 @@ class Source(test_evidence.Evidence):
         """A case of a matrix, with names that need a code."""
         self.file("m.csv", self.CLAIMS)
         said = ["--unit=0.5", "--decimal=.", "--label-column=full", "--country-column=country", "--currency=EUR", "--title=Two banks"]
-        self.told("from_matrix.py", self.folder / "m.csv", *said, "--case", self.folder / "case", *words)
+        self.told("clearing-from-matrix", self.folder / "m.csv", *said, "--case", self.folder / "case", *words)
         return self.folder / "case"
 
     def test_a_case_is_kept_with_its_names_its_description_and_its_sheets(self):
@@ -101,7 +101,7 @@ class Source(test_evidence.Evidence):
         shutil.rmtree(place)
         place = self.case("--keep-sources")
         (place / "banks.csv").write_text((place / "banks.csv").read_text().replace(",6,", ",7,"))
-        self.made("case.py", "refresh", place)
+        self.made("clearing-case", "refresh", place)
         done = evidence("make", self.folder / "other", "--case", place)
         self.assertEqual(done.returncode, 0)
         self.assertIn("the sheets of the case do not make its banks.csv any more; they are left out", done.stderr.decode())
@@ -150,7 +150,7 @@ class Source(test_evidence.Evidence):
 
     def test_a_command_with_labels_is_kept_as_it_was_run(self):
         self.file("m.csv", self.CLAIMS)
-        done = self.make("tools/from_matrix.py m.csv --unit 0.5 --decimal . --label names.csv --label-column full --drop country --banks b.csv --debts=d.csv --title x")
+        done = self.make("bin/clearing-from-matrix m.csv --unit 0.5 --decimal . --label names.csv --label-column full --drop country --banks b.csv --debts=d.csv --title x")
         self.assertEqual((done.returncode, done.stderr), (0, b""))
         folder = self.folder / "evidence"
         self.assertNotIn("names.csv", (folder / "source/command.tsv").read_text())
@@ -198,12 +198,12 @@ class Source(test_evidence.Evidence):
 
     def test_what_is_no_command_makes_nothing(self):
         totals = self.file("totals.csv", TOTALS)
-        for command, status, told in [("sh -c x", 2, b"--source begins with one of from_matrix.py, from_list.py, from_totals.py"),
+        for command, status, told in [("sh -c x", 2, b"--source begins with one of clearing-from-matrix, clearing-from-list, clearing-from-totals"),
                                       (f"from_totals.py {totals} --method sample --samples 2", 2, b"--source is of one network, and --samples makes several"), ("from_list.py 'x", 2, b"--source is no command"),
                                       (self.given().replace("--duplicates once", ""), 4, b"the same in every column as a line before")]:
             done = self.make(command)
             self.assertEqual((done.returncode, done.stdout), (status, b""))
             self.assertIn(told, done.stderr)
             self.assertFalse((self.folder / "evidence").exists())
-        done = evidence("make", self.folder / "evidence", "--source", "from_list.py", "--banks", "b.csv", "--debts", "d.csv")
+        done = evidence("make", self.folder / "evidence", "--source", "clearing-from-list", "--banks", "b.csv", "--debts", "d.csv")
         self.assertEqual(done.returncode, 2)

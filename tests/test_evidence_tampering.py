@@ -12,7 +12,7 @@ import unittest.mock
 
 from common import PROGRAM, ROOT
 from clearing_tools.evidence.checking import FIRST, Checking
-from clearing_tools.evidence.parts import NoRoom
+from clearing_tools.evidence.parts import NoRoomError
 from evidences import EvidenceCase, evidence
 
 ONE = """[[scenario]]
@@ -272,7 +272,7 @@ class Tampering(EvidenceCase):
         shutil.rmtree(folder)
         # Nor is a copy made that takes more than half of the room.
         folder = self.hub(ONE)
-        with unittest.mock.patch("shutil.disk_usage", return_value=shutil._ntuple_diskusage(0, 0, 9_000)), self.assertRaises(NoRoom) as caught:
+        with unittest.mock.patch("shutil.disk_usage", return_value=shutil._ntuple_diskusage(0, 0, 9_000)), self.assertRaises(NoRoomError) as caught:
             self.copied(folder)
         self.assertIn(" bytes, and there is room for 4,500", str(caught.exception))
 

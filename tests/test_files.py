@@ -3,10 +3,10 @@ import subprocess
 import sys
 import unittest.mock
 
-from common import PACKAGES, ROOT, Case
+from common import PACKAGES, ROOT, Case, run_of
 
 from clearing_tools import files  # noqa: E402
-from clearing_tools.runner import Failed  # noqa: E402
+from clearing_tools.runner import ToolError  # noqa: E402
 
 
 class Files(Case):
@@ -32,12 +32,12 @@ class Files(Case):
         os.link(read, hard)
         soft.symlink_to(read)
         for name in (read, hard, soft, self.folder / ".." / self.folder.name / "read"):
-            with self.assertRaisesRegex(Failed, "also read"):
+            with self.assertRaisesRegex(ToolError, "also read"):
                 files.write_all({self.folder / "other": "x", name: "y"}, [read])
         for one, other in [("x", "x"), ("hard", "read"), ("soft", "hard"), ("new", "./new")]:
-            with self.assertRaisesRegex(Failed, "one file"):
+            with self.assertRaisesRegex(ToolError, "one file"):
                 files.write_all({os.path.join(self.folder, one): "1", f"{self.folder}/../{self.folder.name}/{other}": "2"})
-        with self.assertRaisesRegex(Failed, "a folder"):
+        with self.assertRaisesRegex(ToolError, "a folder"):
             files.write_all({read: "x", self.folder: "y"})
         self.assertEqual((read.read_text(), sorted(os.listdir(self.folder))), ("kept", ["hard", "read", "soft"]))
 
@@ -57,11 +57,11 @@ class Files(Case):
                     return real(*words, **options)
 
                 with unittest.mock.patch(f"clearing_tools.files.{call}", failing):
-                    with self.assertRaisesRegex(Failed, "No space left"):
+                    with self.assertRaisesRegex(ToolError, "No space left"):
                         files.write_all(names)
                 self.assertEqual(self.state(), before, (call, at))
                 self.assertFalse((self.folder / "new").exists())
-        with self.assertRaisesRegex(Failed, "/dev/full: No space left"):
+        with self.assertRaisesRegex(ToolError, "/dev/full: No space left"):
             files.write_all({**names, "/dev/full": "x"})
         self.assertEqual(self.state(), before)
 
@@ -94,16 +94,16 @@ class Files(Case):
         table = self.file("table.csv", "name,cash,rule\nA,1,order\nB,2,equal\n")
         generated = ["--seed", 1, "--size", 4, "--tries", 9, "--debts", self.folder / "d.csv"]
         for name, words, option in [
-            ("from_list.py", [listed, "--table", table, "--unit", "1", "--summary", self.folder / "told.csv", "--debts", self.folder / "d.csv"], "--banks"),
-            ("to_matrix.py", network, "--out"), ("gen_files.py", generated, "--banks"),
-            ("breaking.py", network, "--output"), ("impact.py", network, "--matrix"),
+            ("clearing-from-list", [listed, "--table", table, "--unit", "1", "--summary", self.folder / "told.csv", "--debts", self.folder / "d.csv"], "--banks"),
+            ("clearing-to-matrix", network, "--out"), ("clearing-gen-files", generated, "--banks"),
+            ("clearing-breaking", network, "--output"), ("clearing-impact", network, "--matrix"),
         ]:
             with self.subTest(tool=name):
                 made = self.file("made")
                 self.made(name, *words, option, made)
                 both = self.folder / "both"
                 script = 'out=$1; shift; { echo first; "$@" || exit; echo last; } >"$out"'
-                run = ["sh", "-c", script, "sh", both, sys.executable, ROOT / "tools" / name, *words, option, "/dev/stdout"]
+                run = ["sh", "-c", script, "sh", both, *run_of(name), *words, option, "/dev/stdout"]
                 done = subprocess.run(list(map(str, run)), stdin=subprocess.DEVNULL, stderr=subprocess.PIPE, encoding="utf-8")
                 self.assertEqual((done.returncode, both.read_text()[:6]), (0, "first\n"), done.stderr)
                 self.assertTrue(both.read_text().startswith(f"first\n{made.read_text()}"), both.read_text())

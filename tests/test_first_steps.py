@@ -9,7 +9,7 @@ import time
 import unittest
 
 import test_launcher
-from common import CHAIN, PACKAGES, PROGRAM, ROOT
+from common import CHAIN, PACKAGES, PROGRAM, ROOT, run_of
 
 FILES = ["--banks", CHAIN / "banks.csv", "--debts", CHAIN / "debts.csv"]
 WAYS = ("to have the program install the wheel of a release: pip install FILE.whl", "or build it in the repository: ./clearing, or this command with --build")
@@ -26,19 +26,17 @@ class FirstSteps(test_launcher.Launcher):
         self.rt.write_text(self.rt.read_text().replace("echo 'echo \"$*\" here'", "echo \"$LINKS\""))
         shutil.copytree(PACKAGES, self.root / "python/src", ignore=shutil.ignore_patterns("__pycache__"))
         shutil.copytree(CHAIN, self.root / "examples/chain")
-        (self.root / "tools").mkdir()
-        for path in [*(ROOT / "tools").glob("*.py"), *(ROOT / "tools").glob("*.sh")]:
-            shutil.copy(path, self.root / "tools")
+        shutil.copytree(ROOT / "bin", self.root / "bin")
         self.environment = {**{key: value for key, value in os.environ.items() if key not in ("CLEARING", "PYTHONPATH")}, "CALLS": str(self.calls),
                             "TIMES": str(self.times), "PATH": f"{self.folder}/bin:/usr/bin:/bin", "LINKS": LINKS, "PYTHONDONTWRITEBYTECODE": "1"}
 
     def ask(self, name, *words, **more):
-        run = [sys.executable, str(self.root / "tools" / name), *map(str, words)]
+        run = [*run_of(name)[:-1], str(self.root / "bin" / name), *map(str, words)]
         return subprocess.run(run, env=self.environment, stdin=subprocess.DEVNULL, capture_output=True, encoding="utf-8", timeout=120, **more)
 
     def test_a_tool_says_at_once_that_there_is_no_program_and_builds_nothing(self):
-        for name, words in [("breaking.py", FILES), ("report.py", [*FILES, "--out", self.folder / "r.html"]), ("rescues.py", FILES),
-                            ("evidence.py", ["make", self.folder / "evidence", *FILES])]:
+        for name, words in [("clearing-breaking", FILES), ("clearing-report", [*FILES, "--out", self.folder / "r.html"]), ("clearing-rescues", FILES),
+                            ("clearing-evidence", ["make", self.folder / "evidence", *FILES])]:
             done = self.ask(name, *words)
             self.assertEqual((done.returncode, done.stdout, self.calls.read_text()), (8, "", ""), (name, done.stderr))
             self.assertIn("there is no program yet, since it is not there", done.stderr)
@@ -51,25 +49,25 @@ class FirstSteps(test_launcher.Launcher):
             for named in (None, str(self.root / "clearing")):
                 environment = self.environment if named is None else {**self.environment, "CLEARING": named}
                 given = {"stdin": subprocess.DEVNULL, "capture_output": True, "encoding": "utf-8", "timeout": 120}
-                done = subprocess.run([str(self.root / "tools/many.sh"), *words], cwd=self.folder, env=environment, **given)
+                done = subprocess.run([str(self.root / "bin/clearing-many"), *words], cwd=self.folder, env=environment, **given)
                 told = (done.returncode, done.stdout, self.calls.read_text())
                 self.assertEqual(told, (8, "", ""), (words, done.stderr))
                 why = "there is no program yet, since it is not there"
                 for line in (why, WAYS[0], "or build it in the repository: ./clearing;"):
-                    self.assertIn(f"many.sh: {line}", done.stderr)
+                    self.assertIn(f"clearing-many: {line}", done.stderr)
         self.assertFalse((self.folder / "out").exists())
         # Nor where the repository's script is named, which would begin it.
         self.environment["CLEARING"] = str(self.root / "clearing")
-        done = self.ask("breaking.py", *FILES)
+        done = self.ask("clearing-breaking", *FILES)
         self.assertEqual((done.returncode, done.stdout, self.calls.read_text()), (8, "", ""), done.stderr)
         self.assertIn("there is no program yet, since it is not there", done.stderr)
         # Nor where one is named that there is not.
         self.environment["CLEARING"] = "clearing"
-        done = self.ask("breaking.py", *FILES)
+        done = self.ask("clearing-breaking", *FILES)
         self.assertEqual((done.returncode, WAYS[0] in done.stderr), (8, True), done.stderr)
 
     def test_it_builds_where_that_is_said(self):
-        done = self.ask("breaking.py", *FILES, "--build")
+        done = self.ask("clearing-breaking", *FILES, "--build")
         self.assertEqual(done.returncode, 0, done.stderr)
         self.assertTrue(done.stdout.startswith("bank,cut,state\n"), done.stdout)
         self.assertIn("clearing: building the program, since it is not there", done.stderr)
@@ -77,10 +75,10 @@ class FirstSteps(test_launcher.Launcher):
         self.assertIn("clear_main: run", built)
         # Then it is there, and the word does no harm.
         for words in ([], ["--build"]):
-            self.assertEqual((self.ask("breaking.py", *FILES, *words).returncode, self.calls.read_text()), (0, built))
+            self.assertEqual((self.ask("clearing-breaking", *FILES, *words).returncode, self.calls.read_text()), (0, built))
         # Sources that changed are told, and not built either.
         (self.root / "crates/low/src/main.rt").write_text("fn other() {}\n")
-        done = self.ask("breaking.py", *FILES)
+        done = self.ask("clearing-breaking", *FILES)
         self.assertEqual((done.returncode, self.calls.read_text()), (8, built), done.stderr)
         self.assertIn("there is no program yet, since its sources have changed", done.stderr)
 
@@ -88,7 +86,7 @@ class FirstSteps(test_launcher.Launcher):
         for answer, status in ((b"n\n", 8), (b"\n", 8), (b"y\n", 0)):
             child, terminal = pty.fork()
             if not child:
-                os.execve(sys.executable, [sys.executable, str(self.root / "tools/breaking.py"), *map(str, FILES)], self.environment)
+                os.execve(sys.executable, [sys.executable, str(self.root / "bin/clearing-breaking"), *map(str, FILES)], self.environment)
             seen = b""
             while b"[y/N]" not in seen:
                 seen += os.read(terminal, 1000)

@@ -1,5 +1,6 @@
 """The gate and the packages that its tests want: with an apt-get that works, fails, hangs or lacks one, and a toolchain that only
 tells its calls."""
+import functools
 import importlib.util
 import os
 import pathlib
@@ -145,8 +146,8 @@ class Gate(Machine):
             (self.root / "crates" / name / "must-fail/one.edit").write_text("")
         beside = self.root / HERE.relative_to(ROOT)
         beside.mkdir(parents=True, exist_ok=True)
-        for source, target in ((ROOT / ".ci/run", ".ci"), (ROOT / "tools/test.sh", "tools"), (ROOT / "tools/dev/gate.py", "tools/dev"),
-                               (HERE / "run.py", beside)):
+        for source, target in ((ROOT / ".ci/run", ".ci"), (ROOT / "tools/dev/test.sh", "tools/dev"), (ROOT / "tools/dev/gate.py", "tools/dev"),
+                               (ROOT / "tools/dev/crates.py", "tools/dev"), (HERE / "run.py", beside)):
             shutil.copy(source, self.root / target)
         (beside / "test_some.py").write_text(TESTS)
         (self.root / "tests/skips.txt").write_text("test_some.Some.test_sun  it rains\n")
@@ -215,15 +216,15 @@ class Gate(Machine):
             work = gate.Work()
         self.assertNotIn("more", work.told())
         now += 600
-        # There are 4,000 bytes of proofs and as many of tests, and two crates with an edit.
+        # There are 4,000 bytes that are proved, and once more for tests, and two crates with an edit.
         self.assertTrue(work.read("rt: low proved"))
-        whole, slow = sum(work.takes.values()), gate.RATE * gate.SECONDS
-        left = (whole - 1000) / ((1000 + slow) / (600 + gate.SECONDS)) / 60
+        whole, low = sum(work.takes.values()), gate.PROOF + 1000 * gate.BYTE
+        left = (whole - low) / ((low + gate.SECONDS) / (600 + gate.SECONDS)) / 60
         self.assertEqual(work.told(), f"1 of 2 crates are proved; 10 minutes so far, about {left:.0f} more")
         for line in ("rt: high proved", "rt: low: its tests are proved", "rt: high: its tests are proved", "rt: low: trying its must-fail edits (1)"):
             self.assertTrue(work.read(line), line)
-        edits = 2 * gate.EDIT + 4000 * gate.READ
-        left = edits / ((whole - edits + slow) / (600 + gate.SECONDS)) / 60
+        edits = 2 * gate.EDIT + (2 * gate.PROOF + 4000 * gate.BYTE) * gate.AGAIN
+        left = edits / ((whole - edits + gate.SECONDS) / (600 + gate.SECONDS)) / 60
         self.assertEqual(work.told(), f"2 of 2 crates are proved; edits of low; 10 minutes so far, about {left:.0f} more")
         self.assertFalse(work.read("rt: high NOT PROVED"))
 
@@ -232,7 +233,16 @@ class Gate(Machine):
         all_of_it = sum(work.takes.values())
         self.assertTrue(work.read("rt: low is kept: an earlier run on this machine proved the same files over the same libraries"))
         self.assertLess(sum(work.takes.values()), all_of_it)
-        self.assertEqual(max(work.way(step) for step in work.takes), work.takes["high", "tests"] + work.takes["high", "edits"])
+        self.assertEqual(sum(work.takes["low", phase] for phase in ("proof", "tests", "edits")), 0)
+
+    def test_tests_are_read_apart_from_what_is_proved_with_a_crate(self):
+        source = self.root / "crates/low/src"
+        (source / "lib.rt").write_text("#[cfg(test)]\nmod tried;\n")
+        (source / "tried.rt").write_text("#[test]\nfn one() {}\nmod more;\n")
+        (source / "tried").mkdir()
+        (source / "tried/more.rt").write_text("fn more() {}\n")
+        self.assertEqual(self.gate().bytes_of("low"), (24, 43))
+        self.assertEqual(self.gate().lines_of("low"), 6)
 
     def test_the_estimate_is_no_less_than_the_longest_way(self):
         """A chain of crates, of which each waits for the one before, beside many jobs: told within a third, from the second minute on."""
@@ -241,8 +251,8 @@ class Gate(Machine):
         (self.root / "crates.txt").write_text("".join(f"{name}: {' '.join(names[max(0, place - 1):place])}\n" for place, name in enumerate(names)))
         for name in names:
             (self.root / "crates" / name / "src").mkdir(parents=True)
-            (self.root / "crates" / name / "src/lib.rt").write_text(" " * 60 * gate.RATE)
-        # A machine of just the speed that is taken for slow, and one of half that speed: a minute a crate, or two.
+            (self.root / "crates" / name / "src/lib.rt").write_text(" " * int((60 - gate.PROOF) / gate.BYTE))
+        # A machine of just the speed that is taken of one, and one of half that speed: a minute a crate, or two.
         for minutes in (1, 2):
             now = time.monotonic()
             with unittest.mock.patch.object(gate.time, "monotonic", side_effect=lambda: now), \
@@ -270,6 +280,62 @@ class Gate(Machine):
         for folder in sorted((ROOT / "crates").glob("*/must-fail")):
             self.assertLessEqual(len(list(folder.glob("*.edit"))), 5, folder)
 
+    def test_the_estimate_is_within_a_third_from_the_second_minute_on(self):
+        """A run of the gate as it was once: what each crate took, and the sizes by which it is estimated, in turn as `rt ci` takes them."""
+        rows = [line.split("\t") for line in (HERE / "gate.tsv").read_text(encoding="utf-8").splitlines() if not line.startswith("#")]
+        crates = {row[0]: (row[1].split(), *map(int, row[2:])) for row in rows}
+        gate = self.gate()
+        now = 0.0
+        for jobs, slow in ((2, 1), (4, 1), (2, 2), (4, 2)):
+            told = [(slow * at, line) for at, line in self.run_of(crates, jobs)]
+            with unittest.mock.patch.multiple(
+                    gate, crates_below=lambda: {name: row[0] for name, row in crates.items()}, bytes_of=lambda name: crates[name][1:3],
+                    lines_of=lambda name: crates[name][3], edits_of=lambda name: [None] * crates[name][4],
+                    has_tests=lambda name: crates[name][6] > 0), \
+                    unittest.mock.patch.object(gate.time, "monotonic", side_effect=lambda: now), \
+                    unittest.mock.patch.object(gate.os, "cpu_count", return_value=jobs):
+                now = 0.0
+                work = gate.Work()
+                for now, line in told[:-1]:
+                    self.assertTrue(work.read(line), line)
+                    left = (told[-1][0] - now) / 60
+                    if now >= 120 and left >= 1:
+                        self.assertLess(abs(work.minutes_left() - left), left / 3, (jobs, slow, now / 60, line))
+
+    @staticmethod
+    def run_of(crates, jobs):
+        """When each line is told of a run of `rt ci` by so many jobs: of the steps that wait for nothing it begins first with the one that
+        has most lines of code behind it."""
+        takes = {}
+        for name, (_, _, _, _, edits, proof, tests, tried) in crates.items():
+            for phase, seconds in (("proof", proof), ("tests", tests), ("edits", tried)):
+                if seconds:
+                    takes[name, phase] = seconds, f"rt: {name}" + {
+                        "proof": " proved", "tests": ": its tests are proved", "edits": f": trying its must-fail edits ({edits})"}[phase]
+
+        def before(step):
+            name, phase = step
+            steps = [(name, "proof"), (name, "tests")] if phase == "edits" else [(below, "proof") for below in crates[name][0]]
+            return [each for each in steps if each in takes]
+
+        @functools.cache
+        def behind(step):
+            return crates[step[0]][3] + max((behind(each) for each in takes if step in before(each)), default=0)
+
+        left, running, ended, lines, now = sorted(takes, key=behind, reverse=True), [], set(), [], 0.0
+        while left or running:
+            for step in [step for step in left if ended.issuperset(before(step))][: jobs - len(running)]:
+                left.remove(step)
+                running.append((now + takes[step][0], step))
+                if step[1] == "edits":
+                    lines.append((now, takes[step][1]))
+            now, step = min(running)
+            running.remove((now, step))
+            ended.add(step)
+            if step[1] != "edits":
+                lines.append((now, takes[step][1]))
+        return [*lines, (now, "")]
+
     def test_times_are_told_by_crate_and_phase(self):
         # A toolchain whose checks take a second and more of a processor, one of them for an edit.
         (self.root / "crates/low/src/lib.rt").write_text("#[test]\nfn one() {}\n")
@@ -283,11 +349,36 @@ class Gate(Machine):
 (cd crates/low && {check} 0.3 --crate-name low)
 (cd crates/low && {check} 0.3 --crate-name low --test)
 (cd {room} && {check} 2.4 --crate-name low)
+echo "3 passed, 0 failed"
+/bin/sleep 1.2
+# What comes after is no check of the gate, such as one that a test of the tools makes.
+(cd crates/low && {check} 0.2 --crate-name high)
 """).chmod(0o755)
         status, lines = self.ran("tools/dev/gate.py", "--dear-fails", "sh", "-c", f"cd {self.root} && rt")
         self.assertEqual(status, 1, lines)
-        self.assertRegex("\n".join(lines), r"gate: low +0\.0 +0\.0 +0\.[01] +0\.[01]  one 2 s\ngate: all +0\.0 +0\.0 +0\.[01] +0\.[01]\n")
-        self.assertRegex(lines[-1], r"^gate: low/one took 2 s of a processor, [0-9.]+ times the cheapest check: plant it anew$")
+        self.assertRegex("\n".join(lines), r"gate: low +0\.0 +0\.0 +0\.[01] +0\.[01]  one 2 s, the first\n"
+                                           r"gate: all +0\.0 +0\.0 +0\.[01] +0\.[01]\n")
+        self.assertNotIn("high", "\n".join(lines))
+        self.assertEqual(lines[-1], "gate: low/one took 2 s of a processor by itself, where a crate with little in it takes 0 s: "
+                                    "plant it anew")
+
+    def test_the_first_edit_of_a_crate_is_told_apart(self):
+        """The first proves the crate once more: what it took beyond that is its own, and nothing is known of it where no proof was seen."""
+        gate = self.gate()
+        watch = gate.Watch()
+
+        def took(*rows):
+            watch.checks = {(number, 0): gate.Check(*row) for number, row in enumerate(rows)}
+            return [line.partition(" took ")[0] for line in watch.dear()]
+
+        low, high = ("low", "proof", "", 10.0), ("high", "proof", "", 100.0)
+        self.assertEqual(took(low, high, ("high", "edits", "b", 140.0), ("high", "edits", "a", 54.0), ("low", "edits", "one", 55.0)), [])
+        self.assertEqual([line.rpartition("  ")[2] for line in watch.table()[1:3]], ["b 140 s, the first; a 54 s", "one 55 s, the first"])
+        self.assertEqual(took(low, high, ("high", "edits", "b", 160.0), ("high", "edits", "a", 54.0)), ["high/b"])
+        self.assertEqual(took(low, high, ("high", "edits", "b", 140.0), ("high", "edits", "a", 56.0)), ["high/a"])
+        # A check by several processes is one.
+        self.assertEqual(took(low, high, ("high", "edits", "b", 90.0), ("high", "edits", "b", 70.0)), ["high/b"])
+        self.assertEqual(took(low, ("high", "edits", "b", 160.0), ("high", "edits", "a", 44.0)), [])
 
     def test_nothing_goes_on_where_it_is_ended(self):
         # A toolchain that begins work of its own: one that answers no request to end, and one that has left its parent.

@@ -14,13 +14,13 @@ class GenFiles(Case):
         for seed, size, tries in [(0, 1, 0), (1, 1, 20), (7, 2, 30), (3, 40, 300), (2**64 - 1, 1000, 5000), (11, 9, 400)]:
             with self.subTest(seed=seed, size=size, tries=tries):
                 words = ["--seed", seed, "--size", size, "--tries", tries]
-                self.assertEqual(self.made("gen_files.py", *words, "--banks", banks, "--debts", debts), "")
+                self.assertEqual(self.made("clearing-gen-files", *words, "--banks", banks, "--debts", debts), "")
                 said = self.printed("gen", *words).splitlines()
                 self.assertEqual(self.seven_lines(banks, debts), said)
 
     def test_files_are_in_the_form_that_check_prints(self):
         banks, debts = self.file("banks.csv"), self.file("debts.csv")
-        self.made("gen_files.py", "--seed", 5, "--size", 20, "--tries", 99, "--banks", banks, "--debts", debts)
+        self.made("clearing-gen-files", "--seed", 5, "--size", 20, "--tries", 99, "--banks", banks, "--debts", debts)
         said = self.printed("check", "--banks", banks, "--debts", debts).split("\n\n")
         self.assertEqual(said[1] + "\n", banks.read_text())
         self.assertEqual(said[2], debts.read_text())
@@ -29,20 +29,20 @@ class GenFiles(Case):
         # The same values stand in the tests of the crate net_gen.
         for seed, want in [(0, "N0,8,webster\nN1,1547,order\nN2,1212,webster\n"), (1, "N0,737,equal\n")]:
             banks, debts = self.file("banks.csv"), self.file("debts.csv")
-            self.made("gen_files.py", "--seed", seed, "--size", 3, "--tries", 0, "--banks", banks, "--debts", debts)
+            self.made("clearing-gen-files", "--seed", seed, "--size", 3, "--tries", 0, "--banks", banks, "--debts", debts)
             self.assertTrue(banks.read_text().startswith("name,cash,rule\n" + want))
 
     def test_words_out_of_form_are_refused(self):
         files = ["--banks", self.file("banks.csv"), "--debts", self.file("debts.csv")]
         for seed, size, tries in [(2**64, 3, 3), (1, 0, 3), (1, 1001, 3), (1, 3, 20001), ("-1", 3, 3), ("٣", 3, 3)]:
-            self.refused("gen_files.py", 2, "is not a number from",
+            self.refused("clearing-gen-files", 2, "is not a number from",
                          f"--seed={seed}", f"--size={size}", f"--tries={tries}", *files)
 
     def test_both_files_are_written_or_none(self):
         words = ["--seed", 1, "--size", 3, "--tries", 9]
         banks = self.file("banks.csv", "kept")
-        self.refused("gen_files.py", 1, "cannot write", *words, "--banks", banks, "--debts", "/dev/full")
-        self.refused("gen_files.py", 1, "are one file", *words, "--banks", banks, "--debts", banks)
-        self.refused("gen_files.py", 1, "a folder", *words, "--banks", banks, "--debts", self.folder)
-        self.refused("gen_files.py", 1, "cannot write", *words, "--banks", banks, "--debts", banks / "debts.csv")
+        self.refused("clearing-gen-files", 1, "cannot write", *words, "--banks", banks, "--debts", "/dev/full")
+        self.refused("clearing-gen-files", 1, "are one file", *words, "--banks", banks, "--debts", banks)
+        self.refused("clearing-gen-files", 1, "a folder", *words, "--banks", banks, "--debts", self.folder)
+        self.refused("clearing-gen-files", 1, "cannot write", *words, "--banks", banks, "--debts", banks / "debts.csv")
         self.assertEqual((banks.read_text(), list(self.folder.iterdir())), ("kept", [banks]))

@@ -2,7 +2,7 @@ import subprocess
 import sys
 import xml.etree.ElementTree
 
-from common import ODD_NAMES, ROOT, Case, all_names, clearing, needs_modules, python_with, tool
+from common import ROOT, Case, clearing, needs_modules, python_with, tool
 
 TWELVE = ["--banks", ROOT / "examples/twelve-banks/banks.csv", "--debts", ROOT / "examples/twelve-banks/debts.csv"]
 SPACE = "{http://graphml.graphdrawing.org/xmlns}"
@@ -15,9 +15,9 @@ class Texts(Case):
         script = self.file("python", f'#!/bin/sh\nPYTHONPATH="{self.folder}/left" exec "{sys.executable}" -S "$@"\n')
         script.chmod(0o755)
         texts = [self.file(task, clearing(task, *TWELVE).stdout) for task in ("clear", "defaults")]
-        done = tool("to_graphml.py", *texts, "--out", self.folder / "out", python=str(script))
+        done = tool("clearing-to-graphml", *texts, "--out", self.folder / "out", python=str(script))
         self.assertEqual((done.returncode, done.stdout), (2, ""))
-        self.assertRegex(done.stderr, r"to_graphml: /.* has no networkx \(Debian's package python3-networkx is for /usr/bin/python3 .*FILE\.whl\[all\]'\)")
+        self.assertRegex(done.stderr, r"clearing-to-graphml: /.* has no networkx \(Debian's package python3-networkx is for /usr/bin/python3 .*FILE\.whl\[all\]'\)")
 
     def test_texts_of_other_networks_and_forms_are_refused(self):
         payments, defaults = (self.file(task, clearing(task, *TWELVE).stdout) for task in ("clear", "defaults"))
@@ -32,7 +32,7 @@ class Texts(Case):
             ((paid, defaults), "line 2: more is paid than is claimed"), ((self.folder / "none", defaults), "cannot be read"),
             ((payments, self.file("cut", defaults.read_text(encoding="utf-8").rsplit("total", 1)[0])), "not a line with total"),
         ]:
-            self.refused("to_graphml.py", 1, message, *words, *out)
+            self.refused("clearing-to-graphml", 1, message, *words, *out)
         self.assertFalse((self.folder / "out").exists())
 
 
@@ -45,7 +45,7 @@ class Graph(Case):
 
     def read(self, texts, *more):
         out = self.folder / "graph.graphml"
-        done = tool("to_graphml.py", *texts, "--out", out, *more, python=python_with("networkx"))
+        done = tool("clearing-to-graphml", *texts, "--out", out, *more, python=python_with("networkx"))
         self.assertEqual((done.returncode, done.stdout, done.stderr), (0, "", ""))
         root = xml.etree.ElementTree.parse(out).getroot()
         keys = [(key.get("id"), key.get("attr.name")) for key in root.iter(f"{SPACE}key")]
@@ -91,16 +91,6 @@ class Graph(Case):
         run = [python_with("networkx"), "-c", code, str(self.folder / "graph.graphml")]
         self.assertEqual(subprocess.check_output(run, encoding="utf-8").split(), ["DiGraph", "12", "40", "8256671", "fundamental"])
 
-    def test_names_of_every_character_come_through(self):
-        for names in (ODD_NAMES, list(all_names(last=0xFFFD))[:1000]):
-            names = list(dict.fromkeys(name.strip(" ") for name in names))
-            files = ["--banks", self.file("b.csv", "name,cash,rule\n" + "".join(f"{name},1,order\n" for name in names)),
-                     "--debts", self.file("d.csv", "debtor,creditor,class,claim\n" + "".join(f"{a},{b},1,1\n" for a, b in zip(names, names[1:])))]
-            nodes, edges = self.graph(*files)
-            self.assertEqual(list(nodes), names)
-            self.assertEqual([data["label"] for data in nodes.values()], names)
-            self.assertEqual([edge[1:3] for edge in edges], list(zip(names, names[1:])))
-
     def test_a_name_that_xml_cannot_hold_stands_as_its_code(self):
         names = ["A\ufffe", "A\uffff", "A<U+FFFE>"]
         files = ["--banks", self.file("b.csv", "name,cash,rule\n" + "".join(f"{name},1,order\n" for name in names)),
@@ -112,7 +102,7 @@ class Graph(Case):
         texts = [self.file(task, clearing(task, *TWELVE).stdout) for task in ("clear", "defaults")]
         for text in texts:
             before = text.read_bytes()
-            done = tool("to_graphml.py", *texts, "--out", text, python=python_with("networkx"))
+            done = tool("clearing-to-graphml", *texts, "--out", text, python=python_with("networkx"))
             self.assertEqual((done.returncode, done.stdout), (1, ""))
             self.assertIn("also read", done.stderr)
             self.assertEqual(text.read_bytes(), before)

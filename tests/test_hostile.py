@@ -17,7 +17,7 @@ import unicodedata
 import unittest
 import xml.etree.ElementTree as tree
 
-from common import ODD_NAMES, PROGRAM, ROOT, Case, clearing, python_with
+from common import ODD_NAMES, PROGRAM, ROOT, Case, clearing, file_of, python_with, run_of
 
 import clearing_client as cc  # noqa: E402
 
@@ -137,12 +137,11 @@ class Place(Case):
         environment = {**self.environment, "CLEARING": str(program)} if program else self.environment
         with open(self.folder / "stdout", "w+b") as out, open(self.folder / "stderr", "w+b") as err:
             words = [str(word) for word in words]
-            if python is None and name.endswith(".py"):
+            if python is None and run_of(name)[0] == sys.executable:
                 status = self.forked(name, words, environment, stdout or out, err)
             else:
-                run = [python] if python else []
                 close = {"preexec_fn": lambda: os.close(1)} if stdout == -1 else {}
-                status = subprocess.run([*run, str(ROOT / "tools" / name), *words], cwd=self.folder / "work", env=environment, stdin=subprocess.DEVNULL,
+                status = subprocess.run([*run_of(name, python), *words], cwd=self.folder / "work", env=environment, stdin=subprocess.DEVNULL,
                                         stdout=None if stdout == -1 else stdout or out, stderr=err, **close).returncode
             out.seek(0)
             err.seek(0)
@@ -173,7 +172,7 @@ class Place(Case):
                 sys.stdout = sys.__stdout__ = open(1, "w", encoding="utf-8", closefd=False)
             os.dup2(err.fileno(), 2)
             sys.stderr = sys.__stderr__ = open(2, "w", encoding="utf-8", errors="backslashreplace", closefd=False)
-            sys.argv, sys.path[0] = [str(ROOT / "tools" / name), *words], str(ROOT / "tools")
+            sys.argv, sys.path[0] = [str(file_of(name)), *words], str(file_of(name).parent)
             signal.signal(signal.SIGINT, signal.default_int_handler)
             status = ended_by(lambda: runpy.run_path(sys.argv[0], run_name="__main__"))
         finally:
@@ -230,12 +229,12 @@ class Names(Place):
     def test_names_come_through_the_tools_for_files(self):
         for names, banks, debts in self.each_network():
             # None of them is a fault; what is odd in some is told, each in a line.
-            *warned, last = self.well("lint.py", *self.files, "--scenarios", self.scenarios).splitlines()
+            *warned, last = self.well("clearing-lint", *self.files, "--scenarios", self.scenarios).splitlines()
             self.assertEqual([line for line in warned if " name: warning: " not in line], [])
             self.assertIn(last, ("no fault", "no fault, 1 warning", f"no fault, {len(warned):,} warnings"))
             self.assertEqual(last == "no fault", not warned)
             texts = self.texts()
-            told = self.well("audit.py", *self.files, "--journal", texts["journal"], "--payments", texts["clear"], "--defaults", texts["defaults"])
+            told = self.well("clearing-audit", *self.files, "--journal", texts["journal"], "--payments", texts["clear"], "--defaults", texts["defaults"])
             self.assertIn("nobody can pay more\npayments same\ndefaults same\n", told)
             printed = self.banks.read_bytes(), self.debts.read_bytes()
             # There and back again. Names that lines of totals have are said to be banks.
@@ -244,17 +243,17 @@ class Names(Place):
             back = ["--banks", made[0], "--debts", made[1], *keep]
             columns = ["--cash", "(cash of)", "--outside", "(outside of)", "--rule-column", "(rule of)"]
             matrix = self.out / "matrix.csv"
-            self.well("to_matrix.py", *self.files, "--out", matrix)
+            self.well("clearing-to-matrix", *self.files, "--out", matrix)
             # A column that is no bank has another name than any bank.
             header, rest = matrix.read_text(encoding="utf-8").split("\n", 1)
             head = header.split(",")[:-3] + ["(cash of)", "(outside of)", "(rule of)"]
             matrix = self.given("matrix.csv", ",".join(head) + "\n" + rest)
-            self.well("from_matrix.py", matrix, *back, *columns)
+            self.well("clearing-from-matrix", matrix, *back, *columns)
             self.assertEqual(tuple(path.read_bytes() for path in made), printed)
             table = self.given("table.csv", self.banks.read_bytes())
             listed = io.StringIO()
             csv.writer(listed).writerows([["debtor", "creditor", "class", "amount"], *debts])
-            self.well("from_list.py", self.given("list.csv", listed.getvalue()), "--table", table, *back)
+            self.well("clearing-from-list", self.given("list.csv", listed.getvalue()), "--table", table, *back)
             self.assertEqual(tuple(path.read_bytes() for path in made), printed)
 
     def test_names_come_through_the_tools_for_texts(self):
@@ -262,39 +261,39 @@ class Names(Place):
             texts = self.texts()
             for task, text in texts.items():
                 folder = self.out / task
-                tables = self.well("tidy.py", text, "--folder", folder).removesuffix("\n").split("\n")
+                tables = self.well("clearing-tidy", text, "--folder", folder).removesuffix("\n").split("\n")
                 self.assertEqual(sorted(tables), sorted(str(path) for path in folder.iterdir()))
                 for path in tables:
                     records = records_of(pathlib.Path(path).read_text(encoding="utf-8"))
                     # Of pairs and of rescues there are not as many as banks.
                     if records[0][0] == "bank" and records[0][1] not in ("of", "saves", "added"):
                         self.assertEqual([record[0] for record in records[1:]], names, path)
-            left = self.well("shock.py", "--banks", self.banks, "--scenarios", self.scenarios, "--scenario", 1)
+            left = self.well("clearing-shock", "--banks", self.banks, "--scenarios", self.scenarios, "--scenario", 1)
             self.assertEqual([record[0] for record in records_of(left)[1:]], names)
-            svg = self.well("who_pays.py", texts["clear"], texts["defaults"], "--bounds", texts["bounds"], "--banks", self.banks)
+            svg = self.well("clearing-who-pays", texts["clear"], texts["defaults"], "--bounds", texts["bounds"], "--banks", self.banks)
             self.assertNotIn("<script>", svg)
             tree.fromstring(svg)
 
     def test_names_come_through_the_tools_that_ask_many_times(self):
         for names, banks, debts in self.each_network():
-            for name in ("breaking.py", "impact.py", "rescues.py"):
+            for name in ("clearing-breaking", "clearing-impact", "clearing-rescues"):
                 records = records_of(self.well(name, *self.files))
                 known = [record[0] for record in records[1:]]
-                self.assertEqual(known if name == "breaking.py" else sorted(known), names if name == "breaking.py" else sorted(set(known)))
+                self.assertEqual(known if name == "clearing-breaking" else sorted(known), names if name == "clearing-breaking" else sorted(set(known)))
                 self.assertLessEqual(set(known), set(names))
             given = [name for name in names if name != "cut"]
             moments = self.given("moments.csv", "of,mean,deviation\n" + "".join(f"{name},1,1\n" for name in given))
-            drawn = self.well("draws.py", *self.files, "--moments", moments, "--draws", 5).split("\n\n")
+            drawn = self.well("clearing-draws", *self.files, "--moments", moments, "--draws", 5).split("\n\n")
             self.assertEqual([record[0] for record in records_of(drawn[2])[1:]], names)
 
     def test_names_come_through_evidence_and_report(self):
         for number, (names, banks, debts) in enumerate(self.each_network()):
             bank = next(name for name in names if not name.startswith("-"))
             folder = self.out / f"evidence {number}"
-            self.well("evidence.sh", "make", folder, *self.files, "--scenarios", self.scenarios, "--bank", bank)
-            self.well("evidence.sh", "check", folder)
+            self.well("clearing-evidence", "make", folder, *self.files, "--scenarios", self.scenarios, "--bank", bank)
+            self.well("clearing-evidence", "check", folder)
             page = self.out / "report.html"
-            self.well("report.py", *self.files, "--scenarios", self.scenarios, "--out", page, "--title", names[0])
+            self.well("clearing-report", *self.files, "--scenarios", self.scenarios, "--out", page, "--title", names[0])
             text = page.read_text(encoding="utf-8")
             for name in ("<script>alert(1)</script>", "<img src=x onerror=X>"):
                 self.assertNotIn(name, text)
@@ -304,11 +303,11 @@ class Names(Place):
             asked = [name for name in names if not name.startswith("-")][:12]
             lines = [["rescue", *map(str, self.files), "--bank", name] for name in asked]
             jobs = self.given("jobs.tsv", "".join("\t".join([f"job-{at}", *words]) + "\n" for at, words in enumerate(lines)))
-            self.assertEqual(self.well("many.sh", "run", jobs, self.out / "many", 2), f"{len(asked)} done, 0 failed\n")
+            self.assertEqual(self.well("clearing-many", "run", jobs, self.out / "many", 2), f"{len(asked)} done, 0 failed\n")
             for at, name in enumerate(asked):
                 made = (self.out / f"many/job-{at}.out").read_text(encoding="utf-8")
                 self.assertEqual(made.split("\n")[0].split(",")[:2], ["rescue", name])
-                self.assertEqual(self.well("why.py", *lines[at]), "understood: the task rescue\n")
+                self.assertEqual(self.well("clearing-why", *lines[at]), "understood: the task rescue\n")
 
     def test_names_come_through_the_package(self):
         os.environ["CLEARING"], kept = self.environment["CLEARING"], os.environ.get("CLEARING")
@@ -333,7 +332,7 @@ class Names(Place):
         for names, banks, debts in self.each_network():
             texts, graph = self.texts(), self.out / "graph.graphml"
             words = texts["clear"], texts["defaults"], "--banks", self.banks, "--out", graph
-            self.well("to_graphml.py", *words, python=python_with("networkx"))
+            self.well("clearing-to-graphml", *words, python=python_with("networkx"))
             nodes = tree.parse(graph).getroot().iter("{http://graphml.graphdrawing.org/xmlns}node")
             self.assertEqual([node.get("id") for node in nodes], [name.replace("\ufffe", "<U+FFFE>").replace("\uffff", "<U+FFFF>") for name in names])
 
@@ -342,11 +341,11 @@ class Names(Place):
         # Those that matplotlib could take for mathematics, and the others drawn.
         odd = [name for name in next(networks()) if "$" in name or "\\" in name or "_" in name]
         texts, python, picture = self.write_network(odd + names_of(random.Random(SEED), 12)) and self.texts(), python_with("matplotlib"), self.out / "picture.svg"
-        self.well("shortfalls.py", texts["defaults"], picture, "--banks", self.banks, "--payments", texts["clear"], "--currency", "$x_{", python=python)
+        self.well("clearing-shortfalls", texts["defaults"], picture, "--banks", self.banks, "--payments", texts["clear"], "--currency", "$x_{", python=python)
         tree.parse(picture)
-        self.well("stress_map.py", texts["stress"], picture, "--banks", self.banks, python=python)
+        self.well("clearing-stress-map", texts["stress"], picture, "--banks", self.banks, python=python)
         tree.parse(picture)
-        self.well("impact.py", *self.files, "--ranking", self.out / "ranking.csv", "--picture", picture, python=python)
+        self.well("clearing-impact", *self.files, "--ranking", self.out / "ranking.csv", "--picture", picture, python=python)
         tree.parse(picture)
 
     @unittest.skipUnless(python_with("numpy"), "no Python here has numpy")
@@ -359,7 +358,7 @@ class Names(Place):
             lines = [f"{name},{assets},{liabilities},7\n" for name, (assets, liabilities) in totals.items()]
             given = self.given("totals.csv", "name,assets,liabilities,cash\n" + "".join(lines))
             keep = [f"--keep={name}" for name in names]
-            self.well("from_totals.py", given, "--out", self.out / "totals", "--method", "sparse", "--tries", 2, *keep, python=python_with("numpy"))
+            self.well("clearing-from-totals", given, "--out", self.out / "totals", "--method", "sparse", "--tries", 2, *keep, python=python_with("numpy"))
             made = records_of((self.out / "totals/banks.csv").read_text(encoding="utf-8"))
             self.assertEqual([record[0] for record in made[1:]], names)
 
@@ -381,44 +380,44 @@ class Failures(Place):
         network, to = [*self.files], self.out
         # The tool; its words, in which `OUT` is the place of an output; whether it asks the program; its Python.
         self.lines = [
-            ("lint.py", network, False, None),
-            ("audit.py", [*network, "--journal", texts["journal"], "--payments", texts["clear"], "--defaults", texts["defaults"]], False, None),
-            ("to_matrix.py", network, False, None),
-            ("to_matrix.py", [*network, "--payments", texts["clear"], "--out", "OUT"], False, None),
-            ("from_matrix.py", [matrix, "--banks", "OUT", "--debts", to / "d.csv"], False, None),
-            ("from_matrix.py", [matrix, "--banks", to / "b.csv", "--debts", "OUT"], False, None),
-            ("from_list.py", [listed, "--table", table, "--banks", "OUT", "--debts", to / "d.csv"], False, None),
-            ("from_list.py", [listed, "--table", table, "--banks", to / "b.csv", "--debts", "OUT"], False, None),
-            ("from_totals.py", [totals, "--out", "OUT"], False, numbers),
-            ("tidy.py", [texts["both"], "--folder", "OUT"], False, None),
-            ("to_graphml.py", [texts["clear"], texts["defaults"], "--banks", self.banks, "--out", "OUT"], False, graph),
-            ("who_pays.py", [texts["clear"], texts["defaults"], "--bounds", texts["bounds"], "--banks", self.banks], False, None),
-            ("who_pays.py", [texts["clear"], texts["defaults"], "--output", "OUT"], False, None),
-            ("shock.py", ["--banks", self.banks, "--scenarios", self.scenarios, "--scenario", 1], False, None),
-            ("shock.py", ["--banks", self.banks, "--scenarios", self.scenarios, "--scenario", 1, "--output", "OUT"], False, None),
-            ("shortfalls.py", [texts["defaults"], "OUT.svg", "--payments", texts["clear"]], False, drawing),
-            ("stress_map.py", [texts["stress"], "OUT.svg", "--banks", self.banks], False, drawing),
-            ("gen_files.py", ["--seed", 1, "--size", 4, "--tries", 9, "--banks", "OUT", "--debts", to / "d.csv"], False, None),
-            ("gen_files.py", ["--seed", 1, "--size", 4, "--tries", 9, "--banks", to / "b.csv", "--debts", "OUT"], False, None),
-            ("why.py", ["check", *network], False, None),
-            ("breaking.py", network, True, None),
-            ("breaking.py", [*network, "--output", "OUT"], True, None),
-            ("impact.py", network, True, None),
-            ("impact.py", [*network, "--matrix", "OUT"], True, None),
-            ("impact.py", [*network, "--defaults", "OUT"], True, None),
-            ("rescues.py", network, True, None),
-            ("rescues.py", [*network, "--saved", "OUT"], True, None),
-            ("draws.py", [*network, "--moments", moments, "--draws", 3], True, None),
-            ("draws.py", [*network, "--moments", moments, "--draws", 3, "--each", "OUT"], True, None),
-            ("report.py", [*network, "--scenarios", self.scenarios, "--journal", texts["journal"], "--out", "OUT"], True, None),
-            ("report.py", [*network, "--out", to / "page.html", "--keep", "OUT"], True, None),
-            ("evidence.sh", ["make", "OUT", *network, "--scenarios", self.scenarios, "--bank", "A"], True, None),
-            ("many.sh", ["run", jobs, "OUT", 1], True, None),
-            ("many.sh", ["slurm", jobs, to / "many"], False, None),
-            ("dev/man.py", [ROOT / "tools/lint.py", "--out", "OUT"], False, None),
+            ("clearing-lint", network, False, None),
+            ("clearing-audit", [*network, "--journal", texts["journal"], "--payments", texts["clear"], "--defaults", texts["defaults"]], False, None),
+            ("clearing-to-matrix", network, False, None),
+            ("clearing-to-matrix", [*network, "--payments", texts["clear"], "--out", "OUT"], False, None),
+            ("clearing-from-matrix", [matrix, "--banks", "OUT", "--debts", to / "d.csv"], False, None),
+            ("clearing-from-matrix", [matrix, "--banks", to / "b.csv", "--debts", "OUT"], False, None),
+            ("clearing-from-list", [listed, "--table", table, "--banks", "OUT", "--debts", to / "d.csv"], False, None),
+            ("clearing-from-list", [listed, "--table", table, "--banks", to / "b.csv", "--debts", "OUT"], False, None),
+            ("clearing-from-totals", [totals, "--out", "OUT"], False, numbers),
+            ("clearing-tidy", [texts["both"], "--folder", "OUT"], False, None),
+            ("clearing-to-graphml", [texts["clear"], texts["defaults"], "--banks", self.banks, "--out", "OUT"], False, graph),
+            ("clearing-who-pays", [texts["clear"], texts["defaults"], "--bounds", texts["bounds"], "--banks", self.banks], False, None),
+            ("clearing-who-pays", [texts["clear"], texts["defaults"], "--output", "OUT"], False, None),
+            ("clearing-shock", ["--banks", self.banks, "--scenarios", self.scenarios, "--scenario", 1], False, None),
+            ("clearing-shock", ["--banks", self.banks, "--scenarios", self.scenarios, "--scenario", 1, "--output", "OUT"], False, None),
+            ("clearing-shortfalls", [texts["defaults"], "OUT.svg", "--payments", texts["clear"]], False, drawing),
+            ("clearing-stress-map", [texts["stress"], "OUT.svg", "--banks", self.banks], False, drawing),
+            ("clearing-gen-files", ["--seed", 1, "--size", 4, "--tries", 9, "--banks", "OUT", "--debts", to / "d.csv"], False, None),
+            ("clearing-gen-files", ["--seed", 1, "--size", 4, "--tries", 9, "--banks", to / "b.csv", "--debts", "OUT"], False, None),
+            ("clearing-why", ["check", *network], False, None),
+            ("clearing-breaking", network, True, None),
+            ("clearing-breaking", [*network, "--output", "OUT"], True, None),
+            ("clearing-impact", network, True, None),
+            ("clearing-impact", [*network, "--matrix", "OUT"], True, None),
+            ("clearing-impact", [*network, "--defaults", "OUT"], True, None),
+            ("clearing-rescues", network, True, None),
+            ("clearing-rescues", [*network, "--saved", "OUT"], True, None),
+            ("clearing-draws", [*network, "--moments", moments, "--draws", 3], True, None),
+            ("clearing-draws", [*network, "--moments", moments, "--draws", 3, "--each", "OUT"], True, None),
+            ("clearing-report", [*network, "--scenarios", self.scenarios, "--journal", texts["journal"], "--out", "OUT"], True, None),
+            ("clearing-report", [*network, "--out", to / "page.html", "--keep", "OUT"], True, None),
+            ("clearing-evidence", ["make", "OUT", *network, "--scenarios", self.scenarios, "--bank", "A"], True, None),
+            ("clearing-many", ["run", jobs, "OUT", 1], True, None),
+            ("clearing-many", ["slurm", jobs, to / "many"], False, None),
+            ("dev/man.py", [ROOT / "bin/clearing-lint", "--out", "OUT"], False, None),
             ("install.sh", ["OUT"], False, None),
             ("install.sh", ["--help"], False, None),
-            ("many.sh", ["--help"], False, None),
+            ("clearing-many", ["--help"], False, None),
             # It reads the crates, which a wheel has not.
             *([("dev/architecture.py", [], False, None)] if (ROOT / "crates.txt").is_file() else []),
         ]
@@ -426,7 +425,7 @@ class Failures(Place):
     def each(self):
         """The lines that can be tried here."""
         for name, words, asks, python in self.lines:
-            if python or name not in ("from_totals.py", "to_graphml.py", "shortfalls.py", "stress_map.py"):
+            if python or name not in ("clearing-from-totals", "clearing-to-graphml", "clearing-shortfalls", "clearing-stress-map"):
                 yield name, words, asks, {"python": python}
 
     def placed(self, words, place):
@@ -447,7 +446,7 @@ class Failures(Place):
         for name, words, _, how in self.each():
             for at, word in enumerate(words):
                 # The words alone are what why.py judges.
-                if isinstance(word, pathlib.Path) and self.inputs in word.parents and name != "why.py":
+                if isinstance(word, pathlib.Path) and self.inputs in word.parents and name != "clearing-why":
                     other = self.inputs / "none" if at % 2 else self.inputs
                     self.fails(name, self.placed([*words[:at], other, *words[at + 1 :]], self.out / "place"), how, f"{word.name} is {other.name}")
 
@@ -482,14 +481,14 @@ class Failures(Place):
             script = self.given("program", f"#!/bin/sh\n{body}\n")
             script.chmod(0o755)
             for number, (name, words, asks, how) in enumerate(self.each()):
-                # What many.sh runs may be any program.
-                if asks and not (name == "many.sh" and body.endswith("exit 0")):
+                # What clearing-many runs may be any program.
+                if asks and not (name == "clearing-many" and body.endswith("exit 0")):
                     place = self.out / f"{about}-{number}"
                     self.fails(name, self.placed(words, place), {**how, "program": script}, about)
-                    if name not in ("many.sh",):
+                    if name not in ("clearing-many",):
                         self.assertFalse(place.exists(), (about, name))
             script.unlink()
-        self.fails("many.sh", ["one", self.inputs / "jobs.tsv", self.out / "many", 1], {"program": "/none"}, "no program")
+        self.fails("clearing-many", ["one", self.inputs / "jobs.tsv", self.out / "many", 1], {"program": "/none"}, "no program")
 
 
 if __name__ == "__main__":

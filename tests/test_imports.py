@@ -29,8 +29,6 @@ class Imports(unittest.TestCase):
         said = [path for path in imports.SOURCES.rglob("*.py") if "sys.path" in path.read_text(encoding="utf-8")]
         # It is started by itself, isolated, as those are.
         self.assertEqual([path.name for path in said], ["confined.py"])
-        for path in (ROOT / "tools").glob("*.py"):
-            self.assertEqual(len(path.read_text(encoding="utf-8").splitlines()), 3, path.name)
 
 
 if __name__ == "__main__":

@@ -166,7 +166,7 @@ class Largest(Case):
                 self.assertTrue(shown + "\n" == payments)
                 raises = journal.count("\n") - 2
                 self.same(f"lawful,{raises}\n\n{payments}", "replay", "--journal", self.file("journal.csv", journal))
-                told = self.made("audit.py", *self.files, "--journal", self.file("journal.csv", journal), "--payments", self.file("payments.csv", payments))
+                told = self.made("clearing-audit", *self.files, "--journal", self.file("journal.csv", journal), "--payments", self.file("payments.csv", payments))
                 self.assertIn(f"{raises} raises lawful\nnobody can pay more\npayments same\n", told)
         with self.subTest(task="bounds"):
             bounds = self.text("bounds").partition("\n\n")[0].splitlines()[1:]
@@ -191,7 +191,7 @@ class Largest(Case):
     def test_a_generated_network_by_its_files(self):
         words = ["--seed", "7", "--size", BANKS, "--tries", DEBTS]
         files = [self.file("b.csv"), self.file("d.csv")]
-        self.made("gen_files.py", *words, "--banks", files[0], "--debts", files[1])
+        self.made("clearing-gen-files", *words, "--banks", files[0], "--debts", files[1])
         files = ["--banks", files[0], "--debts", files[1]]
         counts = self.printed("check", *files).partition("\n\n")[0]
         total = self.printed("defaults", *files).splitlines()[-2].split(",")

@@ -56,6 +56,9 @@ class Launcher(Case):
         (self.root / "crates.txt").write_text(
             "low:\nleft: low # and no other\nright: low\ntop: left right\nclear_main: top\ntests: low top\n")
         shutil.copy(ROOT / "clearing", self.root / "clearing")
+        (self.root / "tools/dev").mkdir(parents=True)
+        for name in ("build.py", "crates.py"):
+            shutil.copy(ROOT / "tools/dev" / name, self.root / "tools/dev")
 
     def run_at(self, root, *words, path=True, **more):
         environment = {"PATH": (f"{self.folder}/bin:" if path else "") + "/usr/bin:/bin", "CALLS": str(self.calls),
@@ -74,7 +77,16 @@ class Launcher(Case):
         done = self.run_at(self.root, "a", "b")
         self.assertEqual((done.returncode, done.stdout, self.builds()), (0, "a b here\n", 1), done.stderr)
         self.assertIn("clearing: building the program, since it is not there", done.stderr)
+        self.wait_for_a_tick(self.root / "crates/clear_main/out/built.sums")
         return self.root
+
+    def wait_for_a_tick(self, path):
+        """Until what is written next is later than the file, also where the file system's clock goes in steps."""
+        probe = self.folder / "tick"
+        probe.touch()
+        while probe.stat().st_ctime_ns <= path.stat().st_mtime_ns:
+            time.sleep(0.001)
+            probe.touch()
 
     def quiet(self, root, **more):
         done = self.run_at(root, "x", **more)
@@ -177,6 +189,22 @@ class Launcher(Case):
         self.run_at(self.root)
         self.assertEqual(self.builds(), 4)
 
+    def test_a_source_that_changes_while_the_sources_are_read_is_seen(self):
+        """By a command that has just read the last of them when another changes, before what was read is written down."""
+        source = self.built() / "crates/low/src/main.rt"
+        self.file("bin/sha256sum", f"""#!/bin/sh
+/usr/bin/sha256sum "$@"
+[ $# -lt 2 ] || [ -e "{self.folder}/changed" ] || {{ true >"{self.folder}/changed"; echo "fn low() {{ }}" >"{source}"; }}
+""").chmod(0o755)
+        source.touch()
+        self.assertIn("it is not built again", self.run_at(self.root).stderr)
+        self.assertTrue((self.folder / "changed").exists())
+        self.assertIn("since its sources have changed", self.run_at(self.root).stderr)
+        self.quiet(self.root)
+        self.assertEqual(self.builds(), 2)
+        # Of the reading itself nothing is left.
+        self.assertEqual([path.name for path in (self.root / "crates/clear_main/out").glob("built.sums?*")], [])
+
     def test_a_touched_folder_is_not_built_again(self):
         for path in self.built().rglob("*.rt"):
             path.touch()
@@ -190,10 +218,16 @@ class Launcher(Case):
     def test_a_moved_or_copied_folder_is_not_built_again(self):
         moved = self.built().rename(self.folder / "moved")
         self.quiet(moved)
+        # A copy that keeps the dates has a record that is older than the copy's files.
         copied = self.folder / "copied"
-        shutil.copytree(moved, copied, copy_function=shutil.copy)
+        shutil.copytree(moved, copied, copy_function=shutil.copy2)
         self.assertIn("it is not built again", self.run_at(copied).stderr)
         self.quiet(copied, path=False)
+        # One that does not may have its record first or last.
+        again = self.folder / "copied again"
+        shutil.copytree(moved, again, copy_function=shutil.copy)
+        self.assertEqual(self.run_at(again).returncode, 0)
+        self.quiet(again, path=False)
         self.assertEqual(self.builds(), 1)
 
     @unittest.skipUnless(os.geteuid() != 0 or shutil.which("setpriv"), "setpriv is missing: root may write everywhere")

@@ -13,7 +13,7 @@ import clearing_client as cc
 from clearing_client.format import MAX_CLAIM
 from clearing_client.limits import LIMITS, MOST
 from clearing_tools import cases, cli, files, fullnames, money, texts
-from clearing_tools.checks import lint
+from clearing_tools.checks import linter
 from clearing_tools.drawing import blocks
 from clearing_tools.drawing import network as drawing
 from clearing_tools.evidence import audit, parts
@@ -55,28 +55,28 @@ class Tools(Case):
     def test_what_is_too_long_for_an_evidence_is_refused_and_not_cut(self):
         labels = self.file("l.csv", b"bank,short,full,group,country\n" + b"N1,,%b,,\n" % (b"x" * parts.MOST_OF_OTHERS))
         words = [*self.files, "--changes", labels]
-        done = subprocess.run([ROOT / "tools/evidence.sh", "make", self.folder / "e", *words], capture_output=True)
+        done = subprocess.run([ROOT / "bin/clearing-evidence", "make", self.folder / "e", *words], capture_output=True)
         self.assertEqual((done.returncode, (self.folder / "e").exists()), (4, False))
         self.assertIn(b"l.csv is longer than 8,388,608 bytes", done.stderr)
 
     def test_lint_names_what_passes_the_limits_that_were_said(self):
-        done = tool("lint.py", *self.files)
-        self.assertEqual((done.returncode, done.stdout, done.stderr), (0, "no fault\n", f"lint: {TOLD}"))
-        done = tool("lint.py", *self.files, "--limits", "wide")
+        done = tool("clearing-lint", *self.files)
+        self.assertEqual((done.returncode, done.stdout, done.stderr), (0, "no fault\n", f"clearing-lint: {TOLD}"))
+        done = tool("clearing-lint", *self.files, "--limits", "wide")
         self.assertEqual((done.returncode, done.stdout, done.stderr), (0, "no fault\n", ""))
-        done = tool("lint.py", *self.files, "--limits", "standard")
+        done = tool("clearing-lint", *self.files, "--limits", "standard")
         self.assertEqual(done.returncode, 1)
         self.assertIn("too many (12): the file has 1,001 banks, and the most is 1,000; read it by --limits wide\n", done.stdout)
-        self.assertEqual(tool("lint.py", *self.files, "--limits", "big").returncode, 2)
+        self.assertEqual(tool("clearing-lint", *self.files, "--limits", "big").returncode, 2)
         for limits in LIMITS:
             most = LIMITS[limits]
             for count, kinds in ((most.banks, []), (most.banks + 1, ["too many"])):
                 banks = b"name,cash,rule\n" + b"".join(b"N%d,1,order\n" % n for n in range(count))
-                self.assertEqual([fault.kind for fault in lint.faults_of(banks, DEBTS, limits)], kinds)
+                self.assertEqual([fault.kind for fault in linter.faults_of(banks, DEBTS, limits)], kinds)
             claims = [10**6] * (most.owed // 10**6)
             for more, kinds in (([], []), ([1], ["total"])):
                 rows = b"".join(b"N%d,N%d,1,%d\n" % (at, at + 1, claim) for at, claim in enumerate([*claims, *more]))
-                self.assertEqual([fault.kind for fault in lint.faults_of(BANKS[: BANKS.index(b"N100,")], DEBTS + rows, limits)], kinds)
+                self.assertEqual([fault.kind for fault in linter.faults_of(BANKS[: BANKS.index(b"N100,")], DEBTS + rows, limits)], kinds)
 
     def test_the_audit_follows_a_journal_by_the_limits(self):
         banks = BANKS.replace(b"N0,0,", b"N0,7,")
@@ -84,11 +84,11 @@ class Tools(Case):
         self.assertEqual(audit.judge(files, "wide"), (["1 raises lawful", "nobody can pay more", "payments: none given", "defaults: none given"], 0))
         self.assertEqual(audit.judge(files), (["banks row 1001: too many (12)"], 4))
         names = [word for name, data in files.items() for word in (f"--{name}", self.file(f"{name}.csv", data))]
-        done = tool("audit.py", *names)
+        done = tool("clearing-audit", *names)
         what = "the network is read by the wide limits, as it passes the standard ones (banks row 1001: too many (12)); --limits wide says so"
         self.assertEqual((done.returncode, done.stderr), (0, f"audit.py: {what}\n"))
-        self.assertEqual(tool("audit.py", *names, "--limits", "wide").stderr, "")
-        done = tool("audit.py", *names, "--limits", "standard")
+        self.assertEqual(tool("clearing-audit", *names, "--limits", "wide").stderr, "")
+        done = tool("clearing-audit", *names, "--limits", "standard")
         self.assertEqual((done.returncode, done.stderr), (4, "audit.py: banks row 1001: too many (12)\n"))
 
     def test_evidence_says_wide_limits_in_its_commands(self):
@@ -105,18 +105,18 @@ class Tools(Case):
             cc.Case(net, title="Chain", limits=limits).write(self.folder / "case", replace=True)
             parser = cli.case_parser("A tool.")
             asked = parser.parse_args([str(self.folder / "case"), *more])
-            case = cases.take_case(parser, asked)
-            self.assertEqual((cli.words_of(asked)[2:], case.limits), (words, "wide" if words else "standard"), (limits, more))
+            taken = cases.take_case(parser, asked)
+            self.assertEqual((cli.words_of(taken)[2:], taken.case.limits), (words, "wide" if words else "standard"), (limits, more))
         # The program gets the words.
         self.program('for word in "$@"; do last=$word; done; [ "$last" = wide ] || exit 9; echo "bank,cut,state"\n')
-        self.assertEqual(tool("breaking.py", *files_of(CHAIN), *wide).stdout, "bank,cut,state\n")
-        self.assertEqual(tool("breaking.py", *self.files).stdout, "bank,cut,state\n")
-        self.assertEqual(tool("breaking.py", *files_of(CHAIN)).returncode, 1)
+        self.assertEqual(tool("clearing-breaking", *files_of(CHAIN), *wide).stdout, "bank,cut,state\n")
+        self.assertEqual(tool("clearing-breaking", *self.files).stdout, "bank,cut,state\n")
+        self.assertEqual(tool("clearing-breaking", *files_of(CHAIN)).returncode, 1)
 
     @needs_modules("numpy")
     def test_estimates_keep_as_many_claims_as_the_limits_have(self):
         table = self.file("t.csv", "bank,assets,liabilities,cash\n" + "".join(f"N{n},{1000 + n},{1000 + n},{n % 7}\n" for n in range(143)))
-        words = ["from_totals.py", table, "--out", self.folder / "made"]
+        words = ["clearing-from-totals", table, "--out", self.folder / "made"]
         python = python_with("numpy")
         debts = self.folder / "made/debts.csv"
         kept = lambda *more: (self.told(*words, *more, python=python), debts.read_bytes().count(b"\n") - 1)

@@ -5,7 +5,8 @@ import unittest
 
 from common import ROOT, Case, all_names, clearing, tool
 
-from clearing_tools.checks import lint  # noqa: E402
+from clearing_client import limits  # noqa: E402
+from clearing_tools.checks import field_hints, lint, linter  # noqa: E402
 
 FILES = 1200
 NAMES = ["A", "B", "C", "Crédit Loire", "D 1", "x" * 64, "é" * 32, "order", "0", "\u00a0E"]
@@ -102,7 +103,7 @@ class Made:
         names = pick.sample(NAMES, pick.randint(1, 6))
         two = pick.random() < 0.4
         banks = [
-            [name, self.number(10**12), pick.choice(lint.RULES)] + ([self.number(10**11)] if two else [])
+            [name, self.number(10**12), pick.choice(field_hints.RULES)] + ([self.number(10**11)] if two else [])
             for name in names
         ]
         keys = [(a, b, str(c)) for a in names for b in names if a != b for c in range(1, 10)]
@@ -111,7 +112,7 @@ class Made:
         if pick.random() < 0.03:
             # About as many claims of the greatest size as all claims may come to.
             debts = [[*key, "1000000"] for key in pick.sample(keys, min(len(keys), pick.randint(10, 11)))]
-        tables = [[lint.BANKS_2 if two else lint.BANKS_1] + banks, [lint.DEBTS] + debts]
+        tables = [[linter.BANKS_2 if two else linter.BANKS_1] + banks, [linter.DEBTS] + debts]
         tables = [[list(record) for record in table] for table in tables]
         for _ in range(pick.choice([0, 0, 0, 1, 1, 2, 3])):
             self.change(pick.choice(tables))
@@ -340,7 +341,7 @@ class MadeJournal(Made):
     def file(self):
         pick = self.random
         debts = [line.split(",")[:3] for line in NETWORK["debts"].decode().splitlines()[1:]]
-        table = [list(lint.JOURNAL)]
+        table = [list(linter.JOURNAL)]
         for stamp in range(pick.randint(0, 8)):
             table.append([str(pick.choice([stamp, 0, 2**32 - 1])), *pick.choice(debts), self.number(10**6)])
         if pick.random() < 0.5:
@@ -379,7 +380,7 @@ class Lint(Case):
         counts = {}
         with concurrent.futures.ThreadPoolExecutor(8) as pool:
             for files, first in zip(made, pool.map(self.first_of_program, range(len(made)), made)):
-                faults = lint.faults_of(**files)
+                faults = linter.faults_of(**files)
                 said = (
                     f"{faults[0].file} row {faults[0].row}: {faults[0].kind} ({lint.NUMBERS[faults[0].kind]})"
                     if faults
@@ -442,14 +443,14 @@ class Lint(Case):
             files = {**NETWORK, "scenarios": text.encode()}
             self.assertEqual(self.first_of_program(at, files), "", text)
             # A Python that knows TOML 1.1 takes them all, and any Python the last.
-            kinds = [fault.kind for fault in lint.faults_of(**files)]
+            kinds = [fault.kind for fault in linter.faults_of(**files)]
             self.assertIn(kinds, [[], ["toml"]] if at + 1 < len(texts) else [[]])
         values = ['"\\e"', "07:30", "[" * 81 + "]" * 81, "1e999"]
         for at, text in enumerate(values):
             files = {**NETWORK, "scenarios": f"[[scenario]]\nname = {text}\n".encode()}
             self.assertRegex(self.first_of_program(at, files), "toml|shape|name")
-            self.assertIn(lint.faults_of(**files)[0].kind, ["toml", "shape", "name"])
-        for name in ("lint.py", "shock.py"):
+            self.assertIn(linter.faults_of(**files)[0].kind, ["toml", "shape", "name"])
+        for name in ("clearing-lint", "clearing-shock"):
             self.assertIn("TOML 1.1", self.made(name, "--help"))
 
     def test_made_up_journals_are_judged_as_the_program_does(self):
@@ -465,7 +466,7 @@ class Lint(Case):
         one = '[[scenario]]\nname = "A"\n'
         for count, want in ((100, ""), (101, "too many")):
             self.assertEqual(self.compare_all([{**NETWORK, "scenarios": (one * count).encode()}]), {want: 1})
-        long = b"#" * (lint.MOST.bytes["scenarios"] - 1) + b"\n"
+        long = b"#" * (limits.MOST.bytes["scenarios"] - 1) + b"\n"
         self.assertEqual(self.compare_all([{**NETWORK, "scenarios": long}]), {"": 1})
         # A file that is too long comes before a fault within the banks.
         bad = {"banks": b"name\n", "debts": NETWORK["debts"], "scenarios": long + b"#"}
@@ -490,7 +491,7 @@ class Lint(Case):
                 )
                 self.assertEqual(self.compare_all([{**files, "scenarios": losses.encode()}]), {"": 1})
         for code in [*range(0, 32), *range(127, 160)]:
-            self.assertTrue(lint.name_fault(f"A{chr(code)}B".encode()), code)
+            self.assertTrue(field_hints.name_fault(f"A{chr(code)}B".encode()), code)
 
     def test_each_odd_field_in_each_place_is_judged_as_the_program_does(self):
         def quoted(records):
@@ -502,15 +503,15 @@ class Lint(Case):
         for field in FIELDS:
             for table, place in [(table, place) for table in range(2) for place in range(4)]:
                 tables = [
-                    [lint.BANKS_2, ["A", "1", "order", "0"], ["B", "2", "adams", "1"]],
-                    [lint.DEBTS, ["A", "B", "1", "3"]],
+                    [linter.BANKS_2, ["A", "1", "order", "0"], ["B", "2", "adams", "1"]],
+                    [linter.DEBTS, ["A", "B", "1", "3"]],
                 ]
                 tables[table][1][place] = field
                 made.append(dict(zip(("banks", "debts"), map(quoted, tables))))
             for place in range(5):
                 raised = ["1", "A", "B", "1", "3"]
                 raised[place] = field
-                made.append({**NETWORK, "journal": quoted([lint.JOURNAL, raised])})
+                made.append({**NETWORK, "journal": quoted([linter.JOURNAL, raised])})
         self.compare_all(made)
 
     def test_files_at_the_limits_are_judged_as_the_program_does(self):
@@ -581,7 +582,7 @@ class Lint(Case):
             ("name;cash;rule\nA;1;order\n", "save the file with commas"),
             ("name\tcash\trule\n", "stand between tabs"),
             *(("name,cash,rule\n".encode(code), "the file is UTF-16") for code in ("utf-16", "utf-16-le", "utf-16-be")),
-            (b"PK\x03\x04\x14\0\6\0\x08\0\0\0!\0", "the file is a workbook; from_matrix.py or from_list.py reads it"),
+            (b"PK\x03\x04\x14\0\6\0\x08\0\0\0!\0", "the file is a workbook; clearing-from-matrix or clearing-from-list reads it"),
             (bytes.fromhex("d0cf11e0a1b11ae1") + bytes(90), "the file is a workbook"),
             (b"\x7fELF\2\1\1\0\0\0", "the file is no text"),
             ("Name,Cash,Rule\nA,1,order\nB,1,order\n", "small letters"),
@@ -698,9 +699,9 @@ class Lint(Case):
             if (folder / "banks.csv").exists():
                 self.assertEqual(self.run_lint(0, folder / "banks.csv", folder / "debts.csv"), ["no fault"])
         none = self.folder / "none.csv"
-        self.refused("lint.py", 3, f"cannot read {none}", "--banks", none, "--debts", none)
+        self.refused("clearing-lint", 3, f"cannot read {none}", "--banks", none, "--debts", none)
 
     def run_lint(self, status, banks, debts, *more):
-        done = tool("lint.py", "--banks", banks, "--debts", debts, *more)
+        done = tool("clearing-lint", "--banks", banks, "--debts", debts, *more)
         self.assertEqual((done.returncode, done.stderr), (status, ""))
         return done.stdout.splitlines()

@@ -1,4 +1,4 @@
-from common import ODD_NAMES, ROOT, Case, all_names
+from common import ROOT, Case
 
 TABLE = "bank,cash,outside,rule\nA,3,0,order\nB,4,1,equal\nC,5,0,webster\n"
 
@@ -14,10 +14,10 @@ class List(Case):
 
     def take(self, text, *more, table=TABLE):
         """What the tool tells of a list that it takes."""
-        return self.told("from_list.py", *self.words(text, table), *more)
+        return self.told("clearing-from-list", *self.words(text, table), *more)
 
     def refuse(self, message, text, *more, table=TABLE):
-        self.refused("from_list.py", 1, message, *self.words(text, table), *more)
+        self.refused("clearing-from-list", 1, message, *self.words(text, table), *more)
         self.assertFalse(self.banks.exists() or self.debts.exists())
 
     def check(self, banks, debts):
@@ -289,15 +289,14 @@ class List(Case):
         search goes on behind it."""
         import gc
 
-        from clearing_tools.imports import list as tool
-        from clearing_tools.imports import words as sheet_words
+        from clearing_tools.imports import exposure_list as tool
 
         lines = "".join(f"A,B,{at}\n" for at in range(30_000))
         words = [*map(str, self.words("debtor,creditor,amount\n" + lines)), "--sum", "--duplicates=sum", "--unit=1000", "--round"]
         searches = []
         gc.callbacks.append(lambda phase, info: searches.append(info["generation"]) if phase == "start" else None)
         self.addCleanup(gc.callbacks.pop)
-        tool.made(sheet_words.parsed(tool.parser(), words))
+        tool.convert(tool.parse_args(words))
         self.assertLess(len(searches), 5)
         self.assertTrue(gc.isenabled())
 
@@ -327,30 +326,15 @@ class List(Case):
             (self.banks, self.banks, "one file"),
             (self.banks, "/dev/full", "No space"),
         ]:
-            self.refused("from_list.py", 1, message, listed, "--table", table, "--banks", banks, "--debts", debts)
+            self.refused("clearing-from-list", 1, message, listed, "--table", table, "--banks", banks, "--debts", debts)
             self.assertEqual(sorted(path.name for path in self.folder.iterdir()), ["list.csv", "table.csv"])
         self.assertEqual(table.read_text(), TABLE)
-
-    def test_names_of_every_character_come_through(self):
-        for names in (ODD_NAMES, list(all_names(last=0xFFFF))[:1000]):
-            names = [
-                name for name in dict.fromkeys(name.strip(" ") for name in names) if name.casefold() not in ("total",)
-            ]
-            pairs = list(zip(names, names[1:]))
-            self.take(
-                "debtor,creditor,amount\n" + "".join(f"{a},{b},1\n" for a, b in pairs),
-                table="bank,cash\n" + "".join(f"{name},{at}\n" for at, name in enumerate(names)),
-            )
-            self.check(
-                "name,cash,rule\n" + "".join(f"{name},{at},webster\n" for at, name in enumerate(names)),
-                "debtor,creditor,class,claim\n" + "".join(f"{a},{b},1,1\n" for a, b in pairs),
-            )
 
     def test_the_list_of_an_example_gives_back_its_files(self):
         example = ROOT / "examples/twelve-banks"
         rows = [line.split(",") for line in (example / "banks.csv").read_text(encoding="utf-8").splitlines()]
         self.told(
-            "from_list.py", example / "debts.csv", "--amount", "claim", "--table", example / "banks.csv", *self.files
+            "clearing-from-list", example / "debts.csv", "--amount", "claim", "--table", example / "banks.csv", *self.files
         )
         self.assertEqual(self.debts.read_text(), (example / "debts.csv").read_text(encoding="utf-8"))
         self.assertEqual([line.split(",") for line in self.banks.read_text().splitlines()], rows)
@@ -602,7 +586,7 @@ class Lines(List):
     def test_equal_faults_are_told_once_with_their_first_places(self):
         text = "debtor,creditor,amount\n" + "A,B,NULL\n" + "\n" + "A,C,NULL\nB,A,NULL\nC,A,NULL\nC,B,NULL\n"
         self.refuse(
-            f"from_list: {self.folder}/list.csv row 2 column amount, row 4 column amount, row 5 column amount and 2 "
+            f"clearing-from-list: {self.folder}/list.csv row 2 column amount, row 4 column amount, row 5 column amount and 2 "
             "more, 5 in all: 'NULL' is not an amount; say --empty 0 to read it as 0, or --leave-out empty\n",
             text,
         )

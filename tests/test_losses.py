@@ -4,10 +4,9 @@ import unittest
 
 from common import Case
 
-from clearing_tools.imports import list as lists
+from clearing_tools.imports import exposure_list as lists
 from clearing_tools.imports import matrix, totals
-from clearing_tools.imports import words as sheet_words
-from clearing_tools.runner import Failed
+from clearing_tools.runner import ToolError
 
 MATRIX = ",A,B,C,cash\nA,0,6,4,3\nB,2,0,8,4\nC,3,1,0,5\n"
 LIST = "debtor,creditor,amount\nA,B,10\nB,C,7\nC,A,5\nC,B,2\n"
@@ -30,10 +29,10 @@ class Importing(Case):
         """What an importer tells, and the files that it makes by the ends of their names."""
         words = [self.word(word) for word in words]
         if kind is totals:
-            asked = totals.parsed([*words, "--method=sparse", f"--out={self.folder}/out"])
+            args = kind.parse_args([*words, "--method=sparse", f"--out={self.folder}/out"])
         else:
-            asked = sheet_words.parsed(kind.parser(), [*words, f"--banks={self.folder}/b", f"--debts={self.folder}/d"])
-        outputs, _, summary = kind.made(asked)
+            args = kind.parse_args([*words, f"--banks={self.folder}/b", f"--debts={self.folder}/d"])
+        outputs, _, summary = kind.convert(args)
         texts = [text for _, text in outputs]
         return summary.text(), texts[0], texts[1]
 
@@ -43,7 +42,7 @@ class Importing(Case):
 
     def refused(self, kind, *words, **texts):
         self.files(**texts)
-        with self.assertRaises(Failed) as fault:
+        with self.assertRaises(ToolError) as fault:
             self.run_on(kind, *words)
         return "\n".join(fault.exception.lines)
 

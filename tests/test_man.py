@@ -11,29 +11,20 @@ class Man(Case):
         return sorted((self.folder / "man").iterdir())
 
     def test_each_tool_has_a_page_with_the_words_of_its_help(self):
-        tools = [path for path in (ROOT / "tools").iterdir() if path.suffix in (".py", ".sh") and path.read_bytes().startswith(b"#!")]
-        # A script that starts a program of its name is the tool.
-        tools = [path for path in tools if path.suffix == ".sh" or not path.with_suffix(".sh").exists()]
-        pages = self.pages()
-        self.assertEqual([page.name for page in pages], sorted(f"clearing-{path.stem.replace('_', '-')}.1" for path in tools))
+        tools = sorted((ROOT / "bin").iterdir())
+        self.assertEqual([page.name for page in self.pages()], [f"{path.name}.1" for path in tools])
         for path in tools:
-            page = (self.folder / f"man/clearing-{path.stem.replace('_', '-')}.1").read_text()
-            run = ["python3" if path.suffix == ".py" else "sh", str(path), "--help"]
-            said = tool(path.name, "--help").stdout if path.suffix == ".py" else subprocess.check_output(run, encoding="utf-8")
+            page = (self.folder / f"man/{path.name}.1").read_text()
             plain = page.replace("\\-", "-")
-            for option in re.findall("--[a-z][a-z-]+", said):
+            for option in re.findall("--[a-z][a-z-]+", tool(path.name, "--help").stdout):
                 self.assertIn(option, plain, path.name)
             for part in (".SH NAME", ".SH SYNOPSIS", ".SH DESCRIPTION"):
                 self.assertIn(part, page)
 
-    def test_the_page_of_the_program_names_the_page_of_each_tool_that_is_installed(self):
+    def test_the_page_of_the_program_names_the_page_of_each_tool(self):
         below = (ROOT / "docs/clearing.1").read_text().partition(".SH SEE ALSO\n")[2]
         named = re.findall(r"^\.BR (clearing-\S+) \(1\)", below, re.MULTILINE)
-        script = (ROOT / "tools/install.sh").read_text().partition("case $name in\n")[2].partition(")")[0]
-        left_out = re.findall(r"\b([a-z]+)\.1\b", script)
-        self.assertEqual(sorted(left_out), ["clean", "install", "quick", "release", "test"])
-        installed = {page.stem for page in self.pages()} - {f"clearing-{name}" for name in left_out}
-        self.assertEqual(named, sorted(installed))
+        self.assertEqual(named, sorted(path.name for path in (ROOT / "bin").iterdir()))
 
     @needs("mandoc")
     def test_pages_are_in_form(self):
@@ -61,7 +52,7 @@ class Man(Case):
         return done.stdout
 
     def test_what_is_no_tool_is_refused(self):
-        none = self.file("none.py", "#!/bin/sh\nimport sys; sys.exit('no help')\n")
+        none = self.file("none", "#!/usr/bin/env python3\nimport sys; sys.exit('no help')\n")
         before = none.read_bytes()
         self.refused("dev/man.py", 1, "--help ends with 1", none, "--out", self.folder / "man")
         self.assertFalse((self.folder / "man").exists())

@@ -1,7 +1,9 @@
+import hashlib
+import json
 import os
 import subprocess
 
-from common import ODD_NAMES, ROOT, Case
+from common import CHAIN, ROOT, Case, tool
 
 import clearing_client
 from clearing_client import limits
@@ -19,7 +21,7 @@ class Many(Case):
         script = self.file("program", program)
         script.chmod(0o755)
         environment = {**os.environ, "CLEARING": str(script), "COUNTED": str(self.folder / "counted")}
-        run = [str(ROOT / "tools/many.sh"), *map(str, words)]
+        run = [str(ROOT / "bin/clearing-many"), *map(str, words)]
         return subprocess.run(
             run, cwd=self.folder, env=environment, stdin=subprocess.DEVNULL, capture_output=True, encoding="utf-8"
         )
@@ -48,17 +50,19 @@ class Many(Case):
         jobs = self.file(
             "jobs.tsv",
             "a\tdefaults\t--case\ta case\t--workers\t1\nb\tstress\t--case=a case\n"
-            "c\tstress\t--scenarios\tmine.toml\t--banks=b.csv\t--case=a case\nd\tdefaults\t--case=none\n",
+            "c\tstress\t--scenarios\tmine.toml\t--banks=b.csv\t--case=a case\nd\t--case\ta case\tstress\n"
+            "e\t--workers\t1\t--case=a case\t--sweeps=2\toutcomes\n",
         )
         done = self.many("run", jobs, "out", 1)
-        self.assertEqual((done.returncode, done.stdout, done.stderr), (0, "4 done, 0 failed\n", ""))
+        self.assertEqual((done.returncode, done.stdout, done.stderr), (0, "5 done, 0 failed\n", ""))
         banks, debts, years = (f"--{what}=a case/{what}.csv" for what in ("banks", "debts", "scenarios"))
         years = years.replace(".csv", ".toml")
         want = {
             "a": ["defaults", "--workers", "1", banks, debts],
             "b": ["stress", banks, debts, years],
             "c": ["stress", "--scenarios", "mine.toml", "--banks=b.csv", debts],
-            "d": ["defaults", "--banks=none/banks.csv", "--debts=none/debts.csv"],
+            "d": ["stress", banks, debts, years],
+            "e": ["--workers", "1", "--sweeps=2", "outcomes", banks, debts, years],
         }
         for name, words in want.items():
             self.assertEqual((self.folder / "out" / f"{name}.out").read_text().splitlines(), words)
@@ -66,8 +70,73 @@ class Many(Case):
         with open(place / "banks.csv", "a") as file:
             file.write("B,1,order,0\n")
         done = self.many("run", jobs, "out", 1)
-        told = "case: a case/banks.csv is not the file that was described\n"
-        self.assertEqual((done.stdout, done.stderr, self.runs()), ("4 done, 0 failed\n", 2 * told, 6))
+        told = "case: a case: banks.csv is not the file that was described\n"
+        self.assertEqual((done.stdout, done.stderr, self.runs()), ("5 done, 0 failed\n", 5 * told, 9))
+
+    def test_a_case_is_read_as_all_other_tools_read_it(self):
+        """Descriptions as others write them: what is told of a case, and where it is refused, is what `clearing-case` tells."""
+        files = {name: (CHAIN / f"{name}.csv").read_bytes() for name in ("banks", "debts")}
+        digests = {name: hashlib.sha256(data).hexdigest() for name, data in files.items()}
+        plain = [{"name": name, "path": f"{name}.csv"} for name in files]
+        hashed = [{**one, "hash": f"sha256:{digests[one['name']]}"} for one in plain]
+        swapped = [{**one, "hash": two["hash"]} for one, two in zip(plain, hashed[::-1])]
+        large = {"banks": b"name,cash,rule\n" + b"".join(b"N%d,1,order\n" % n for n in range(1001)), "debts": b"debtor,creditor,class,claim\n"}
+        documents = {
+            "without checksums": (files, {"name": "a", "resources": plain}),
+            "with them": (files, {"name": "a", "resources": hashed}),
+            "with others": (files, {"name": "a", "resources": swapped}),
+            "with another that is not there": (files, {"name": "a", "resources": [*hashed, {"name": "c", "path": "c.csv"}]}),
+            "with unknown keys": (files, {"name": "a", "resources": hashed, "clearing": {"colour": "red"}}),
+            "with limits in a text": (files, {"name": "a", "resources": plain, "title": '"limits": "wide"'}),
+            "with limits by codes": (files, {"name": "a", "resources": plain, "clearing": {"limits": "wi\\u0064e"}}),
+            "large": (large, {"name": "a", "resources": plain}),
+            "large, and it was standard": (large, {"name": "a", "resources": plain, "clearing": {"limits": "standard"}}),
+            "large, and wide": (large, {"name": "a", "resources": plain, "clearing": {"limits": "wide"}}),
+            "with a fault": (files, {"name": "a", "resources": plain, "clearing": {"limits": "wider"}}),
+            "with a path outside": (files, {"name": "a", "resources": [{"name": "a", "path": "../a.csv"}]}),
+            "no JSON": (files, None),
+        }
+        lines = []
+        for at, (about, (data, document)) in enumerate(documents.items()):
+            place = self.folder / f"case {at}"
+            place.mkdir()
+            for name, content in data.items():
+                (place / f"{name}.csv").write_bytes(content)
+            text = "{" if document is None else json.dumps(document).replace("\\\\u", "\\u")
+            (place / "datapackage.json").write_text(text)
+            lines.append(f"job-{at}\tdefaults\t--case\t{place}\n")
+        (self.folder / "case empty").mkdir()
+        lines += [f"job-{one}\tdefaults\t--case={self.folder}/case {one}\n" for one in ("empty", "none")]
+        done = self.many("run", self.file("jobs.tsv", "".join(lines)), "out", 4)
+        told = done.stderr.splitlines()
+        for at, about in [*enumerate(documents), ("empty", "empty"), ("none", "none")]:
+            place, out = self.folder / f"case {at}", self.folder / f"out/job-{at}.out"
+            others = tool("clearing-lint", place)
+            with self.subTest(about):
+                if others.returncode in (3, 4):
+                    failed = (self.folder / f"out/job-{at}.failed").read_text()
+                    want = others.stderr.replace("clearing-lint: ", "clearing-many: ")
+                    self.assertEqual((failed, out.exists()), (f"status {others.returncode}\n{want}", False))
+                    continue
+                widely = "the network is read by the wide limits"
+                self.assertEqual("--limits=wide" in out.read_text(), "large" in about or "by codes" in about)
+                self.assertEqual([line.partition("; ")[0].partition(f"job-{at}: ")[2] for line in told if line.startswith(f"clearing-many: job-{at}:")],
+                                 [line.partition("; ")[0].partition(": ")[2] for line in others.stderr.splitlines() if widely in line])
+                self.assertEqual([line for line in told if line.startswith((f"case: {place}:", f"case: {place}/"))],
+                                 [line.replace("case: ", f"case: {place}: ") for line in others.stderr.splitlines() if line.startswith("case: ")])
+        self.assertEqual(done.stdout, f"{len(lines) - 5} done, 5 failed\n")
+
+    def test_as_many_jobs_are_run_at_a_time_as_processors_may_be_used(self):
+        jobs = self.file("jobs.tsv", "".join(f"{at}\tgen\n" for at in range(6)))
+        first = min(os.sched_getaffinity(0))
+        # A job that another one goes beside says so.
+        program = '#!/bin/sh\nmkdir "$COUNTED.now" || echo beside >>"$COUNTED"\nsleep 0.2\nrmdir "$COUNTED.now"\n'
+        before = os.sched_getaffinity(0)
+        os.sched_setaffinity(0, {first})
+        self.addCleanup(os.sched_setaffinity, 0, before)
+        done = self.many("run", jobs, "out", program=program)
+        self.assertEqual((done.returncode, done.stdout, done.stderr), (0, "6 done, 0 failed\n", ""))
+        self.assertFalse((self.folder / "counted").exists())
 
     def test_the_wide_limits_are_taken_where_a_case_says_them_or_the_network_needs_them(self):
         net, wide = clearing_client.Network({"A": 7}, {}), ["--limits=wide"]
@@ -94,12 +163,14 @@ class Many(Case):
             want[f"n{at}"] = ["clear", *words, *(wide if passed else [])]
             if passed:
                 what = f"the network is read by the wide limits, as it has {passed}; --limits wide says so"
-                told.add(f"many.sh: n{at}: {what}")
+                told.add(f"clearing-many: n{at}: {what}")
         self.assertEqual((len(told), limits.beyond(*pairs[7])), (5, None))
         # What a job says decides, and then its case.
         large = ["--banks", "1banks.csv", "--debts", "1debts.csv"]
         lines += [["said", "clear", *large, "--limits", "standard"], ["case", "clear", "--case=says standard", *large]]
-        want.update(said=["clear", *large, "--limits", "standard"], case=["clear", *large])
+        want.update(said=["clear", *large, "--limits", "standard"], case=["clear", *large, *wide])
+        what = f"the network is read by the wide limits, as it has {limits.beyond(*pairs[1])}; --limits wide says so"
+        told.add(f"clearing-many: case: {what}")
         for said, more in (("wide", wide), ("standard", []), ("None", [])):
             lines.append([said, "defaults", "--case", f"says {said}"])
             want[said] = ["defaults", *(f"--{what}=says {said}/{what}.csv" for what in ("banks", "debts")), *more]
@@ -243,15 +314,6 @@ class Many(Case):
         self.assertEqual((done.returncode, done.stdout), (1, "2 done, 1 failed\n"))
         self.assertEqual(sorted(path.name for path in (self.folder / "out").glob("c.*")), ["c.failed"])
 
-    def test_words_of_every_kind_are_handed_on(self):
-        jobs = self.file("jobs.tsv", "".join(f"n{at}\trescue\t--bank\t{name}\n" for at, name in enumerate(ODD_NAMES)))
-        self.assertEqual(self.many("run", jobs, "the results", 4).stdout, f"{len(ODD_NAMES)} done, 0 failed\n")
-        for at, name in enumerate(ODD_NAMES):
-            self.assertEqual(
-                (self.folder / f"the results/n{at}.out").read_text(encoding="utf-8"), f"rescue\n--bank\n{name}\n"
-            )
-        self.assertFalse((self.folder / "X").exists())
-
     def test_no_older_result_is_counted_where_a_job_is_killed(self):
         jobs = "a\tgen\t{0}\nb\tkill\t{0}\nc\tgen\t{0}\nd\tgen\t{0}\n"
         self.assertEqual(self.many("run", self.file("jobs.tsv", jobs.format(1)), "out", 1).stdout, "4 done, 0 failed\n")
@@ -298,7 +360,7 @@ class Many(Case):
 
     def test_a_job_that_runs_twice_at_once_keeps_the_files_of_both(self):
         jobs = self.file("jobs.tsv", "a\tgen\n")
-        inner = f"{ROOT}/tools/many.sh one {jobs} out 1"
+        inner = f"{ROOT}/bin/clearing-many one {jobs} out 1"
         # While the job runs, it is run once more.
         program = PROGRAM + f'if mkdir "$COUNTED.once" 2>/dev/null; then {inner} || echo failed; fi\n'
         done = self.many("run", jobs, "out", 1, program=program)

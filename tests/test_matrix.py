@@ -1,9 +1,9 @@
 import random
 from fractions import Fraction
 
-from common import ODD_NAMES, ROOT, Case, all_names, tool
+from common import ROOT, Case, tool
 
-from clearing_tools.imports import amounts, control, words  # noqa: E402
+from clearing_tools.imports import amounts, options  # noqa: E402
 
 # A network of three, with the columns that systemicrisk calls external assets and external liabilities.
 MATRIX = ""","A","B","C","ea","el"
@@ -30,16 +30,16 @@ class Matrix(Case):
             other = self.folder / name
             for named in (["--banks", other, "--debts", self.debts], ["--banks", self.banks, "--debts", other]):
                 self.refused(
-                    "from_matrix.py", 2, told, sheet, "--cash", "ea", "--outside", "el", "--unit", "0.5", *named
+                    "clearing-from-matrix", 2, told, sheet, "--cash", "ea", "--outside", "el", "--unit", "0.5", *named
                 )
-            self.refused("from_list.py", 2, told, sheet, "--table", sheet, "--banks", self.banks, "--debts", other)
-            self.refused("from_totals.py", 2, told, sheet, "--out", other)
-            self.refused("from_matrix.py", 2, told, sheet, *self.files, "--label", other)
+            self.refused("clearing-from-list", 2, told, sheet, "--table", sheet, "--banks", self.banks, "--debts", other)
+            self.refused("clearing-from-totals", 2, told, sheet, "--out", other)
+            self.refused("clearing-from-matrix", 2, told, sheet, *self.files, "--label", other)
             self.assertFalse(other.exists() or self.banks.exists() or self.debts.exists())
 
     def test_matrix_becomes_two_files(self):
         names = ["--cash", "ea", "--outside", "el", "--unit", "0.5"]
-        self.told("from_matrix.py", self.file("m.csv", MATRIX), *names, *self.files)
+        self.told("clearing-from-matrix", self.file("m.csv", MATRIX), *names, *self.files)
         self.check(
             "name,cash,rule,outside\nA,6,webster,0\nB,2,webster,4\nC,8,webster,1\n",
             "debtor,creditor,class,claim\nA,B,1,12\nA,C,1,8\nB,A,1,4\nB,C,1,17\nC,A,1,6\nC,B,1,2\n",
@@ -49,13 +49,13 @@ class Matrix(Case):
         matrix = self.file("m.csv", "\ufefflender;Y;X\r\nX;7;0\r\nY;0;2\r\n")
         table = self.file("t.csv", "bank;equity;cash;rule\r\nY;1;5;order\r\nX;1;0;adams\r\n")
         self.told(
-            "from_matrix.py", matrix, "--table", table, "--columns-owe", "--delimiter", ";", "--class", 2, *self.files
+            "clearing-from-matrix", matrix, "--table", table, "--columns-owe", "--delimiter", ";", "--class", 2, *self.files
         )
         self.check("name,cash,rule\nX,0,adams\nY,5,order\n", "debtor,creditor,class,claim\nX,Y,2,2\nY,X,2,7\n")
 
     def test_round_goes_to_the_nearest_unit(self):
         self.told(
-            "from_matrix.py", self.file("m.csv", ",A,B,cash\nA,0,2.5,1.51\nB,0.49,0,3.5\n"), "--round", *self.files
+            "clearing-from-matrix", self.file("m.csv", ",A,B,cash\nA,0,2.5,1.51\nB,0.49,0,3.5\n"), "--round", *self.files
         )
         self.check("name,cash,rule\nA,2,webster\nB,4,webster\n", "debtor,creditor,class,claim\nA,B,1,2\n")
 
@@ -68,7 +68,7 @@ class Matrix(Case):
             "m.csv row 3 column cash: '1.00x' is not an amount",
             "m.csv row 2 column B: '-2' is below 0; what a bank is owed stands as a debt of the bank that owes",
         ]:
-            self.refused("from_matrix.py", 1, told, matrix, *self.files)
+            self.refused("clearing-from-matrix", 1, told, matrix, *self.files)
         # Limits are looked at where all amounts are known.
         matrix = self.file("m.csv", ",A,B,cash\nA,0,1000003,1\nB,2000000,0,1000000000002\n")
         for told in [
@@ -78,7 +78,7 @@ class Matrix(Case):
             "1,000,000,000,000",
             "m.csv: a unit of 2 keeps all limits on amounts (--unit 2 --round, or --unit auto)",
         ]:
-            self.refused("from_matrix.py", 1, told, matrix, *self.files)
+            self.refused("clearing-from-matrix", 1, told, matrix, *self.files)
         self.assertFalse(self.banks.exists())
 
     def test_tables_out_of_shape_are_refused(self):
@@ -94,7 +94,7 @@ class Matrix(Case):
             ("has no record", ""),
             ("is not UTF-8; save it as UTF-8, or say its --encoding", "x,É,cash\nÉ,0,0\n".encode("cp1252")),
         ]:
-            self.refused("from_matrix.py", 1, told, self.file("m.csv", text), *self.files)
+            self.refused("clearing-from-matrix", 1, told, self.file("m.csv", text), *self.files)
 
     def test_a_column_that_is_named_is_there(self):
         beside = self.file("m.csv", ",A,B,cash,Outside,Regel\nA,0,6,3,1,order\nB,2,0,4,0,equal\n")
@@ -105,22 +105,22 @@ class Matrix(Case):
             named = [("outside", "Outsde"), ("rule-column", "Regle"), ("outside", "outside"), ("rule-column", "rule")]
             for option, column in named:
                 told = f"{name} row 1: no column {column}; it has cash, Outside, Regel; say --{option} NAME"
-                self.refused("from_matrix.py", 1, told, *sheet, *right, f"--{option}", column, *self.files)
+                self.refused("clearing-from-matrix", 1, told, *sheet, *right, f"--{option}", column, *self.files)
             self.assertFalse(self.banks.exists() or self.debts.exists())
-            self.told("from_matrix.py", *sheet, *right, *self.files)
+            self.told("clearing-from-matrix", *sheet, *right, *self.files)
             self.check(
                 "name,cash,rule,outside\nA,3,order,1\nB,4,equal,0\n", "debtor,creditor,class,claim\nA,B,1,6\nB,A,1,2\n"
             )
             self.banks.unlink(), self.debts.unlink()
         told = "n.csv row 1: no column Outside; it has no other; say --outside NAME"
-        self.refused("from_matrix.py", 1, told, matrix, "--outside", "Outside", *self.files)
+        self.refused("clearing-from-matrix", 1, told, matrix, "--outside", "Outside", *self.files)
 
     def test_capitals_in_the_names_of_columns_do_not_matter(self):
         beside = self.file("m.csv", ",A,B,Cash,Outside,RULE\nA,0,6,3,1,order\nB,2,0,4,0,equal\n")
         matrix = self.file("n.csv", ",A,B\nA,0,6\nB,2,0\n")
         table = self.file("t.csv", "bank,CASH,Outside,RULE\nA,3,1,order\nB,4,0,equal\n")
         for sheet in ([beside], [matrix, "--table", table]):
-            self.told("from_matrix.py", *sheet, *self.files)
+            self.told("clearing-from-matrix", *sheet, *self.files)
             self.check(
                 "name,cash,rule,outside\nA,3,order,1\nB,4,equal,0\n", "debtor,creditor,class,claim\nA,B,1,6\nB,A,1,2\n"
             )
@@ -132,53 +132,53 @@ class Matrix(Case):
         matrix = self.file("n.csv", ",A,B\nA,0,6\nB,2,0\n")
         table = self.file("t.csv", "bank,cash,Outside,outside,RULE,rule\nA,3,1,1,order,order\nB,4,0,0,equal,equal\n")
         for sheet, name in [([beside], beside), ([matrix, "--table", table], table)]:
-            done = tool("from_matrix.py", *sheet, *self.files)
+            done = tool("clearing-from-matrix", *sheet, *self.files)
             self.assertEqual(
                 (done.returncode, done.stdout, done.stderr),
                 (
                     1,
                     "",
                     "".join(
-                        f"from_matrix: {name} row 1 column {column}: its name is {column.lower()} but for capitals "
+                        f"clearing-from-matrix: {name} row 1 column {column}: its name is {column.lower()} but for capitals "
                         "or spaces; "
                         f"say --{option} {column}, or rename it\n"
                         for column, option in [("Outside", "outside"), ("RULE", "rule-column")]
                     ),
                 ),
             )
-            self.told("from_matrix.py", *sheet, "--outside", "Outside", "--rule-column", "RULE", *self.files)
+            self.told("clearing-from-matrix", *sheet, "--outside", "Outside", "--rule-column", "RULE", *self.files)
             self.check(
                 "name,cash,rule,outside\nA,3,order,1\nB,4,equal,0\n", "debtor,creditor,class,claim\nA,B,1,6\nB,A,1,2\n"
             )
 
     def test_a_bank_may_have_such_a_name(self):
-        self.told("from_matrix.py", self.file("m.csv", ",Outside,Rule,cash\nOutside,0,6,3\nRule,2,0,4\n"), *self.files)
+        self.told("clearing-from-matrix", self.file("m.csv", ",Outside,Rule,cash\nOutside,0,6,3\nRule,2,0,4\n"), *self.files)
         self.check(
             "name,cash,rule\nOutside,3,webster\nRule,4,webster\n",
             "debtor,creditor,class,claim\nOutside,Rule,1,6\nRule,Outside,1,2\n",
         )
         told = "row 3: rule names a bank and a column that is none; use --table, or rename the column"
-        self.refused("from_matrix.py", 1, told, self.file("m.csv", ",A,rule,cash\nA,0,6,3\nrule,2,0,4\n"), *self.files)
+        self.refused("clearing-from-matrix", 1, told, self.file("m.csv", ",A,rule,cash\nA,0,6,3\nrule,2,0,4\n"), *self.files)
 
     def test_a_sign_that_could_be_either_is_asked_for(self):
         text = ";A;B;cash\nA;-;30.445;808\nB;;0;1.000\n"
         sheet = self.file("m.csv", text)
         ask = "row 2 column B: 30.445: thousands or decimals? say --thousands . or --decimal ."
         for more in ([], ["--round"], ["--unit", "auto"]):
-            self.refused("from_matrix.py", 1, ask, sheet, *more, *self.files)
+            self.refused("clearing-from-matrix", 1, ask, sheet, *more, *self.files)
         self.assertFalse(self.banks.exists() or self.debts.exists())
         for sign in (["--thousands", "."], ["--decimal", ","], ["--thousands", ".", "--decimal", ","]):
-            self.told("from_matrix.py", sheet, *sign, *self.files)
+            self.told("clearing-from-matrix", sheet, *sign, *self.files)
             self.check("name,cash,rule\nA,808,webster\nB,1000,webster\n", "debtor,creditor,class,claim\nA,B,1,30445\n")
-        self.told("from_matrix.py", sheet, "--decimal", ".", "--unit", "0.001", *self.files)
+        self.told("clearing-from-matrix", sheet, "--decimal", ".", "--unit", "0.001", *self.files)
         self.check("name,cash,rule\nA,808000,webster\nB,1000,webster\n", "debtor,creditor,class,claim\nA,B,1,30445\n")
         # A hundred cells ask once.
         many = self.file("m.csv", ";A;B;cash\n" + "A;0;1.234;1.000\nB;2.345;0;3.000\n")
-        done = tool("from_matrix.py", many, *self.files)
+        done = tool("clearing-from-matrix", many, *self.files)
         self.assertEqual(
             done.stderr.splitlines(),
             [
-                f"from_matrix: {many} row 2 column B: 1.234: thousands or decimals? "
+                f"clearing-from-matrix: {many} row 2 column B: 1.234: thousands or decimals? "
                 "say --thousands . or --decimal . (3 more cells ask the same)"
             ],
         )
@@ -252,7 +252,7 @@ class Matrix(Case):
             "1;2",
             ".",
         ):
-            with self.assertRaises(amounts.Unread, msg=text):
+            with self.assertRaises(amounts.AmountError, msg=text):
                 read().read(text)
         for texts in (
             ["7,5", "7.5"],
@@ -263,7 +263,7 @@ class Matrix(Case):
         ):
             reader = read()
             reader.read(texts[0])
-            with self.assertRaises(amounts.Unread, msg=texts):
+            with self.assertRaises(amounts.AmountError, msg=texts):
                 reader.read(texts[1])
 
     def test_lines_of_totals_are_refused_by_name(self):
@@ -276,7 +276,7 @@ class Matrix(Case):
             sheet = self.file("m.csv", text.format(name))
             word = name if " " not in name else f"'{name}'"
             self.refused(
-                "from_matrix.py",
+                "clearing-from-matrix",
                 1,
                 f"m.csv row 5: {name} is a row of totals: {why}; say --drop {word}, or --keep {word}",
                 sheet,
@@ -285,7 +285,7 @@ class Matrix(Case):
             self.assertFalse(self.banks.exists())
             self.assertIn(
                 f"control totals that agree: 1; {name} in ",
-                self.told("from_matrix.py", sheet, "--drop", name, *self.files),
+                self.told("clearing-from-matrix", sheet, "--drop", name, *self.files),
             )
             self.check(
                 "name,cash,rule\nA,3,webster\nB,4,webster\nC,5,webster\n",
@@ -304,8 +304,8 @@ class Matrix(Case):
                 "row 5: All banks is a row",
             ),
         ]:
-            self.refused("from_matrix.py", 1, told, self.file("m.csv", text), *self.files)
-        self.refused("from_matrix.py", 1, "there is no Totals to drop", sheet, "--drop", "Totals", *self.files)
+            self.refused("clearing-from-matrix", 1, told, self.file("m.csv", text), *self.files)
+        self.refused("clearing-from-matrix", 1, "there is no Totals to drop", sheet, "--drop", "Totals", *self.files)
 
     def test_totals_without_a_name_are_found_by_their_numbers(self):
         text = ",A,B,C,{0},cash\nA,0,6,4,10,3\nB,2,0,8,10,4\nC,3,1,0,4,5\n{0},5,7,12,24,12\n"
@@ -314,10 +314,10 @@ class Matrix(Case):
             f"{sheet} row 5: a row of totals that has no name: each of its cells is the sum of the others; say "
             "--drop '', or --keep '' if it is a bank\n"
         )
-        self.refused("from_matrix.py", 1, told, sheet, *self.files)
+        self.refused("clearing-from-matrix", 1, told, sheet, *self.files)
         self.assertIn(
             "control totals that agree: 1; the line without a name in ",
-            self.told("from_matrix.py", sheet, "--drop", "", *self.files),
+            self.told("clearing-from-matrix", sheet, "--drop", "", *self.files),
         )
         self.assertEqual(
             self.debts.read_text(),
@@ -341,21 +341,21 @@ class Matrix(Case):
                 place = f"m.csv row {row} column {column}: " if column != "without a name" else f"m.csv row {row}: "
                 # Whether it is to be dropped or not, nothing is made.
                 for more in ([], ["--drop", name]):
-                    self.refused("from_matrix.py", 1, place + says, sheet, *more, *self.files)
+                    self.refused("clearing-from-matrix", 1, place + says, sheet, *more, *self.files)
                 self.assertFalse(self.banks.exists() or self.debts.exists())
         # One that is left empty says nothing.
         sheet = self.file("m.csv", ",A,B,C,cash\nA,0,6,4,3\nB,2,0,8,4\nC,3,1,0,5\nTotal,,7,12,\n")
-        self.told("from_matrix.py", sheet, "--drop", "Total", *self.files)
+        self.told("clearing-from-matrix", sheet, "--drop", "Total", *self.files)
         # A bank that is left out is no line of totals.
         sheet = self.file("m.csv", ",A,B,C,cash\nA,0,6,4,3\nB,2,0,8,4\nC,3,1,0,5\n")
-        self.refused("from_matrix.py", 1, "C is no line of totals", sheet, "--drop", "C", *self.files)
-        self.told("from_matrix.py", sheet, "--leave-out", "C", *self.files)
+        self.refused("clearing-from-matrix", 1, "C is no line of totals", sheet, "--drop", "C", *self.files)
+        self.told("clearing-from-matrix", sheet, "--leave-out", "C", *self.files)
         self.assertEqual(self.debts.read_text(), "debtor,creditor,class,claim\nA,B,1,6\nB,A,1,2\n")
 
     def test_banks_of_the_table_alone_are_kept(self):
         matrix = self.file("m.csv", ",B,C\nA,6,4\nB,0,8\n")
         table = self.file("t.csv", "bank,cash\nD,9\nA,3\nB,4\nC,5\n")
-        told = self.told("from_matrix.py", matrix, "--table", table, *self.files)
+        told = self.told("clearing-from-matrix", matrix, "--table", table, *self.files)
         self.assertIn("banks in no line of the matrix, kept: 1; D\n", told)
         self.check(
             "name,cash,rule\nA,3,webster\nB,4,webster\nC,5,webster\nD,9,webster\n",
@@ -364,7 +364,7 @@ class Matrix(Case):
         self.banks.unlink(), self.debts.unlink()
         for missing in ("A", "C"):
             table = self.file("t.csv", "bank,cash\nD,9\nA,3\nB,4\nC,5\n".replace(f"{missing},", "X,"))
-            done = tool("from_matrix.py", matrix, "--table", table, *self.files)
+            done = tool("clearing-from-matrix", matrix, "--table", table, *self.files)
             self.assertEqual((done.returncode, done.stdout), (1, ""))
             self.assertRegex(
                 done.stderr,
@@ -372,7 +372,7 @@ class Matrix(Case):
             )
         square = self.file("m.csv", ",A,B\nA,0,6\nB,2,0\n")
         self.refused(
-            "from_matrix.py",
+            "clearing-from-matrix",
             1,
             "t.csv: no row for the bank B\n",
             square,
@@ -391,31 +391,31 @@ class Matrix(Case):
                 f"{name} row 1 column deposits: it may be what is owed outside; say --outside deposits, or "
                 "--no-outside\n"
             )
-            self.refused("from_matrix.py", 1, told, *sheet, *self.files)
+            self.refused("clearing-from-matrix", 1, told, *sheet, *self.files)
             self.assertFalse(self.banks.exists() or self.debts.exists())
-            self.told("from_matrix.py", *sheet, "--outside", "deposits", *self.files)
+            self.told("clearing-from-matrix", *sheet, "--outside", "deposits", *self.files)
             self.check(
                 "name,cash,rule,outside\nA,3,webster,7\nB,4,webster,8\n",
                 "debtor,creditor,class,claim\nA,B,1,6\nB,A,1,2\n",
             )
             self.assertIn(
-                "columns not looked at: 1; deposits\n", self.told("from_matrix.py", *sheet, "--no-outside", *self.files)
+                "columns not looked at: 1; deposits\n", self.told("clearing-from-matrix", *sheet, "--no-outside", *self.files)
             )
             self.check("name,cash,rule\nA,3,webster\nB,4,webster\n", "debtor,creditor,class,claim\nA,B,1,6\nB,A,1,2\n")
             self.banks.unlink(), self.debts.unlink()
 
     def test_a_bank_that_owes_the_sum_of_the_others_may_be_kept(self):
         text = ",A,B,C,cash\nA,0,5,0,1\nB,0,0,3,1\nC,0,5,3,2\n"
-        self.refused("from_matrix.py", 1, "C is a row of totals", self.file("m.csv", text), *self.files)
+        self.refused("clearing-from-matrix", 1, "C is a row of totals", self.file("m.csv", text), *self.files)
         text = ",A,B,C,cash\nA,0,5,3,2\nB,0,0,3,1\nC,0,5,0,1\n"
         sheet = self.file("m.csv", text)
-        self.refused("from_matrix.py", 1, "A is a row of totals", sheet, *self.files)
-        self.told("from_matrix.py", sheet, "--keep", "A", *self.files)
+        self.refused("clearing-from-matrix", 1, "A is a row of totals", sheet, *self.files)
+        self.told("clearing-from-matrix", sheet, "--keep", "A", *self.files)
         self.assertEqual(self.debts.read_text(), "debtor,creditor,class,claim\nA,B,1,5\nA,C,1,3\nB,C,1,3\nC,B,1,5\n")
         # With cash of its own in a table it is a bank.
         table = self.file("t.csv", ",cash\nA,7\nB,1\nC,1\n")
         self.told(
-            "from_matrix.py", self.file("n.csv", ",A,B,C\nA,0,5,3\nB,0,0,3\nC,0,5,0\n"), "--table", table, *self.files
+            "clearing-from-matrix", self.file("n.csv", ",A,B,C\nA,0,5,3\nB,0,0,3\nC,0,5,0\n"), "--table", table, *self.files
         )
 
     def test_the_input_stays_and_both_files_are_written_or_none(self):
@@ -431,13 +431,13 @@ class Matrix(Case):
             ((self.banks, sheet / "debts.csv"), "cannot write"),
         ]:
             self.banks.write_text("kept")
-            self.refused("from_matrix.py", 1, told, sheet, *names, "--banks", files[0], "--debts", files[1])
+            self.refused("clearing-from-matrix", 1, told, sheet, *names, "--banks", files[0], "--debts", files[1])
             self.assertEqual((sheet.read_text(), self.banks.read_text()), (MATRIX, "kept"))
             self.assertEqual(
                 sorted(path.name for path in self.folder.iterdir()), ["banks.csv", "same.csv", "table.csv"]
             )
         self.refused(
-            "from_matrix.py",
+            "clearing-from-matrix",
             1,
             "also read",
             self.file("m.csv", ",A,B,C\nA,0,6,4\nB,2,0,8\nC,3,1,0\n"),
@@ -456,14 +456,14 @@ class Matrix(Case):
         )
         words = ["--banks", banks, "--debts", debts]
         self.assertEqual(
-            self.made("to_matrix.py", *words, "--unit", "1000000000000000.000000000000001"),
+            self.made("clearing-to-matrix", *words, "--unit", "1000000000000000.000000000000001"),
             ",A,B,cash,rule\nA,0.000000000000000,7000000000000000.000000000000007,7000000000000000.000000000000007,"
             "order\n"
             "B,0.000000000000000,0.000000000000000,0.000000000000000,order\n",
         )
         for unit, status in (("1." + "1" * 120, 1), ("0", 2), ("inf", 2), ("", 2)):
             self.refused(
-                "to_matrix.py",
+                "clearing-to-matrix",
                 status,
                 "more digits than are kept" if status == 1 else "not a number above 0",
                 *words,
@@ -473,7 +473,7 @@ class Matrix(Case):
 
     def test_the_smallest_unit_that_keeps_all_limits_is_taken(self):
         sheet = self.file("m.csv", ",A,B,cash\nA,0,45000020,20\nB,12,0,1000000\n")
-        told = self.told("from_matrix.py", sheet, "--unit", "auto", *self.files)
+        told = self.told("clearing-from-matrix", sheet, "--unit", "auto", *self.files)
         self.assertIn(
             "debts made: 1; 45,000,000 in all; in units of 50: 900,000; 32 less than the sheet's 45,000,032\n", told
         )
@@ -483,7 +483,7 @@ class Matrix(Case):
         )
         self.check("name,cash,rule\nA,0,webster\nB,20000,webster\n", "debtor,creditor,class,claim\nA,B,1,900000\n")
         sheet = self.file("m.csv", ",A,B,cash,outside\nA,0,2.25,1,0\nB,1,0,0.5,7\n")
-        told = self.told("from_matrix.py", sheet, "--unit", "auto", *self.files)
+        told = self.told("clearing-from-matrix", sheet, "--unit", "auto", *self.files)
         self.assertIn("debts made: 2; 3.25 in all; in units of 0.01: 325\n", told)
         self.assertNotIn("rounded", told)
         # Each limit in turn decides, and a unit that is one step smaller breaks it.
@@ -507,15 +507,15 @@ class Matrix(Case):
         ]:
             sheet = self.file("m.csv", text)
             self.assertIn(
-                f"in units of {unit}: ", self.told("from_matrix.py", sheet, "--unit", "auto", *self.files), text[:60]
+                f"in units of {unit}: ", self.told("clearing-from-matrix", sheet, "--unit", "auto", *self.files), text[:60]
             )
             self.printed("check", *self.files)
             words = ["--unit", smaller, "--round", "--limits", "standard", *self.files]
-            self.refused("from_matrix.py", 1, "more than the most", sheet, *words)
+            self.refused("clearing-from-matrix", 1, "more than the most", sheet, *words)
 
     def test_amounts_at_the_limits_are_taken(self):
         self.told(
-            "from_matrix.py",
+            "clearing-from-matrix",
             self.file("m.csv", ",A,B,cash,outside\nA,0,1000000,1000000000000,100000000000\nB,7,0,1,0\n"),
             *self.files,
         )
@@ -526,13 +526,13 @@ class Matrix(Case):
 
     def test_what_is_rounded_is_told(self):
         sheet = self.file("m.csv", ",A,B,cash\nA,0,2.5,1.5\nB,0.4,0,3.5\n")
-        told = self.told("from_matrix.py", sheet, "--round", *self.files)
+        told = self.told("clearing-from-matrix", sheet, "--round", *self.files)
         self.assertIn(
             "amounts rounded: 4; by 1.9 together, the largest by 0.5\n"
             "debts that became 0: 1; 0.4 in all; B owes A 0.4\n",
             told,
         )
-        done = tool("from_matrix.py", sheet, "--round", "--banks", "/dev/stdout", "--debts", self.debts)
+        done = tool("clearing-from-matrix", sheet, "--round", "--banks", "/dev/stdout", "--debts", self.debts)
         self.assertEqual((done.stdout, done.stderr), ("name,cash,rule\nA,2,webster\nB,4,webster\n", told))
 
     def test_too_many_debts_are_told_with_their_number(self):
@@ -547,7 +547,7 @@ class Matrix(Case):
             )
         )
         self.refused(
-            "from_matrix.py",
+            "clearing-from-matrix",
             1,
             "22,350 debts, 2,350 more than the most, 20,000",
             self.file("m.csv", text),
@@ -558,7 +558,7 @@ class Matrix(Case):
             *self.files,
         )
         # Where nothing is said they are made, and it is told that the wide limits read them.
-        told = self.told("from_matrix.py", self.file("m.csv", text), "--unit", "auto", *self.files)
+        told = self.told("clearing-from-matrix", self.file("m.csv", text), "--unit", "auto", *self.files)
         self.assertIn("limits: wide, as the standard ones have at most 1,000 banks, 20,000 debts and 10,000,000 units", told)
         self.assertEqual(self.debts.read_bytes().count(b"\n"), 22_351)
 
@@ -571,10 +571,10 @@ class Matrix(Case):
             text.replace(";", "\t").encode("utf-16"),
             text.replace("\n", "\r").encode(),
         ]:
-            self.told("from_matrix.py", self.file("m.csv", data), "--skip", 1, *self.files)
+            self.told("clearing-from-matrix", self.file("m.csv", data), "--skip", 1, *self.files)
             self.check(*want)
         self.told(
-            "from_matrix.py",
+            "clearing-from-matrix",
             self.file("m.csv", text.encode("cp1252")),
             "--skip",
             1,
@@ -599,41 +599,18 @@ class Matrix(Case):
             (('\tA\tB\tcash\t"net; EUR"\n' + rows.replace(";", "\t")), "net; EUR", []),
             ((',A,B,cash,"net; EUR"\n' + rows.replace(";", ",")), "net; EUR", []),
         ]:
-            self.told("from_matrix.py", self.file("m.csv", text), "--outside", outside, *more, *self.files)
+            self.told("clearing-from-matrix", self.file("m.csv", text), "--outside", outside, *more, *self.files)
             self.check(*want)
         # A comma of a bank's name is named as what it is.
         sheet = self.file("m.csv", ';"A, Inc.";B;cash\n"A, Inc.";0;2;3\nB;4;0;5\n')
-        done = tool("from_matrix.py", sheet, *self.files)
+        done = tool("clearing-from-matrix", sheet, *self.files)
         self.assertEqual(
-            (done.returncode, done.stderr), (1, f"from_matrix: {sheet} row 2: 'A, Inc.' {words.NAME_HINT}\n")
+            (done.returncode, done.stderr), (1, f"clearing-from-matrix: {sheet} row 2: 'A, Inc.' {options.NAME_HINT}\n")
         )
-
-    def test_names_of_every_character_come_through(self):
-        for names in [ODD_NAMES, list(all_names(last=0xFFFF, step=13))]:
-            names = [
-                name
-                for name in dict.fromkeys(name.strip(" ") for name in names)
-                if name not in ("cash", "rule", "outside")
-            ]
-            names = [name for name in names if not control.is_called_total(name)]
-            rows = [
-                [name] + ["1" if at in ((n + 1) % len(names), (n + 7) % len(names)) else "" for at in range(len(names))]
-                for n, name in enumerate(names)
-            ]
-            matrix = "".join(",".join(row) + "\n" for row in [["", *names], *rows])
-            table = "bank,cash\n" + "".join(f"{name},{n}\n" for n, name in enumerate(names))
-            self.told("from_matrix.py", self.file("m.csv", matrix), "--table", self.file("t.csv", table), *self.files)
-            self.check(
-                "name,cash,rule\n" + "".join(f"{name},{n},webster\n" for n, name in enumerate(names)),
-                self.debts.read_text(),
-            )
-            self.assertEqual(len(self.debts.read_text().split("\n")), 2 * len(names) + 2)
-            back = self.made("to_matrix.py", *self.files)
-            self.assertEqual(back.split("\n")[0], ",".join(["", *names, "cash", "rule"]))
 
     def test_there_and_back_gives_the_same_matrix(self):
         self.told(
-            "from_matrix.py",
+            "clearing-from-matrix",
             self.file("m.csv", MATRIX),
             "--cash",
             "ea",
@@ -643,25 +620,25 @@ class Matrix(Case):
             "0.5",
             *self.files,
         )
-        first = self.made("to_matrix.py", *self.files, "--unit", "0.5")
+        first = self.made("clearing-to-matrix", *self.files, "--unit", "0.5")
         self.assertEqual(
             first,
             ",A,B,C,cash,outside,rule\nA,0.0,6.0,4.0,3.0,0.0,webster\n"
             "B,2.0,0.0,8.5,1.0,2.0,webster\nC,3.0,1.0,0.0,4.0,0.5,webster\n",
         )
-        self.told("from_matrix.py", self.file("back.csv", first), "--unit", "0.5", *self.files)
-        self.assertEqual(self.made("to_matrix.py", *self.files, "--unit", "0.5"), first)
+        self.told("clearing-from-matrix", self.file("back.csv", first), "--unit", "0.5", *self.files)
+        self.assertEqual(self.made("clearing-to-matrix", *self.files, "--unit", "0.5"), first)
 
     def test_classes_are_summed_or_one_is_taken(self):
         self.banks.write_text("name,cash,rule\nA,9,order\nB,0,order\n")
         self.debts.write_text("debtor,creditor,class,claim\nA,B,1,5\nA,B,3,7\n")
-        self.assertEqual(self.made("to_matrix.py", *self.files), ",A,B,cash,rule\nA,0,12,9,order\nB,0,0,0,order\n")
+        self.assertEqual(self.made("clearing-to-matrix", *self.files), ",A,B,cash,rule\nA,0,12,9,order\nB,0,0,0,order\n")
         self.assertEqual(
-            self.made("to_matrix.py", *self.files, "--class", 3), ",A,B,cash,rule\nA,0,7,9,order\nB,0,0,0,order\n"
+            self.made("clearing-to-matrix", *self.files, "--class", 3), ",A,B,cash,rule\nA,0,7,9,order\nB,0,0,0,order\n"
         )
         paid = self.file("paid.csv", self.printed("clear", *self.files, "--show", "both"))
         self.assertEqual(
-            self.made("to_matrix.py", *self.files, "--payments", paid), ",A,B,cash,rule\nA,0,9,9,order\nB,0,0,0,order\n"
+            self.made("clearing-to-matrix", *self.files, "--payments", paid), ",A,B,cash,rule\nA,0,9,9,order\nB,0,0,0,order\n"
         )
 
     def test_payments_of_twelve_banks_come_to_what_defaults_says(self):
@@ -671,7 +648,7 @@ class Matrix(Case):
             for word in (f"--{kind}", ROOT / "examples/twelve-banks" / f"{kind}.csv")
         ]
         paid = self.file("paid.csv", self.printed("clear", *files))
-        rows = [row.split(",") for row in self.made("to_matrix.py", *files, "--payments", paid).splitlines()]
+        rows = [row.split(",") for row in self.made("clearing-to-matrix", *files, "--payments", paid).splitlines()]
         table = [row.split(",") for row in self.printed("defaults", *files).splitlines()]
         for row, said in zip(rows[1:], table[1:]):
             self.assertEqual((row[0], sum(map(int, row[1:13]))), (said[0], int(said[2])))
@@ -689,7 +666,7 @@ class Matrix(Case):
                 claim = draw.randrange(1, 900) if other != at else 0
                 row[other], cents = f"{claim / 100:.2f}", cents + claim
             lines.append(f"{name}," + ",".join(row) + f",{draw.randrange(1000)}")
-        told = self.told("from_matrix.py", self.file("m.csv", "\n".join(lines) + "\n"), "--unit", "0.01", *self.files)
+        told = self.told("clearing-from-matrix", self.file("m.csv", "\n".join(lines) + "\n"), "--unit", "0.01", *self.files)
         self.assertIn(f"in units of 0.01: {cents:,}\n", told)
         self.assertEqual(sum(int(line.rpartition(",")[2]) for line in self.debts.read_text().splitlines()[1:]), cents)
 
@@ -697,8 +674,8 @@ class Matrix(Case):
         self.banks.write_text("name,cash,rule\nA,9,order\nB,0,order\n")
         self.debts.write_text("debtor,creditor,class,claim\nA,B,1,5\n")
         paid = self.file("paid.csv", "debtor,creditor,class,claim,paid\nA,B,1,6,5\n")
-        self.refused("to_matrix.py", 1, "is not of the debts in", *self.files, "--payments", paid)
-        self.refused("to_matrix.py", 1, "line 1: not the header", *self.files, "--payments", self.debts)
+        self.refused("clearing-to-matrix", 1, "is not of the debts in", *self.files, "--payments", paid)
+        self.refused("clearing-to-matrix", 1, "line 1: not the header", *self.files, "--payments", self.debts)
 
     def test_a_matrix_is_not_written_over_what_was_read(self):
         self.banks.write_text("name,cash,rule\nA,9,order\nB,0,order\n")
@@ -706,5 +683,5 @@ class Matrix(Case):
         paid = self.file("paid.csv", self.printed("clear", *self.files))
         for name in (self.banks, self.debts, paid):
             before = name.read_bytes()
-            self.refused("to_matrix.py", 1, f"{name} is also read", *self.files, "--payments", paid, "--out", name)
+            self.refused("clearing-to-matrix", 1, f"{name} is also read", *self.files, "--payments", paid, "--out", name)
             self.assertEqual(name.read_bytes(), before)

@@ -1,11 +1,25 @@
 """bench/measure.py prints each table as ratios, and measures no run that ends otherwise than it has to. Times themselves are not tested."""
+import argparse
+import contextlib
+import functools
 import hashlib
+import io
 import os
 import pathlib
 import re
+import shutil
 import subprocess
+import sys
+from unittest import mock
 
-from common import PROGRAM, ROOT, Case
+from common import PROGRAM, ROOT, Case, python_with
+
+sys.path.append(str(ROOT / "bench"))
+import inputs  # noqa: E402
+import instructions  # noqa: E402
+import measure  # noqa: E402
+import scale  # noqa: E402
+import timing  # noqa: E402
 
 # A peer that is the program itself, as a compiler makes it that only writes scripts.
 RUSTC = """#!/bin/sh
@@ -169,6 +183,128 @@ class Measure(Case):
         done = self.speed("--limit", "1", "chain", program=self.odd("central", "exec sleep 9"))
         self.assertEqual(done.returncode, 0, done.stderr)
         self.assertIn("\n| `central` | over 1 s |\n", done.stdout)
+
+    def test_what_takes_how_long_to_print_is_ended_then(self):
+        """A run that printed is not waited for, and one that prints nothing is none."""
+        self.assertLess(timing.until_it_prints(["/bin/sh", "-c", "echo x; exec sleep 600"], 300), 300)
+        self.assertIsNone(timing.until_it_prints(["/bin/sleep", "600"], 0.5))
+        self.assertRaisesRegex(timing.Fault, "nothing is printed", timing.until_it_prints, ["/bin/true"], 300)
+
+    def test_tables_of_the_wide_limits_have_each_network_and_task(self):
+        """With small networks of the same names, since those have a million debts."""
+        small = {name: functools.partial(inputs.spread, 12, 4, lambda bank: bank, name.rpartition("-")[2])
+                 for name in inputs.WIDE}
+        options = argparse.Namespace(inputs=["tasks", "stress", "many", "workers"], runs=1, limit=60, beside=None)
+        self.addCleanup(os.chdir, os.getcwd())
+        os.chdir(self.folder)
+        told, took = io.StringIO(), {"1": 3.0, "4": 2.0, "64": 5.5}
+
+        def seconds(words, *_):
+            """What a run that reads takes, and one that clears and shows the journal."""
+            if words[1] == "convert":
+                return 1.0
+            self.assertEqual(words[words.index("--show") + 1], "journal")
+            return took[words[words.index("--workers") + 1]]
+
+        with mock.patch.dict(inputs.WIDE, small), contextlib.redirect_stdout(told):
+            with mock.patch.object(timing, "until_it_prints", seconds):
+                measure.wide(measure.Program(os.path.realpath(PROGRAM)), options)
+        parts = re.split(r"(?<=\n)(?=stress|4,500|clear less)", told.getvalue())
+        tasks, stress, many, workers = [part.splitlines() for part in parts]
+        columns = ["defaults", "bounds", "rescue", "costs", "cost-bounds", "compress"]
+        held = [f"MB, {task}" for task in ["clear", *columns]]
+        self.table(tasks, "beside clear, 1 worker", ["clear, ms", *columns, *held],
+                   ["wide-dense-order", "wide-dense-webster", "wide-scarce-order"])
+        self.table(stress, "stress, 100 scenarios", ["clear, ms", "stress", "MB, clear", "MB, stress"],
+                   ["wide-dense-order", "wide-tiered-order"])
+        columns = ["impact", "rescues", "breaking", "outcomes"]
+        held = [f"MB, {task}" for task in ["clear", *columns]]
+        self.table(many, "4,500 banks, 150,000 debts", ["clear, ms", *columns, *held],
+                   ["wide-tiered-order", "wide-tiered-mixed"])
+        heads = ["clear less reading and printing", "1 worker, ms", "4 workers", "64 workers", "reading, ms"]
+        self.assertEqual(cells(workers[0]), heads)
+        # What reading takes is taken off before the others are told in times of one worker.
+        names = ["wide-dense-order", "wide-dense-webster", "wide-scarce-order", "wide-complete-order"]
+        rows = [[name, "2000.0", "0.50", "2.25", "1000.0"] for name in names]
+        self.assertEqual([cells(line) for line in workers[1:]], rows)
+
+    def scale(self, *words, python=sys.executable):
+        environment = {**os.environ, "CLEARING": os.path.realpath(PROGRAM)}
+        run = [python, "-B", ROOT / "bench/scale.py", "--runs", "1", *words]
+        return subprocess.run(run, env=environment, stdin=subprocess.DEVNULL, capture_output=True, encoding="utf-8")
+
+    def test_growth_has_a_row_for_each_network_and_one_that_is_computed(self):
+        done = self.scale("--most", "100")
+        self.assertEqual((done.returncode, done.stderr), (0, ""))
+        said, _, head, rule, *rows = done.stdout.splitlines()
+        told = r"^\d{4}-\d\d-\d\d, `\w+\+?`, the program `\w{8}`, one run on \d+ processors, which .*:$"
+        self.assertRegex(said, told)
+        self.assertEqual((head.count(" | "), rule), (9, "|---" * 10 + "|"))
+        sizes = [row.split(" | ")[:2] for row in rows]
+        self.assertEqual(sizes, [["| 10", "5"], ["| 100", "20"], ["| 1,000, computed", "-"]])
+        for row in rows:
+            for cell in row.strip("| ").split(" | ")[2:]:
+                self.assertRegex(cell, r"^[0-9,.]+ / [0-9,.]+$")
+        # A hundred times the debts take ten times the time and four times the memory, and ten times the roots of both.
+        last, before = ((100, 10), {"a": (20.0, 12.0), "b": (1.0, 1.0)}), ((5, 2), {"a": (2.0, 3.0)})
+        beyond = scale.further(last, before)
+        self.assertEqual([*beyond], ["a"])
+        for found, right in zip(beyond["a"], (20 * 10 ** 0.5, 24.0)):
+            self.assertAlmostEqual(found, right)
+
+    def test_the_picture_of_growth_is_that_of_the_page(self):
+        python = python_with("matplotlib")
+        if python is None:
+            self.skipTest("without matplotlib (Debian's package python3-matplotlib)")
+        (self.folder / "pictures").mkdir()
+        picture = self.folder / "pictures/scale.svg"
+        page = self.file("page.md", "before\n<!-- bench/scale.py -->\nold\n<!-- end -->\nafter\n")
+        done = self.scale("--most", "100", "--write", "--page", page, python=python)
+        self.assertEqual((done.returncode, done.stdout, done.stderr), (0, "", ""))
+        drawn = picture.read_bytes()
+        self.assertEqual(self.scale("--draw", "--page", page, python=python).returncode, 0)
+        self.assertEqual(picture.read_bytes(), drawn)
+        text = page.read_text(encoding="utf-8")
+        page.write_text(text.replace("| 5 | ", "| 5 | 7", 1), encoding="utf-8")
+        self.assertEqual(self.scale("--draw", "--page", page, python=python).returncode, 0)
+        self.assertNotEqual(picture.read_bytes(), drawn)
+        self.assertEqual((text[:7], text[-6:], "old" in text), ("before\n", "after\n", False))
+        # That of the repository is of its page, if the same version of matplotlib draws both.
+        shutil.copy(ROOT / "docs/SPEED.md", page)
+        self.assertEqual(self.scale("--draw", "--page", page, python=python).returncode, 0)
+        drawn, kept = (path.read_text(encoding="utf-8") for path in (picture, ROOT / "docs/pictures/scale.svg"))
+        if re.search("Matplotlib v[0-9.]+", drawn)[0] in kept:
+            self.assertEqual(drawn, kept)
+
+    def test_instructions_are_those_that_functions_take_themselves(self):
+        """Of a file of callgrind's: a function has its name where it is called first, what it calls is counted there,
+        and what copies memory is left out."""
+        text = ("summary: 99\nob=(1) x\nfl=(1) a.c\nfn=(1) main\n1 10\n+1 5\ncfn=(2) memcpy\ncalls=1 1\n+2 40\n* 3\n"
+                "cfi=(2) b.c\ncfn=(3) work\ncalls=1 7\n5 33\nfn=(2)\n1 40\nfn=(3)\n7 33\ntotals: 91\n")
+        self.assertEqual(instructions.own_cost(text), 10 + 5 + 3 + 33)
+
+    def test_two_programs_are_counted_side_by_side(self):
+        """By a tool that counts a hundred for the first program, and for the second a hundred and fifty in one task."""
+        self.file("valgrind", """#!/bin/sh
+out=${2#*=}
+count=100
+case "$*" in */after\\ bounds*) count=150 ;; esac
+printf 'fn=(1) main\\n1 %s\\n' $count >"$out"
+""").chmod(0o755)
+        for name in ("before", "after"):
+            self.file(name, f'#!/bin/sh\nexec "{os.path.realpath(PROGRAM)}" "$@"\n').chmod(0o755)
+        environment = {**os.environ, "PATH": f"{self.folder}:{os.environ['PATH']}"}
+        programs = [self.folder / name for name in ("before", "after")]
+        run = [sys.executable, "-B", ROOT / "bench/instructions.py", *programs, "chain"]
+        done = subprocess.run(run, env=environment, stdin=subprocess.DEVNULL, capture_output=True, encoding="utf-8")
+        self.assertEqual((done.returncode, done.stderr), (0, ""))
+        head, *rows, last = [cells(line) for line in done.stdout.splitlines()]
+        self.assertEqual(head, ["AFTER for one of BEFORE", "chain"])
+        self.assertEqual(last, ["the least 1.0000, the greatest 1.5000"])
+        sources = (ROOT / "crates/clear_words/src/task.rt").read_text(encoding="utf-8")
+        tasks = set(re.findall(r'"([a-z-]+)" => Some\(Task::', sources))
+        self.assertEqual(dict(rows), {task: "1.5000" if task == "bounds" else "1.0000" for task in tasks})
+        self.assertEqual(len(tasks), 17)
 
     def test_faulty_words_measure_nothing(self):
         for words in ([], ["speed"], ["tasks", "no-such"], ["tasks", "unit"], ["rules", "chain"], ["--runs", "0", "tasks"],

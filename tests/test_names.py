@@ -24,7 +24,9 @@ WORD = re.compile(r"[A-Za-z_][A-Za-z0-9_]*")
 QUOTED = re.compile(r"`([^`\n]+)`")
 FENCED = re.compile(r"^```(\w*)\n(.*?)^```$", re.MULTILINE | re.DOTALL)
 IN_CRATE = re.compile(r"`(\w+)`: (`\w+`(?:(?:,| and)\s`\w+`)*)")
-FOLDERS = ("bench", "crates", "docs", "examples", "python", "tests", "tools", ".ci")
+FOLDERS = ("bench", "bin", "crates", "docs", "examples", "python", "tests", "tools", ".ci")
+# What the name of a clause may not be where others read it: it would say nothing of the clause.
+EMPTY_NAMES = {"few", "one", "others", "same", "some"}
 
 
 def documents():
@@ -52,7 +54,7 @@ def words_of(crate):
 
 @functools.cache
 def all_words():
-    scripts = [path for folder in ("tools", "bench", "tests", "python", "examples", "r") for path in (ROOT / folder).rglob("*")
+    scripts = [path for folder in ("tools", "bin", "bench", "tests", "python", "examples", "r") for path in (ROOT / folder).rglob("*")
                if path.suffix in (".py", ".sh", ".rs", ".c", ".csv", ".toml", ".bash", ".fish", ".R") and path.name != "test_names.py"]
     return set().union(*map(words_of, CRATES)) | words_in(scripts) | set(CRATES) | {path.stem for path in scripts}
 
@@ -144,18 +146,16 @@ def commands_of(text):
         if language == "console":
             yield from (line[2:] for line in lines if line.startswith("$ "))
         elif language == "":
-            yield from (line for line in lines if re.match(r"(\./clearing|\./first-look|tools/|bench/|tests/|\.ci/|rt |git |sha256sum |python3 )", line))
+            yield from (line for line in lines if re.match(r"(\./clearing|\./first-look|bin/|tools/|bench/|tests/|\.ci/|rt |git |sha256sum |python3 )", line))
 
 
 @functools.cache
 def options_in(file, task=""):
-    """A text with the options of a tool: its help, and that of a task of it, where it calls the package, else what it is. A shell script
-    that starts a Python one of its name has the options of both."""
-    parts = [part for part in (file, file.with_suffix(".py")) if part.is_file()]
-    texts = [part.read_text(encoding="utf-8") for part in parts]
-    called = [part.name for part, text in zip(parts, texts) if "from clearing_tools." in text]
-    helps = [tool(name, *words, "--help").stdout for name in called for words in ([], [task]) if words != [""]]
-    return "".join(helps + texts)
+    """A text with the options of a tool: its help, and that of a task of it, where it is a command, else what it is."""
+    if file.parent != ROOT / "bin":
+        return file.read_text(encoding="utf-8") if file.is_file() else ""
+    helps = [tool(file.name, *words, "--help").stdout for words in ([], [task]) if words != [""] and file.is_file()]
+    return "".join(helps)
 
 
 def named_edits(text):
@@ -204,12 +204,25 @@ def wrong_commands(text):
         first = re.split(r"[\s;|]", command.lstrip("("))[0]
         if "/" in first and not (ROOT / first).exists() or "/" not in first and first not in PROGRAMS:
             lost.append(command)
-        for name, rest in re.findall(r"((?:tools|bench|tests)/[\w./]+)([^|;>]*)", command):
-            task = rest.split()[0] if name == "tools/case.py" and rest.split() else ""
+        for name, rest in re.findall(r"(?<![\w/])((?:bin|tools|bench|tests)/[\w./-]+)([^|;>]*)", command):
+            task = rest.split()[0] if name == "bin/clearing-case" and rest.split() else ""
             known = options_in(ROOT / name, task if task.isalpha() else "")
             lost += [f"{name} {option}" for option in re.findall(r"(?<!\S)--[a-z-]+", rest) if option not in known]
             lost += [] if known else [name]
     return lost
+
+
+def public_clauses(text):
+    """The named clauses of the functions of a source that others call: of public functions, of traits, and of what
+    implements these; each as its function and its name."""
+    function, shared, public = "", False, False
+    for line in text.splitlines():
+        if re.match(r"(pub )?trait |impl\b.* for |\}", line):
+            shared = line != "}"
+        elif begun := re.match(r"\s*(pub |pub\(crate\) )?fn (\w+)", line):
+            function, public = begun[2], begun[1] == "pub " or shared
+        elif public and (clause := re.match(r"\s*(?:requires|ensures) (\w+) \{", line)):
+            yield function, clause[1]
 
 
 class Names(unittest.TestCase):
@@ -237,10 +250,10 @@ class Names(unittest.TestCase):
                          ["clr_net/specs/Net.antt: award", "clr_net/specs/No.antt"])
         self.assertEqual(missing_paths(ROOT / "README.md", "[a](docs/NO.md) [b](docs/GUIDE.md#no) [c](docs/GUIDE.md) `tools/no.sh a`"),
                          ["docs/NO.md", "docs/GUIDE.md#no", "tools/no.sh a"])
-        self.assertEqual(wrong_commands("```console\n$ tools/no.sh x\n$ python3 tools/lint.py --nonsense\n$ nothing\n```\n"),
-                         ["tools/no.sh x", "tools/no.sh", "tools/lint.py --nonsense", "nothing"])
-        self.assertEqual(wrong_commands("```console\n$ tools/case.py scenarios a b --amounts-in 10\n$ tools/case.py show a --amounts-in 10\n```\n"),
-                         ["tools/case.py --amounts-in"])
+        self.assertEqual(wrong_commands("```console\n$ tools/no.sh x\n$ bin/clearing-lint --nonsense\n$ nothing\n```\n"),
+                         ["tools/no.sh x", "tools/no.sh", "bin/clearing-lint --nonsense", "nothing"])
+        self.assertEqual(wrong_commands("```console\n$ bin/clearing-case scenarios a b --amounts-in 10\n$ bin/clearing-case show a --amounts-in 10\n```\n"),
+                         ["bin/clearing-case --amounts-in"])
         self.assertEqual(missing_paths(ROOT / "README.md", "[a](docs/GLOSSARY.md#one-unit) [b](docs/GLOSSARY.md#two-units)"),
                          ["docs/GLOSSARY.md#two-units"])
 
@@ -248,6 +261,19 @@ class Names(unittest.TestCase):
         laws = sum(len(re.findall(r"^pub fn ", path.read_text(), re.MULTILINE)) for path in ROOT.glob("crates/*/src/laws.rt"))
         tried = {name for path in ROOT.glob("crates/law_tests/src/*.rt") for name in re.findall(r"\w+::laws::\w+", path.read_text())}
         self.assertIn(f"`law_tests`, of {len(tried)} of the {laws} laws", (ROOT / "docs/CLAUSES.md").read_text())
+
+    def test_clauses_that_others_read_have_names_that_say_something(self):
+        said = [
+            (path, clause)
+            for path in (ROOT / "crates").glob("*/src/**/*.rt")
+            for clause in public_clauses(path.read_text(encoding="utf-8"))
+        ]
+        self.assertGreater(len(said), 500)
+        self.assertEqual([(path.name, clause) for path, clause in said if clause[1] in EMPTY_NAMES], [])
+        inside = "fn a()\n    requires few { 1 }\n{\n}\n\npub(crate) fn b()\n    ensures one { 2 }\n"
+        shared = "impl C for D {\n    fn e()\n        ensures same { 3 }\n    {}\n}\n"
+        public = "pub fn f(\n    g: u8,\n)\n    requires h { 4 }\n    ensures { 5 }\n{\n}\n"
+        self.assertEqual(list(public_clauses(public + shared + inside)), [("f", "h"), ("e", "same")])
 
     def test_wrong_bodies_stand_where_the_tables_of_proved_say(self):
         text = (ROOT / "docs/PROVED.md").read_text(encoding="utf-8")

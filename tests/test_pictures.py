@@ -5,7 +5,7 @@ import subprocess
 import sys
 import xml.etree.ElementTree as tree
 
-from common import ODD_NAMES, PROGRAM, ROOT, Case, clearing, needs_modules, python_with, tool
+from common import ODD_NAMES, PROGRAM, ROOT, Case, clearing, needs_modules, python_with, run_of, tool
 
 from clearing_tools.drawing import lettering  # noqa: E402
 from clearing_tools.labels import shown  # noqa: E402
@@ -39,7 +39,7 @@ class Pictures(Case):
         return self.text("p.csv", "clear", files), self.text("d.csv", "defaults", files)
 
     def drawn(self, files, *more):
-        return self.made("who_pays.py", *self.both(files), *more)
+        return self.made("clearing-who-pays", *self.both(files), *more)
 
     def alone_outside(self):
         """Three banks: A defaults on what it owes outside alone, B owes nobody, C pays all."""
@@ -106,7 +106,7 @@ class Network(Pictures):
         flows = [title for title in titles(around) if " to " in title and title.endswith(" paid")]
         self.assertEqual(sorted(title.split(":")[0] for title in flows),
                          sorted({f"{row[0]} to {row[1]}" for row in debts if "Kemi" in row[:2]}))
-        self.refused("who_pays.py", 1, "no bank 'Nobody'", *self.both(TWELVE), "--around", "Nobody")
+        self.refused("clearing-who-pays", 1, "no bank 'Nobody'", *self.both(TWELVE), "--around", "Nobody")
         # Where there is none, the picture says so.
         sound = self.file("b.csv", "name,cash,rule\nA,9,order\nB,0,order\n"), self.file("e.csv", "debtor,creditor,class,claim\nA,B,1,5\n")
         self.assertIn("There is no such debt", self.drawn(["--banks", sound[0], "--debts", sound[1]], "--only-unpaid"))
@@ -177,29 +177,29 @@ class Network(Pictures):
         payments, defaults = self.both(CHAIN)
         for text, status, message in [("name,label\n", 1, "the first row is not code,name"), ("code,name\nA\n", 1, "row 1: 1 fields in place of 2"),
                                       ("code,name\nA,x\nA,y\n", 1, "row 2: 'A' has a full name already"), ('code,name\n"A,x\n', 1, "unexpected end of data")]:
-            self.refused("who_pays.py", status, message, payments, defaults, "--labels", self.file("l.csv", text))
-        self.refused("who_pays.py", 1, "cannot be read", payments, defaults, "--labels", self.folder / "none.csv")
+            self.refused("clearing-who-pays", status, message, payments, defaults, "--labels", self.file("l.csv", text))
+        self.refused("clearing-who-pays", 1, "cannot be read", payments, defaults, "--labels", self.folder / "none.csv")
         # No bank is called as another one is.
         banks = self.file("banks.csv", "name,cash,rule\nA,1,order\nx,1,order\n")
         payments, defaults = self.both(["--banks", banks, "--debts", self.file("debts.csv", "debtor,creditor,class,claim\nA,x,1,2\n")])
-        self.refused("who_pays.py", 1, "with its full name the bank 'A' is called as another bank is", payments, defaults,
+        self.refused("clearing-who-pays", 1, "with its full name the bank 'A' is called as another bank is", payments, defaults,
                      "--labels", self.file("l.csv", "code,name\nA,x\n"))
 
     def test_texts_of_other_networks_and_faulty_words_are_refused(self):
         payments, defaults = self.text("p.csv", "clear", CHAIN), self.text("d.csv", "defaults", HUB)
-        self.refused("who_pays.py", 1, "it has no bank 'A'", payments, defaults)
-        self.refused("who_pays.py", 1, "not the header", defaults, defaults)
+        self.refused("clearing-who-pays", 1, "it has no bank 'A'", payments, defaults)
+        self.refused("clearing-who-pays", 1, "not the header", defaults, defaults)
         for unit in ("0", "-1", "x", "inf", "nan", ""):
-            self.refused("who_pays.py", 2, "is not an amount above 0", payments, defaults, f"--unit={unit}")
+            self.refused("clearing-who-pays", 2, "is not an amount above 0", payments, defaults, f"--unit={unit}")
 
     def test_no_input_is_written_over(self):
         payments, defaults = self.both(CHAIN)
         before = payments.read_bytes()
-        self.refused("who_pays.py", 1, "p.csv", payments, defaults, "--output", payments)
-        self.refused("who_pays.py", 1, "cannot write", payments, defaults, "--output", self.folder)
+        self.refused("clearing-who-pays", 1, "p.csv", payments, defaults, "--output", payments)
+        self.refused("clearing-who-pays", 1, "cannot write", payments, defaults, "--output", self.folder)
         self.assertEqual(payments.read_bytes(), before)
-        self.made("who_pays.py", payments, defaults, "--output", self.folder / "out.svg")
-        self.assertEqual((self.folder / "out.svg").read_text(encoding="utf-8"), self.made("who_pays.py", payments, defaults))
+        self.made("clearing-who-pays", payments, defaults, "--output", self.folder / "out.svg")
+        self.assertEqual((self.folder / "out.svg").read_text(encoding="utf-8"), self.made("clearing-who-pays", payments, defaults))
 
 
 @needs_modules("matplotlib")
@@ -216,18 +216,18 @@ class Charts(Pictures):
     def test_shortfalls_have_the_banks_in_default(self):
         payments, defaults = self.both(TWELVE)
         for more in ([], ["--payments", payments]):
-            said = self.chart("shortfalls.py", defaults, *more)
+            said = self.chart("clearing-shortfalls", defaults, *more)
             self.assertIn("4 of 12 banks in default leave 1,493,329 units unpaid", said)
             for words in ("Dunmore", "699,999 (33.3%)", "Isar", "400,000 (26.7%)", "Elbe", "279,999 (14.7%)", "Birk", "113,331 (3.9%)"):
                 self.assertIn(words, said)
             self.assertNotIn("Alster", said)
-        self.assertIn("EUR 1,493,329,000", " ".join(self.chart("shortfalls.py", defaults, "--unit", "1000", "--currency", "EUR")))
+        self.assertIn("EUR 1,493,329,000", " ".join(self.chart("clearing-shortfalls", defaults, "--unit", "1000", "--currency", "EUR")))
 
     def test_full_names_stand_in_charts_too(self):
         labels = self.file("l.csv", "code,name\nDunmore,Dunmore Bank plc\nIsar,Isar $1$ AG\nAlster,Alster Bank\n")
         defaults = self.text("d.csv", "defaults", TWELVE)
         stress = self.text("s.txt", "stress", TWELVE, "--scenarios", self.file("s.toml", '[[scenario]]\nname = "x"\n'))
-        for said in (self.chart("shortfalls.py", defaults, "--labels", labels), self.chart("stress_map.py", stress, "--labels", labels)):
+        for said in (self.chart("clearing-shortfalls", defaults, "--labels", labels), self.chart("clearing-stress-map", stress, "--labels", labels)):
             for words in ("Dunmore Bank plc", "Isar $1$ AG", "Elbe", "Birk"):
                 self.assertIn(words, said)
             self.assertNotIn("Alster", " ".join(said))
@@ -242,8 +242,8 @@ class Charts(Pictures):
             labels = self.file("l.csv", "code,name\n" + "".join(f'b{at},"{names[at % 2]}{at}"\n' for at in range(banks)))
             payments, defaults = self.both(files)
             stress = self.text("s.txt", "stress", files, "--scenarios", self.file("s.toml", f'[[scenario]]\nname = "{"s" * 64}"\ncut = 900\n'))
-            for said in (self.chart("shortfalls.py", defaults, "--payments", payments, "--labels", labels, "--most", 40),
-                         self.chart("stress_map.py", stress, "--labels", labels)):
+            for said in (self.chart("clearing-shortfalls", defaults, "--payments", payments, "--labels", labels, "--most", 40),
+                         self.chart("clearing-stress-map", stress, "--labels", labels)):
                 self.assertTrue(any("\u2026" in words for words in said))
                 self.assertNotIn(f"{names[0]}0", said)
             size = re.search(r'width="([0-9.]+)pt"', self.svg)
@@ -263,26 +263,26 @@ class Charts(Pictures):
     def test_a_bank_that_defaults_on_outside_claims_alone_is_shown(self):
         files = self.alone_outside()
         payments, defaults = self.both(files)
-        said = self.chart("shortfalls.py", defaults, "--payments", payments, "--banks", files[1])
+        said = self.chart("clearing-shortfalls", defaults, "--payments", payments, "--banks", files[1])
         self.assertIn("1 of 3 banks in default leave 6 units unpaid", said)
         self.assertIn("6 (66.7%)", said)
         self.assertIn("outside", said)
-        self.assertIn("1 of 3 banks in default leave 0 units unpaid", self.chart("shortfalls.py", defaults))
+        self.assertIn("1 of 3 banks in default leave 0 units unpaid", self.chart("clearing-shortfalls", defaults))
         # What a bank in default pays, outside and class by class, is what it has.
         for bank in read_banks(str(defaults), read_outside(str(files[1]))):
             paid = sum(paid for _, _, paid in parts_owed(bank, read_payments(str(payments))))
             self.assertEqual(paid if bank.state != "sound" else paid + bank.equity, bank.estate, bank.name)
         stress = self.text("s.txt", "stress", files, "--scenarios", self.file("s.toml", '[[scenario]]\nname = "as it is"\n'))
-        said = self.chart("stress_map.py", stress, "--banks", files[1])
+        said = self.chart("clearing-stress-map", stress, "--banks", files[1])
         self.assertIn("1 of 3 banks defaults in at least one of 1 scenario", said)
         self.assertIn("66.7%", said)
-        self.assertIn("A", self.chart("stress_map.py", stress))
+        self.assertIn("A", self.chart("clearing-stress-map", stress))
 
     def test_a_map_has_scenarios_as_rows_and_whole_names(self):
         long = "a scenario with a name that is as long as a name may be at most"
         scenarios = self.file("s.toml", f'[[scenario]]\nname = "{long}"\ncut = 500\n[[scenario]]\nname = "$x_1$"\n')
         stress = self.text("s.txt", "stress", TWELVE, "--scenarios", scenarios)
-        said = self.chart("stress_map.py", stress)
+        said = self.chart("clearing-stress-map", stress)
         self.assertIn(long, " ".join(said))  # in two lines
         self.assertIn("$x_1$", said)
         self.assertNotIn("Oblique", self.svg)  # it is no formula
@@ -294,7 +294,7 @@ class Charts(Pictures):
         defaults = self.text("d.csv", "defaults", TWELVE)
         stress = self.text("s.txt", "stress", TWELVE, "--scenarios", self.file("s.toml", '[[scenario]]\nname = "x"\n'))
         python = python_with("matplotlib")
-        for name, text in (("shortfalls.py", defaults), ("stress_map.py", stress)):
+        for name, text in (("clearing-shortfalls", defaults), ("clearing-stress-map", stress)):
             for out, message in ((self.folder, "does not end with"), (self.folder / "x.doc", "does not end with"), (text, "d")):
                 before = text.read_bytes()
                 done = tool(name, text, out, python=python)
@@ -302,10 +302,10 @@ class Charts(Pictures):
                 self.assertIn(message, done.stderr)
             (self.folder / "folder.svg").mkdir(exist_ok=True)
             self.assertEqual(tool(name, text, self.folder / "folder.svg", python=python).returncode, 1)
-        done = tool("stress_map.py", defaults, self.folder / "x.svg", python=python)
+        done = tool("clearing-stress-map", defaults, self.folder / "x.svg", python=python)
         self.assertEqual(done.returncode, 1)
         self.assertIn("no scenario", done.stderr)
-        done = tool("stress_map.py", self.file("o.csv", "scenario,cash,paid,outside_paid,equity,defaults,fundamental\na,1,1,0,1,0,0\n"), self.folder / "x.svg", python=python)
+        done = tool("clearing-stress-map", self.file("o.csv", "scenario,cash,paid,outside_paid,equity,defaults,fundamental\na,1,1,0,1,0,0\n"), self.folder / "x.svg", python=python)
         self.assertEqual(done.returncode, 1)
         self.assertIn("this is what `clearing outcomes` prints", done.stderr)
 
@@ -316,8 +316,8 @@ class WithoutMatplotlib(Pictures):
         blocked.mkdir()
         (blocked / "__init__.py").write_text("raise ImportError('not here')\n")
         defaults = self.text("d.csv", "defaults", TWELVE)
-        for name in ("shortfalls.py", "stress_map.py"):
-            done = subprocess.run([sys.executable, str(ROOT / "tools" / name), str(defaults), str(self.folder / "x.svg")],
+        for name in ("clearing-shortfalls", "clearing-stress-map"):
+            done = subprocess.run([*run_of(name), str(defaults), str(self.folder / "x.svg")],
                                   env={"PYTHONPATH": str(self.folder), "PATH": "/usr/bin:/bin", "PYTHONDONTWRITEBYTECODE": "1"},
                                   capture_output=True, encoding="utf-8")
             self.assertEqual((done.returncode, done.stdout), (2, ""))

@@ -1,4 +1,4 @@
-"""tools/quick.sh checks the crates that are named and what stands on them: tried with a toolchain that only tells its calls."""
+"""tools/dev/quick.sh checks the crates that are named and what stands on them: tried with a toolchain that only tells its calls."""
 import os
 import shutil
 import subprocess
@@ -18,8 +18,8 @@ class Quick(Case):
         rt = self.file("bin/rt", TOOLCHAIN)
         rt.chmod(0o755)
         self.root = self.folder / "repository"
-        (self.root / "tools").mkdir(parents=True)
-        shutil.copy(ROOT / "tools/quick.sh", self.root / "tools")
+        (self.root / "tools/dev").mkdir(parents=True)
+        shutil.copy(ROOT / "tools/dev/quick.sh", self.root / "tools/dev")
         (self.root / "crates.txt").write_text("top: middle low # the last\nmiddle: low csv\nlow:\nbeside:\n")
         for name in ("top", "middle", "low", "beside"):
             (self.root / "crates" / name / "src").mkdir(parents=True)
@@ -31,7 +31,7 @@ class Quick(Case):
         self.calls = self.file("calls", "")
         environment = {**os.environ, "CALLS": str(self.calls), "FAULTY": faulty,
                        "PATH": (f"{self.folder}/bin:" if path else "") + "/usr/bin:/bin"}
-        return subprocess.run([str(self.root / "tools/quick.sh"), *words], env=environment, stdin=subprocess.DEVNULL,
+        return subprocess.run([str(self.root / "tools/dev/quick.sh"), *words], env=environment, stdin=subprocess.DEVNULL,
                               capture_output=True, encoding="utf-8")
 
     def called(self):

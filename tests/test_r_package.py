@@ -1,14 +1,16 @@
 """The package for R: it passes R's own checks, its vignette runs, and its cases are those of the package for Python."""
 import functools
+import html
 import os
 import pathlib
 import re
 import shutil
 import subprocess
+import tarfile
 import tempfile
 import unittest
 
-from common import PROGRAM, ROOT, Case
+from common import PROGRAM, ROOT, Case, needs
 
 from clearing_client import Case as BankCase
 from clearing_client import Network, Source
@@ -25,9 +27,33 @@ def library() -> tempfile.TemporaryDirectory:
     return place
 
 
-def ran(*words, folder=None, libraries=""):
+@functools.cache
+def built() -> tempfile.TemporaryDirectory:
+    """A folder with the archive that R makes of the package, with its vignette."""
+    place = tempfile.TemporaryDirectory()
+    ran("R", "CMD", "build", PACKAGE, folder=place.name)
+    return place
+
+
+def archive():
+    """The archive that R makes of the package."""
+    found, = pathlib.Path(built().name).glob("clearing_*.tar.gz")
+    return found
+
+
+@functools.cache
+def has(package):
+    """Whether R has a package."""
+    return not subprocess.run(["Rscript", "-e", f"library({package})"], capture_output=True).returncode
+
+
+# What R's checks ask other machines for: an index of packages, and the time.
+ALONE = {"_R_CHECK_CRAN_INCOMING_": "false", "_R_CHECK_SYSTEM_CLOCK_": "false"}
+
+
+def ran(*words, folder=None, libraries="", **more):
     """A run of R that ends well, with what it printed."""
-    environment = {**os.environ, "LC_ALL": "C.UTF-8", "CLEARING": str(pathlib.Path(PROGRAM).resolve()), "R_LIBS": libraries}
+    environment = {**os.environ, **ALONE, "LC_ALL": "C.UTF-8", "CLEARING": str(pathlib.Path(PROGRAM).resolve()), "R_LIBS": libraries, **more}
     done = subprocess.run(
         [str(word) for word in words],
         cwd=folder,
@@ -49,22 +75,60 @@ class Package(Case):
         script = self.file("script.R", f"library(clearing)\n{code}\n")
         return ran("Rscript", script, folder=self.folder, libraries=library().name)
 
-    def test_it_passes_the_checks_of_r(self):
-        """Vignettes want LaTeX to be built: their code is run by the test below."""
-        ran("R", "CMD", "build", "--no-build-vignettes", PACKAGE, folder=self.folder)
-        [archive] = self.folder.glob("clearing_*.tar.gz")
-        told = ran("R", "CMD", "check", "--no-manual", "--ignore-vignettes", archive.name, folder=self.folder)
-        self.assertRegex(told, r"(?m)^Status: OK$")
-        self.assertIn("Running \u2018tasks.R\u2019", told)
+    def has_knitr(self):
+        """Skips a test of the vignette where R has not what makes it."""
+        if not has("knitr"):
+            self.skipTest("R has no knitr (Debian's package r-cran-knitr)")
 
-    def test_its_vignette_runs(self):
-        code = f"utils::Stangle('{PACKAGE}/vignettes/twelve-banks.Rnw', quiet = TRUE)\nsource('twelve-banks.R', echo = TRUE)\n"
-        printed = self.r(code)
+    @needs("qpdf")
+    def test_it_passes_the_checks_of_r(self):
+        """Those of R's archive of packages, without a word: also of the examples, the tests and the vignette, which run."""
+        self.has_knitr()
+        told = ran("R", "CMD", "check", "--as-cran", "--no-manual", archive(), folder=self.folder)
+        self.assertRegex(told, r"(?m)^Status: OK$")
+        for line in ("Running \u2018tasks.R\u2019", "checking examples ... OK", "checking re-building of vignette outputs ... OK"):
+            self.assertIn(line, told)
+
+    def test_its_vignette_is_a_page_that_asks_nobody_for_more(self):
+        self.has_knitr()
+        with tarfile.open(archive()) as files:
+            page = files.extractfile("clearing/inst/doc/twelve-banks.html").read().decode()
+        printed = html.unescape(re.sub("<[^>]*>", "", page))
         self.assertIn("8256671", printed)
         self.assertIn('"lawful"', printed)
         # What Birk leaves unpaid, in euros, and a network of 1,001 banks.
         self.assertRegex(printed, "Birk +113331000\n")
         self.assertIn('[1] "wide"\n', printed)
+        sources = re.findall(r"""(?:src|href)\s*=\s*["']?([^"'>]{,30})|(https?://\S*)|@import""", page)
+        self.assertEqual([source[0][:22] for source in sources], ["data:image/png;base64,"] * 2)
+
+    def test_where_there_is_no_program_it_is_made_and_its_page_says_so(self):
+        self.has_knitr()
+        said = "This page was made where there is no program, so its answers are missing."
+        ran("R", "CMD", "build", PACKAGE, folder=self.folder, CLEARING=str(self.folder / "none"))
+        for name, told in ((archive(), False), (self.folder / archive().name, True)):
+            with tarfile.open(name) as files:
+                page = files.extractfile("clearing/inst/doc/twelve-banks.html").read().decode()
+            self.assertEqual((said in page, "8256671" in page), (told, not told))
+
+    @needs("pdftotext")
+    def test_titles_of_pictures_stand_in_them(self):
+        """Also in a picture that is narrow, beside long names."""
+        self.r(
+            "here <- system.file('extdata', 'twelve-banks', package = 'clearing')\n"
+            "net <- read_network(file.path(here, 'banks.csv'), file.path(here, 'debts.csv'))\n"
+            "pdf('pictures.pdf', 5, 4.5)\nplot(clear(net))\nplot(breaking(net))\n"
+        )
+        told = subprocess.check_output(["pdftotext", "-bbox", self.folder / "pictures.pdf", "-"], encoding="utf-8")
+        pages = told.split("<page ")[1:]
+        titles = ["4 of 12 debtors leave 1,493,329 of 9,750,000 units unpaid",
+                  "4 of 12 banks are in default as things are; a cut of 891 fells the next"]
+        self.assertEqual(len(pages), len(titles))
+        for page, title in zip(pages, titles):
+            width = float(re.match('width="([0-9.]+)"', page)[1])
+            words = re.findall('<word xMin="([-0-9.]+)" yMin="[-0-9.]+" xMax="([-0-9.]+)" yMax="[-0-9.]+">(.*?)</word>', page)
+            inside = [word for first, last, word in words if 0 <= float(first) and float(last) <= width]
+            self.assertIn(title, " ".join(inside))
 
     def test_its_networks_and_version_are_those_of_the_repository(self):
         for file in sorted((PACKAGE / "inst/extdata/twelve-banks").iterdir()):

@@ -58,7 +58,8 @@ class Records(Case):
     def test_each_script_that_came_to_its_end_has_a_line(self):
         digest = hashlib.sha256(pathlib.Path(self.program).read_bytes()).hexdigest()
         expected = []
-        for script, *words in (["compare.sh", "2", "7"], ["races.sh", "12", "1"], ["edge.sh", "words"], ["allocations.sh", "check", "gen"],
+        for script, *words in (["compare.sh", "2", "7"], ["compare.sh", "--wide", "1", "12"], ["races.sh", "12", "1"],
+                               ["edge.sh", "words"], ["allocations.sh", "check", "gen"],
                                ["same_build.sh", digest, self.program]):
             with self.subTest(script=script):
                 status, last = self.ran(script, "--record", *words)
@@ -85,6 +86,33 @@ class Records(Case):
         self.assertEqual([row[2] for row in rows], [hashlib.sha256(program.read_bytes()).hexdigest()] * 2)
         self.assertEqual([(row[3], row[6]) for row in rows], [("compare.sh", "2"), ("same_build.sh", "1")])
 
+    def test_what_is_wrong_beyond_the_standard_limits_is_seen(self):
+        """A network that owes more than the standard limits allow: by the wide ones a payment is other, or it is
+        refused; and by the standard ones it is accepted, or refused at another row."""
+        true, row = '"$0.true" "$@"', r"s/row \([0-9]*\)/row 1\1/"
+        for lie in (f"*wide*) exec {true} | sed '2s/[0-9]*$/77777/'",
+                    '*wide*) exec "$0.true" check --banks banks.csv --debts debts.csv',
+                    f"*wide*) ;; *) exec {true} --limits wide",
+                    f"*wide*) ;; *) {true} 2>told; s=$?; sed '{row}' told >&2; exit $s"):
+            with self.subTest(lie=lie):
+                program = self.file("liar", f'#!/bin/sh\ncase "$*" in {lie} ;; esac\nexec "$0.true" "$@"\n')
+                program.chmod(0o755)
+                shutil.copy(self.program, f"{program}.true")
+                status, last = self.ran("compare.sh", "--wide", "1", "12", program=str(program))
+                self.assertEqual((status, last.split(", ")[2]), (1, "1 networks differ"))
+
+    def test_the_quicker_ways_of_the_model_are_held_against_the_plain_ones(self):
+        path = self.root / "tests/system/quick.py"
+        text = path.read_text(encoding="utf-8")
+        for right, wrong in (("units in (0, self.sum)", "units in (0, self.sum - 1)"),
+                             ("has * keep // 1000", "has * keep // 1001"), ("rounds += 1", "rounds += 2"),
+                             ("if sum(before(level)) <= units else", "if sum(before(level)) < units + 2 else")):
+            with self.subTest(wrong=wrong):
+                self.assertIn(right, text)
+                path.write_text(text.replace(right, wrong), encoding="utf-8")
+                status, last = self.ran("compare.sh", "1", "7")
+                self.assertEqual((status, last.split(", ")[2]), (1, "1 networks differ"))
+
     def test_what_was_interrupted_has_no_line(self):
         # Each is interrupted once it has begun to try.
         for script, number, begun in (("compare.sh", "100000", "network/got"), ("races.sh", "100000", "network/journal.csv"),
@@ -96,10 +124,3 @@ class Records(Case):
             text = process.communicate(timeout=120)[0]
             self.assertRegex(text.splitlines()[-1], "^[0-9]+ ", text)
             self.assertFalse(self.runs.exists(), text)
-
-    def test_the_table_of_the_repository_has_a_header_and_whole_lines(self):
-        lines = (ROOT / "docs/runs.tsv").read_text(encoding="utf-8").splitlines()
-        self.assertEqual(lines[0], HEADER)
-        for line in lines[1:]:
-            # Of programs that were run before there was this file the first digits are known, or nothing.
-            self.assertRegex(line, r"^\d{4}-\d\d-\d\d\t([0-9a-f]{40}|none)\+?\t([0-9a-f]{64}|[0-9a-f]{8}|none)\t\w+\.(sh|py)\t[^\t]*\t[0-9]+\t[0-9]+$")

@@ -1,4 +1,4 @@
-"""tools/release.sh: what is in the archive and the package, what they do where they are installed, and what is no release."""
+"""tools/dev/release.sh: what is in the archive and the package, what they do where they are installed, and what is no release."""
 import os
 import pathlib
 import re
@@ -9,11 +9,14 @@ import tempfile
 import unittest
 
 from common import PROGRAM, ROOT, Case, needs
+from test_r_package import ALONE
 
 sys.path.insert(0, str(ROOT / "python"))
 import build  # noqa: E402
 
-LACKS = [name for name in ("pandoc", "dpkg-deb", "git") if not shutil.which(name)]
+LACKS = [name for name in ("pandoc", "dpkg-deb", "git", "Rscript") if not shutil.which(name)]
+if not LACKS and subprocess.run(["Rscript", "-e", "library(knitr)"], capture_output=True).returncode:
+    LACKS.append("R's package knitr")
 TASKS = sorted("""check clear central defaults stress outcomes replay bounds rescue rescues breaking impact compress costs cost-bounds convert
     gen""".split())
 
@@ -111,7 +114,7 @@ class Release(Case):
     @classmethod
     def release(cls, *words, **more):
         environment = {key: value for key, value in os.environ.items() if key != "CLEARING"}
-        return ran(cls.checkout / "tools/release.sh", *words, env={**environment, **more})
+        return ran(cls.checkout / "tools/dev/release.sh", *words, env={**environment, **more})
 
     @classmethod
     def made(cls, folder):
@@ -177,6 +180,10 @@ class Release(Case):
                 self.assertTrue((docs / (file or name)).exists(), f"{name}: {target}")
                 if anchor and (file or name) in pages:
                     self.assertIn(f'id="{anchor}"', pages[file or name], f"{name}: {target}")
+        # And each picture that is there stands in one of them.
+        pictures = [path.relative_to(docs).as_posix() for path in (docs / "pictures").rglob("*") if path.is_file()]
+        self.assertIn("pictures/twelve-banks.svg", pictures)
+        self.assertEqual([name for name in pictures if not any(f'"{name}"' in page for page in pages.values())], [])
 
     def test_the_same_checkout_makes_the_same_bytes(self):
         first = [path.read_bytes() for path in self.one]
@@ -213,23 +220,40 @@ class Release(Case):
         self.assertEqual(ran("dpkg-deb", "--field", package, "Depends").stdout.split(" (")[0], "libc6")
         # What Python keeps of the tools, where it may write, goes with them.
         shared = root / "usr/share/clearing"
-        self.assertEqual(ran("python3", shared / "tools/from_list.py", "--help", env={**os.environ, "PYTHONDONTWRITEBYTECODE": ""}).returncode, 0)
+        self.assertEqual(ran("python3", shared / "bin/clearing-from-list", "--help", env={**os.environ, "PYTHONDONTWRITEBYTECODE": ""}).returncode, 0)
         self.assertTrue((shared / "python/src/clearing_tools/imports/__pycache__").is_dir())
         self.assertEqual(ran(*dpkg, "--force-script-chrootless", "--remove", "clearing").returncode, 0)
         self.assertEqual([path for path in (root / "usr").rglob("*") if not path.is_dir()], [])
         self.assertFalse((root / "usr/share/clearing").exists())
 
     @needs("lintian")
-    def test_lintian_finds_no_error_in_the_package(self):
-        done = ran("lintian", "--allow-root", "--fail-on", "error", "--tag-display-limit", "0", self.one[1])
-        self.assertEqual(done.returncode, 0, done.stdout + done.stderr)
+    def test_lintian_finds_nothing_in_the_package(self):
+        """Neither errors nor hints: what it would say is put right, or has its reason beside it in the package."""
+        done = ran("lintian", "--allow-root", "--display-info", "--pedantic", "--tag-display-limit", "0", self.one[1])
+        self.assertEqual((done.returncode, done.stdout), (0, ""), done.stderr)
 
-    @needs("R")
-    def test_the_package_for_r_installs(self):
+    def test_its_checksums_are_those_of_all_files_of_the_package(self):
+        ran("dpkg-deb", "--raw-extract", self.one[1], self.folder / "tree")
+        done = ran("md5sum", "--check", "--strict", "--quiet", "DEBIAN/md5sums", cwd=self.folder / "tree")
+        self.assertEqual((done.returncode, done.stdout), (0, ""), done.stderr)
+        sums = (self.folder / "tree/DEBIAN/md5sums").read_text().splitlines()
+        files = [path.relative_to(self.folder / "tree").as_posix() for path in (self.folder / "tree/usr").rglob("*")
+                 if path.is_file() and not path.is_symlink()]
+        self.assertEqual(sorted(line.split("  ", 1)[1] for line in sums), sorted(files))
+
+    def test_the_package_for_r_is_one_as_r_makes_them(self):
+        """R's checks take it as it is, and what is installed has the vignette."""
         archive, = [path for path in self.one if re.fullmatch(r"clearing_[0-9.]+\.tar\.gz", path.name)]
-        done = ran("R", "CMD", "INSTALL", "--no-docs", f"--library={self.folder}", archive)
+        done = ran("R", "CMD", "INSTALL", f"--library={self.folder}", archive)
         self.assertEqual(done.returncode, 0, done.stdout + done.stderr)
         self.assertTrue((self.folder / "clearing/R/clearing.rdb").is_file())
+        named = f"cat(vignette('twelve-banks', 'clearing', '{self.folder}')$PDF)"
+        self.assertEqual(ran("Rscript", "-e", named).stdout, "twelve-banks.html")
+        self.assertIn("8256671", (self.folder / "clearing/doc/twelve-banks.html").read_text(encoding="utf-8"))
+        # What runs the program is checked in test_r_package.
+        words = ["--no-manual", "--no-examples", "--no-tests", "--ignore-vignettes"]
+        done = ran("R", "CMD", "check", *words, archive, cwd=self.folder, env={**os.environ, **ALONE, "LC_ALL": "C.UTF-8"})
+        self.assertRegex(done.stdout, "(?m)^Status: OK$")
 
     def refused(self, message, *words, status=1, **more):
         folder = self.folder / "none"

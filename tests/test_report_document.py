@@ -21,7 +21,7 @@ print(json.dumps([[p.text for p in found.paragraphs], [[[c.text for c in r.cells
 class Documents(Report):
     def made(self, name, python):
         out = self.folder / name
-        done = tool("report.py", *files_of(TWELVE), "--scenarios", TWELVE / "scenarios.toml", "--unit", "1000", "--currency", "EUR", "--title", "Twelve",
+        done = tool("clearing-report", *files_of(TWELVE), "--scenarios", TWELVE / "scenarios.toml", "--unit", "1000", "--currency", "EUR", "--title", "Twelve",
                     "--out", out, python=python)
         self.assertEqual((done.returncode, done.stdout, done.stderr), (0, "", ""))
         return out
@@ -63,7 +63,7 @@ class Documents(Report):
         done = subprocess.run([PYTHON, "-B", "-c", program], cwd=PACKAGES, capture_output=True, encoding="utf-8")
         self.assertEqual((done.returncode, done.stdout), (2, ""))
         self.assertIn("python3-docx", done.stderr)
-        done = tool("report.py", *files_of(TWELVE), "--out", self.folder / "r.html", "--format", "odt", python=PYTHON)
+        done = tool("clearing-report", *files_of(TWELVE), "--out", self.folder / "r.html", "--format", "odt", python=PYTHON)
         self.assertEqual(done.returncode, 2)
 
 

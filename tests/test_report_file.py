@@ -95,7 +95,7 @@ class TheFile(Report):
         for name in ("banks.csv", "debts.csv", "scenarios.toml"):
             shutil.copy(TWELVE / name, self.folder / name)
         kept = self.folder / "kept"
-        done = tool("report.py", "--banks", "banks.csv", "--debts", "debts.csv", "--scenarios", "scenarios.toml", "--default-keeps", "800",
+        done = tool("clearing-report", "--banks", "banks.csv", "--debts", "debts.csv", "--scenarios", "scenarios.toml", "--default-keeps", "800",
                     "--out", "r.html", "--keep", "kept", cwd=self.folder, python=PYTHON)
         self.assertEqual((done.returncode, done.stderr), (0, "") if os.path.exists(D3) else (0, done.stderr))
         rows = [cells for _, cells in Reader((self.folder / "r.html").read_text(encoding="utf-8")).rows]
@@ -135,9 +135,9 @@ class TheFile(Report):
         program = self.file("program", f'#!/bin/sh\n[ "$1" != bounds ] || echo >>{changed}\nexec {shlex.quote(PROGRAM)} "$@"\n')
         program.chmod(0o755)
         words = [*files_of(self.folder), "--scenarios", self.folder / "scenarios.toml", "--out", self.folder / "r.html"]
-        done = subprocess.run([PYTHON, ROOT / "tools/report.py", *words], capture_output=True, encoding="utf-8", env={**os.environ, "CLEARING": str(program)})
+        done = subprocess.run([PYTHON, ROOT / "bin/clearing-report", *words], capture_output=True, encoding="utf-8", env={**os.environ, "CLEARING": str(program)})
         self.assertEqual((done.returncode, done.stdout), (1, ""), done.stderr)
-        self.assertEqual(done.stderr, f"report.py: {self.folder / 'debts.csv'} changed while the report was made; nothing is written\n")
+        self.assertEqual(done.stderr, f"clearing-report: {self.folder / 'debts.csv'} changed while the report was made; nothing is written\n")
         self.assertFalse((self.folder / "r.html").exists())
 
     def test_without_jinja2_a_sentence_names_its_package(self):
@@ -163,7 +163,7 @@ class TheFile(Report):
     def test_what_cannot_be_done_is_refused(self):
         banks = self.file("banks.csv", (TWELVE / "banks.csv").read_bytes())
         before = banks.read_bytes()
-        done = tool("report.py", "--banks", banks, "--debts", TWELVE / "debts.csv", "--out", banks, python=PYTHON)
+        done = tool("clearing-report", "--banks", banks, "--debts", TWELVE / "debts.csv", "--out", banks, python=PYTHON)
         self.assertEqual((done.returncode, banks.read_bytes()), (1, before))
         self.assertIn("banks.csv", done.stderr)
         faulty = self.file("faulty.csv", "name,cash,rule\nA,x,order\n")
@@ -188,15 +188,15 @@ class TheFile(Report):
         kept, own = self.folder / "kept", self.folder / "own"
         kept.mkdir()
         own.mkdir()
-        self.assertEqual(tool("report.py", *words, kept, "--scenarios", TWELVE / "scenarios.toml", python=PYTHON).returncode, 0)
+        self.assertEqual(tool("clearing-report", *words, kept, "--scenarios", TWELVE / "scenarios.toml", python=PYTHON).returncode, 0)
         before = {path.name: path.read_bytes() for path in kept.iterdir()}
         self.assertIn("stress.csv", before)
         (own / "payments.csv").write_text("mine\n")
         (self.folder / "r.html").unlink()
         for place, cwd in ((kept, None), (".", own), (own / "payments.csv", None)):
-            done = tool("report.py", *words, place, cwd=cwd, python=PYTHON)
+            done = tool("clearing-report", *words, place, cwd=cwd, python=PYTHON)
             self.assertEqual((done.returncode, done.stdout), (2, ""), done.stderr)
-            self.assertEqual(done.stderr, f"report.py: {place} is there and no empty folder; name another with --keep\n")
+            self.assertEqual(done.stderr, f"clearing-report: {place} is there and no empty folder; name another with --keep\n")
         self.assertEqual({path.name: path.read_bytes() for path in kept.iterdir()}, before)
         self.assertEqual([(path.name, path.read_text()) for path in own.iterdir()], [("payments.csv", "mine\n")])
         self.assertFalse((self.folder / "r.html").exists())
@@ -210,7 +210,7 @@ class TheFile(Report):
             program.chmod(0o755)
             told.write_text("")
             running = subprocess.Popen(
-                [PYTHON, "-B", str(ROOT / "tools/report.py"), *map(str, files_of(TWELVE)), "--out", str(self.folder / "r.html")],
+                [PYTHON, "-B", str(ROOT / "bin/clearing-report"), *map(str, files_of(TWELVE)), "--out", str(self.folder / "r.html")],
                 env={**os.environ, "CLEARING": str(program), "TMPDIR": str(place)}, stdout=subprocess.PIPE, stderr=subprocess.PIPE)
             self.addCleanup(running.kill)
             deadline = time.monotonic() + 30
@@ -236,10 +236,10 @@ class TheFile(Report):
                 # Of a file without scenarios nothing is printed.
                 if (task, said) == ("stress", ""):
                     continue
-                done = subprocess.run([PYTHON, "-B", str(ROOT / "tools/report.py"), *words], capture_output=True, encoding="utf-8",
+                done = subprocess.run([PYTHON, "-B", str(ROOT / "bin/clearing-report"), *words], capture_output=True, encoding="utf-8",
                                       env={**os.environ, "CLEARING": str(program), "TASK": task, "SAID": said})
                 self.assertEqual((done.returncode, done.stdout), (1, ""), (task, said))
-                self.assertEqual(done.stderr, f"report.py: {program} did not print what `clearing {task}` does\n", said)
+                self.assertEqual(done.stderr, f"clearing-report: {program} did not print what `clearing {task}` does\n", said)
 
     def test_a_network_without_debts_or_scenarios_has_a_page(self):
         banks = self.file("banks.csv", "name,cash,rule\nA,0,order\n")

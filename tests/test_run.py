@@ -1,3 +1,4 @@
+import ast
 import os
 import subprocess
 import sys
@@ -82,6 +83,17 @@ class Run(Case):
         for line in ("test_b.Good.test_mo  there is none\n", "test_b.Good.test_moon\n", "test_b.Go  none\n"):
             status, lines = self.run_of("--skips-fail", self.file("skips.txt", line), a=GOOD, b=SKIPPED)
             self.assertEqual((status, lines[-1]), (1, "2 passed, 1 failed"), line)
+
+    def test_each_test_that_the_list_names_is_there(self):
+        lines = (ROOT / "tests/skips.txt").read_text(encoding="utf-8").splitlines()
+        names = [line.split()[0] for line in lines if not line.startswith("#")]
+        self.assertTrue(names)
+        for name in names:
+            module, *inner = name.split(".")
+            body = ast.parse((ROOT / f"tests/{module}.py").read_bytes()).body
+            for part in inner:
+                body = next((each.body for each in body if getattr(each, "name", None) == part), None)
+                self.assertIsNotNone(body, name)
 
     def test_parts_and_classes_that_are_skipped_count_once(self):
         for text, name, passed in ((SKIPPED_IN_PARTS, "test_b.Good.test_tides", 2), (SKIPPED_CLASS, "test_b.Good", 1)):

@@ -38,13 +38,13 @@ class Signs(Case):
         for name in ["A\u202eB", "it's\u200b\\n", "<U+202E>", "a  b", "plain", "$HOME"]:
             line = word_shown(name)
             self.assertEqual(shown(line), line)
-            status, output, _ = runner.Asking().run(["bash", "-c", f"printf %s {line}"])
+            status, output, _ = runner.ProgramRuns().run(["bash", "-c", f"printf %s {line}"])
             self.assertEqual((status, output.decode()), (0, name))
 
     def test_messages_have_no_such_sign(self):
         name = self.folder / "bank\u202evsc.s\u200b"
-        for words in (["lint.py"], ["tidy.py"], ["impact.py"], ["report.py", "--out", self.folder / "r.html"]):
-            python = python_with("jinja2") if words[0] == "report.py" else None
+        for words in (["clearing-lint"], ["clearing-tidy"], ["clearing-impact"], ["clearing-report", "--out", self.folder / "r.html"]):
+            python = python_with("jinja2") if words[0] == "clearing-report" else None
             done = tool(words[0], "--banks", name, "--debts", name, *words[1:], python=python)
             self.assertNotEqual(done.returncode, 0)
             self.assertNotRegex(done.stderr, "[\u202e\u200b]")
@@ -56,7 +56,7 @@ class Signs(Case):
         banks = self.file("b.csv", "name,cash,rule\n" + "\n".join(banks) + "\n")
         debts = self.file("d.csv", "debtor,creditor,class,claim\n")
         more = ["--scenarios", self.file("s.toml", '[[scenario]]\nname = "x\u2066y"\n')] if sys.version_info >= (3, 11) else []
-        done = tool("lint.py", "--banks", banks, "--debts", debts, *more)
+        done = tool("clearing-lint", "--banks", banks, "--debts", debts, *more)
         said = [re.sub(f"^{re.escape(str(self.folder))}/", "", line) for line in done.stdout.splitlines()]
         self.assertEqual((done.returncode, done.stderr), (0, ""))
         expected = [
@@ -82,12 +82,12 @@ class Signs(Case):
         files = ["--banks", banks, "--debts", debts]
         payments, defaults = self.file("p.csv", self.printed("clear", *files)), self.file("e.csv", self.printed("defaults", *files))
         for form in ("graph", "matrix"):
-            svg = self.made("who_pays.py", payments, defaults, "--form", form)
+            svg = self.made("clearing-who-pays", payments, defaults, "--form", form)
             self.assertNotRegex(svg, "[\u202e\u200b]")
             self.assertIn("A&lt;U+202E&gt;B", svg)
         python = python_with("matplotlib")
         if python:
-            done = tool("shortfalls.py", defaults, self.folder / "s.svg", python=python)
+            done = tool("clearing-shortfalls", defaults, self.folder / "s.svg", python=python)
             self.assertEqual((done.returncode, done.stderr), (0, ""))
             svg = (self.folder / "s.svg").read_text(encoding="utf-8")
             self.assertNotRegex(svg, "[\u202e\u200b]")

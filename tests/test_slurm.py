@@ -83,7 +83,7 @@ class Slurm(Case):
 
     def script(self, *words):
         """The batch script for the jobs, as a file."""
-        done = self.run_here(ROOT / "tools/many.sh", "slurm", "jobs.tsv", "out", *words)
+        done = self.run_here(ROOT / "bin/clearing-many", "slurm", "jobs.tsv", "out", *words)
         self.assertEqual((done.returncode, done.stderr), (0, ""))
         return self.file("batch.sh", done.stdout)
 

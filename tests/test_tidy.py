@@ -10,7 +10,7 @@ from decimal import Decimal
 from common import ROOT, Case, clearing, tool
 
 from clearing_tools import texts
-from clearing_tools.runner import Failed
+from clearing_tools.runner import ToolError
 
 HUB = ["--banks", ROOT / "examples/hub/banks.csv", "--debts", ROOT / "examples/hub/debts.csv"]
 CHAIN = ["--banks", ROOT / "examples/chain/banks.csv", "--debts", ROOT / "examples/chain/debts.csv"]
@@ -31,7 +31,7 @@ class Tidy(Case):
         """The files made of a text, by the names of their tables, in a folder of their own."""
         output = pathlib.Path(tempfile.mkdtemp(dir=self.folder)) / "x.y.csv"
         output.write_bytes(text.encode() if isinstance(text, str) else text)
-        named = [pathlib.Path(name) for name in self.made("tidy.py", output, *words).splitlines()]
+        named = [pathlib.Path(name) for name in self.made("clearing-tidy", output, *words).splitlines()]
         self.assertEqual({path for path in named[0].parent.iterdir() if path != output}, set(named))
         return {path.stem[len("x.y-") :]: path for path in named}
 
@@ -116,7 +116,7 @@ class Tidy(Case):
             "1,A,B,1,7000000000000000.000000000000007",
         )
         for unit in ("0", "-1", "nan", "inf", "x", ""):
-            self.assertEqual(tool("tidy.py", "x.csv", "--unit", unit).returncode, 2)
+            self.assertEqual(tool("clearing-tidy", "x.csv", "--unit", unit).returncode, 2)
 
     def test_banks_named_like_sums(self):
         banks = self.file("b.csv", "name,cash,rule\ntotal,7,order\ncash,1,order\nscenario,0,order\n")
@@ -150,7 +150,7 @@ class Tidy(Case):
         )
         sent = b"\xef\xbb\xbf" + text.replace("\n", "\r\n").encode()
         done = subprocess.run(
-            [sys.executable, ROOT / "tools/tidy.py", "-", "--folder", "a/b"],
+            [sys.executable, ROOT / "bin/clearing-tidy", "-", "--folder", "a/b"],
             input=sent,
             capture_output=True,
             cwd=self.folder,
@@ -169,22 +169,22 @@ class Tidy(Case):
             (text + "\n" + text, "not the end of the text"),
         ]:
             path = self.file("wrong.csv", wrong)
-            self.refused("tidy.py", 1, message, path)
-            self.assertEqual(tool("tidy.py", path).stderr.count("\n"), 1)
+            self.refused("clearing-tidy", 1, message, path)
+            self.assertEqual(tool("clearing-tidy", path).stderr.count("\n"), 1)
             self.assertEqual(list(self.folder.iterdir()), [path])
-        self.refused("tidy.py", 1, "cannot be read", self.folder / "none.csv")
-        self.refused("tidy.py", 1, "cannot be read", self.folder)
+        self.refused("clearing-tidy", 1, "cannot be read", self.folder / "none.csv")
+        self.refused("clearing-tidy", 1, "cannot be read", self.folder)
 
     def test_all_files_are_written_or_none(self):
         output = self.file("x.csv", self.printed("clear", *CHAIN, "--show", "both"))
         (self.folder / "x-totals.csv").mkdir()
-        self.refused("tidy.py", 1, "tidy: cannot write", output)
-        self.assertEqual(tool("tidy.py", output).stderr.count("\n"), 1)
+        self.refused("clearing-tidy", 1, "clearing-tidy: cannot write", output)
+        self.assertEqual(tool("clearing-tidy", output).stderr.count("\n"), 1)
         self.assertFalse((self.folder / "x-payments.csv").exists())
         (self.folder / "x-totals.csv").rmdir()
         os.link(output, self.folder / "x-payments.csv")
         before = output.read_bytes()
-        self.refused("tidy.py", 1, "is also read", output)
+        self.refused("clearing-tidy", 1, "is also read", output)
         self.assertEqual(output.read_bytes(), before)
 
 
@@ -225,6 +225,6 @@ class Texts(Case):
             ("gridlock", "bank,wave,gridlock,equity\nA,0,maybe,0\n", "line 2: 'maybe'"),
             ("payments", "debtor,creditor,class,claim,paid\nA,B,1,10,x\n", "line 2: 'x' is not a number"),
         ]:
-            with self.subTest(name=name, message=message), self.assertRaises(Failed) as caught:
+            with self.subTest(name=name, message=message), self.assertRaises(ToolError) as caught:
                 getattr(texts, f"read_{name}")(self.file("wrong.csv", wrong))
             self.assertIn(message, str(caught.exception))

@@ -8,9 +8,12 @@ import shutil
 import subprocess
 import sys
 
-from common import ODD_NAMES, ROOT, Case, all_names, needs_modules, python_with, tool
+from common import ROOT, Case, needs_modules, python_with, run_of, tool
 
-from clearing_tools.imports import methods  # noqa: E402
+from clearing_tools.imports import chain as chains  # noqa: E402
+from clearing_tools.imports import claims as whole_claims  # noqa: E402
+from clearing_tools.imports import options, summary  # noqa: E402
+from clearing_tools.runner import ToolError  # noqa: E402
 
 TABLE = "bank,assets,liabilities,cash\nA,100,60,20\nB,50,90,10\nC,70,40,30\nD,30,60,5\n"
 
@@ -21,14 +24,14 @@ class Words(Case):
         (self.folder / "left/numpy").mkdir(parents=True)
         script = self.file("python", f'#!/bin/sh\nPYTHONPATH="{self.folder}/left" exec "{sys.executable}" -S "$@"\n')
         script.chmod(0o755)
-        done = tool("from_totals.py", self.file("t.csv", TABLE), "--out", self.folder / "out", python=str(script))
+        done = tool("clearing-from-totals", self.file("t.csv", TABLE), "--out", self.folder / "out", python=str(script))
         self.assertEqual((done.returncode, done.stdout), (2, ""))
-        self.assertRegex(done.stderr, r"from_totals: /.* has no numpy \(Debian's package python3-numpy is for /usr/bin/python3 .*FILE\.whl\[all\]'\)")
+        self.assertRegex(done.stderr, r"clearing-from-totals: /.* has no numpy \(Debian's package python3-numpy is for /usr/bin/python3 .*FILE\.whl\[all\]'\)")
 
     def test_a_stray_quote_is_refused_with_its_row(self):
         for row, text in [(6, TABLE + 'E,7,7,"1\nF,8,8,2\n'), (3, TABLE.replace("B,", '"B" (Ost),'))]:
             told = f"t.csv row {row}: a quote opens a field and none closes it"
-            self.refused("from_totals.py", 1, told, self.file("t.csv", text), "--out", self.folder / "out")
+            self.refused("clearing-from-totals", 1, told, self.file("t.csv", text), "--out", self.folder / "out")
 
     def test_a_column_that_is_named_is_there(self):
         table = self.file("t.csv", "bank,assets,liabilities,cash,Deposits,Regel\nA,5,7,1,1,order\nB,7,5,2,0,equal\n")
@@ -42,11 +45,37 @@ class Words(Case):
                 f"t.csv row 1: no column {column}; it has assets, liabilities, cash, Deposits, Regel; say --{option} "
                 "NAME"
             )
-            self.refused("from_totals.py", 1, told, table, f"--{option}", column, "--out", self.folder / "out")
+            self.refused("clearing-from-totals", 1, told, table, f"--{option}", column, "--out", self.folder / "out")
+
+    def test_a_column_that_any_option_names_is_there_in_the_sheet_of_each_importer(self):
+        sheets = {
+            "clearing-from-totals": "bank,assets,liabilities,cash\nA,5,7,1\nB,7,5,2\n",
+            "clearing-from-matrix": ",A,B,cash\nA,,7,1\nB,5,,2\n",
+            "clearing-from-list": "debtor,creditor,amount\nA,B,7\nB,A,5\n",
+        }
+        banks = self.file("cash.csv", "bank,cash\nA,1\nB,2\n")
+        codes = self.file("codes.csv", "name,label\n")
+        for command, text in sheets.items():
+            table = self.file("t.csv", text)
+            helped = subprocess.run(run_of(command) + ["--help"], capture_output=True, encoding="utf-8").stdout
+            options_of = set(re.findall(r"--[a-z-]+-column", helped))
+            self.assertGreaterEqual(len(options_of), 4, command)
+            for option in sorted(options_of):
+                words = [table, option, "NOPE"]
+                words += ["--table", banks] if command == "clearing-from-list" else []
+                if option not in ("--rule-column", "--label-column"):
+                    words += ["--case", self.folder / "case"]
+                elif command == "clearing-from-totals":
+                    words += ["--out", self.folder / "out", "--label", codes]
+                else:
+                    words += ["--banks", self.folder / "b.csv", "--debts", self.folder / "d.csv", "--label", codes]
+                done = tool(command, *words)
+                self.assertEqual((done.returncode, done.stdout), (1, ""), (command, option, done.stderr))
+                self.assertIn("row 1: no column NOPE; it has ", done.stderr, (command, option))
 
     def test_capitals_in_the_names_of_columns_matter_between_two_of_them_alone(self):
         table = self.file("t.csv", "Bank,ASSETS,Liabilities,Cash,Outside,Rule\nA,5,7,1,1,order\nB,7,5,2,0,equal\n")
-        self.told("from_totals.py", table, "--method", "sparse", "--out", self.folder / "out")
+        self.told("clearing-from-totals", table, "--method", "sparse", "--out", self.folder / "out")
         self.assertEqual(
             (self.folder / "out/banks.csv").read_text(), "name,cash,rule,outside\nA,1,order,1\nB,2,equal,0\n"
         )
@@ -59,14 +88,14 @@ class Words(Case):
             told = (
                 f"column {column}: its name is {column.lower()} but for capitals or spaces; say --{option} {column}, or"
             )
-            self.refused("from_totals.py", 1, told, table, "--out", self.folder / "other")
+            self.refused("clearing-from-totals", 1, told, table, "--out", self.folder / "other")
 
 
 @needs_modules("numpy")
 class Totals(Case):
     def run_of(self, table, *words):
         return tool(
-            "from_totals.py",
+            "clearing-from-totals",
             self.file("t.csv", table),
             "--out",
             self.folder / "out",
@@ -219,8 +248,8 @@ class Totals(Case):
 
         visit(0, [], owes[:], owed[:])
         start = max(weights, key=weights.get)
-        totals = methods.Totals([str(n) for n in range(size)], owes, owed)
-        chain = methods.Chain(
+        totals = whole_claims.Totals([str(n) for n in range(size)], owes, owed)
+        chain = chains.Chain(
             totals, 0.3, random.Random(11), {pair: claim for pair, claim in zip(cells, start) if claim}
         )
         counts, whole = dict.fromkeys(weights, 0), sum(weights.values())
@@ -251,7 +280,7 @@ class Totals(Case):
 
         for up, down in [([3, 5], [4, 4]), ([0, 2], [1, 7]), ([2, 2, 9], [3, 3, 3]), ([1, 0], [1, 1])]:
             least, most = -min(up), min(down)
-            chain = methods.Chain(methods.Totals(list("ABC"), [4, 4, 4], [4, 4, 4]), 0.3, Grid(20_000), {})
+            chain = chains.Chain(whole_claims.Totals(list("ABC"), [4, 4, 4], [4, 4, 4]), 0.3, Grid(20_000), {})
             odds = chain.none / chain.there
             weights = {
                 at: odds ** sum(cell == 0 for cell in [*(cell + at for cell in up), *(cell - at for cell in down)])
@@ -302,9 +331,9 @@ class Totals(Case):
         size = 300
         owes, owed = ([draw.randrange(1, 9000) for _ in range(size)] for _ in range(2))
         owed[0], owes[0] = owed[0] + max(sum(owes) - sum(owed), 0), owes[0] + max(sum(owed) - sum(owes), 0)
-        totals = methods.Totals(list(range(size)), owes, owed)
+        totals = whole_claims.Totals(list(range(size)), owes, owed)
         for density in (0.02, 0.2):
-            claims = methods.begun(totals, density, methods.Draw(1))
+            claims = chains.begun(totals, density, whole_claims.Draw(1))
             self.assertAlmostEqual(len(claims) / (size * (size - 1)), density, delta=density / 3)
             self.assertFalse([pair for pair, claim in claims.items() if pair[0] == pair[1] or claim < 1])
             for place, want in ((0, owes), (1, owed)):
@@ -393,7 +422,7 @@ class Totals(Case):
                 self.folder / "summary.csv",
             ]
             running = subprocess.Popen(
-                [python_with("numpy"), str(ROOT / "tools/from_totals.py"), *map(str, words)],
+                [python_with("numpy"), str(ROOT / "bin/clearing-from-totals"), *map(str, words)],
                 stdout=subprocess.DEVNULL,
                 stderr=other,
             )
@@ -404,7 +433,7 @@ class Totals(Case):
                     said += part
             os.close(main)
             self.assertEqual(running.wait(), 0, method)
-            self.assertIn(b"from_totals: " + told, said)
+            self.assertIn(b"clearing-from-totals: " + told, said)
             self.assertTrue(said.endswith(b"\r\x1b[K"), method)
 
     def test_a_unit_is_chosen_and_the_sums_are_kept(self):
@@ -434,20 +463,11 @@ class Totals(Case):
 
     def test_a_table_is_not_written_over(self):
         table = self.file("banks.csv", TABLE)
-        done = tool("from_totals.py", table, "--out", self.folder, python=python_with("numpy"))
+        done = tool("clearing-from-totals", table, "--out", self.folder, python=python_with("numpy"))
         self.assertEqual((done.returncode, done.stdout), (1, ""))
         self.assertIn("also read", done.stderr)
         self.assertEqual([path.name for path in self.folder.iterdir()], ["banks.csv"])
         self.assertEqual(table.read_text(), TABLE)
-
-    def test_names_of_every_character_come_through(self):
-        for names in (ODD_NAMES, list(all_names(last=0xFFFF))[:200]):
-            names = [
-                name for name in dict.fromkeys(name.strip(" ") for name in names) if name.casefold() not in ("total",)
-            ]
-            rows = "".join(f"{name},{1 + (at == 0)},{1 + (at == 1)},{at}\n" for at, name in enumerate(names))
-            self.made_of("bank,assets,liabilities,cash\n" + rows, "--method", "sparse", "--tries", 1)
-            self.assertEqual({name for pair in self.debts() for name in pair}, set(names))
 
     def test_sums_that_differ_make_a_bank(self):
         head = "bank,assets,liabilities,cash\n"
@@ -526,3 +546,23 @@ class Totals(Case):
         for method, want in [("sparse", sparse), ("sample", sample)]:
             self.made_of(TABLE, "--method", method, "--seed", 5, "--steps", 500, "--density", 0.9)
             self.assertEqual(self.debts(), want)
+
+
+class Kept(Case):
+    def test_a_long_sheet_is_kept_in_the_case_of_each_sample(self):
+        """The limits are those of what the program reads; a copy of a sheet may be longer."""
+        sheet = self.file("big.csv", TABLE.replace("D,30", "D" + " " * 9_000_000 + ",30"))
+        for more, folders in (([], ["one"]), (["--samples", 2], ["two/1", "two/2"])):
+            place = self.folder / folders[0].partition("/")[0]
+            self.told("clearing-from-totals", sheet, "--method", "sparse", "--case", place, "--keep-sources", "--limits", "standard", *more)
+            for folder in folders:
+                self.assertEqual((self.folder / folder / "sources/big.csv").read_bytes(), sheet.read_bytes())
+
+    def test_no_other_file_of_a_case_passes_the_limits(self):
+        """A folder that has the name of that of the sheets is none of them."""
+        args = options.argparse.Namespace(case="sources", limits="standard", summary=None, replace=False)
+        large = "x" * 8_400_000
+        for name in ("sources/banks.csv", "sources/1/debts.csv", "sources/sources/1/labels.csv", "b/sources/banks.csv"):
+            outputs = [("sources/datapackage.json", "{}"), ("sources/1/datapackage.json", "{}"), (name, large)]
+            with self.assertRaisesRegex(ToolError, "would have 8,400,000 bytes"):
+                options.write(options.Conversion(outputs, [], summary.Summary()), args)

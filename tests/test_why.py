@@ -131,25 +131,25 @@ class Why(Case):
             ("gen --seed 1 --size 3 --tries 4 --limits wide", [
                 "word 8 '--limits': gen has no option --limits; it is of " + ", ".join(task for task in why.TASKS if task != "gen"), "1 fault"]),
         ]:
-            done = tool("why.py", *line.split(" "))
+            done = tool("clearing-why", *line.split(" "))
             self.assertEqual((done.stdout.splitlines(), done.stderr), (lines, ""))
             self.assertEqual(done.returncode, 0 if lines[-1].startswith("understood") else 1)
         self.assertEqual(why.faults_of(["clear", "\udcff"])[0], (2, "it is not UTF-8"))
         self.assertEqual(why.faults_of(["check", "--banks", "a\udc80", "--debts", "d"]), [(3, "the value of --banks is not UTF-8")])
-        self.assertEqual(tool("why.py").returncode, 2)
-        self.assertTrue(tool("why.py", "--help").stdout.startswith("usage: why.py WORDS..\n\nSays which word"))
+        self.assertEqual(tool("clearing-why").returncode, 2)
+        self.assertTrue(tool("clearing-why", "--help").stdout.startswith("usage: clearing-why WORDS..\n\nSays which word"))
 
     def test_an_output_that_cannot_be_written_is_said(self):
         for words in (["check", "--bankz", "b"], ["check", "--banks", "b", "--debts", "d"], ["--help"]):
-            run = [sys.executable, str(ROOT / "tools/why.py"), *words]
+            run = [sys.executable, str(ROOT / "bin/clearing-why"), *words]
             with open("/dev/full", "wb") as full:
                 done = subprocess.run(run, stdout=full, stderr=subprocess.PIPE, encoding="utf-8")
-            self.assertEqual((done.returncode, done.stderr), (5, "why.py: cannot write the output: No space left on device\n"))
+            self.assertEqual((done.returncode, done.stderr), (5, "clearing-why: cannot write the output: No space left on device\n"))
             reading, writing = os.pipe()
             os.close(reading)
             done = subprocess.run(run, stdout=writing, stderr=subprocess.PIPE, encoding="utf-8")
             os.close(writing)
-            self.assertEqual((done.returncode, done.stderr), (5, "why.py: cannot write the output: Broken pipe\n"))
+            self.assertEqual((done.returncode, done.stderr), (5, "clearing-why: cannot write the output: Broken pipe\n"))
 
     def test_names_of_every_character_are_taken(self):
         names = ODD_NAMES + list(all_names(last=0xFFFF, step=17))

@@ -34,10 +34,10 @@ class Workbooks(Case):
         self.banks, self.debts = self.folder / "banks.csv", self.folder / "debts.csv"
         self.files = ["--banks", self.banks, "--debts", self.debts]
 
-    def take(self, *words, name="from_matrix.py"):
+    def take(self, *words, name="clearing-from-matrix"):
         return self.told(name, *words, *self.files, python=PYTHON)
 
-    def refuse(self, message, *words, name="from_matrix.py", status=1):
+    def refuse(self, message, *words, name="clearing-from-matrix", status=1):
         done = tool(name, *words, *self.files, python=PYTHON)
         self.assertEqual((done.returncode, done.stdout), (status, ""), done.stderr)
         self.assertIn(message, done.stderr)
@@ -97,7 +97,7 @@ class Workbooks(Case):
             rows = [list(row) for row in MATRIX]
             rows[1][2] = value
             book = written(self.folder / "m.xlsx", {"S": rows}, change)
-            self.refuse(f"from_matrix: {book} sheet S {told}", book)
+            self.refuse(f"clearing-from-matrix: {book} sheet S {told}", book)
         rows = [["", "A", datetime.date(2025, 1, 2), "cash"], ["A", 0, 1, 2], [datetime.date(2025, 1, 2), 0, 1, 2]]
         book = written(self.folder / "m.xlsx", {"S": rows})
         self.refuse(f"{book} sheet S row 3: the name '2025-01-02' is a date, and no name", book)
@@ -186,7 +186,7 @@ class Workbooks(Case):
         ]
         listed = written(self.folder / "l.xlsx", {"S": rows})
         table = self.file("t.csv", "bank,cash\nA,1\nB,2\n")
-        self.take(listed, "--table", table, "--where", "day=2025-12-31", name="from_list.py")
+        self.take(listed, "--table", table, "--where", "day=2025-12-31", name="clearing-from-list")
         self.check("name,cash,rule\nA,1,webster\nB,2,webster\n", "debtor,creditor,class,claim\nA,B,1,5\n")
 
     def test_bombs_are_refused(self):
@@ -280,7 +280,7 @@ class Workbooks(Case):
         book = written(self.folder / "m.xlsx", {"S": MATRIX})
         script = self.file("python", f'#!/bin/sh\nexec "{sys.executable}" -S "$@"\n')
         script.chmod(0o755)
-        done = tool("from_matrix.py", book, *self.files, python=str(script))
+        done = tool("clearing-from-matrix", book, *self.files, python=str(script))
         self.assertEqual((done.returncode, done.stdout), (2, ""))
         self.assertRegex(
             done.stderr,
@@ -308,9 +308,9 @@ class Made(Case):
 
     def test_tidy_tables_are_sheets_of_one_workbook(self):
         text, book = self.file("d.csv", self.printed("defaults", *self.HUB)), self.folder / "d.xlsx"
-        done = tool("tidy.py", text, "--out", book, python=PYTHON)
+        done = tool("clearing-tidy", text, "--out", book, python=PYTHON)
         self.assertEqual((done.returncode, done.stdout, done.stderr), (0, f"{book}\n", ""))
-        made = [path for path in self.made("tidy.py", text).splitlines()]
+        made = [path for path in self.made("clearing-tidy", text).splitlines()]
         sheets = self.sheets(book)
         self.assertEqual([f"{self.folder}/d-{title}.csv" for title in sheets], made)
         for path, (frozen, rows) in zip(made, sheets.values()):
@@ -322,11 +322,11 @@ class Made(Case):
         # Amounts are numbers, names and states texts; the same tables make the same bytes.
         self.assertEqual([cell[0] for cell in sheets["standings"][1][1]], ["s", "n", "n", "n", "n", "n", "s"])
         first = book.read_bytes()
-        tool("tidy.py", text, "--out", book, python=PYTHON)
+        tool("clearing-tidy", text, "--out", book, python=PYTHON)
         self.assertEqual(book.read_bytes(), first)
-        tool("tidy.py", text, "--out", book, "--unit", "0.01", python=PYTHON)
+        tool("clearing-tidy", text, "--out", book, "--unit", "0.01", python=PYTHON)
         self.assertEqual(self.sheets(book)["standings"][1][1][1][0], "n")
-        self.refused("tidy.py", 2, "--out is a file that ends with .xlsx", text, "--out", self.folder / "d.csv")
+        self.refused("clearing-tidy", 2, "--out is a file that ends with .xlsx", text, "--out", self.folder / "d.csv")
 
     def test_names_that_look_like_formulas_are_text(self):
         names = ["=1+1", "@SUM(A1)", "+1", "-2", "1e3", "007", "A\u202eB"]
@@ -340,14 +340,14 @@ class Made(Case):
             self.file("p.csv", self.printed("clear", "--banks", banks, "--debts", debts)),
             self.folder / "p.xlsx",
         )
-        self.assertEqual(tool("tidy.py", text, "--out", book, python=PYTHON).returncode, 0)
+        self.assertEqual(tool("clearing-tidy", text, "--out", book, python=PYTHON).returncode, 0)
         self.assertEqual([row[0] for row in self.sheets(book)["payments"][1][1:]], [["s", name] for name in names[:-1]])
 
     def test_analyses_write_a_workbook_by_its_ending(self):
         for words, sheets in [
-            (["breaking.py", *self.HUB, "--output"], ["table"]),
-            (["rescues.py", *self.HUB, "--output"], ["table"]),
-            (["impact.py", *self.HUB, "--ranking"], ["table"]),
+            (["clearing-breaking", *self.HUB, "--output"], ["table"]),
+            (["clearing-rescues", *self.HUB, "--output"], ["table"]),
+            (["clearing-impact", *self.HUB, "--ranking"], ["table"]),
         ]:
             book = self.folder / "a.xlsx"
             done = tool(*words, book, python=PYTHON)
@@ -365,10 +365,10 @@ class Made(Case):
     def test_a_matrix_of_a_workbook_is_read_back(self):
         book, files = self.folder / "m.xlsx", ["--banks", self.folder / "b.csv", "--debts", self.folder / "d.csv"]
         for unit in ([], ["--unit", "0.5"]):
-            done = tool("to_matrix.py", *self.HUB, "--out", book, *unit, python=PYTHON)
+            done = tool("clearing-to-matrix", *self.HUB, "--out", book, *unit, python=PYTHON)
             self.assertEqual((done.returncode, done.stdout, done.stderr), (0, "", ""))
             self.assertIn("n", {cell[0] for cell in self.sheets(book)["matrix"][1][1][1:]})
-            self.told("from_matrix.py", book, *files, *unit, python=PYTHON)
+            self.told("clearing-from-matrix", book, *files, *unit, python=PYTHON)
             self.assertEqual(
                 self.printed("check", *files).splitlines()[:4], self.printed("check", *self.HUB).splitlines()[:4]
             )
@@ -377,7 +377,7 @@ class Made(Case):
         script = self.file("python", f'#!/bin/sh\nexec "{sys.executable}" -S "$@"\n')
         script.chmod(0o755)
         text = self.file("d.csv", self.printed("defaults", *self.HUB))
-        done = tool("tidy.py", text, "--out", self.folder / "d.xlsx", python=str(script))
+        done = tool("clearing-tidy", text, "--out", self.folder / "d.xlsx", python=str(script))
         self.assertEqual((done.returncode, done.stdout), (2, ""))
         self.assertIn("has no openpyxl, which writes .xlsx (Debian's package python3-openpyxl is for", done.stderr)
         self.assertFalse((self.folder / "d.xlsx").exists())

@@ -1,5 +1,5 @@
 #!/usr/bin/env python3
-"""Runs the tests against an installed wheel that has the program: `tools/test.sh --wheel FILE`, with further words of
+"""Runs the tests against an installed wheel that has the program: `tools/dev/test.sh --wheel FILE`, with further words of
 run.py.
 
 The wheel is installed into a virtual environment that sees the system's packages. The tests stand in a folder of their
@@ -20,7 +20,7 @@ from typing import Dict, List
 HERE = pathlib.Path(__file__).resolve().parent
 ROOT = HERE.parent
 # What the tests read beside the packages.
-FOLDERS = ["tests", "tools", "examples", "docs", "bench"]
+FOLDERS = ["tests", "bin", "tools", "examples", "docs", "bench"]
 FILES = ["README.md", "VERSION", "CHANGELOG.md", "CONTRIBUTING.md", "CITATION.cff"]
 OPTIONS = ("--without", "--skips-fail", "--note")
 
@@ -52,13 +52,11 @@ def install(wheel: pathlib.Path, place: pathlib.Path) -> pathlib.Path:
 
 def lay_out(place: pathlib.Path, packages: pathlib.Path) -> None:
     """The folder in which the tests stand. Where a checkout has the sources, a link leads to the packages that are
-    installed, and so does one for the script that runs many jobs."""
+    installed."""
     for name in FOLDERS:
         shutil.copytree(ROOT / name, place / name, symlinks=True, ignore=shutil.ignore_patterns("__pycache__"))
     for name in FILES:
         shutil.copy(ROOT / name, place / name)
-    (place / "tools/many.sh").unlink()
-    (place / "tools/many.sh").symlink_to(packages / "clearing_tools/many.sh")
     (place / "python").mkdir()
     (place / "python/src").symlink_to(packages)
 
@@ -75,6 +73,8 @@ def main() -> int:
     """Installs the wheel, lays out the folder, and runs the tests there."""
     wheel, words = pathlib.Path(sys.argv[1]).resolve(), sys.argv[2:]
     with tempfile.TemporaryDirectory() as folder:
+        # Tests of what another user may do run tools and the program as one.
+        os.chmod(folder, 0o755)
         packages = install(wheel, pathlib.Path(folder, "venv"))
         place = pathlib.Path(folder, "root")
         place.mkdir()

@@ -1,4 +1,4 @@
-# Completion of the command `clearing` for fish. tools/release.sh puts it into the package; `source tools/clearing.fish` tries it.
+# Completion of the command `clearing` for fish. tools/dev/release.sh puts it into the package; `source tools/clearing.fish` tries it.
 complete -c clearing -f
 
 function __clearing_task

@@ -1,5 +1,5 @@
 #compdef clearing
-# Completion of the command `clearing` for zsh. tools/release.sh puts it into the package, as _clearing in a folder of fpath.
+# Completion of the command `clearing` for zsh. tools/dev/release.sh puts it into the package, as _clearing in a folder of fpath.
 
 # The names of the banks in the file that `--banks` names. What stands there is data: it is read by bytes, no more than there may be.
 _clearing_banks() {

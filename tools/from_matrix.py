@@ -1,3 +1,2 @@
 #!/usr/bin/env python3
-import pathlib, sys; sys.path.insert(0, str(pathlib.Path(__file__).resolve().parents[1] / "python/src"))
-from clearing_tools.imports.matrix import main; main()
+import pathlib; exec(pathlib.Path(__file__).resolve().with_name("_moved.py").read_bytes())

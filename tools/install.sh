@@ -9,7 +9,7 @@
 #       PREFIX/share/bash-completion/completions/clearing, PREFIX/share/zsh/site-functions/_clearing and
 #       PREFIX/share/fish/vendor_completions.d/clearing.fish; and, where there is a Python 3, for each tool NAME
 #       PREFIX/bin/clearing-NAME and PREFIX/share/man/man1/clearing-NAME.1, with the tools themselves in
-#       PREFIX/share/clearing/tools, the packages clearing_client and clearing_tools, which they call, in
+#       PREFIX/share/clearing/bin, the packages clearing_client and clearing_tools, which they call, in
 #       PREFIX/share/clearing/python/src, the number of the release in PREFIX/share/clearing/VERSION, and
 #       PREFIX/share/clearing/clearing, a link to the program. Their names on standard output.
 #
@@ -136,23 +136,11 @@ put "$here/clearing.zsh" share/zsh/site-functions/_clearing 644
 put "$here/clearing.fish" share/fish/vendor_completions.d/clearing.fish 644
 if command -v python3 >/dev/null 2>&1; then
     python3 -IB "$here/dev/man.py" --out "$list/man" || fail "the manual pages of the tools cannot be made"
-    for page in "$list"/man/*.1; do
-        name=${page##*/clearing-}
-        # These belong to the repository.
-        case $name in
-        clean.1 | install.1 | quick.1 | release.1 | test.1) continue ;;
-        esac
-        # Where a script stands before a program of its name, the script is the tool.
-        tool=$(echo "${name%.1}" | tr - _).sh
-        [ -f "$here/$tool" ] || tool=${tool%.sh}.py
-        put_link "../share/clearing/tools/$tool" "bin/clearing-${name%.1}"
-        put "$page" "share/man/man1/${page##*/}" 644
-    done
-    for tool in "$here"/*.py "$here"/*.sh; do
-        case ${tool##*/} in
-        clean.sh | install.sh | quick.sh | release.sh | test.sh) continue ;;
-        esac
-        put "$tool" "share/clearing/tools/${tool##*/}" "$([ -x "$tool" ] && echo 755 || echo 644)"
+    for tool in "$root"/bin/*; do
+        name=${tool##*/}
+        put "$tool" "share/clearing/bin/$name" 755
+        put_link "../share/clearing/bin/$name" "bin/$name"
+        put "$list/man/$name.1" "share/man/man1/$name.1" 644
     done
     # The packages that the tools call.
     (cd "$root/python/src" && find clearing_client clearing_tools -type f ! -path '*/__pycache__/*' | sort) >"$list/packages"

@@ -1,5 +1,5 @@
-"""Eisenberg and Noe's fictitious default algorithm (Eisenberg and Noe 2001): real numbers, pro rata alone, one class. For each set of
-banks in default a system of linear equations is solved.
+"""Eisenberg and Noe's fictitious default algorithm (Eisenberg and Noe 2001): real numbers, pro rata alone, one class.
+For each set of banks in default a system of linear equations is solved.
 
     fictitious.py BANKS DEBTS
 """

@@ -12,10 +12,12 @@ Ends with 0, with 1 where the notebook fails or is another than the one that is 
 """
 import argparse
 import base64
+import json
 import os
 import pathlib
 import re
 import sys
+import tempfile
 
 HERE = pathlib.Path(__file__).resolve().parent
 MARK = re.compile(r"^# %%(.*)\n", re.MULTILINE)
@@ -45,12 +47,19 @@ def notebook_of(text):
 
 
 def run(notebook):
-    """Runs the cells, with the package of the repository."""
+    """Runs the cells by the Python that runs this, with the package of the repository if this stands in one."""
     from nbconvert.preprocessors import ExecutePreprocessor
 
     source = str(HERE.parents[1] / "python" / "src")
     os.environ["PYTHONPATH"] = os.pathsep.join(filter(None, [source, os.environ.get("PYTHONPATH")]))
-    ExecutePreprocessor(timeout=600, kernel_name="python3", record_timing=False).preprocess(notebook, {"metadata": {"path": str(HERE)}})
+    with tempfile.TemporaryDirectory() as folder:
+        # The kernel that a system has of this name is the system's Python, which does not see what an environment has.
+        kernel = pathlib.Path(folder, "kernels/python3/kernel.json")
+        kernel.parent.mkdir(parents=True)
+        words = [sys.executable, "-m", "ipykernel_launcher", "-f", "{connection_file}"]
+        kernel.write_text(json.dumps({"argv": words, "display_name": "Python 3", "language": "python"}), encoding="utf-8")
+        os.environ["JUPYTER_PATH"] = os.pathsep.join(filter(None, [folder, os.environ.get("JUPYTER_PATH")]))
+        ExecutePreprocessor(timeout=600, kernel_name="python3", record_timing=False).preprocess(notebook, {"metadata": {"path": str(HERE)}})
     notebook.metadata.pop("language_info", None)
     notebook.metadata["made_with"] = versions()
     return notebook

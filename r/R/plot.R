@@ -3,6 +3,13 @@
 UNPAID <- "#b3401f"
 PAID <- "#b9bfc6"
 
+# A title over the middle of the whole picture, as large as there is room for.
+heading <- function(told) {
+  mtext(told, line = 1, at = grconvertX(0.5, "nfc", "user"), font = 2, cex = par("cex") * heading_size(told))
+}
+
+heading_size <- function(told) min(1.2, 0.96 / strwidth(told, "figure", cex = 1, font = 2))
+
 plot.clearing_payments <- function(x, ..., most = 20) {
   if (!is.data.frame(x$payments) || !nrow(x$payments)) {
     plot(0, type = "n", axes = FALSE, xlab = "", ylab = "")
@@ -19,8 +26,8 @@ plot.clearing_payments <- function(x, ..., most = 20) {
   on.exit(par(before))
   short <- sum(sums$unpaid > 0)
   barplot(heights, horiz = TRUE, las = 1, border = NA, col = c(PAID, UNPAID), cex.names = 0.8, xlab = "units of account", ...)
-  title(sprintf("%d of %d debtors leave %s of %s units unpaid", short, nrow(sums), format(sum(sums$unpaid), big.mark = ","),
-                format(sum(sums$claim), big.mark = ",")))
+  heading(sprintf("%d of %d debtors leave %s of %s units unpaid", short, nrow(sums), format(sum(sums$unpaid), big.mark = ","),
+                  format(sum(sums$claim), big.mark = ",")))
   legend("bottomright", c("paid", "unpaid"), fill = c(PAID, UNPAID), border = NA, bty = "n")
   invisible(sums)
 }
@@ -34,7 +41,7 @@ plot.clearing_breaking <- function(x, ...) {
   next_cut <- suppressWarnings(min(cuts[cuts > 0 & cuts <= 1000]))
   told <- sprintf("%d of %d banks are in default as things are", sum(cuts == 0), length(cuts))
   if (is.finite(next_cut)) told <- paste0(told, sprintf("; a cut of %d fells the next", as.integer(next_cut)))
-  title(told)
+  heading(told)
   if (is.finite(next_cut)) lines(c(next_cut, next_cut), c(0, length(cuts)), lty = 2, col = UNPAID)
   invisible(data.frame(cut = at, standing = standing))
 }

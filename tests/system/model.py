@@ -1,21 +1,47 @@
 """A second, plain model of clearing, for tests/system/compare.sh: unit by unit.
 
-It shares no code with the program. Payments are a list over the debts, in file order. Two things are there for speed: what was
-divided is kept until forget(), and after a raise only what its creditor pays is worked out anew.
+It shares no code with the program. Payments are a list over the debts, in file order. Two things are there for speed:
+what was divided is kept until forget(), and after a raise only what its creditor pays is worked out anew. Of a network
+that is large the divisions and the payments are those of quick.py.
 """
 import functools
 from collections import namedtuple
+
+import quick
 
 RULES = ["order", "equal", "losses", "jefferson", "webster", "adams"]
 Bank = namedtuple("Bank", "name cash rule outside")
 Debt = namedtuple("Debt", "debtor creditor cls claim")
 Scenario = namedtuple("Scenario", "name cut losses")
-Limits = namedtuple("Limits", "banks debts owed")
-# How many banks, debts and units owed a network has at most, by the words of `--limits`.
-LIMITS = {"standard": Limits(1_000, 20_000, 10_000_000), "wide": Limits(10_000, 1_000_000, 25_000_000)}
+Limits = namedtuple("Limits", "banks debts owed size")
+# How many banks, debts and units owed a network has at most, and how many bytes each of its files, by the words of
+# `--limits`.
+LIMITS = {
+    "standard": Limits(1_000, 20_000, 10_000_000, 8_388_608),
+    "wide": Limits(10_000, 1_000_000, 25_000_000, 167_772_160),
+}
+# What does not depend on the banks' cash.
+KEPT = "rows", "columns", "owed", "claims", "classes", "divisions", "large"
 
 
 class Net(namedtuple("Net", "banks debts")):
+    @functools.cached_property
+    def large(self):
+        """Whether quick.py divides and pays."""
+        return len(self.banks) > 300 or len(self.debts) > 2_000 or sum(self.owed) > 100_000
+
+    @functools.cached_property
+    def divisions(self):
+        """How each bank divides, by quick.py."""
+        rules = [bank.rule for bank in self.banks]
+        return [quick.Division(*known) for known in zip(rules, self.claims, self.classes)]
+
+    def with_banks(self, banks):
+        """The same debts, and banks that differ in cash alone."""
+        other = Net(banks, self.debts)
+        other.__dict__.update({name: value for name, value in self.__dict__.items() if name in KEPT})
+        return other
+
     @functools.cached_property
     def rows(self):
         """The places of the debts that each bank owes, in file order."""
@@ -45,9 +71,13 @@ class Net(namedtuple("Net", "banks debts")):
         return [tuple(self.debts[x].cls for x in places) for places in self.rows]
 
 
-def refusal(net, by):
-    """The message of a run that reads a network, from files without a blank record, that passes these limits; None within them."""
+def refusal(net, by, sizes):
+    """The message of a run that reads a network, from files of so many bytes without a blank record, that passes these
+    limits; None within them."""
     limits, owed = LIMITS[by], 0
+    for file, size in zip(("banks", "debts"), sizes):
+        if size > limits.size:
+            return f"clearing: {file} row 0: file size (14)\n"
     if len(net.banks) > limits.banks:
         return f"clearing: banks row {limits.banks + 1}: too many (12)\n"
     for row, debt in enumerate(net.debts, 1):
@@ -128,6 +158,8 @@ def kept(net, keep, i, has):
 def pays(net, paid, i, keep=1000):
     """What a bank pays on each of its debts, where so many thousandths are kept of an estate in default."""
     units = max(0, kept(net, keep, i, estate(net, paid, i)) - net.banks[i].outside)
+    if net.large:
+        return net.divisions[i].share(units)
     return share(net.banks[i].rule, net.claims[i], net.classes[i], units)
 
 
@@ -151,6 +183,10 @@ def put(net, paid, may, x, to, keep=1000):
 def least(net, keep=1000, start=None):
     """Raises one debt as long as its debtor's rule gives more: by one unit, and by all of it where much is owed. Begins with
     nothing paid, or with payments that are known to be no more than the least."""
+    if net.large:
+        paid = quick.least(net, keep, start)
+        assert paid == pay(net, paid, keep)
+        return paid
     paid = list(start) if start else [0] * len(net.debts)
     by_units = sum(debt.claim for debt in net.debts) <= 400
     may = pay(net, paid, keep)
@@ -170,11 +206,16 @@ def least(net, keep=1000, start=None):
 
 
 def falling(net, keep=1000):
-    """The payments before each round on the way down from all debts paid in full; the last clear."""
+    """The greatest payments, found round by round on the way down from all debts paid in full, and the round in which
+    each bank is short first, or 0."""
+    if net.large:
+        greatest, waves = quick.falling(net, keep)
+        assert greatest == pay(net, greatest, keep)
+        return greatest, waves
     lists = [[debt.claim for debt in net.debts]]
     while (below := pay(net, lists[-1], keep)) != lists[-1]:
         lists.append(below)
-    return lists
+    return lists[-1], [wave(net, lists, i) for i in range(len(net.banks))]
 
 
 def wave(net, lists, i):
@@ -190,16 +231,25 @@ def state(net, paid, i):
 
 
 def with_cash(net, cash_of):
-    return net._replace(banks=[bank._replace(cash=cash_of(i, bank)) for i, bank in enumerate(net.banks)])
+    return net.with_banks([bank._replace(cash=cash_of(i, bank)) for i, bank in enumerate(net.banks)])
+
+
+def with_cash_at(net, i, cash):
+    """The network in which one bank has other cash."""
+    banks = list(net.banks)
+    banks[i] = banks[i]._replace(cash=cash)
+    return net.with_banks(banks)
 
 
 def added(net, i, sum_added):
-    return with_cash(net, lambda j, bank: bank.cash + (sum_added if i == j else 0))
+    return with_cash_at(net, i, net.banks[i].cash + sum_added)
 
 
-def rescue(net, i):
+def rescue(net, i, low=None):
     """The least sum that saves the bank i, and what it lacks with a unit less: all sums are tried, from 0 on. With more cash no
     less is paid, so each begins with what was paid before."""
+    if net.large:
+        return rescue_by_halves(net, i, low or least(net))
     sum_added = lacks = 0
     paid = None
     while True:
@@ -211,6 +261,24 @@ def rescue(net, i):
         sum_added += 1
 
 
+def rescue_by_halves(net, i, low):
+    """The same by halves between a sum that does not save the bank and one that does: with more cash it is no worse
+    off."""
+    if state(net, low, i) == "sound":
+        return 0, 0, low
+    paid, fails, saves = low, 0, due(net, i) - net.banks[i].cash
+    while saves - fails > 1:
+        middle = (fails + saves) // 2
+        richer = added(net, i, middle)
+        then = quick.least(richer, start=paid, richer=[i])
+        if state(richer, then, i) == "sound":
+            saves = middle
+        else:
+            paid, fails = then, middle
+    lacks = due(net, i) - estate(added(net, i, fails), paid, i)
+    return saves, lacks, quick.least(added(net, i, saves), start=paid, richer=[i])
+
+
 def shocked(net, scenario):
     losses = dict(scenario.losses)
     return with_cash(net, lambda i, bank: max(0, bank.cash - bank.cash * scenario.cut // 1000 - losses.get(i, 0)))
@@ -218,15 +286,37 @@ def shocked(net, scenario):
 
 def breaking(net):
     """The least cut that breaks each bank, and its state then: all cuts are tried, from the greatest down. A milder one lowers no
-    payment, so each begins with what was paid before."""
-    found, paid = [(1001, "sound")] * len(net.banks), None
+    payment, so each begins with what was paid before. Cuts that leave the same cash leave the same."""
+    found, paid, before, states = [(1001, "sound")] * len(net.banks), None, None, []
     for cut in range(1000, -1, -1):
         left = shocked(net, Scenario("", cut, []))
-        paid = least(left, start=paid)
-        for i in range(len(net.banks)):
-            if state(left, paid, i) != "sound":
-                found[i] = cut, state(left, paid, i)
+        if left.banks != before:
+            paid, before = least(left, start=paid), left.banks
+            states = [state(left, paid, i) for i in range(len(net.banks))]
+        found = [(cut, told) if told != "sound" else at for at, told in zip(found, states)]
     return found
+
+
+def ruins(net):
+    """Of each bank the network in which it has no cash, and the least payments there."""
+    banks = range(len(net.banks))
+    if net.large:
+        yield from ruins_by_blocks(net, banks)
+        return
+    for j in banks:
+        ruined = with_cash_at(net, j, 0)
+        yield ruined, least(ruined)
+
+
+def ruins_by_blocks(net, banks):
+    """The same by blocks of banks: each clearing begins with what is paid where all of the block have no cash."""
+    size = int(len(banks) ** 0.5)
+    for first in range(0, len(banks), size):
+        block = banks[first:first + size]
+        start = quick.least(with_cash(net, lambda i, bank: 0 if i in block else bank.cash))
+        for j in block:
+            ruined = with_cash_at(net, j, 0)
+            yield ruined, quick.least(ruined, start=start, richer=[i for i in block if i != j])
 
 
 def keeps(net, paid, i):
@@ -236,14 +326,20 @@ def keeps(net, paid, i):
 
 def verdict(net, raises):
     """The verdict on raises (stamp, debt, to), as it is printed, its status, and the payments at its end."""
-    paid, last = [0] * len(net.debts), 0
+    paid, last, has = [0] * len(net.debts), 0, [bank.cash for bank in net.banks]
+    at = {x: place for places in net.rows for place, x in enumerate(places)}
     for entry, (stamp, x, to) in enumerate(raises, 1):
         if stamp < last:
             return f"falls,{entry},{last},{stamp}\n", 7, paid
-        debtor = net.debts[x].debtor
-        allowed = pays(net, paid, debtor)[net.rows[debtor].index(x)]
+        debtor, creditor = net.debts[x].debtor, net.debts[x].creditor
+        if net.large:
+            may = net.divisions[debtor].share(quick.divides(net, 1000, debtor, has[debtor]))
+        else:
+            may = pays(net, paid, debtor)
+        allowed = may[at[x]]
         if to <= paid[x] or to > allowed:
             return f"unlawful,{entry},{paid[x]},{allowed}\n", 7, paid
+        has[creditor] += to - paid[x]
         paid[x], last = to, stamp
     may = pay(net, paid)
     for i, bank in enumerate(net.banks):
@@ -287,13 +383,13 @@ def cash_line(net):
 
 
 def bounds_text(net):
-    low, lists = least(net), falling(net)
+    low, (greatest, waves) = least(net), falling(net)
     text = line("debtor", "creditor", "class", "claim", "least", "greatest")
     for x, debt in enumerate(net.debts):
-        text += line(*debt_fields(net, debt), debt.claim, low[x], lists[-1][x])
+        text += line(*debt_fields(net, debt), debt.claim, low[x], greatest[x])
     text += "\n" + line("bank", "wave", "gridlock", "equity")
     for i, bank in enumerate(net.banks):
-        has, round_of = estate(net, low, i), wave(net, lists, i)
+        has, round_of = estate(net, low, i), waves[i]
         gridlock = "yes" if state(net, low, i) != "sound" and round_of == 0 else "no"
         equity = has - min(bank.outside, has) - sum(low[x] for x in net.rows[i])
         text += line(bank.name, round_of, gridlock, equity)
@@ -323,7 +419,7 @@ def costs_text(net, keep):
 
 
 def cost_bounds_text(net, keep):
-    ends = least(net, keep), falling(net, keep)[-1]
+    ends = least(net, keep), falling(net, keep)[0]
     text = line("debtor", "creditor", "class", "claim", "least", "greatest")
     for x, debt in enumerate(net.debts):
         text += line(*debt_fields(net, debt), debt.claim, *(paid[x] for paid in ends))
@@ -343,13 +439,13 @@ def breaking_text(net):
 
 def impact_text(net):
     paid, first, second = least(net), line("bank", "cash", "own", "others", "falls"), line("bank", "of", "lost", "falls")
-    banks = range(len(net.banks))
-    for j in banks:
-        ruined = with_cash(net, lambda i, bank: 0 if i == j else bank.cash)
-        then = least(ruined)
-        lost = [keeps(net, paid, i) - keeps(ruined, then, i) for i in banks]
-        falls = [state(net, paid, i) == "sound" != state(ruined, then, i) for i in banks]
-        first += line(net.banks[j].name, net.banks[j].cash, lost[j], sum(lost) - lost[j], sum(falls) - falls[j])
+    for j, (ruined, then) in enumerate(ruins(net)):
+        # Of a large network those banks alone for which anything is other.
+        banks = sorted({j} | quick.touched(net, paid, then)) if net.large else range(len(net.banks))
+        lost = {i: keeps(net, paid, i) - keeps(ruined, then, i) for i in banks}
+        falls = {i: state(net, paid, i) == "sound" != state(ruined, then, i) for i in banks}
+        others, fallen = sum(lost.values()) - lost[j], sum(falls.values()) - falls[j]
+        first += line(net.banks[j].name, net.banks[j].cash, lost[j], others, fallen)
         for i in banks:
             if lost[i] or falls[i]:
                 second += line(net.banks[j].name, net.banks[i].name, lost[i], "yes" if falls[i] else "no")
@@ -362,7 +458,13 @@ def rescues_text(net, found):
     fallen = [i for i in range(len(net.banks)) if state(net, paid, i) != "sound"]
     for i in fallen:
         sum_added, lacks, then = found[i]
-        still = [j for j in range(len(net.banks)) if state(added(net, i, sum_added), then, j) != "sound"]
+        saved_one = added(net, i, sum_added)
+        if net.large:
+            # Nobody is worse off, and of the others those alone are better off to whom or by whom more is paid.
+            better = {i} | quick.touched(net, paid, then)
+            still = [j for j in fallen if j not in better or state(saved_one, then, j) != "sound"]
+        else:
+            still = [j for j in range(len(net.banks)) if state(saved_one, then, j) != "sound"]
         saved = [j for j in fallen if j != i and j not in still]
         first += line(net.banks[i].name, sum_added, lacks, len(saved), len(still))
         second += "".join(line(net.banks[i].name, net.banks[j].name) for j in saved)
@@ -387,8 +489,8 @@ def outcomes_text(net, scenarios):
     return text + "".join(line(bank.name, fallen[i], own[i]) for i, bank in enumerate(net.banks))
 
 
-def rescue_text(net, i):
-    sum_added, lacks, paid = rescue(net, i)
+def rescue_text(net, i, low=None):
+    sum_added, lacks, paid = rescue(net, i, low)
     return line("rescue", net.banks[i].name, sum_added) + line("short", lacks) + "\n" + payments_text(net, paid)
 
 

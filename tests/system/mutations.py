@@ -23,13 +23,13 @@ import zipfile
 
 ROOT = pathlib.Path(__file__).resolve().parents[2]
 sys.path.insert(0, str(ROOT / "python/src"))
-from clearing_client import Network, asked, errors, texts  # noqa: E402
+from clearing_client import Network, errors, request, texts  # noqa: E402
 from clearing_client.results import Stress  # noqa: E402
 from clearing_tools import runner, texts as tool_texts  # noqa: E402
 from clearing_tools.evidence import audit, checking, evidence, parts, shock, source  # noqa: E402
 
 TWELVE, HUB = ROOT / "examples/twelve-banks", ROOT / "examples/hub"
-REFUSALS = (errors.ClearingError, runner.Failed, audit.Refused, shock.Failed, parts.NoRoom)
+REFUSALS = (errors.ClearingError, runner.ToolError, audit.RefusedError, shock.ScenarioError, parts.NoRoomError)
 
 # What is put in the place of a field, or into a text.
 FIELDS = [b"", b" ", b"0", b"00", b"7", b" 7\t", b"1,000", b"1.000", b"7.5", b"-7", b"+7", b"1e3", "٣".encode(), b"9" * 20, b"0" * 30, b"9" * 5000, b"1000001",
@@ -171,7 +171,7 @@ class Networks(Reader):
         must([bank.cash for bank in check.banks] == [bank.cash for bank in network.banks], "the package read other cash")
         if accounts is not None:
             known = {bank.name.decode(): (bank.cash, bank.outside) for bank in network.banks}
-            read = {bank: (account["cash"], account.get("outside", 0)) for bank, account in accounts[1].items()}
+            read = {bank: (account.cash, account.outside) for bank, account in accounts[1].items()}
             must(read == known, "the tools read other numbers than the program")
         return True
 
@@ -322,7 +322,7 @@ class Sheets(Reader):
             return False
         if plain is None:
             return True
-        debts = asked.columns_of(net._debts, 4)
+        debts = request.columns_of(net._debts, 4)
         found = collections.Counter()
         if name == "totals":
             for debtor, creditor, _, claim in zip(*debts):

@@ -1,15 +1,17 @@
 """Random networks for tests/system/compare.py, the jobs that are tried on each, and what the program must print by tests/system/model.py."""
 import collections
+import itertools
 
 from model import (
-    RULES, Bank, Debt, Net, Scenario, banks_text, bounds_text, breaking_text, check_text, cost_bounds_text, costs_text, debt_fields,
-    debts_text, defaults_text, due, gen_text, impact_text, journal_text, least, line, outcomes_text, pay, payments_text, put, refusal, rescue,
-    rescue_text, rescues_text, state, stress_text, verdict)
+    LIMITS, RULES, Bank, Debt, Net, Scenario, banks_text, bounds_text, breaking_text, check_text, cost_bounds_text,
+    costs_text, debt_fields, debts_text, defaults_text, due, gen_text, impact_text, journal_text, least, line,
+    outcomes_text, pay, payments_text, put, refusal, rescue, rescue_text, rescues_text, state, stress_text, verdict)
 
 NAMES = [
     "A", "B", "Crédit Loire", "銀行", "x y", "o'Hara", "a\\b", "rounds", "total", "-dash", "#1", "[scenario]", "=", "7",
     "name", "order", "n" * 64, "é" * 32, "\u00a0nbsp", "a;b", "A ", " A", "b" * 63,
 ]
+MOST_CLAIMED = 1_000_000  # of one debt
 
 
 # Random networks, and files that say the same in another dress.
@@ -63,48 +65,87 @@ def wide_net(rng):
     return Net(banks, debts)
 
 
-# Networks that pass the standard limits: by their banks, by their debts, or by what is owed. Most money is short, and claims small
-# enough for the model.
+# Networks at the edge of the standard limits and beyond: by their banks, by their debts, or by what is owed. Most money
+# is short.
 
 def net_of_many_banks(rng):
-    """1,001 to 1,200 banks, each of which owes some that follow."""
-    size = rng.randint(1_001, 1_200)
-    keys = {(i, (i + rng.choice([1, 1, 2, 7, size // 2])) % size, rng.randint(1, 3)) for i in range(size) for _ in range(rng.randint(0, 3))}
+    """1,000 to 1,200 banks, each of which owes some that follow."""
+    size = rng.choice([1_000, 1_001, rng.randint(1_001, 1_200)])
+    debtors = [i for i in range(size) for _ in range(rng.randint(0, 3))]
+    keys = {(i, (i + rng.choice([1, 1, 2, 7, size // 2])) % size, rng.randint(1, 3)) for i in debtors}
     banks = [Bank(f"N{i}", rng.choice([0, 0, 1, 3]), rng.choice(RULES), rng.choice([0, 0, 0, 1])) for i in range(size)]
     return Net(banks, [Debt(*key, rng.randint(0, 4)) for key in rng.sample(sorted(keys), len(keys))])
 
 
 def net_of_many_debts(rng):
-    """20,001 debts or some more, of 150 to 200 banks in all classes."""
-    size, count = rng.randint(150, 200), rng.randint(20_001, 20_100)
-    keys = {}
+    """20,000 debts or some more, of 150 to 200 banks in all classes."""
+    size, count = rng.randint(150, 200), rng.choice([20_000, 20_001, rng.randint(20_001, 20_100)])
+    return spread_net(rng, size, count, rng.choice([2, 10, 60]))
+
+
+def net_of_much_owed(rng, total=None):
+    """Two banks owe 10,000,000 units to 25,000,000 together in claims of up to a million, and have a part of that. The
+    others owe little."""
+    others = random_net(rng, 8)
+    first = len(others.banks)
+    total = total or rng.choice([10_000_000, 10_000_001, rng.randint(10_000_001, 25_000_000)])
+    keys = list(itertools.product((first, first + 1), range(first), range(1, 10)))
+    debts, left = list(others.debts), total - sum(others.owed)
+    rng.shuffle(keys)
+    while left:
+        claim = min(left, rng.choice([MOST_CLAIMED, rng.randint(500_000, MOST_CLAIMED)]))
+        debts.append(Debt(*keys.pop(), claim))
+        left -= claim
+    rng.shuffle(debts)
+    more = [Bank(name, rng.choice([0, rng.randint(0, total), total]), rng.choice(RULES), rng.choice([0, 7]))
+            for name in ("first", "second")]
+    return Net([*others.banks, *more], debts)
+
+
+def spread_net(rng, size, count, most):
+    """So many banks and debts of up to so many units, where banks have some part of what they owe in cash."""
+    keys, last, near = {}, rng.choice([3, 9]), rng.random()
     while len(keys) < count:
-        debtor, creditor = rng.randrange(size), rng.randrange(size)
+        debtor = rng.randrange(size)
+        creditor = (debtor + rng.randint(1, 40)) % size if rng.random() < near else rng.randrange(size)
         if debtor != creditor:
-            keys[debtor, creditor, rng.randint(1, 9)] = rng.choice([0, 1, 1, 2])
-    banks = [Bank(f"N{i}", rng.choice([0, 20, 60]), rng.choice(RULES), rng.choice([0, 0, 5])) for i in range(size)]
+            cls = rng.randint(1, last if len(keys) < count // 2 else 9)
+            keys[debtor, creditor, cls] = rng.randint(0, most)
+    part = int(most * count / size * rng.choice([0.05, 0.4, 0.9]))
+    banks = [Bank(f"N{i}", rng.choice([0, rng.randint(0, part)]), rng.choice(RULES), rng.choice([0, 0, 0, most]))
+             for i in range(size)]
     return Net(banks, [Debt(*key, claim) for key, claim in keys.items()])
 
 
-def net_of_much_owed(rng):
-    """A rich bank and a poor one owe a million each of 11 to 24 times; the rich one pays, and the poor one has nothing. The others owe
-    little."""
-    others = random_net(rng, 8)
-    rich, poor, first = len(others.banks), len(others.banks) + 1, rng.sample(range(8), 4)
-    keys = [(debtor, creditor, cls) for debtor, creditors in ((rich, first[:2]), (poor, first[2:])) for creditor in creditors for cls in range(1, 10)]
-    large = [Debt(*key, 1_000_000) for key in rng.sample(keys, rng.randint(11, 24))]
-    banks = [*others.banks, Bank("rich", 25_000_000, rng.choice(RULES), 7), Bank("poor", 0, rng.choice(RULES), 0)]
-    debts = [*others.debts, *large]
-    rng.shuffle(debts)
-    return Net(banks, debts)
+def larger_net(rng):
+    """Some thousand banks and some ten thousand debts."""
+    return spread_net(rng, rng.randint(1_201, 4_000), rng.randint(5_000, 80_000), rng.choice([3, 40, 300]))
 
 
-BEYOND = [net_of_many_banks, net_of_many_debts, net_of_much_owed]
+def net_at_the_wide_limits(rng):
+    """As many banks, debts or units as the wide limits allow, or one more; and files as long as they may be by either
+    limits, or longer by a byte. Tells the bytes of both files too, or that they are as they are printed."""
+    kind, more, limits = rng.choice(["banks", "debts", "owed", "size"]), rng.choice([0, 0, 1]), LIMITS["wide"]
+    if kind == "banks":
+        return spread_net(rng, limits.banks + more, rng.randint(15_000, 40_000), rng.choice([3, 40, 300])), None
+    if kind == "debts":
+        return spread_net(rng, rng.randint(2_000, limits.banks), limits.debts + more, rng.choice([3, 1])), None
+    if kind == "owed":
+        return net_of_much_owed(rng, limits.owed + more), None
+    sizes = [LIMITS[rng.choice(["standard", "wide"])].size + more, None]
+    return random_net(rng, 8), sizes if rng.random() < 0.5 else sizes[::-1]
+
+
+EDGES = [net_of_many_banks, net_of_many_debts, net_of_much_owed]
 
 
 def beyond_net(rng):
-    """A network that passes the standard limits, and not the wide ones."""
-    return rng.choice(BEYOND)(rng)
+    """A network at the edge of the standard limits or beyond, and the bytes of its files where these are told. One in
+    ten is larger, and one in twenty is at the edge of the wide limits."""
+    drawn = rng.random()
+    if drawn < 0.05:
+        return net_at_the_wide_limits(rng)
+    return larger_net(rng) if drawn < 0.15 else rng.choice(EDGES)(rng), None
 
 
 def generated_words(seed):
@@ -226,6 +267,11 @@ def drawn_net(rng):
     return wide_net(rng) if drawn < 0.3 else random_net(rng, rng.randint(2, 8))
 
 
+def fallen_of(net, low):
+    """The banks in default."""
+    return [i for i in range(len(net.banks)) if state(net, low, i) != "sound"]
+
+
 def further_cases(rng, net, low, files, scenarios):
     """Cases that clear a network many times over. Where the model would take long, only some of them."""
     cases = [(["outcomes", *files, "--scenarios", "scenarios.toml"], outcomes_text(net, scenarios), 0)]
@@ -233,9 +279,9 @@ def further_cases(rng, net, low, files, scenarios):
         cases.append((["impact", *files], impact_text(net), 0))
     if len(net.banks) <= 8 and rng.random() < 0.2:
         cases.append((["breaking", *files], breaking_text(net), 0))
-    fallen = [i for i in range(len(net.banks)) if state(net, low, i) != "sound"]
+    fallen = fallen_of(net, low)
     if all(due(net, i) - net.banks[i].cash <= 100 for i in fallen):
-        cases.append((["rescues", *files], rescues_text(net, {i: rescue(net, i) for i in fallen}), 0))
+        cases.append((["rescues", *files], rescues_text(net, {i: rescue(net, i, low) for i in fallen}), 0))
     return cases
 
 
@@ -297,43 +343,74 @@ def files_and_cases(rng, net):
     return texts, cases, shown, ["compress", *files]
 
 
-WIDE = ["--limits", "wide"]
+STANDARD, WIDE = ["--limits", "standard"], ["--limits", "wide"]
 
 
-def files_and_cases_beyond(rng, net):
-    """The same of a network that passes the standard limits. Each task is refused without the option, and answers by the wide limits."""
+def many_times(net):
+    """Whether the model tries a network as often as it has banks, cuts or banks in default."""
+    return len(net.banks) <= 1_200 and len(net.debts) <= 20_100
+
+
+def files_beyond(rng, net, sizes):
+    """The files of a network by their names, of so many bytes where these are told: lines without a byte are no
+    records."""
     second = any(bank.outside for bank in net.banks) or rng.random() < 0.3
-    scenarios = random_scenarios(rng, net)[:2]
+    scenarios = random_scenarios(rng, net)[:2 if many_times(net) else 1]
     texts = {
         "banks.csv": banks_text(net, second).encode(),
         "debts.csv": debts_text(net).encode(),
         "scenarios.toml": scenarios_toml(net, scenarios).encode(),
         "none.csv": b"stamp,debtor,creditor,class,to\n",
     }
+    for name, size in zip(("banks.csv", "debts.csv"), sizes or ()):
+        texts[name] += b"\n" * ((size or 0) - len(texts[name]))
+    return texts, scenarios
+
+
+def files_and_cases_beyond(rng, net, sizes=None):
+    """The same of a network at the edge of the standard limits or beyond. Each task is refused, or answers, as the
+    limits are that it reads by. `shown` is None where the wide limits refuse the network."""
+    texts, scenarios = files_beyond(rng, net, sizes)
     files = ["--banks", "banks.csv", "--debts", "debts.csv"]
     third, keep = ["--scenarios", "scenarios.toml"], ["--keep", str(rng.randint(0, 1000))]
     how = lambda: rng.choice([[], ["--workers", str(rng.randint(1, 64))], ["--sweeps", "7"]])
-    low = least(net)
-    accepted = [
-        (["clear", *files, *how()], payments_text(net, low)),
-        (["central", *files], payments_text(net, low)),
-        (["defaults", *files, *how()], defaults_text(net, low)),
-        (["bounds", *files, *how()], bounds_text(net)),
-        (["stress", *files, *third, *how()], stress_text(net, scenarios)),
-        (["outcomes", *files, *third], outcomes_text(net, scenarios)),
-        (["costs", *files, *keep], costs_text(net, int(keep[1]))),
-        (["cost-bounds", *files, *keep], cost_bounds_text(net, int(keep[1]))),
-        (["check", *files], check_text(net)),
-        (["convert", *files], banks_text(net, True)),
+    saved = rng.choice([i for i, bank in enumerate(net.banks) if not bank.name.startswith("-")])
+    # What each task prints, and its status where that is not 0, to be made where it is wanted.
+    told = [
+        (["clear", *files, *how()], lambda low: payments_text(net, low)),
+        (["central", *files], lambda low: payments_text(net, low)),
+        (["defaults", *files, *how()], lambda low: defaults_text(net, low)),
+        (["bounds", *files, *how()], lambda low: bounds_text(net)),
+        (["stress", *files, *third, *how()], lambda low: stress_text(net, scenarios)),
+        (["outcomes", *files, *third], lambda low: outcomes_text(net, scenarios)),
+        (["costs", *files, *keep], lambda low: costs_text(net, int(keep[1]))),
+        (["cost-bounds", *files, *keep], lambda low: cost_bounds_text(net, int(keep[1]))),
+        (["check", *files], lambda low: check_text(net)),
+        (["convert", *files], lambda low: banks_text(net, True)),
+        (["rescue", *files, "--bank", net.banks[saved].name, *how()], lambda low: rescue_text(net, saved, low)),
+        (["replay", *files, "--journal", "none.csv"], lambda low: replay_of(net, [])),
+        (["impact", *files], lambda low: impact_text(net)),
+        (["breaking", *files], lambda low: breaking_text(net)),
+        (["rescues", *files], lambda low: rescues_text(net, {i: rescue(net, i, low) for i in fallen_of(net, low)})),
     ]
-    others = [["compress", *files], ["impact", *files], ["rescues", *files], ["breaking", *files], ["replay", *files, "--journal", "none.csv"],
-              ["rescue", *files, "--bank", net.banks[0].name]]
-    refused = refusal(net, "standard")
-    asked = [words for words, _ in accepted] + [words for words in others if not words[-1].startswith("-")]
-    cases = [([*words, *rng.choice([[], ["--limits", "standard"]])], "", 4, refused) for words in asked]
-    cases += [([*words, *WIDE], text, 0) for words, text in accepted]
+    compress, long = ["compress", *files], () if many_times(net) else ("impact", "breaking", "rescues")
+    bytes_of = [len(texts[name]) for name in ("banks.csv", "debts.csv")]
+    refused = {by: refusal(net, by, bytes_of) for by in LIMITS}
+    low, cases = None if refused["wide"] else least(net), []
+    for words, text_of in told:
+        left_out = low is None or words[0] in long
+        answer = None if left_out else text_of(low)
+        answer = answer if isinstance(answer, tuple) else (answer, 0)
+        for by, asked in (("standard", words + rng.choice([[], STANDARD])), ("wide", words + WIDE)):
+            if refused[by]:
+                cases.append((asked, "", 4, refused[by]))
+            elif not left_out:
+                cases.append((asked, *answer))
+    for by, option in (("standard", []), ("wide", WIDE)):
+        if refused[by]:
+            cases.append((compress + option, "", 4, refused[by]))
     shown = ["clear", *files, "--show", "journal", "--workers", str(rng.randint(1, 9)), *WIDE]
-    return texts, cases, shown, ["compress", *files, *WIDE]
+    return texts, cases, None if refused["wide"] else shown, compress + WIDE
 
 
 # Answers of which more than one is right.
@@ -380,16 +457,37 @@ def judge_compression(net, text):
     return None
 
 
-def judge_journal(net, low, text):
-    """What is wrong with a journal of a run, as it is printed, where these are the least payments; None where it is right."""
-    lines = text.splitlines()
-    if lines[:1] != ["stamp,debtor,creditor,class,to"] or not lines[-1].startswith("rounds,"):
-        return "no journal"
+def raises_of(net, lines):
+    """The raises of a journal, as it is printed."""
     places = {debt_fields(net, debt): x for x, debt in enumerate(net.debts)}
     raises = []
     for record in lines[1:-1]:
         stamp, debtor, creditor, cls, to = record.split(",")
         raises.append((int(stamp), places[debtor, creditor, int(cls)], int(to)))
+    return raises
+
+
+def replay_of(net, raises):
+    """What a replay of raises prints, and its status, with the message where they are refused."""
+    for row, (_, _, to) in enumerate(raises, 1):
+        if to > MOST_CLAIMED:
+            return "", 4, f"clearing: journal row {row}: limit (6)\n"
+    told, status, paid = verdict(net, raises)
+    return told + ("" if status else "\n" + payments_text(net, paid)), status
+
+
+def changed_replay(rng, net, text):
+    """A journal that is changed from one as it is printed, and what replay_of() says of it."""
+    changed = changed_journal(rng, net, raises_of(net, text.splitlines()))
+    return journal_text(net, changed, None), *replay_of(net, changed)
+
+
+def judge_journal(net, low, text):
+    """What is wrong with a journal of a run, as it is printed, where these are the least payments; None where it is right."""
+    lines = text.splitlines()
+    if lines[:1] != ["stamp,debtor,creditor,class,to"] or not lines[-1].startswith("rounds,"):
+        return "no journal"
+    raises = raises_of(net, lines)
     rounds = int(lines[-1].split(",")[1])
     if journal_text(net, raises, rounds) != text:
         return "the text is not as it is printed"

@@ -3,7 +3,7 @@
 #
 #   tests/system/package.sh DEB [ROOT]
 #
-# In:   DEB, what tools/release.sh made. ROOT, a system that debootstrap made; without it one is made, which wants the network. It must be
+# In:   DEB, what tools/dev/release.sh made. ROOT, a system that debootstrap made; without it one is made, which wants the network. It must be
 #       run as root.
 # Out:  a line for each step, and `N passed, M failed` last. Another root is left as it was: all of it is compared by names, rights and
 #       checksums.
@@ -42,7 +42,7 @@ state() {
 state >"$work/before"
 cp -- "$package" "$root/tmp/package.deb"
 step "it is installed" inside dpkg --install /tmp/package.deb
-step "all of it is for all to read, and for root alone to write" sh -c 'test -s "$0/usr/share/clearing/tools/lint.py" && test -z "$(find "$0/usr/share/clearing" "$0/usr/share/doc/clearing" "$0/usr/bin/clearing" ! -type l \( -perm /022 -o ! -perm -044 -o ! -user root \))"' "$root"
+step "all of it is for all to read, and for root alone to write" sh -c 'test -s "$0/usr/share/clearing/bin/clearing-lint" && test -z "$(find "$0/usr/share/clearing" "$0/usr/share/doc/clearing" "$0/usr/bin/clearing" ! -type l \( -perm /022 -o ! -perm -044 -o ! -user root \))"' "$root"
 example=/usr/share/doc/clearing/examples/chain
 step "the program clears" sh -c '"$@" | grep -qx A,B,1,10,7' sh chroot "$root" clearing clear --banks $example/banks.csv --debts $example/debts.csv
 step "each link leads somewhere" sh -c 'test -h "$0/usr/bin/clearing-lint" && for link in "$0"/usr/bin/clearing-*; do test -e "$0/usr/bin/$(readlink "$link")" || exit 1; done' "$root"

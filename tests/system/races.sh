@@ -9,7 +9,7 @@
 # and each of its threads interrupted by a timer of its own at any instruction and put to sleep (shake.c).
 #
 # A run of `clear` is wrong where the payments are not what `central` prints, where `replay` does not find the journal lawful and
-# make the same payments of it, where tools/audit.py does not, or where there are more rounds than raises and one. A run of
+# make the same payments of it, where clearing-audit does not, or where there are more rounds than raises and one. A run of
 # another task is wrong where it prints another text than by one worker, or, where the number of its threads is its own, than
 # undisturbed. Each wrong run is printed, with the network, whose folder stays; the last line is `N runs, M wrong`, and the script
 # ends with 1 where some are wrong. The line before it says how many runs there were of each way to shake, and in how many networks

@@ -3,7 +3,7 @@
 #
 #   tests/system/same_build.sh [--record] [COMMIT]      the commit that is checked out where none is named
 #   tests/system/same_build.sh [--record] SUM FILE      whether a program has a checksum, as another machine's build has it, or
-#                                                       a versions.txt of tools/evidence.sh
+#                                                       a versions.txt of clearing-evidence
 #
 # The commit is cloned into two new folders, of names of different length, and built in each by `./clearing`, one after another, from
 # nothing: each build proves all that it stands on, which takes long. Prints the toolchain, the commit, and the checksum of each program; ends with

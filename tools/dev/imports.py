@@ -4,48 +4,63 @@
     tools/dev/imports.py > docs/pictures/imports.svg
 
 In:  the modules in python/src.
-Out: the picture as SVG on standard output: a module stands above all that it imports. A line that other lines make up for is left out.
+Out: the picture as SVG on standard output: a module stands above all that it imports. A line that other lines make up
+     for is left out.
 
-Ends with 0, with 1 where modules import one another in a ring, or one that is to stand alone imports another, and with 2 where the
-words are not understood.
+Ends with 0, with 1 where modules import one another in a ring, or one that is to stand alone imports another, and
+with 2 where the words are not understood.
 """
 import argparse
 import ast
 import html
 import pathlib
 import sys
+from typing import Collection, Dict, List, Mapping, Set, Tuple
 
 SOURCES = pathlib.Path(__file__).resolve().parents[2] / "python/src"
 # What imports nothing of the packages beside what is named here, so that it may be judged alone.
 EVIDENCE = "clearing_tools.evidence."
-ALONE = {
+ALONE: Dict[str, Set[str]] = {
     EVIDENCE + "audit": set(),
     EVIDENCE + "bounds": set(),
     EVIDENCE + "confined": set(),
     EVIDENCE + "shock": {EVIDENCE + "audit", EVIDENCE + "bounds", "clearing_tools.files", "clearing_tools.runner"},
     EVIDENCE + "parts": {EVIDENCE + "audit", EVIDENCE + "shock", "clearing_tools.runner"},
     EVIDENCE + "source": {EVIDENCE + "confined", EVIDENCE + "parts", "clearing_tools.runner"},
-    EVIDENCE + "checking": {EVIDENCE + each for each in ("audit", "parts", "shock", "source")} | {"clearing_tools.runner"},
+    EVIDENCE + "checking": {EVIDENCE + each for each in ("audit", "parts", "shock", "source")}
+    | {"clearing_tools.runner"},
     EVIDENCE + "evidence": {EVIDENCE + each for each in ("audit", "checking", "parts", "shock", "source")}
     | {"clearing_tools.files", "clearing_tools.runner"},
     "clearing_tools.files": {"clearing_tools.runner"},
-    "clearing_tools.runner": set(),
+    "clearing_tools.runner": {"clearing_tools.finding", "clearing_tools.running", "clearing_tools.saying"},
+    "clearing_tools.running": {"clearing_tools.finding", "clearing_tools.saying"},
+    "clearing_tools.finding": {"clearing_tools.saying"},
+    "clearing_tools.saying": set(),
 }
 BOX, TALL, GAP, ROW, LEFT, MOST = 132, 24, 10, 62, 20, 9
 FILLS = {"clearing_client": "#e4ecf4", "clearing_tools": "#f7e6b0", "evidence": "#dcefdc"}
 
 
-def modules():
+Graph = Mapping[str, Set[str]]
+"""The modules that each module imports, by their names."""
+
+
+def modules() -> Dict[str, pathlib.Path]:
     """The file of each module by its name; a package is the module of its `__init__`."""
     paths = [path for path in sorted(SOURCES.rglob("*.py")) if path.stem != "__init__"]
     return {".".join(path.relative_to(SOURCES).with_suffix("").parts): path for path in paths}
 
 
-def imported_by(name, path, known):
-    """The modules of the packages that a module imports."""
-    found, tree = set(), ast.parse(path.read_text(encoding="utf-8"))
-    # What stands there for the check of types alone is not imported.
-    tree.body = [node for node in tree.body if not (isinstance(node, ast.If) and ast.unparse(node.test) == "TYPE_CHECKING")]
+def is_for_types(node: ast.stmt) -> bool:
+    """Whether a statement stands there for the check of types alone."""
+    return isinstance(node, ast.If) and ast.unparse(node.test) == "TYPE_CHECKING"
+
+
+def imported_by(name: str, path: pathlib.Path, known: Set[str]) -> Set[str]:
+    """The modules that a module in a file imports, of those that are known."""
+    found: Set[str] = set()
+    tree = ast.parse(path.read_text(encoding="utf-8"))
+    tree.body = [node for node in tree.body if not is_for_types(node)]
     for node in ast.walk(tree):
         if isinstance(node, ast.ImportFrom):
             base = name.split(".")[: -node.level] if node.level else []
@@ -56,15 +71,16 @@ def imported_by(name, path, known):
     return (found & known) - {name}
 
 
-def graph():
+def graph() -> Dict[str, Set[str]]:
     """What each module imports."""
     files = modules()
     return {name: imported_by(name, path, set(files)) for name, path in files.items()}
 
 
-def levels_of(below):
-    """How far each module stands above the lowest; a ring is a fault."""
-    levels, waiting = {}, dict(below)
+def levels_of(below: Graph) -> Dict[str, int]:
+    """How far each module stands above the lowest; a ring is a fault, and ends the script."""
+    levels: Dict[str, int] = {}
+    waiting = dict(below)
     while waiting:
         ready = [name for name, others in waiting.items() if others <= levels.keys()]
         if not ready:
@@ -76,46 +92,70 @@ def levels_of(below):
     return levels
 
 
-def faults_of(below):
+def faults_of(below: Graph) -> List[str]:
     """The modules that are to stand alone, and do not."""
     return [f"{name} imports {other}" for name, may in ALONE.items() for other in sorted(below.get(name, set()) - may)]
 
 
-def shown_of(below):
+def reached_by(below: Graph, names: Collection[str]) -> Set[str]:
+    """All that some modules import, and what those import, and so on."""
+    found: Set[str] = set()
+    for name in names:
+        found |= below[name] | reached_by(below, below[name])
+    return found
+
+
+def shown_of(below: Graph) -> Dict[str, Set[str]]:
     """The lines that are drawn: none to what is also reached through another."""
-    def reached(name):
-        return set().union(below[name], *map(reached, below[name]))
-
-    return {name: others - set().union(*map(reached, others)) for name, others in below.items()}
+    return {name: others - reached_by(below, others) for name, others in below.items()}
 
 
-def picture(below):
-    """The lines of the picture."""
-    levels, shown = levels_of(below), shown_of(below)
-    rows, places, y = [], {}, 16
+def rows_of(levels: Dict[str, int]) -> List[List[str]]:
+    """The modules in rows from the top, each of a level and of as many as fit."""
+    rows: List[List[str]] = []
     for level in range(max(levels.values()), -1, -1):
         names = sorted(name for name in levels if levels[name] == level)
         rows += [names[at : at + MOST] for at in range(0, len(names), MOST)]
-    for row in rows:
+    return rows
+
+
+def line_between(upper: Tuple[int, int], lower: Tuple[int, int]) -> str:
+    """The line from a box down to another, which begin at places of the picture."""
+    (x1, y1), (x2, y2) = upper, lower
+    return (f'<line x1="{x1 + BOX // 2}" y1="{y1 + TALL}" x2="{x2 + BOX // 2}" y2="{y2}" '
+            'stroke="#9aa5af" stroke-width="0.8"/>')
+
+
+def box(name: str, x: int, y: int) -> List[str]:
+    """The lines of a module, whose box begins at a place of the picture."""
+    package, _, short = name.partition(".")
+    fill = FILLS["evidence" if short.startswith("evidence.") else package]
+    return [(f'<rect x="{x}" y="{y}" width="{BOX}" height="{TALL}" rx="3" fill="{fill}" stroke="#5b6670">'
+             f"<title>{name}</title></rect>"),
+            f'<text x="{x + BOX // 2}" y="{y + 16}" text-anchor="middle" fill="#16191d">{html.escape(short)}</text>']
+
+
+def picture(below: Graph) -> List[str]:
+    """The lines of the picture."""
+    places: Dict[str, Tuple[int, int]] = {}
+    tall = 16
+    for row in rows_of(levels_of(below)):
         for at, name in enumerate(row):
-            places[name] = (LEFT + at * (BOX + GAP) + (MOST - len(row)) * (BOX + GAP) // 2, y)
-        y += ROW
+            places[name] = (LEFT + at * (BOX + GAP) + (MOST - len(row)) * (BOX + GAP) // 2, tall)
+        tall += ROW
     wide = 2 * LEFT + MOST * (BOX + GAP)
-    lines = [f'<svg xmlns="http://www.w3.org/2000/svg" width="{wide}" height="{y}" font-family="sans-serif" font-size="11">',
-             f'<rect width="{wide}" height="{y}" fill="#ffffff"/>']
-    for name, others in shown.items():
-        for other in sorted(others):
-            (x1, y1), (x2, y2) = places[name], places[other]
-            lines.append(f'<line x1="{x1 + BOX // 2}" y1="{y1 + TALL}" x2="{x2 + BOX // 2}" y2="{y2}" stroke="#9aa5af" stroke-width="0.8"/>')
+    lines = [f'<svg xmlns="http://www.w3.org/2000/svg" width="{wide}" height="{tall}" font-family="sans-serif" '
+             'font-size="11">',
+             f'<rect width="{wide}" height="{tall}" fill="#ffffff"/>']
+    for name, others in shown_of(below).items():
+        lines += [line_between(places[name], places[other]) for other in sorted(others)]
     for name, (x, y) in places.items():
-        package, _, short = name.partition(".")
-        fill = FILLS["evidence" if short.startswith("evidence.") else package]
-        lines.append(f'<rect x="{x}" y="{y}" width="{BOX}" height="{TALL}" rx="3" fill="{fill}" stroke="#5b6670"><title>{name}</title></rect>')
-        lines.append(f'<text x="{x + BOX // 2}" y="{y + 16}" text-anchor="middle" fill="#16191d">{html.escape(short)}</text>')
+        lines += box(name, x, y)
     return [*lines, "</svg>"]
 
 
-def main():
+def main() -> None:
+    """Prints the picture, or ends with what is wrong with the imports."""
     argparse.ArgumentParser(description=__doc__, formatter_class=argparse.RawDescriptionHelpFormatter).parse_args()
     below = graph()
     faults = faults_of(below)

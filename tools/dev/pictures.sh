@@ -37,10 +37,10 @@ for name in twelve-banks hub gridlock core; do
     for task in clear defaults bounds; do
         "$program" $task $files >"$work/$name-$task.csv"
     done
-    "$python" tools/who_pays.py "$work/$name-clear.csv" "$work/$name-defaults.csv" --bounds "$work/$name-bounds.csv" \
+    "$python" bin/clearing-who-pays "$work/$name-clear.csv" "$work/$name-defaults.csv" --bounds "$work/$name-bounds.csv" \
         --banks "examples/$name/banks.csv" --output "$to/$name.svg"
 done
 "$program" stress --banks examples/twelve-banks/banks.csv --debts examples/twelve-banks/debts.csv \
     --scenarios examples/twelve-banks/scenarios.toml >"$work/stress.csv"
-"$python" tools/shortfalls.py "$work/core-defaults.csv" "$to/core-shortfalls.svg" --payments "$work/core-clear.csv"
-"$python" tools/stress_map.py "$work/stress.csv" "$to/twelve-banks-stress.svg"
+"$python" bin/clearing-shortfalls "$work/core-defaults.csv" "$to/core-shortfalls.svg" --payments "$work/core-clear.csv"
+"$python" bin/clearing-stress-map "$work/stress.csv" "$to/twelve-banks-stress.svg"

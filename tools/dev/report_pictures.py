@@ -126,7 +126,7 @@ CASES: Dict[str, Callable[[pathlib.Path], pathlib.Path]] = {
 
 def page_of(case: pathlib.Path, page: pathlib.Path) -> pathlib.Path:
     """The page of a case."""
-    words = [sys.executable, "-B", str(ROOT / "tools/report.py"), str(case), "--out", str(page)]
+    words = [sys.executable, "-B", str(ROOT / "bin/clearing-report"), str(case), "--out", str(page)]
     subprocess.run(words, check=True, stdin=subprocess.DEVNULL)
     return page
 
@@ -137,7 +137,7 @@ def browser() -> Any:
     from selenium.webdriver.chrome.options import Options
     from selenium.webdriver.chrome.service import Service
 
-    options = Options()
+    options: Any = Options()
     options.binary_location = shutil.which("chromium") or ""
     for word in ("--headless=new", "--no-sandbox", "--disable-gpu", "--disable-dev-shm-usage", "--hide-scrollbars"):
         options.add_argument(word)
@@ -168,6 +168,18 @@ def take(driver: Any, page: pathlib.Path, out: pathlib.Path, wide: int, theme: s
     small(out, SHARES[wide])
 
 
+def side_by_side(sheets: List[Any]) -> Any:
+    """One picture of sheets of one size, in rows of four."""
+    from PIL import Image
+
+    wide, tall = sheets[0].size
+    across = min(ACROSS, len(sheets))
+    whole = Image.new("RGB", (across * (wide + 8), -(-len(sheets) // across) * (tall + 8)), "#888888")
+    for at, sheet in enumerate(sheets):
+        whole.paste(sheet, (at % across * (wide + 8), at // across * (tall + 8)))
+    return whole
+
+
 def printed(driver: Any, page: pathlib.Path, out: pathlib.Path) -> None:
     """The pages on paper, side by side."""
     from PIL import Image
@@ -179,12 +191,7 @@ def printed(driver: Any, page: pathlib.Path, out: pathlib.Path) -> None:
         (work / "paper.pdf").write_bytes(base64.b64decode(done["data"]))
         subprocess.run(["pdftoppm", "-r", str(DOTS), "-png", str(work / "paper.pdf"), str(work / "paper")], check=True)
         sheets = [Image.open(path).convert("RGB") for path in sorted(work.glob("paper-*.png"))]
-    wide, tall = sheets[0].size
-    across = min(ACROSS, len(sheets))
-    whole = Image.new("RGB", (across * (wide + 8), -(-len(sheets) // across) * (tall + 8)), "#888888")
-    for at, sheet in enumerate(sheets):
-        whole.paste(sheet, (at % across * (wide + 8), at // across * (tall + 8)))
-    whole.save(out)
+    side_by_side(sheets).save(out)
     small(out)
 
 

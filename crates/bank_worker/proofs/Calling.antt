@@ -16,8 +16,8 @@ use Rattle.bank_worker.specs.Called.{AreCalledOrAtRest, AreCalledTo, AreCreditor
 use Rattle.bank_worker.specs.Raises.{debts_of}
 use Rattle.bank_worker.specs.Rings.{creditors_of}
 use Rattle.bank_worker.specs.Rising.{Rises}
-use Rattle.bank_worker.specs.Views.{Crew, banks_held, banks_of, desk_at, desks_held}
-use Rattle.bank_worker.specs.Visits.{IsSameCrew, IsSameSeat, Notes, with_bell}
+use Rattle.bank_worker.specs.Views.{WorkerView, banks_held, banks_of, desk_at, desks_held}
+use Rattle.bank_worker.specs.Visits.{IsSameSeat, IsSameWorker, Notes, with_bell}
 use Rattle.bank_worker.proofs.Filtered.{filter_rises}
 use Rattle.bank_worker.proofs.Manned.{desk_is}
 use Rattle.bank_worker.proofs.PlacesOfBanks.{banks_of_desks, not_after}
@@ -107,11 +107,11 @@ creditors_called net noted called rs are h x lx raised =
     (get_or_default (debts_of rs) raised.0 0 x raised.1 ∙ raised.2))
 
 -- where nothing was raised there is nobody to call
-pub calls_none : (w : Crew) (called : List ℕ) → CallsOthers w w called
+pub calls_none : (w : WorkerView) (called : List ℕ) → CallsOthers w w called
 calls_none w called = record { made = []; grew = sym (append-nil w.journal); rung = λ x lx o other. absurd (omega (arith, o.1)) }
 
 -- banks of others stay called, and nothing is raised
-pub calls_kept : (old cur new : Crew) (called now : List ℕ) → new.journal ≡ cur.journal → KeepsOthers old.seat.shows called now
+pub calls_kept : (old cur new : WorkerView) (called now : List ℕ) → new.journal ≡ cur.journal → KeepsOthers old.seat.shows called now
     → CallsOthers old cur called → CallsOthers old new now
 calls_kept old cur new called now same kept h = record {
   made = h.made;
@@ -120,7 +120,7 @@ calls_kept old cur new called now same kept h = record {
 }
 
 -- banks of others stay called, and more are raised, whose creditors are called
-pub calls_more : (old cur new : Crew) (called now : List ℕ) → IsSameSeat old.seat.shows cur.seat.shows → KeepsOthers cur.seat.shows called now
+pub calls_more : (old cur new : WorkerView) (called now : List ℕ) → IsSameSeat old.seat.shows cur.seat.shows → KeepsOthers cur.seat.shows called now
     → CallsOthers old cur called → CallsOthers cur new now → CallsOthers old new now
 calls_more old cur new called now same kept a b = record {
   made = a.made ++ b.made;
@@ -135,7 +135,7 @@ calls_more old cur new called now same kept a b = record {
 }
 
 -- so it is from step to step, where more banks are called between them
-pub calls_on : (old cur new : Crew) (first called more now : List ℕ) → IsSameSeat old.seat.shows cur.seat.shows → StayIn called more
+pub calls_on : (old cur new : WorkerView) (first called more now : List ℕ) → IsSameSeat old.seat.shows cur.seat.shows → StayIn called more
     → KeepsOthers old.seat.shows first called × CallsOthers old cur called → KeepsOthers cur.seat.shows more now × CallsOthers cur new now
     → KeepsOthers old.seat.shows first now × CallsOthers old new now
 calls_on old cur new first called more now same stay a b =
@@ -145,14 +145,14 @@ calls_on old cur new first called more now same stay a b =
     )
 
 -- the creditors of the debts that a visit raised are called
-pub calls_visit : (cur taken new : Crew) (b from : ℕ) (desk : BankView) (now : List ℕ) → taken ≡ with_bell cur b → IsSameCrew taken new
+pub calls_visit : (cur taken new : WorkerView) (b from : ℕ) (desk : BankView) (now : List ℕ) → taken ≡ with_bell cur b → IsSameWorker taken new
     → Notes desk taken new → from ≡ length taken.journal → AreCreditorsIn new.seat.shows.net now (drop from new.journal) → CallsOthers cur new now
 calls_visit cur taken new b from desk now is same notes from_is h =
     let made = notes.seat.made in
-    let net : new.seat.shows.net ≡ cur.seat.shows.net = same.seat.net ∙ ap (λ (w : Crew). w.seat.shows.net) is in
+    let net : new.seat.shows.net ≡ cur.seat.shows.net = same.seat.net ∙ ap (λ (w : WorkerView). w.seat.shows.net) is in
     let noted : drop from new.journal ≡ made = rw (from_is, notes.journal) (drop-append_seam taken.journal made) in
     record {
       made = made;
-      grew = notes.journal ∙ ap (λ (w : Crew). w.journal ++ made) is;
+      grew = notes.journal ∙ ap (λ (w : WorkerView). w.journal ++ made) is;
       rung = λ x lx o other. rw net at (h x (rw net lx) (rw noted o));
     }

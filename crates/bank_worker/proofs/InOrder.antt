@@ -17,7 +17,7 @@ use Rattle.bank_worker.specs.Raises.{debts_of}
 use Rattle.bank_worker.specs.Rings.{called_by}
 use Rattle.bank_worker.specs.Rising.{Rises}
 use Rattle.bank_worker.specs.Sweeps.{AreSweeps, bank_taken, banks_taken}
-use Rattle.bank_worker.specs.Views.{Crew, desk_at, desks_held}
+use Rattle.bank_worker.specs.Views.{WorkerView, desk_at, desks_held}
 use Rattle.bank_worker.specs.Visits.{acts_of}
 use Rattle.bank_worker.proofs.Manned.{banks_rise}
 
@@ -36,14 +36,15 @@ visit_takes_nothing net desk found made = simp (
 )
 
 -- what a sweep has done before the place k: the banks of the desks from there on stand after all that were taken
-pub record HasSwept (old cur : Crew) (k : ℕ) : Type 0 where
+pub record HasSwept (old cur : WorkerView) (k : ℕ) : Type 0 where
   pub made : List Act
   pub acts : cur.seat.shows.acts ≡ old.seat.shows.acts ++ made
   pub rise : Rises (banks_taken made)
   pub before : (i : ℕ) → i < length (banks_taken made) → (j : ℕ) → k ≤ j → j < length cur.desks
       → get_or (banks_taken made) i 0 < (desk_at cur.desks j).bank
 
-pub order_start : (w : Crew) → HasSwept w w 0
+-- before its first visit a worker has swept nothing
+pub order_start : (w : WorkerView) → HasSwept w w 0
 order_start w = record {
   made = [];
   acts = sym (append-nil w.seat.shows.acts);
@@ -52,7 +53,7 @@ order_start w = record {
 }
 
 -- desks are passed
-pub order_past : (old cur : Crew) (from k : ℕ) → from ≤ k → HasSwept old cur from → HasSwept old cur k
+pub order_past : (old cur : WorkerView) (from k : ℕ) → from ≤ k → HasSwept old cur from → HasSwept old cur k
 order_past old cur from k le h = record { made = h.made; acts = h.acts; rise = h.rise; before = λ i l j lj. h.before i l j (omega (arith, le, lj)) }
 
 -- a list that rises, and one number more that is above all of it
@@ -60,7 +61,7 @@ rises_more : (xs : List ℕ) (y : ℕ) → Rises xs → ((i : ℕ) → i < lengt
 rises_more xs y rise above = all_pairs_push (λ a b. a < b) xs y rise (λ k d l. omega (arith, get_or_default xs k d 0 l, above k l))
 
 -- the bell of the desk at the place k was taken, and then no other
-pub order_take : (old cur new : Crew) (k : ℕ) (rest : List Act) → k < length cur.desks → cur.desks ≡ desks_held cur.seat.shows → new.desks ≡ cur.desks
+pub order_take : (old cur new : WorkerView) (k : ℕ) (rest : List Act) → k < length cur.desks → cur.desks ≡ desks_held cur.seat.shows → new.desks ≡ cur.desks
     → banks_taken rest ≡ [] → new.seat.shows.acts ≡ cur.seat.shows.acts ++ (take_of (desk_at cur.desks k).bank ∷ rest)
     → HasSwept old cur k → HasSwept old new (k + 1)
 order_take old cur new k rest lk held same none acts h =
@@ -82,7 +83,7 @@ order_take old cur new k rest lk held same none acts h =
     }
 
 -- so a sweep is one
-pub order_swept : (old cur : Crew) (k : ℕ) → HasSwept old cur k → AreSweeps 1 old cur
+pub order_swept : (old cur : WorkerView) (k : ℕ) → HasSwept old cur k → AreSweeps 1 old cur
 order_swept old cur k h = record {
   parts = h.made ∷ [];
   few = omega arith;
@@ -91,10 +92,11 @@ order_swept old cur k h = record {
 }
 
 -- no sweep, some after others, and fewer than so many
-pub sweeps_none : (w : Crew) → AreSweeps 0 w w
+pub sweeps_none : (w : WorkerView) → AreSweeps 0 w w
 sweeps_none w = record { parts = []; few = omega arith; in_file_order = λ i d l. absurd (omega (arith, l)); acts = sym (append-nil w.seat.shows.acts) }
 
-pub sweeps_then : (a b c : Crew) (k m n : ℕ) → k + m ≤ n → AreSweeps k a b → AreSweeps m b c → AreSweeps n a c
+-- some sweeps and then others are as many as both
+pub sweeps_then : (a b c : WorkerView) (k m n : ℕ) → k + m ≤ n → AreSweeps k a b → AreSweeps m b c → AreSweeps n a c
 sweeps_then a b c k m n le g h = record {
   parts = g.parts ++ h.parts;
   few = omega (arith, le, g.few, h.few, length-append g.parts h.parts);
@@ -102,5 +104,6 @@ sweeps_then a b c k m n le g h = record {
   acts = simp (h.acts, g.acts, flat_map-append, append_assoc);
 }
 
-pub sweeps_within : (old new : Crew) (k n : ℕ) → k ≤ n → AreSweeps k old new → AreSweeps n old new
+-- at most k sweeps are at most n, where k is at most n
+pub sweeps_within : (old new : WorkerView) (k n : ℕ) → k ≤ n → AreSweeps k old new → AreSweeps n old new
 sweeps_within old new k n le h = record { parts = h.parts; few = omega (arith, le, h.few); in_file_order = h.in_file_order; acts = h.acts }

@@ -10,6 +10,7 @@ use Rattle.pay_words.specs.Views.{holds, is_of_worker}
 use Rattle.bank_worker.specs.Offices.{banks_of_worker}
 use Rattle.bank_worker.specs.Views.{banks_held}
 
+-- the numbers below the next one that pass, with this one if it passes
 pub filter_next : (p : ℕ → Bool) (n : ℕ) → filter p (range_with_len 0 (n + 1)) ≡ filter p (range_with_len 0 n) ++ cond (p n) (n ∷ []) []
 filter_next p n = rw (add-one, filter_range_more p p 0 n (λ m l. refl), zero-add)
 
@@ -17,6 +18,7 @@ filter_next p n = rw (add-one, filter_range_more p p 0 n (λ m l. refl), zero-ad
 pub desks_with : (net : Net) (p : ℕ → Bool) (n : ℕ) → p n ≡ true → map (desk_of net) (filter p (range_with_len 0 n)) ++ desk_of net n ∷ [] ≡ map (desk_of net) (filter p (range_with_len 0 (n + 1)))
 desks_with net p n e = rw (filter_next p n, e) (sym (map_push (desk_of net) (filter p (range_with_len 0 n)) n))
 
+-- a bank that is not the worker's adds no desk
 pub desks_without : (net : Net) (p : ℕ → Bool) (n : ℕ) → p n ≡ false → map (desk_of net) (filter p (range_with_len 0 n)) ≡ map (desk_of net) (filter p (range_with_len 0 (n + 1)))
 desks_without net p n e = rw (filter_next p n, e, append-nil)
 

@@ -12,13 +12,13 @@ use Rattle.bank_worker.specs.Looks.{last_seen, looks_at}
 use Rattle.bank_worker.specs.Raises.{debts_of}
 use Rattle.bank_worker.specs.Rings.{called_by}
 use Rattle.bank_worker.specs.Told.{AreTold, RaisesWhatItLoaded, VisitMade, acts_with_take, is_take, takes_in}
-use Rattle.bank_worker.specs.Views.{Crew, desk_at}
-use Rattle.bank_worker.specs.Visits.{AreVisitsFrom, IsAllVisits, IsCalledVisit, IsSameCrew, acts_of}
-use Rattle.bank_worker.proofs.Sweeping.{same_crew_then}
+use Rattle.bank_worker.specs.Views.{WorkerView, desk_at}
+use Rattle.bank_worker.specs.Visits.{AreVisitsFrom, IsAllVisits, IsCalledVisit, IsSameWorker, acts_of}
+use Rattle.bank_worker.proofs.Sweeping.{same_worker_then}
 use Rattle.std.proofs.lemmas.Grind.{flat_map-append}
 
 -- no visit
-told_none : (w : Crew) → AreTold w w
+told_none : (w : WorkerView) → AreTold w w
 told_none w = record {
   visits = [];
   as_many = omega arith;
@@ -30,7 +30,7 @@ told_none w = record {
 }
 
 -- one visit more
-told_more : (old cur new : Crew) (place n : ℕ) → IsSameCrew old cur → AreTold old cur → IsCalledVisit place n cur new → AreTold old new
+told_more : (old cur new : WorkerView) (place n : ℕ) → IsSameWorker old cur → AreTold old cur → IsCalledVisit place n cur new → AreTold old new
 told_more old cur new place n same h v =
     let notes = v.visited.notes in
     let last : VisitMade = record { place = place; found = last_seen new.seat.shows; made = notes.seat.made } in
@@ -44,13 +44,15 @@ told_more old cur new place n same h v =
       journal = simp (notes.journal, h.journal, flat_map-append, append-nil, append_assoc);
     }
 
-told_from : (old new : Crew) (ns : List ℕ) → AreVisitsFrom old ns new → IsSameCrew old new × AreTold old new
+-- visits one by one leave the worker the same, and are told by what was done
+told_from : (old new : WorkerView) (ns : List ℕ) → AreVisitsFrom old ns new → IsSameWorker old new × AreTold old new
 told_from old new [] is = rw is (assumption (told_none old))
 told_from old new (n ∷ ns) v =
     let h = told_from old v.0 ns v.2 in
-    (same_crew_then old v.0 new h.0 v.3.same, told_more old v.0 new v.1 n h.0 h.1 v.3)
+    (same_worker_then old v.0 new h.0 v.3.same, told_more old v.0 new v.1 n h.0 h.1 v.3)
 
-pub told : (n : ℕ) (old new : Crew) → IsAllVisits n old new → AreTold old new
+-- what all visits did is told by what was done with the seat
+pub told : (n : ℕ) (old new : WorkerView) → IsAllVisits n old new → AreTold old new
 told n old new h = (told_from old new h.units h.visits).1
 
 -- the takes of two lists
@@ -82,7 +84,8 @@ takes_each net desks (v ∷ vs) =
       takes_each net desks vs,
     )
 
-pub takes_counted : (n : ℕ) (old new : Crew) → IsAllVisits n old new → takes_in new.seat.shows.acts + old.visits ≡ takes_in old.seat.shows.acts + new.visits
+-- as many bells were found up as visits were counted
+pub takes_counted : (n : ℕ) (old new : WorkerView) → IsAllVisits n old new → takes_in new.seat.shows.acts + old.visits ≡ takes_in old.seat.shows.acts + new.visits
 takes_counted n old new h =
     let t = told n old new h in
     let each = flat_map (acts_with_take old.seat.shows.net old.desks) t.visits in

@@ -7,7 +7,7 @@ use Rattle.pay_words.specs.declared.view.Shown.{Shown}
 use Rattle.pay_words.specs.Views.{HasSeenFloor, holds}
 use Rattle.bank_worker.specs.BankSets.{is_in}
 use Rattle.bank_worker.specs.Raises.{IsRaisedIn, debts_of}
-use Rattle.bank_worker.specs.Views.{Crew, Divides, desk_at}
+use Rattle.bank_worker.specs.Views.{Divides, WorkerView, desk_at}
 
 -- the bank of the desk pays its division at what was last seen, which is at least the floor
 pub record IsAtRest (s : Shown) (desk : BankView) : Type 0 where
@@ -39,7 +39,7 @@ AreCreditorsIn net called rs = (x : ℕ) → x < length net.debts → IsRaisedIn
 
 -- the journal grew by some raises, and the creditor of each of their debts is called, if the seat
 -- does not hold it
-pub record CallsOthers (old new : Crew) (called : List ℕ) : Type 0 where
+pub record CallsOthers (old new : WorkerView) (called : List ℕ) : Type 0 where
   pub made : List Raise
   pub grew : new.journal ≡ old.journal ++ made
   pub rung : (x : ℕ) → x < length old.seat.shows.net.debts → IsRaisedIn made x

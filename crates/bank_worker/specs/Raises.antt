@@ -27,6 +27,11 @@ IsWithin s xs ts = (k : ℕ) → k < length xs
     → slice_index ts k ≤ part s.net (slice_index xs k)
     (receipts s.net s.sights (debtor_of s.net (slice_index xs k)))
 
+-- the target of each of the debts xs is no less than is paid on it, and may be paid
+pub record AreTargets (s : Shown) (xs ts : List ℕ) : Type 0 where
+  pub rise : IsNotBelow s xs ts
+  pub within : IsWithin s xs ts
+
 -- the debts of some raises, in the order in which the raises stand
 abbrev pub debts_of : List Raise → List ℕ
 debts_of rs = map (λ r. r.debt.0) rs

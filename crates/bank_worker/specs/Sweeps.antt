@@ -3,7 +3,7 @@ use Rattle.std.specs.Prelude.{◌≡◌, ℕ, ◌≤◌, ◌++◌, All, List, []
 use Rattle.pay_words.specs.declared.view.Act.{Act}
 use Rattle.pay_words.specs.declared.view.Act.TheVariants.{Look, Raise as Raised, Ring, Take}
 use Rattle.bank_worker.specs.Rising.{Rises}
-use Rattle.bank_worker.specs.Views.{Crew}
+use Rattle.bank_worker.specs.Views.{WorkerView}
 
 -- the bank whose bell was found up, where it was
 abbrev pub bank_taken : Act → List ℕ
@@ -18,7 +18,7 @@ banks_taken acts = flat_map bank_taken acts
 
 -- what was done from old to new are at most so many sweeps, one after another. In each of them the
 -- banks whose bells were found up, and so the banks that were visited, stand in file order
-pub record AreSweeps (sweeps : ℕ) (old new : Crew) : Type 0 where
+pub record AreSweeps (sweeps : ℕ) (old new : WorkerView) : Type 0 where
   pub parts : List (List Act)
   pub few : length parts ≤ sweeps
   pub in_file_order : All (λ acts. Rises (banks_taken acts)) parts

@@ -7,7 +7,7 @@ use Rattle.pay_words.specs.declared.payment.Payment.{Payment}
 use Rattle.pay_words.specs.declared.view.Act.{Act}
 use Rattle.pay_words.specs.declared.view.Act.TheVariants.{Look, Raise as Raised, Ring, Take}
 use Rattle.pay_words.specs.Views.{take_of}
-use Rattle.bank_worker.specs.Views.{Crew, desk_at}
+use Rattle.bank_worker.specs.Views.{WorkerView, desk_at}
 use Rattle.bank_worker.specs.Looks.{loaded_in}
 use Rattle.bank_worker.specs.Visits.{AreRaisedBy, acts_of}
 
@@ -31,7 +31,7 @@ RaisesWhatItLoaded net desks v = AreRaisedBy (desk_at desks v.place)
 -- from old to new there were as many visits as were counted, each at one of the desks; all that was
 -- done with the seat was done in them, and all raises were made in them, each to what the visit's
 -- looks gave
-pub record AreTold (old new : Crew) : Type 0 where
+pub record AreTold (old new : WorkerView) : Type 0 where
   pub visits : List VisitMade
   pub as_many : new.visits ≡ old.visits + length visits
   pub known : All (λ v. v.place < length old.desks) visits

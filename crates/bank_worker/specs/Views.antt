@@ -1,19 +1,26 @@
 -- What contracts see of a worker.
-use Rattle.std.specs.Prelude.{◌≡◌, ℕ, List, [], filter, length, map, sum_by, slice_index, slice_index_or}
+use Rattle.std.specs.Prelude.{◌≡◌, ℕ, false, List, [], filter, length, map, sum_by, slice_index, slice_index_or}
 use Rattle.std.specs.List.{range_with_len}
 use Rattle.clr_net.specs.declared.rule.RuleKind.TheVariants as kind
 use Rattle.clear_core.specs.declared.event.Raise.{Raise}
 use Rattle.bank_desk.specs.Desks.{BankView, desk_of, target}
 use Rattle.pay_words.specs.declared.view.Shown.{Shown}
-use Rattle.pay_words.specs.Views.{Chair, holds}
+use Rattle.pay_words.specs.Views.{BoardView, IsAt, IsOver, SeatView, holds}
 
 -- a worker: its seat, its desks, its number, how many visits it made, and its journal
-pub record Crew : Type 0 where
-  pub seat : Chair
+pub record WorkerView : Type 0 where
+  pub seat : SeatView
   pub desks : List BankView
   pub worker : ℕ
   pub visits : ℕ
   pub journal : List Raise
+
+-- the seat is that of a worker of this board, and each of its lists has a place for each bank, or for
+-- each debt
+pub record IsWorking (board : BoardView) (seat : SeatView) : Type 0 where
+  pub at : IsAt board seat
+  pub not_the_master : seat.shows.master ≡ false
+  pub over : IsOver seat.shows
 
 -- the banks that a seat holds, in file order
 abbrev pub banks_held : Shown → List ℕ

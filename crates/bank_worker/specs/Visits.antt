@@ -13,7 +13,7 @@ use Rattle.bank_worker.specs.Rising.{Rises}
 use Rattle.bank_worker.specs.Looks.{IsSeenAt, HasSameSight, last_seen, loaded_in, looks_at}
 use Rattle.bank_worker.specs.Raises.{HasSamePay, IsAmong, IsRaisedIn, debts_of}
 use Rattle.bank_worker.specs.Rings.{called_by}
-use Rattle.bank_worker.specs.Views.{Crew, Divides, DividesOf, desk_at, paid_by}
+use Rattle.bank_worker.specs.Views.{Divides, DividesOf, WorkerView, desk_at, paid_by}
 
 -- the answer is this number of units
 abbrev pub WhenRaised : Visit → (ℕ → Type 0) → Type 0
@@ -34,7 +34,7 @@ pub record IsSameSeat (s t : Shown) : Type 0 where
   pub seats : t.seats ≡ s.seats
 
 -- what no visit and no round changes of a worker
-pub record IsSameCrew (old new : Crew) : Type 0 where
+pub record IsSameWorker (old new : WorkerView) : Type 0 where
   pub table : new.seat.table ≡ old.seat.table
   pub seat : IsSameSeat old.seat.shows new.seat.shows
   pub desks : new.desks ≡ old.desks
@@ -93,7 +93,7 @@ pub record AreNoted (desk : BankView) (s t : Shown) : Type 0 where
   pub raised : AreRaisedBy desk (loaded_in (acts_of s.net desk (last_seen t) made)) made
 
 -- and the worker's journal grew by the same raises
-pub record Notes (desk : BankView) (old new : Crew) : Type 0 where
+pub record Notes (desk : BankView) (old new : WorkerView) : Type 0 where
   pub seat : AreNoted desk old.seat.shows new.seat.shows
   pub journal : new.journal ≡ old.journal ++ seat.made
 
@@ -108,35 +108,43 @@ pub record RingsAll (desk : BankView) (s t : Shown) : Type 0 where
   pub fresh : t.fresh ≡ s.fresh
   pub taken : t.taken ≡ s.taken
 
+-- what a visit at the desk that raised n units does to the seat
+pub record IsSeatVisited (desk : BankView) (n : ℕ) (s t : Shown) : Type 0 where
+  pub same : IsSameSeat s t
+  pub looks : LooksOnce desk s t
+  pub pays : PaysOut desk n s t
+  pub notes : AreNoted desk s t
+  pub rings : RingsAll desk s t
+
 -- a visit that raised n units
-pub record IsVisited (desk : BankView) (n : ℕ) (old new : Crew) : Type 0 where
+pub record IsVisited (desk : BankView) (n : ℕ) (old new : WorkerView) : Type 0 where
   pub looks : LooksOnce desk old.seat.shows new.seat.shows
   pub pays : PaysOut desk n old.seat.shows new.seat.shows
   pub notes : Notes desk old new
   pub rings : RingsAll desk old.seat.shows new.seat.shows
 
 -- the worker once it took the bell of the bank b
-abbrev pub with_bell : Crew → ℕ → Crew
+abbrev pub with_bell : WorkerView → ℕ → WorkerView
 with_bell w b = record w { seat = record w.seat { shows = took w.seat.shows b } }
 
 -- a visit at one of the desks that raised n units and was counted, after a take that had found the
 -- bell of the desk's bank up; and nothing else was done
-pub record IsCalledVisit (place n : ℕ) (old new : Crew) : Type 0 where
+pub record IsCalledVisit (place n : ℕ) (old new : WorkerView) : Type 0 where
   pub known : place < length old.desks
-  pub same : IsSameCrew old new
+  pub same : IsSameWorker old new
   pub counted : new.visits ≡ old.visits + 1
   pub visited : IsVisited (desk_at old.desks place) n
       (with_bell old (desk_at old.desks place).bank) new
 
 -- from old to new the worker did nothing but visits to which bells called it, which raised these
 -- units, the last first
-abbrev pub AreVisitsFrom : Crew → List ℕ → Crew → Type 0
+abbrev pub AreVisitsFrom : WorkerView → List ℕ → WorkerView → Type 0
 AreVisitsFrom old [] new = new ≡ old
-AreVisitsFrom old (n ∷ ns) new = (cur : Crew) × (place : ℕ) × AreVisitsFrom old ns cur
+AreVisitsFrom old (n ∷ ns) new = (cur : WorkerView) × (place : ℕ) × AreVisitsFrom old ns cur
     × IsCalledVisit place n cur new
 
 -- nothing was done but visits to which bells called, which raised n units in all
-pub record IsAllVisits (n : ℕ) (old new : Crew) : Type 0 where
+pub record IsAllVisits (n : ℕ) (old new : WorkerView) : Type 0 where
   pub units : List ℕ
   pub visits : AreVisitsFrom old units new
   pub in_all : sum units ≡ n

@@ -1,6 +1,6 @@
 //! The laws of visits, for any plain data. A law has nothing to run; its `ensures` is proved.
 ghost use Rattle.bank_worker.specs.Told.{AreTold, takes_in};
-ghost use Rattle.bank_worker.specs.Views.{Crew};
+ghost use Rattle.bank_worker.specs.Views.{WorkerView};
 ghost use Rattle.bank_worker.specs.Visits.{IsAllVisits};
 ghost use Rattle.std.specs.Prelude.{◌≡◌, ◌+◌, ℕ};
 
@@ -11,11 +11,11 @@ ghost use Rattle.std.specs.Prelude.{◌≡◌, ◌+◌, ℕ};
 /// gives from its cash and from the sum of what the looks of that very visit found, less what it owes
 /// outside.
 pub fn acts_are_those_of_visits_by_bells()
-    ensures { (n : ℕ) (old new : Crew) → IsAllVisits n old new → AreTold old new }
+    ensures { (n : ℕ) (old new : WorkerView) → IsAllVisits n old new → AreTold old new }
 {}
 
 /// Such a worker found as many bells up as visits of it were counted.
 pub fn bells_taken_are_as_many_as_visits()
-    ensures { (n : ℕ) (old new : Crew) → IsAllVisits n old new
+    ensures { (n : ℕ) (old new : WorkerView) → IsAllVisits n old new
         → takes_in new.seat.shows.acts + old.visits ≡ takes_in old.seat.shows.acts + new.visits }
 {}

@@ -8,7 +8,7 @@
 //!
 //! A *seat* is the right to look, raise, ring and take on a board. A *desk* has what is known of one
 //! bank. An *office* has the desks of a worker, and the workspace that it keeps from round to round.
-//! Contracts see a worker as a *crew*: its seat, desks, number, visits and journal. A bank is
+//! Contracts see a worker as a `WorkerView`: its seat, desks, number, visits and journal. A bank is
 //! *called* while it is on the worklist of a round, the set of banks whose bells may be up.
 #![tactic(auto)]
 
@@ -17,6 +17,7 @@ mod desks;
 pub mod laws;
 mod looks;
 mod office;
+mod plain;
 mod raises;
 mod rings;
 mod visit;
@@ -24,5 +25,6 @@ mod worker;
 
 pub use bank_set::BankSet;
 pub use office::Office;
+pub use plain::SeatBack;
 pub use visit::Visit;
-pub use worker::{SeatBack, Worker};
+pub use worker::Worker;

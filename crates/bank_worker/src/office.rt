@@ -4,7 +4,7 @@ ghost use Rattle.bank_worker.specs.Offices.{IsOfficeFor, banks_of_worker};
 ghost use Rattle.bank_worker.specs.Rings.{AreMarksBelow, AreMarksUpTo, creditors_of, is_among};
 ghost use Rattle.bank_worker.specs.Staff.{IsStaffed};
 ghost use Rattle.bank_worker.specs.Views.{desk_at};
-ghost use Rattle.bank_worker.specs.Visits.{AreNoted, IsSameSeat, LooksOnce, PaysOut, RingsAll};
+ghost use Rattle.bank_worker.specs.Visits.{IsSeatVisited};
 ghost use Rattle.clr_net.specs.Net.{creditor_of};
 ghost use Rattle.clr_net.specs.declared.TheConstants.{MAX_BANKS, MAX_OWED};
 ghost use Rattle.pay_words.specs.Views.{IsAt};
@@ -18,7 +18,7 @@ use crate::raises::raise_all;
 use crate::rings::ring_all;
 use bank_desk::Desk;
 use clear_core::{Journal, Raise, longest_row};
-use clr_net::{BankId, DebtId, MAX_BANKS, Mem, Network};
+use clr_net::{BankId, DebtId, MAX_BANKS, MAX_OWED, Mem, Network};
 use pay_words::{Board, PaySeat};
 use std::alloc::Global;
 use std::marker::Model;
@@ -184,12 +184,8 @@ impl Office {
         requires place { place < length self.old.desks }
         requires spare { length (desk_at self.old.desks place).debts_out ≤ journal.old.spare }
         ensures table { seat.new.table ≡ seat.old.table }
-        ensures same { IsSameSeat seat.old.shows seat.new.shows }
-        ensures looks { LooksOnce (desk_at self.old.desks place) seat.old.shows seat.new.shows }
-        ensures pays { PaysOut (desk_at self.old.desks place) result seat.old.shows
+        ensures visited { IsSeatVisited (desk_at self.old.desks place) result seat.old.shows
             seat.new.shows }
-        ensures notes { AreNoted (desk_at self.old.desks place) seat.old.shows seat.new.shows }
-        ensures rings { RingsAll (desk_at self.old.desks place) seat.old.shows seat.new.shows }
         ensures few { result ≤ MAX_OWED }
         ensures staffed { IsStaffed seat.new.shows journal.new.raises self.new }
         ensures desks { self.new.desks ≡ self.old.desks }
@@ -198,9 +194,9 @@ impl Office {
         let desk = self.desks.at(place);
         let space = &mut *self.workspace;
         space.count_visit();
-        let _clock = seat.clock();
+        prove!(seat.clock() <= MAX_OWED);
         let received = look_at_all(board, seat, desk.debts_in());
-        let _clock = seat.clock();
+        prove!(seat.clock() <= MAX_OWED);
         lay_out(desk, received, &mut space.targets);
         let debts = desk.debts_out();
         let from = journal.as_slice().len();
@@ -266,17 +262,17 @@ fn creditor(net: &Network, debt: DebtId) -> u16
 }
 
 // As many marks of no visit.
+#[tactic(auto, using(crate::proofs::Basics::unmarked))]
 fn no_marks(alloc: Global, banks: usize) -> Result<Vec<u64>, Mem>
     ensures marks { IfOk result (λ marks. AreMarksUpTo 0 marks.items) }
     ensures as_many { IfOk result (λ marks. length marks.items ≡ banks) }
 {
-    let mut marks = Vec::new(alloc);
-    marks.resize(banks, 0)?;
-    Ok(marks)
+    Ok(vec![in alloc; 0; banks]?)
 }
 
 // The number of a visit more, of which no mark is yet. Only where the numbers end are all marks
 // taken away.
+#[tactic(auto, using(crate::proofs::Basics::below_first))]
 fn next_number(marks: &mut [u64], counted: u64) -> u64
     requires { AreMarksUpTo counted marks.old }
     ensures below { AreMarksBelow result marks.new }
@@ -285,18 +281,8 @@ fn next_number(marks: &mut [u64], counted: u64) -> u64
     if counted < u64::MAX {
         return counted + 1;
     }
-    unmark(marks);
+    marks.fill(0);
     1
-}
-
-// Takes all marks away.
-fn unmark(marks: &mut [u64])
-    ensures marks { AreMarksUpTo 0 marks.new }
-    ensures as_many { length marks.new ≡ length marks.old }
-{
-    for place in 0..marks.len() {
-        marks[place] = 0;
-    }
 }
 
 // Lays out what the desk's bank should pay on each of its debts when it receives so many units.

@@ -1,8 +1,8 @@
-ghost use Rattle.bank_worker.specs.Raises.{AreOwedBy, IsNotBelow, IsRaised, IsWithin};
+ghost use Rattle.bank_worker.specs.Raises.{AreOwedBy, AreTargets, IsRaised};
+ghost use Rattle.bank_worker.specs.Views.{IsWorking};
 ghost use Rattle.bank_worker.specs.Visits.{AddsRaises};
 ghost use Rattle.clr_net.specs.Net.{numbers};
-ghost use Rattle.pay_words.specs.Views.{IsAt, IsOver};
-ghost use Rattle.std.specs.Prelude.{◌≡◌, ◌+◌, ◌<◌, ◌≤◌, ◌^◌, ◌++◌, [], ◌∷◌, false, length};
+ghost use Rattle.std.specs.Prelude.{◌≡◌, ◌+◌, ◌<◌, ◌≤◌, ◌^◌, ◌++◌, [], ◌∷◌, length};
 ghost use Rattle.std.specs.Prelude.{slice_index, sum, sum_by};
 
 use clear_core::{Journal, Raise};
@@ -18,13 +18,10 @@ pub(crate) fn raise_all(
     targets: &[u64],
     journal: &mut Journal,
 ) -> u64
-    requires seat { IsAt board.now seat.old }
-    requires not_the_master { seat.old.shows.master ≡ false }
-    requires over { IsOver seat.old.shows }
+    requires working { IsWorking board.now seat.old }
     requires debts { AreOwedBy seat.old.shows (numbers debts.now) }
-    requires targets { length targets.now ≡ length debts.now }
-    requires rise { IsNotBelow seat.old.shows (numbers debts.now) targets.now }
-    requires within { IsWithin seat.old.shows (numbers debts.now) targets.now }
+    requires places { length targets.now ≡ length debts.now }
+    requires targets { AreTargets seat.old.shows (numbers debts.now) targets.now }
     requires few { sum targets.now < 2 ^ 63 }
     requires room { length debts.now ≤ journal.old.spare }
     requires noted { journal.old.raises ≡ seat.old.shows.raises }

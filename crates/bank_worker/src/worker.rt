@@ -4,11 +4,11 @@ ghost use Rattle.bank_worker.specs.Called.{CallsOthers, KeepsOthers, StayIn};
 ghost use Rattle.bank_worker.specs.Grows.{Grows, MakesRound};
 ghost use Rattle.bank_worker.specs.Offices.{IsOfficeFor};
 ghost use Rattle.bank_worker.specs.Views.{banks_held, desk_at, desks_held};
-ghost use Rattle.bank_worker.specs.Visits.{IsAllCalm, IsDown, IsSameCrew, IsVisited, MayRest};
+ghost use Rattle.bank_worker.specs.Visits.{IsAllCalm, IsDown, IsSameWorker, IsVisited, MayRest};
 ghost use Rattle.bank_worker.specs.Visits.{WhenMem, WhenRaised};
 ghost use Rattle.clr_net.specs.declared.TheConstants.{MAX_BANKS, MAX_OWED};
-ghost use Rattle.pay_words.specs.Views.{IsAt, OwesNoRing, holds, is_of_worker, took};
-ghost use Rattle.std.specs.Prelude.{◌≡◌, ◌+◌, ◌*◌, ◌^◌, ◌<◌, ◌≤◌, ℕ, [], IfErr, IfNone, IfOk, Some, codes};
+ghost use Rattle.pay_words.specs.Views.{IsAt, OwesNoRing, holds, took};
+ghost use Rattle.std.specs.Prelude.{◌≡◌, ◌+◌, ◌*◌, ◌^◌, ◌<◌, ◌≤◌, ℕ, [], IfNone};
 ghost use Rattle.std.specs.Prelude.{IfSome, drop, false, if◌then◌else◌, length, slice_index, true};
 
 use crate::bank_set::BankSet;
@@ -16,25 +16,10 @@ use crate::office::Office;
 use crate::visit::Visit;
 use clear_core::{Journal, Raise};
 use clr_edge::Gate;
-use clr_net::{BankId, MAX_BANKS, Mem, Network};
+use clr_net::{BankId, MAX_BANKS};
 use pay_words::{Board, PaySeat};
 use std::alloc::Global;
-use std::fmt;
 use std::marker::Model;
-
-/// Want of memory, with the seat for which there was none.
-#[derive(Drop)]
-pub struct SeatBack {
-    pub seat: PaySeat,
-}
-
-impl fmt::Display for SeatBack {
-    ghost output = { λ _. Some (codes "out of memory") };
-
-    fn fmt<W: fmt::Write>(&self, f: &mut fmt::Formatter<W>) -> fmt::Result {
-        f.write_str("out of memory")
-    }
-}
 
 /// One of the workers of a board: a seat, a desk for each bank of the seat, and a journal of the
 /// seat's raises.
@@ -50,10 +35,10 @@ pub struct Worker {
 }
 
 impl Model for Worker {
-    ghost use Rattle.bank_worker.specs.Views.{Crew};
+    ghost use Rattle.bank_worker.specs.Views.{WorkerView};
     ghost use Rattle.bank_worker.specs.Staff.{IsStaffed};
 
-    ghost Value = { Crew };
+    ghost Value = { WorkerView };
 
     ghost view = { λ w. record {
       seat = w.seat;
@@ -67,40 +52,6 @@ impl Model for Worker {
 }
 
 impl Worker {
-    /// The worker of this number, with a seat that holds its banks and has made no raise.
-    /// `SeatBack` is want of memory.
-    ///
-    /// Costs a walk over all banks and debts.
-    pub fn make(
-        alloc: Global,
-        net: &Network,
-        seat: PaySeat,
-        worker: u32,
-        workers: u32,
-    ) -> Result<Worker, SeatBack>
-        requires workers { (1 ≤ workers) × (workers ≤ 64) }
-        requires net { net.now ≡ seat.shows.net }
-        requires not_the_master { seat.shows.master ≡ false }
-        requires banks { (b : ℕ) → b < length net.now.banks
-            → holds seat.shows b ≡ is_of_worker workers worker b }
-        requires no_raise { seat.shows.raises ≡ [] }
-        requires idle { OwesNoRing seat.shows × IsAllCalm seat.shows
-            × MayRest seat.shows (desks_held seat.shows) }
-        ensures worker { IfOk result (λ w. w ≡ record {
-          seat = seat;
-          desks = desks_held seat.shows;
-          worker = worker;
-          visits = 0;
-          journal = [];
-        }) }
-        ensures seat_back { IfErr result (λ e. e.seat ≡ seat) }
-    {
-        match Office::of(alloc, net, worker, workers) {
-            Ok(office) => Ok(Worker::with(alloc, office, seat)),
-            Err(Mem) => Err(SeatBack { seat }),
-        }
-    }
-
     /// The worker of an office, with a seat for the same banks of the same network. Takes no
     /// memory, and its cost does not grow with the network.
     pub fn with(alloc: Global, mut office: Office, seat: PaySeat) -> Worker
@@ -129,7 +80,7 @@ impl Worker {
     pub fn desks(&self) -> usize
         ensures desks { result ≡ length self.now.desks }
         ensures held { self.now.desks ≡ desks_held self.now.seat.shows }
-        ensures few { result ≤ MAX_BANKS }
+        ensures in_limit { result ≤ MAX_BANKS }
         ensures no_rings { OwesNoRing self.now.seat.shows }
     {
         self.office.desks().len()
@@ -152,12 +103,12 @@ impl Worker {
         requires seat { IsAt board.now self.old.seat }
         requires place { place < length self.old.desks }
         requires visits { self.old.visits < 2 ^ 63 }
-        ensures same { IsSameCrew self.old self.new }
+        ensures same_worker { IsSameWorker self.old self.new }
         ensures visits { self.new.visits ≡ self.old.visits + 1 }
         ensures raised { WhenRaised result
             (λ n. IsVisited (desk_at self.old.desks place) n self.old self.new) }
         ensures grows { WhenRaised result (λ n. Grows n self.old self.new) }
-        ensures few { WhenRaised result (λ n. n ≤ MAX_OWED) }
+        ensures units_in_limit { WhenRaised result (λ n. n ≤ MAX_OWED) }
         ensures no_rings { OwesNoRing self.new.seat.shows }
         ensures mem { WhenMem result ((self.new.seat ≡ self.old.seat)
             × (self.new.journal ≡ self.old.journal)) }
@@ -214,20 +165,10 @@ impl Worker {
             × MayRest self.old.seat.shows self.old.desks }
         requires called { AreCalledOrAtRest called.old self.old.seat.shows self.old.desks }
         ensures round { MakesRound sweeps result self.old self.new }
-        ensures others { KeepsOthers self.old.seat.shows called.old called.new }
+        ensures keeps_others { KeepsOthers self.old.seat.shows called.old called.new }
         ensures rung { CallsOthers self.old self.new called.new }
     {
         self.go_round(board, sweeps, gate, called, None)
-    }
-
-    /// The seat, and the journal of its raises. Takes no memory.
-    pub fn finish(self) -> (PaySeat, Journal)
-        ensures seat { result.0 ≡ self.seat }
-        ensures journal { result.1.raises ≡ self.journal }
-        ensures same { result.1.raises ≡ result.0.shows.raises }
-    {
-        let Worker { seat, journal, .. } = self;
-        (seat, journal)
     }
 
     /// The seat, the journal of its raises, and the office, which may be given another seat for
@@ -235,7 +176,7 @@ impl Worker {
     pub fn leave(self) -> (PaySeat, Journal, Office)
         ensures seat { result.0 ≡ self.seat }
         ensures journal { result.1.raises ≡ self.journal }
-        ensures same { result.1.raises ≡ result.0.shows.raises }
+        ensures raises_of_seat { result.1.raises ≡ result.0.shows.raises }
         ensures office { IsOfficeFor self.seat.shows.net (banks_held self.seat.shows) result.2 }
         ensures worker { result.2.worker ≡ self.worker }
     {
@@ -265,7 +206,7 @@ impl Worker {
             × MayRest self.old.seat.shows self.old.desks }
         requires called { AreCalledOrAtRest called.old self.old.seat.shows self.old.desks }
         ensures round { MakesRound sweeps result self.old self.new }
-        ensures others { KeepsOthers self.old.seat.shows called.old called.new }
+        ensures keeps_others { KeepsOthers self.old.seat.shows called.old called.new }
         ensures rung { CallsOthers self.old self.new called.new }
     {
         let desks = self.desks();
@@ -295,7 +236,7 @@ impl Worker {
         requires called { AreCalledOrAtRest called.old self.old.seat.shows self.old.desks }
         ensures round { MakesRound 1 result self.old self.new }
         ensures few { WhenRaised result (λ n. n ≤ length self.old.desks * MAX_OWED) }
-        ensures others { KeepsOthers self.old.seat.shows called.old called.new }
+        ensures keeps_others { KeepsOthers self.old.seat.shows called.old called.new }
         ensures rung { CallsOthers self.old self.new called.new }
     {
         let desks = self.desks();

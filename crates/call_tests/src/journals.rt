@@ -3,11 +3,12 @@
 ghost use Rattle.std.specs.Prelude.{◌≡◌, ◌<◌, All, length};
 
 use clear_core::{Journal, Raise, Scratch};
-use clear_report::journal_text;
 use clr_net::{Amounts, BankId, DebtId, Mem, Network};
 use net_check::{Limits, ReadNet};
 use net_samples::chain;
-use raise_journal::{Verdict, gather, read_journal, read_journal_within, replay, replay_with};
+use raise_journal::{
+    Verdict, gather, print_journal, read_journal, read_journal_within, replay, replay_with,
+};
 use std::alloc::Global;
 use std::test::Fail;
 
@@ -121,12 +122,12 @@ fn parts_are_gathered_in_order(rt: HostRuntime) -> Result<(), Fail> {
     Ok(())
 }
 
-const PRINTED: &[u8] = b"stamp,debtor,creditor,class,to\n1,A,B,1,7\n2,B,C,1,8\nrounds,2\n";
+const PRINTED: &[u8] = b"stamp,debtor,creditor,class,to\n1,A,B,1,7\n2,B,C,1,8\n";
 
 // Whether a text that is read is printed as it was.
 fn is_kept(alloc: Global, net: &Network, text: &[u8]) -> Result<bool, ReadNet> {
     let journal = read_journal(alloc, net, text)?;
-    match journal_text(alloc, net, journal.as_slice(), 2) {
+    match print_journal(alloc, net, journal.as_slice()) {
         Ok(printed) => Ok(*printed.as_slice() == *text),
         Err(Mem) => Err(ReadNet::Mem),
     }

@@ -1,7 +1,7 @@
 //! Files with as much as the limits by which they are read allow, and with one more.
+use clr_edge::line::{push_field, push_number};
 use clr_net::Mem;
 use net_check::{FaultKind, FileKind, Limits, ReadNet};
-use net_csv::line::{push_field, push_number};
 use net_csv::{read_network, read_network_within};
 use std::alloc::Global;
 use std::test::Fail;

@@ -1,3 +1,9 @@
+//! Single events on the chain of three banks, and payments of it that are quiet.
+//!
+//! A network, a state and a buffer are each made in a function of their own round the next one. So
+//! no function holds two values that are to be dropped where a step of it may fail: each of these
+//! steps is a path to prove, with all that is dropped on it.
+
 ghost use Rattle.clear_core.specs.Buffers.{HasRoom};
 ghost use Rattle.clear_core.specs.Process.{IsOver, debt_of};
 ghost use Rattle.clr_net.specs.Net.{claim_of};

@@ -1,7 +1,7 @@
 //! Texts that the program does not write in this form, and what errors show. Clauses say which text
 //! an error shows, and not that no showing fails.
 use clear_core::Illegal;
-use clear_report::{check_text, line_heads, pay_text, scenario_block, scenario_text};
+use clear_report::{check_text, pay_text, scenario_text};
 use clear_words::WordsFault;
 use clr_net::{Mem, Name, NameFault, Network};
 use net_check::{Fault, FaultKind, FileKind, ReadNet};
@@ -55,23 +55,14 @@ const CHECKED: &[u8] = b"banks,3\ndebts,2\nowed,19\ncash,8\n\nthe banks\n\nthe d
 const BLOCK: &[u8] =
     b"scenario,half\ndebtor,creditor,class,claim,paid\nA,B,1,10,7\nB,C,1,9,8\nthe defaults\n";
 
-// Whether the block of a scenario on the chain is this, put together from its parts, and at once.
-fn are_blocks(alloc: Global, net: &Network, name: &Name, wanted: &[u8]) -> Result<bool, Mem> {
+// Whether the block of a scenario on the chain is this.
+fn is_block(alloc: Global, net: &Network, name: &Name, wanted: &[u8]) -> Result<bool, Mem> {
     if net.debts() != 2 {
         return Err(Mem);
     }
     let pay = pay_text(alloc, net, &[7, 8])?;
-    let heads = line_heads(alloc, net)?;
-    let parts = scenario_text(alloc, name, pay.as_slice(), b"the defaults\n")?;
-    let whole = scenario_block(
-        alloc,
-        name,
-        net,
-        heads.as_slice(),
-        &[7, 8],
-        b"the defaults\n",
-    )?;
-    Ok(*parts.as_slice() == *wanted && *whole.as_slice() == *wanted)
+    let block = scenario_text(alloc, name, pay.as_slice(), b"the defaults\n")?;
+    Ok(*block.as_slice() == *wanted)
 }
 
 #[test]
@@ -81,6 +72,6 @@ fn texts_are_put_together_from_others(rt: HostRuntime) -> Result<(), Fail> {
     let text = check_text(alloc, &net, b"the banks\n", b"the debts\n")?;
     assert_eq!(rt; text.as_slice(), CHECKED);
     let name = Name::of(alloc, b"half")?;
-    assert!(rt; are_blocks(alloc, &net, &name, BLOCK)?);
+    assert!(rt; is_block(alloc, &net, &name, BLOCK)?);
     Ok(())
 }

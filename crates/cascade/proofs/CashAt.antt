@@ -1,5 +1,5 @@
 -- What another cash at one bank changes, and what it leaves.
-use Rattle.std.proofs.Common.{◌≡◌, ℕ, zero, suc, ◌+◌, ◌<◌, ◌≤◌, List, [], ◌∷◌, length, slice_get, sum_by, Some, refl, ap, ◌∙◌, arith}
+use Rattle.std.proofs.Common.{◌≡◌, ℕ, zero, suc, ◌+◌, ◌<◌, ◌≤◌, List, [], ◌∷◌, length, slice_get, sum_by, Some, refl, ap, arith}
 use Rattle.std.specs.Option.{option_map_or}
 use Rattle.std.proofs.lemmas.List.Sums.{sum_by-cons}
 use Rattle.clr_net.specs.declared.bank.Bank.{Bank}
@@ -89,11 +89,6 @@ cash_twice (b ∷ banks) (suc i) c d = ap (λ (bs : List Bank). b ∷ bs) (cash_
 pub later_cash_counts : (net : Net) (i c d : ℕ)
     → with_cash (with_cash net i c) i d ≡ with_cash net i d
 later_cash_counts net i c d = ap (with_banks net) (cash_twice net.banks i c d)
-
--- so a bank that is given another cash, and then its own again, is as it was
-pub given_back : (net : Net) (i c d : ℕ) → d ≡ cash_of net i
-    → with_cash (with_cash net i c) i d ≡ net
-given_back net i c d e = later_cash_counts net i c d ∙ own_cash net i d e
 
 -- all cash changes by as much as the bank's
 sum-cash_at : (banks : List Bank) (i c : ℕ) → i < length banks

@@ -5,7 +5,7 @@ use Rattle.clr_net.specs.Net.{Net}
 use Rattle.clear_core.specs.Clearing.{receipts, estate, spend}
 use Rattle.cascade.specs.declared.standing.Health.{Health}
 use Rattle.cascade.specs.declared.standing.Health.TheVariants.{Sound, Fundamental, Contagion}
-use Rattle.cascade.specs.Standings.{worth, due, paid_by, owed_by, health_of, is_sound}
+use Rattle.cascade.specs.Standings.{worth, due, paid_by, owed_by, health_at, health_of, is_sound}
 
 -- a health that passes the test is sound
 pub sound_told : (h : Health) → is_sound h ≡ true → h ≡ Sound
@@ -31,3 +31,7 @@ module _ (net : Net) (P : List ℕ) (i : ℕ)
   -- and wherever it would not, since it has no more now
   pub below_fundamental : estate net P i ≤ worth net i → worth net i < due net i → health_of net P i ≡ Fundamental
   below_fundamental le l = grind (arith, nat_tests, pays)
+
+  -- so its estate tells how it stands
+  pub health_told : health_of net P i ≡ health_at net i (estate net P i)
+  health_told = grind (arith, nat_tests, pays)

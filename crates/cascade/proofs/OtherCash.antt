@@ -6,6 +6,9 @@ use Rattle.clr_net.specs.declared.bank.Bank.{Bank}
 use Rattle.clr_net.specs.declared.rule.RuleKind.TheVariants as kind
 use Rattle.clr_net.specs.Net.{Net, cash_of, of_cash, with_cash}
 use Rattle.clr_net.proofs.ChangedAt.{map-changed_at}
+use Rattle.clear_core.specs.Sums.{AreSums}
+use Rattle.clear_core.specs.declared.payments.Sums.{Sums}
+use Rattle.clear_core.proofs.Summing.{same_sums}
 use Rattle.cascade.specs.MoreCash.{HasMoreCash, IsOfOtherCash}
 use Rattle.cascade.proofs.PayingOut.{banks_at}
 
@@ -81,3 +84,14 @@ same_by_cash net a b first second same =
     (λ i l. same i (omega (arith, as_many_alike net b second))) in
     let debts = first.1 ∙ sym second.1 in
     λ at. record { banks = banks at; debts = debts at }
+
+-- payments have the same sums in it, and back
+pub sums_alike : (net other : Net) (P : List ℕ) (sums : List Sums) → IsOfOtherCash net other
+    → AreSums net P sums → AreSums other P sums
+sums_alike net other P sums alike = same_sums net other P sums (as_many_alike net other alike) alike.1
+
+-- and back
+pub sums_back : (net other : Net) (P : List ℕ) (sums : List Sums) → IsOfOtherCash net other
+    → AreSums other P sums → AreSums net P sums
+sums_back net other P sums alike =
+    same_sums other net P sums (sym (as_many_alike net other alike)) (sym alike.1)

@@ -1,9 +1,10 @@
 -- How banks stand under payments: what each has, owes and pays, what is left to its owners, and
 -- whose fault a default is.
-use Rattle.std.specs.Prelude.{◌≡◌, ℕ, ◌+◌, ◌-◌, ◌<◌, ◌≤◌, ◌==◌, ◌&&◌, not, nat_lt, Bool, true, false, List, length, map, min, sum, sum_by, slice_index, if◌then◌else◌}
+use Rattle.std.specs.Prelude.{◌≡◌, ℕ, ◌+◌, ◌-◌, ◌<◌, ◌≤◌, ◌==◌, ◌&&◌, not, nat_le, nat_lt, Bool, true, false, List, length, map, min, sum, sum_by, if◌then◌else◌}
 use Rattle.std.specs.List.{range_with_len}
-use Rattle.clr_net.specs.Net.{Net, cash_of, outside_of, claim_of, claims_of, row, column, all_cash}
+use Rattle.clr_net.specs.Net.{Net, cash_of, outside_of, claim_of, claims_of, column, all_cash}
 use Rattle.clear_core.specs.Clearing.{estate}
+pub use Rattle.clear_core.specs.Clearing.{paid_by}
 use Rattle.cascade.specs.declared.standing.Health.{Health}
 use Rattle.cascade.specs.declared.standing.Health.TheVariants as health
 use Rattle.cascade.specs.declared.standing.Standing.{Standing}
@@ -23,10 +24,6 @@ due net i = owed_by net i + outside_of net i
 -- what it would have if all its debtors paid it in full
 abbrev pub worth : Net → ℕ → ℕ
 worth net i = cash_of net i + sum_by (claim_of net) (column net i)
-
--- what it pays on the debts of its row
-abbrev pub paid_by : Net → List ℕ → ℕ → ℕ
-paid_by net P i = sum_by (slice_index P) (row net i)
 
 -- what it pays outside, before all its debts
 abbrev pub outside_paid : Net → List ℕ → ℕ → ℕ
@@ -48,6 +45,15 @@ health_of net P i =
     then health.Sound
     else if nat_lt (worth net i) (due net i) then health.Fundamental else health.Contagion
 
+-- by its estate: the bank i is sound with an estate that is no less than all that it owes. With a
+-- smaller one it is in default: by its own fundamentals where it would be even if all its debtors paid
+-- it in full, and otherwise by contagion
+abbrev pub health_at : Net → ℕ → ℕ → Health
+health_at net i e =
+    if nat_le (due net i) e
+    then health.Sound
+    else if nat_lt (worth net i) (due net i) then health.Fundamental else health.Contagion
+
 -- whether a bank is sound
 abbrev pub is_sound : Health → Bool
 is_sound health.Sound = true
@@ -57,6 +63,11 @@ is_sound health.Contagion = false
 -- whether a bank is in default
 abbrev pub is_default : Health → Bool
 is_default h = not (is_sound h)
+
+-- a bank that stands so under the least payments is in gridlock where it is in default, and has no
+-- wave: never on the way down to the greatest payments does it have less than all that it owes
+abbrev pub is_gridlocked : Health → ℕ → Bool
+is_gridlocked h wave = is_default h && (wave == 0)
 
 -- the standing of the bank i
 abbrev pub standing : Net → List ℕ → ℕ → Standing

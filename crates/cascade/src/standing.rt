@@ -1,3 +1,6 @@
+ghost use Rattle.cascade.specs.Standings.{is_default};
+ghost use Rattle.std.specs.Prelude.{◌≡◌};
+
 /// Whether a bank pays all that it owes, on its debts and outside the network, and with which label
 /// where it does not.
 #[derive(Clone, Copy, Debug, PartialEq, Eq)]
@@ -8,6 +11,15 @@ pub enum Health {
     Fundamental,
     /// It is in default, and would have enough if all its debtors paid it in full.
     Contagion,
+}
+
+impl Health {
+    /// Whether a bank that stands so does not pay all that it owes.
+    pub fn is_default(self) -> bool
+        ensures { result ≡ is_default self }
+    {
+        self != Health::Sound
+    }
 }
 
 /// How a bank stands under payments that clear. All numbers are units.

@@ -1,12 +1,14 @@
-ghost use Rattle.cascade.specs.Standings.{AddsUp, PaysOut, paid_by as paid_by_bank, standing, standings};
-ghost use Rattle.clear_core.specs.Buffers.{AreInLimit};
-ghost use Rattle.clear_core.specs.Clearing.{Clears};
+ghost use Rattle.cascade.specs.Standings.{AddsUp, PaysOut, owed_by, standing, standings};
+ghost use Rattle.clear_core.specs.Clearing.{Clears, paid_by as paid_by_bank, receipts};
+ghost use Rattle.clear_core.specs.Sums.{HaveSums};
 ghost use Rattle.clr_net.specs.Limits.{IsNetwork};
-ghost use Rattle.std.specs.Prelude.{◌≡◌, ◌<◌, ℕ, IfOk, OnOk, length};
+ghost use Rattle.clr_net.specs.Net.{cash_of, outside_of};
+ghost use Rattle.clr_net.specs.declared.TheConstants.{MAX_CLAIM, MAX_DEBTS};
+ghost use Rattle.std.specs.Prelude.{◌≡◌, ◌+◌, ◌-◌, ◌*◌, ◌<◌, ◌≤◌, ℕ, IfOk, List, OnOk, length, min};
 
-use crate::owing::{due, worth};
-use crate::standing::{Health, Standing};
-use clear_core::estate_of;
+use crate::owing::health_at;
+use crate::standing::Standing;
+use clear_core::{Payments, Sums, paid_by, receipts_of};
 use clr_net::{BankId, Mem, Network};
 use std::alloc::Global;
 
@@ -23,54 +25,54 @@ pub fn defaults(alloc: Global, net: &Network, paid: &[u64]) -> Result<Vec<Standi
 {
     let mut all = Vec::new(alloc);
     for number in 0..net.banks() {
-        all.push(standing_of(net, BankId(number), paid))?;
+        let bank = BankId(number);
+        let sums = Sums {
+            received: receipts_of(net, bank, paid),
+            paid: paid_by(net, bank, paid),
+        };
+        all.push(standing_of(net, bank, sums))?;
     }
     Ok(all)
 }
 
-// How one bank stands.
-fn standing_of(net: &Network, bank: BankId, paid: &[u64]) -> Standing
+/// What [`defaults`] tells, from payments that have their sums. `Mem` for want of memory alone. Costs
+/// a look at each bank, and at all that is owed to each bank in default.
+pub fn defaults_by(alloc: Global, net: &Network, payments: &Payments) -> Result<Vec<Standing>, Mem>
+    requires clears { Clears net.now payments.now.paid }
+    requires sums { HaveSums net.now payments.now }
+    ensures { IfOk result (λ all. all.items ≡ standings net.now payments.now.paid) }
+{
+    let mut all = Vec::new(alloc);
+    for number in 0..net.banks() {
+        all.push(standing_of(net, BankId(number), payments.sums[number as usize]))?;
+    }
+    Ok(all)
+}
+
+// How one bank stands, which receives and pays so much: all that it owes, or what its outside claim
+// leaves it.
+fn standing_of(net: &Network, bank: BankId, sums: Sums) -> Standing
     requires network { IsNetwork net.now }
     requires bank { bank.0 < length net.now.banks }
-    requires clears { Clears net.now paid.now }
-    ensures { result ≡ standing net.now paid.now bank.0 }
+    requires received { sums.received ≤ MAX_DEBTS * MAX_CLAIM }
+    requires pays { sums.paid ≡ min (owed_by net.now bank.0)
+        (cash_of net.now bank.0 + sums.received - outside_of net.now bank.0) }
+    ensures { (P : List ℕ) → sums.received ≡ receipts net.now P bank.0
+        → sums.paid ≡ paid_by_bank net.now P bank.0 → result ≡ standing net.now P bank.0 }
 {
     let owner = net.bank(bank);
     let outside = owner.outside;
-    let estate = estate_of(net, bank, paid);
+    let estate = owner.cash + sums.received;
     let outside_paid = outside.min(estate);
-    let on_debts = paid_by(net, bank, paid);
-    let equity = estate - outside_paid - on_debts;
+    let equity = estate - outside_paid - sums.paid;
     let owed = net.owed_by(bank);
-    let health = if on_debts == owed && outside_paid == outside {
-        Health::Sound
-    } else if worth(net, bank) < due(net, bank) {
-        Health::Fundamental
-    } else {
-        Health::Contagion
-    };
     Standing {
         estate,
         outside,
         outside_paid,
-        paid: on_debts,
+        paid: sums.paid,
         owed,
         equity,
-        health,
+        health: health_at(net, bank, estate),
     }
-}
-
-// What a bank pays on its debts.
-fn paid_by(net: &Network, bank: BankId, paid: &[u64]) -> u64
-    requires network { IsNetwork net.now }
-    requires bank { bank.0 < length net.now.banks }
-    requires over { length paid.now ≡ length net.now.debts }
-    requires paid_in_limit { AreInLimit paid.now }
-    ensures { result ≡ paid_by_bank net.now paid.now bank.0 }
-{
-    let mut total = 0;
-    for id in net.row(bank) {
-        total += paid[id.0 as usize];
-    }
-    total
 }

@@ -18,10 +18,12 @@ use Rattle.clear_core.proofs.Rows.{claim_in_limit}
 pub allowed_in_limit : (net : Net) (s : Progress) (x : ℕ) → IsNetwork net → x < length net.debts → allowed net s x ≤ MAX_CLAIM
 allowed_in_limit net s x network l = omega (arith, part_within net x (receipts net s.seen (debtor_of net x)) l, claim_in_limit net x network)
 
+-- an event that raises a debt of the network is of that debt
 pub raise_in_range : (net : Net) (e : Event) (x : DebtId) (to : ℕ) → e ≡ Raise x to → debt_of e < length net.debts
     → x.0 < length net.debts
 raise_in_range net e x to is l = subst (λ e. debt_of e < length net.debts) is l
 
+-- a raise above what is paid and within what is allowed is legal
 pub raise_legal : (net : Net) (s : Progress) (e : Event) (x : DebtId) (to : ℕ) → e ≡ Raise x to → debt_of e < length net.debts
     → get_or s.paid x.0 0 < to → to ≤ allowed net s x.0 → IsLegal net s e
 raise_legal net s e x to is l more most = subst (λ e. IsLegal net s e) (sym is) (raise_in_range net e x to is l, more, most)

@@ -1,20 +1,43 @@
 -- What one bank pays, row by row: its debts get what its rule gives, all together what it has or owes.
-use Rattle.std.proofs.Common.{◌≡◌, ℕ, ◌<◌, min, List, length, get_or, map, sum, sum_by, refl, sym, ap, ◌∙◌, subst, arith}
-use Rattle.std.proofs.lemmas.List.{ext_get_or, get_or-map, length-map}
+use Rattle.std.proofs.Common.{◌≡◌, ℕ, ◌<◌, ◌≤◌, min, List, length, get_or, map, sum, sum_by, refl, sym, ap, ◌∙◌, subst, ⊎_elim, arith}
+use Rattle.std.proofs.lemmas.Bool.{cases_lt}
+use Rattle.std.proofs.lemmas.List.{ext_get_or, get_or-map, get_or_past, length-map}
 use Rattle.std.proofs.lemmas.List.Sums.{sum-map}
 use Rattle.clr_net.specs.Limits.{IsNetwork}
-use Rattle.clr_net.specs.Net.{Net, debtor_of, place_in_row, row, claims_of, classes_of, rule_of}
+use Rattle.clr_net.specs.declared.TheConstants.{MAX_CLAIM}
+use Rattle.clr_net.specs.Net.{Net, debtor_of, place_in_row, row, claim_of, claims_of, classes_of, rule_of}
 use Rattle.clr_net.proofs.RowsAndColumns.{StandsInRow, row_place, length-claims_of, length-classes_of, classes_of_are}
-use Rattle.clr_net.proofs.Share.{length-share, sum_share}
+use Rattle.clr_net.proofs.Share.{length-share, share_within, sum_share}
+use Rattle.clear_core.specs.Buffers.{AreInLimit}
 use Rattle.clear_core.specs.Clearing.{receipts, spend, division_of, division, pay_by, pay, Clears}
 use Rattle.clear_core.proofs.Pay.{pay_by_at}
+use Rattle.clear_core.proofs.Rows.{claim_in_limit}
 
+-- a division has an amount for each debt of the row
 pub length-division_of : (net : Net) (i units : ℕ) → length (division_of net i units) ≡ length (row net i)
 length-division_of net i units =
     length-share (rule_of net i) (claims_of net i) (classes_of net i) units ∙ length-claims_of net i
 
+-- and so has the division of what a bank has
 pub length-division : (net : Net) (i r : ℕ) → length (division net i r) ≡ length (row net i)
 length-division net i r = length-division_of net i (spend net i r)
+
+-- what a bank's rule gives is within the limit of a claim
+pub division_in_limit : (net : Net) (i units : ℕ) → IsNetwork net → AreInLimit (division_of net i units)
+division_in_limit net i units network k =
+    let claim : get_or (claims_of net i) k 0 ≤ MAX_CLAIM = ⊎_elim
+    (λ (l : k < length (row net i)).
+    omega (arith, get_or-map (claim_of net) (row net i) k 0 0 l, claim_in_limit net (get_or (row net i) k 0) network))
+    (λ (g : length (row net i) ≤ k). omega (arith, get_or_past (claims_of net i) k 0 (omega (arith, length-claims_of net i))))
+    (cases_lt k (length (row net i))) in
+    omega (arith, share_within (rule_of net i) (claims_of net i) (classes_of net i) units k, claim)
+
+-- and comes to what it divides, up to what the bank owes
+pub sum-division_of : (net : Net) (i units : ℕ) → IsNetwork net
+    → sum (division_of net i units) ≡ min units (sum (claims_of net i))
+sum-division_of net i units network =
+    sum_share (rule_of net i) (claims_of net i) (classes_of net i) units
+    (length-claims_of net i ∙ sym (length-classes_of net i)) (classes_of_are net i network)
 
 module _ (net : Net) (f : ℕ → ℕ → ℕ) (P : List ℕ) (i : ℕ) where
   -- what the bank divides gives each debt of its row what is paid on it
@@ -52,6 +75,7 @@ pub award_at : (net : Net) (P : List ℕ) (i k x : ℕ) → k < length (row net 
 unfolding pay
 award_at net = award_by_at net (spend net)
 
+-- what all banks pay is, on the row of each, its own division
 pub pay_row : (net : Net) (P : List ℕ) (i : ℕ)
     → map (λ x. get_or (pay net P) x 0) (row net i) ≡ division net i (receipts net P i)
 unfolding pay
@@ -63,8 +87,7 @@ pub sum-pay_row : (net : Net) (P : List ℕ) (i : ℕ) → IsNetwork net
 sum-pay_row net P i network =
     sym (sum-map (λ x. get_or (pay net P) x 0) (row net i))
     ∙ ap sum (pay_row net P i)
-    ∙ sum_share (rule_of net i) (claims_of net i) (classes_of net i) (spend net i (receipts net P i))
-    (length-claims_of net i ∙ sym (length-classes_of net i)) (classes_of_are net i network)
+    ∙ sum-division_of net i (spend net i (receipts net P i)) network
 
 -- so in payments that clear
 pub clearing_row : (net : Net) (P : List ℕ) → IsNetwork net → Clears net P → (i : ℕ)

@@ -37,6 +37,7 @@ module _ (net : Net) (n : ℕ) (rs : List Raise) where
   paid_before_at x l =
       get_or-map-range_with_len (raised_before n rs) 0 (length net.debts) x x 0 l (omega arith)
 
+  -- a bound on each debt's raises of smaller stamp is one on what they paid
   paid_before_le : (Q : List ℕ)
       → ((x : ℕ) → x < length net.debts → raised_before n rs x ≤ get_or Q x 0)
       → IsAtMost (paid_before net n rs) Q

@@ -20,6 +20,7 @@ unfolding replayed_from
 length-replayed_from P [] = refl
 length-replayed_from P (r ∷ rs) = length-replayed_from (set P r.debt.0 r.to) rs ∙ length-set P r.debt.0 r.to
 
+-- and so from the first
 pub length-replayed : (net : Net) (rs : List Raise) → length (replayed net rs) ≡ length net.debts
 length-replayed net rs = length-replayed_from (zeros net) rs ∙ length-replicate (length net.debts) 0
 
@@ -31,6 +32,7 @@ stands_from_more net stamp P [] s h l all lawful = (l, lawful, tt)
 stands_from_more net stamp P (r ∷ rs) s h l all lawful =
     (h.0, h.1, stands_from_more net r.stamp (set P r.debt.0 r.to) rs s h.2 (all 0 r (omega arith)) (λ k d m. all (suc k) d (omega arith)) lawful)
 
+-- so one more raise, lawful then, leaves a journal that stands
 pub stands_more : (net : Net) (rs : List Raise) (s : Raise) → Stands net rs → All (λ r. r.stamp ≤ s.stamp) rs
     → IsLawful net (replayed net rs) s → Stands net (rs ++ s ∷ [])
 stands_more net rs s h all lawful = stands_from_more net 0 (zeros net) rs s h (omega arith) all lawful
@@ -49,6 +51,7 @@ in_range_from net stamp P [] h k d l = absurd (omega arith)
 in_range_from net stamp P (r ∷ rs) h zero d l = lawful_in_range net P r h.1
 in_range_from net stamp P (r ∷ rs) h (suc k) d l = in_range_from net r.stamp (set P r.debt.0 r.to) rs h.2 k d (omega arith)
 
+-- no raise of it is of another debt
 pub stands_in_range : (net : Net) (rs : List Raise) → Stands net rs → All (λ r. r.debt.0 < length net.debts) rs
 stands_in_range net rs h = in_range_from net 0 (zeros net) rs h
 
@@ -56,6 +59,7 @@ stands_in_range net rs h = in_range_from net 0 (zeros net) rs h
 pub raised_by : (P : List ℕ) (x v : ℕ) → get_or P x 0 < v → IsAtMost P (set P x v)
 raised_by P x v l k = grind (arith, common_steps)
 
+-- from payments that are covered on
 pay_covers_from : (net : Net) (stamp : ℕ) (P : List ℕ) (rs : List Raise) → IsAtMost P (pay net P) → StandsFrom net stamp P rs
     → IsAtMost (replayed_from P rs) (pay net (replayed_from P rs))
 unfolding StandsFrom replayed_from
@@ -66,5 +70,6 @@ pay_covers_from net stamp P (r ∷ rs) h s =
     let within = raised_within P (pay net P) r.debt.0 r.to h s.1.1 in
     pay_covers_from net r.stamp Q rs (λ k. omega (arith, grows k, within k)) s.2
 
+-- and so from nothing paid
 pub pay_covers : (net : Net) (rs : List Raise) → Stands net rs → IsAtMost (replayed net rs) (pay net (replayed net rs))
 pay_covers net rs s = pay_covers_from net 0 (zeros net) rs (zeros_le net (pay net (zeros net))) s

@@ -9,6 +9,7 @@ use Rattle.clear_core.specs.Clearing.{receipts, part, spend, RisesTo, NeverFalls
 use Rattle.clear_core.proofs.Pay.{length-pay_by, pay_by_mono, spend_mono, pay_at, pay_mono}
 use Rattle.clear_core.proofs.Settling.{pay_by_is_paying, rounds_below, rising_settles}
 
+-- nothing paid is at most any payments
 pub zeros_le : (net : Net) (P : List ℕ) → IsAtMost (zeros net) P
 zeros_le net P x = omega (arith, zeros_at (length net.debts) x)
 
@@ -71,6 +72,7 @@ pub least_rounds : (net : Net) → IsLeast net (least net)
 unfolding pay rounds
 least_rounds net = least_by_is net (spend net) (spend_mono net)
 
+-- the least payments clear
 pub least_clears : (net : Net) → Clears net (least net)
 least_clears net = (least_rounds net).clears
 
@@ -78,18 +80,22 @@ least_clears net = (least_rounds net).clears
 pub pay_le_least : (net : Net) (P : List ℕ) → IsAtMost P (least net) → IsAtMost (pay net P) (least net)
 pay_le_least net P h = subst (λ Q. IsAtMost (pay net P) Q) (least_clears net) (pay_mono net P (least net) h)
 
+-- a part at payments below the least is at most the least
 pub part_le_least : (net : Net) (P : List ℕ) (x : ℕ) → x < length net.debts → IsAtMost P (least net)
     → part net x (receipts net P (debtor_of net x)) ≤ get_or (least net) x 0
 part_le_least net P x lt h = omega (arith, pay_at net P x lt, pay_le_least net P h x)
 
+-- payments below the least that clear are the least
 pub clears_only_at_least : (net : Net) (P : List ℕ) → IsAtMost P (least net) → Clears net P → P ≡ least net
 unfolding pay rounds
 clears_only_at_least net = clears_only_at_least_by net (spend net) (spend_mono net)
 
+-- there is only one least list
 pub least_only : (net : Net) (P : List ℕ) → IsLeast net P → P ≡ least net
 unfolding pay rounds
 least_only net = least_by_only net (spend net) (spend_mono net)
 
+-- payments below the least that would not rise are the least
 pub nothing_left_to_raise : (net : Net) (P : List ℕ) → length P ≡ length net.debts → IsAtMost P (least net)
     → IsAtMost (pay net P) P → P ≡ least net
 unfolding pay rounds

@@ -15,9 +15,11 @@ allowed_le_least : (net : Net) (s : Progress) (x : ℕ) → IsBelowLeast net s �
 allowed_le_least net s x b l =
     part_le_least net s.seen x l (λ y. omega (arith, b.seen y, b.paid y))
 
+-- a raise keeps what was seen below what is paid
 raised_above : (seen paid : List ℕ) (x v : ℕ) → IsAtMost seen paid → get_or paid x 0 < v → IsAtMost seen (set paid x v)
 raised_above seen paid x v h l k = grind (arith, common_steps, h k)
 
+-- and what is paid below the most
 pub raised_within : (paid most : List ℕ) (x v : ℕ) → IsAtMost paid most → v ≤ get_or most x 0 → IsAtMost (set paid x v) most
 raised_within paid most x v h l k = grind (arith, common_steps, h k)
 
@@ -36,9 +38,11 @@ unfolding after AreLegal
 below_after net s [] b l = b
 below_after net s (e ∷ es) b l = below_after net (step s e) es (below_step net s e b l.0) l.1
 
+-- with nothing paid it is so
 pub below_opening : (net : Net) → IsBelowLeast net (opening net)
 below_opening net = record { seen = λ x. omega arith; paid = zeros_le net (least net) }
 
+-- no legal event passes the least
 pub never_passes_least : (net : Net) → NeverPassesLeast net
 never_passes_least net es l =
     let b : IsBelowLeast net (after (opening net) es) = below_after net (opening net) es (below_opening net) l in

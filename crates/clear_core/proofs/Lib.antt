@@ -2,6 +2,7 @@ pub mod Rows
 pub mod Pay
 pub mod BankPays
 pub mod WrittenRows
+pub mod Summing
 pub mod Raising
 pub mod Settling
 pub mod Least

@@ -14,6 +14,7 @@ use Rattle.clear_core.proofs.Ordered.{InTurn, in_turn, ordered_moves, precedes_t
 same : Raise → Raise → Bool
 same a b = may_precede a b && may_precede b a
 
+-- each raise is the same as itself
 same-refl : (a : Raise) → same a a ≡ true
 unfolding same
 same-refl a = let one : may_precede a a ≡ true = grind (arith, common_steps) in and_from (may_precede a a) (may_precede a a) one one
@@ -23,6 +24,7 @@ alike : (s t x y v w : ℕ) → s ≡ t → x ≡ y → v ≡ w
     → (let r : Raise = record { stamp = s; debt = record { 0 = x }; to = v } in r) ≡ record { stamp = t; debt = record { 0 = y }; to = w }
 alike s t x y v w e f g = cc
 
+-- raises that may each stand before the other are equal
 same-is : (a b : Raise) → may_precede a b ≡ true → may_precede b a ≡ true → a ≡ b
 same-is a b h g =
     let stamps : a.stamp ≡ b.stamp = grind (arith, common_steps, h, g) in
@@ -34,17 +36,21 @@ same-is a b h g =
 once : Raise → Raise → ℕ
 once a r = cond (same a r) 1 0
 
+-- how many of them are the same as this one
 times : Raise → List Raise → ℕ
 times a rs = sum_by (once a) rs
 
+-- one in front counts if it is the same
 times-cons : (a r : Raise) (rs : List Raise) → times a (r ∷ rs) ≡ once a r + times a rs
 unfolding times
 times-cons a r rs = sum_by-cons (once a) r rs
 
+-- in an empty list there is none
 times-none : (a : Raise) → times a [] ≡ 0
 unfolding times
 times-none a = refl
 
+-- a raise counts for itself
 once-self : (a : Raise) → once a a ≡ 1
 unfolding once
 once-self a = rw (same-refl a) refl
@@ -77,12 +83,14 @@ one_order (x ∷ xs) (y ∷ ys) h g e =
     omega (arith, e a, times-cons a x xs, times-cons a y ys, ap (once a) first)) in
     cc
 
+-- each that may precede the next one makes a list in turn
 in_turn_from : (rs : List Raise) → ((k : ℕ) (d : Raise) → suc k < length rs → may_precede (get_or rs k d) (get_or rs (suc k) d) ≡ true) → InTurn rs
 unfolding InTurn
 in_turn_from [] h = tt
 in_turn_from (r ∷ []) h = (tt, tt)
 in_turn_from (r ∷ q ∷ rs) h = (h 0 r (omega arith), in_turn_from (q ∷ rs) (λ k d l. h (suc k) d (omega arith)))
 
+-- a list of the same raises in which each may precede the next is the ordered one
 pub only_order : (rs qs : List Raise) → IsPermutation rs qs
     → ((k : ℕ) (d : Raise) → k + 1 < length qs → may_precede (get_or qs k d) (get_or qs (k + 1) d) ≡ true) → qs ≡ ordered rs
 unfolding times

@@ -22,9 +22,11 @@ use Rattle.clear_core.proofs.Pay.{pay_mono}
 pub follows : (a b : Raise) → may_precede a b ≡ false → may_precede b a ≡ true
 follows a b h = grind (arith, common_steps, h)
 
+-- what may precede a second that may precede a third may precede that
 pub precedes_trans : (a b c : Raise) → may_precede a b ≡ true → may_precede b c ≡ true → may_precede a c ≡ true
 precedes_trans a b c h g = grind (arith, common_steps, h, g)
 
+-- what may precede another has no greater stamp
 precedes_stamp : (a b : Raise) → may_precede a b ≡ true → a.stamp ≤ b.stamp
 precedes_stamp a b h = grind (arith, common_steps, h)
 
@@ -37,21 +39,26 @@ put_moves r (q ∷ rs) = by_test (may_precede r q) (put_moves r rs)
     by_test true h = IsPermutation-refl (r ∷ q ∷ rs)
     by_test false h = IsPermutation-trans (r ∷ q ∷ rs) (q ∷ r ∷ rs) (q ∷ with_raise r rs) (IsPermutation-middle (r ∷ []) q rs) (IsPermutation-cons q (r ∷ rs) (with_raise r rs) h)
 
+-- so are all of them in order
 pub ordered_moves : (rs : List Raise) → IsPermutation rs (ordered rs)
 ordered_moves [] = IsPermutation-refl []
 ordered_moves (r ∷ rs) = IsPermutation-trans (r ∷ rs) (r ∷ ordered rs) (with_raise r (ordered rs)) (IsPermutation-cons r rs (ordered rs) (ordered_moves rs)) (put_moves r (ordered rs))
 
+-- and as many
 pub length-ordered : (rs : List Raise) → length (ordered rs) ≡ length rs
 length-ordered rs = length_permutation rs (ordered rs) (ordered_moves rs)
 
 -- what holds of each two of a list holds of the first and each after it, and of each two of the others
 module _ (R : Raise → Raise → Type 0) (r : Raise) (rs : List Raise) where
+  -- the first holds with each after it
   pairs_head : AllPairs R (r ∷ rs) → All (R r) rs
   pairs_head h k d l = h 0 (suc k) d (omega arith) (omega arith)
 
+  -- and the others with one another
   pairs_tail : AllPairs R (r ∷ rs) → AllPairs R rs
   pairs_tail h i j d l m = h (suc i) (suc j) d (omega arith) (omega arith)
 
+  -- both together give all pairs
   pairs_cons : All (R r) rs → AllPairs R rs → AllPairs R (r ∷ rs)
   pairs_cons f h i zero d l m = absurd (omega arith)
   pairs_cons f h zero (suc j) d l m = f j d (omega arith)
@@ -62,6 +69,7 @@ abbrev IsAhead : (Raise → Raise → Type 0) → Raise → Raise → Type 0
 IsAhead D a b = (may_precede a b ≡ true) × D a b
 
 module _ (D : Raise → Raise → Type 0) (both_ways : (a b : Raise) → D a b → D b a) where
+  -- a raise put in its place holds with the others as they do
   put_pairs : (r : Raise) (rs : List Raise) → All (D r) rs → AllPairs (IsAhead D) rs → AllPairs (IsAhead D) (with_raise r rs)
   put_pairs r [] f h = pairs_cons (IsAhead D) r [] (λ k d l. absurd (omega arith)) h
   put_pairs r (q ∷ rs) f h =
@@ -91,6 +99,7 @@ abbrev pub MayFollow : Raise → List Raise → Type 0
 MayFollow q [] = Unit {0}
 MayFollow q (r ∷ rs) = may_precede q r ≡ true
 
+-- the first may precede the second, and so on
 unfoldable pub InTurn : List Raise → Type 0
 InTurn [] = Unit {0}
 InTurn (r ∷ rs) = MayFollow r rs × InTurn rs
@@ -102,9 +111,11 @@ turn_from D [] h = tt
 turn_from D (r ∷ []) h = (tt, tt)
 turn_from D (r ∷ q ∷ rs) h = ((h 0 1 r (omega arith) (omega arith)).0, turn_from D (q ∷ rs) (pairs_tail (IsAhead D) r (q ∷ rs) h))
 
+-- raises in order are in turn
 pub in_turn : (rs : List Raise) → InTurn (ordered rs)
 in_turn rs = let D = λ (a b : Raise). Unit {0} in turn_from D (ordered rs) (ordered_pairs D (λ a b u. u) rs (λ i j d l m. tt))
 
+-- raises in turn stay as they are when put in order
 turn_kept : (rs : List Raise) → InTurn rs → ordered rs ≡ rs
 unfolding InTurn
 turn_kept [] h = refl
@@ -114,6 +125,7 @@ turn_kept (r ∷ rs) h = ap (with_raise r) (turn_kept rs h.1) ∙ put_first r rs
     put_first r [] m = refl
     put_first r (q ∷ rs) m = ap (λ b. cond b (r ∷ q ∷ rs) (q ∷ with_raise r rs)) m
 
+-- so putting them in order twice changes nothing
 pub ordered_again : (rs : List Raise) → ordered (ordered rs) ≡ ordered rs
 ordered_again rs = turn_kept (ordered rs) (in_turn rs)
 
@@ -139,6 +151,7 @@ ordered_after_all (x ∷ xs) ys h =
     ap (with_raise x) (ordered_after_all xs ys (λ m e n k d l. h m e n (suc k) d (omega arith)))
     ∙ put_before x (ordered xs) (ordered ys) (All-permutation (λ (b : Raise). x.stamp < b.stamp) ys (ordered ys) (ordered_moves ys) (λ m e n. h m e n 0 x (omega arith)))
 
+-- where it is put makes no difference to the greatest amount of a debt
 raised_to_put : (r : Raise) (rs : List Raise) (x : ℕ) → raised_to (with_raise r rs) x ≡ raised_to (r ∷ rs) x
 raised_to_put r [] x = refl
 raised_to_put r (q ∷ rs) x = by_test (may_precede r q) (raised_to_put r rs x)
@@ -176,6 +189,7 @@ module _ (net : Net) (whole : List Raise) where
   abbrev IsCovered : List ℕ → List Raise → Type 0
   IsCovered P rest = All (λ b. Contains rest b ⊎ (b.to ≤ get_or P b.debt.0 0)) whole
 
+  -- raises within what came before, from these payments on, stand
   stands_from : (stamp : ℕ) (P : List ℕ) (rest : List Raise) → All (λ r. stamp ≤ r.stamp) rest → AllPairs IsLater rest
       → All (λ r. get_or P r.debt.0 0 < r.to) rest → All IsWithin rest → length P ≡ length net.debts → IsCovered P rest
       → StandsFrom net stamp P rest
@@ -243,6 +257,7 @@ module _ (net : Net) (rs : List Raise) (history : IsHistory net rs) where
       × (a.debt ≡ b.debt → a.stamp < b.stamp → a.to < b.to)
       × (b.debt ≡ a.debt → b.stamp < a.stamp → b.to < a.to)
 
+  -- two that are apart are so in either order
   apart_either_way : (a b : Raise) → AreApart a b → AreApart b a
   apart_either_way a b h = (
     ⊎_elim (λ (d : a.stamp ≢ b.stamp). inl (λ e. d (sym e))) (λ (d : a.debt ≢ b.debt). inr (λ e. d (sym e))) h.0,
@@ -250,12 +265,14 @@ module _ (net : Net) (rs : List Raise) (history : IsHistory net rs) where
     h.1,
   )
 
+  -- any two in order are apart
   apart : AllPairs (IsAhead AreApart) (ordered rs)
   apart = ordered_pairs AreApart apart_either_way rs (λ i j d l m.
       let a = slice_get-get_or rs i d (omega arith) in
       let b = slice_get-get_or rs j d m in
       (history.traced.differ i j _ _ l a b, history.rises i j _ _ a b, history.rises j i _ _ b a))
 
+  -- and any two of one debt rise
   later : AllPairs IsLater (ordered rs)
   later i j d l m =
       let p = apart i j d l m in
@@ -276,10 +293,12 @@ module _ (net : Net) (rs : List Raise) (history : IsHistory net rs) where
             (less, h.1 (same_debt a b e) less),
       )
 
+  -- each raise in order is above 0
   above_zero : All (λ r. 0 < r.to) (ordered rs)
   above_zero = All-permutation (λ (r : Raise). 0 < r.to) rs (ordered rs) (ordered_moves rs)
       (λ k d l. history.above_zero k _ (slice_get-get_or rs k d l))
 
+  -- and within what came before it
   within : All (IsWithin net (ordered rs)) (ordered rs)
   within = All-permutation (IsWithin net (ordered rs)) rs (ordered rs) (ordered_moves rs) (λ k d l.
       let r = get_or rs k d in

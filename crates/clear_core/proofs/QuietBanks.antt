@@ -18,15 +18,18 @@ row_agrees P ns awards l h =
     let in_row : k < length ns = omega (arith, length-map ns paid) in
     get_or-map paid ns k 0 0 in_row ∙ h k in_row)
 
+-- one that is not its award refutes that all are
 pub row_differs : (P ns awards : List ℕ) (k : ℕ) → k < length ns → get_or P (get_or ns k 0) 0 ≢ get_or awards k 0
     → map (λ x. get_or P x 0) ns ≡ awards → ⊥
 row_differs P ns awards k l differs same =
     differs (sym (get_or-map (λ x. get_or P x 0) ns k 0 0 l) ∙ ap (λ xs. get_or xs k 0) same)
 
+-- where payments clear each bank is quiet
 pub quiet_from_clears : (net : Net) (P : List ℕ) → Clears net P → IsQuiet net P
 quiet_from_clears net P c i l =
     subst (λ Q. map (λ x. get_or Q x 0) (row net i) ≡ division net i (receipts net P i)) c (pay_row net P i)
 
+-- where each bank is quiet payments clear
 pub clears_from_quiet : (net : Net) (P : List ℕ) → IsNetwork net → length P ≡ length net.debts → IsQuiet net P → Clears net P
 clears_from_quiet net P network e h = ext_get_or 0 (pay net P) P (length-pay net P ∙ sym e) (λ x l.
     let in_range : x < length net.debts = omega (arith, length-pay net P) in

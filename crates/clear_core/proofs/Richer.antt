@@ -30,6 +30,7 @@ stands_from net more richer stamp P (r ∷ rs) s = (
   stands_from net more richer r.stamp (set P r.debt.0 r.to) rs s.2,
 )
 
+-- a journal that stands does so in the richer network
 pub stands_richer : (net more : Net) → IsRicher net more → (rs : List Raise) → Stands net rs → Stands more rs
 stands_richer net more richer rs s =
     let none : zeros net ≡ zeros more = ap (λ (ds : List Debt). replicate (length ds) 0) (sym richer.debts) in

@@ -18,6 +18,7 @@ use Rattle.clr_net.proofs.RowsAndColumns.{StandsInRow, debt_in_row, row_place, c
 pub as_many_numbers : (ids : List DebtId) (ns : List ℕ) → numbers ids ≡ ns → length ids ≡ length ns
 as_many_numbers ids ns e = sym (length-map ids (λ id. id.0)) ∙ ap length e
 
+-- the number in a place is that of the debt there
 pub number_at : (ids : List DebtId) (ns : List ℕ) (k : ℕ) (d : DebtId) → numbers ids ≡ ns → k < length ids
     → get_or ns k 0 ≡ (get_or ids k d).0
 number_at ids ns k d e l = ap (λ xs. get_or xs k 0) (sym e) ∙ get_or-map (λ id. id.0) ids k d 0 l
@@ -71,12 +72,15 @@ never_missing net i x n e l g h =
     let stands = debt_of_bank net i x l (sym e) in
     h (place_in_row net x) (omega (arith, stands.within)) stands.at
 
+-- the claim of a debt that is read is its claim
 pub claim_read : (net : Net) (x : ℕ) (d : Debt) → slice_get net.debts x ≡ Some d → claim_of net x ≡ d.claim
 claim_read net x d e = ap (λ o. option_map_or (λ (d : Debt). d.claim) o 0) e
 
+-- and so is its class
 pub class_read : (net : Net) (x : ℕ) (d : Debt) → slice_get net.debts x ≡ Some d → class_of net x ≡ d.class
 class_read net x d e = ap (λ o. option_map_or (λ (d : Debt). d.class) o 0) e
 
+-- and its creditor
 pub creditor_read : (net : Net) (x : ℕ) (d : Debt) → slice_get net.debts x ≡ Some d → creditor_of net x ≡ d.creditor.0
 creditor_read net x d e = ap (λ o. option_map_or (λ (d : Debt). d.creditor.0) o 0) e
 
@@ -105,6 +109,7 @@ row_past net i network g = ⊎_elim
     (λ (n : length (row net i) ≤ 0). omega arith)
     (cases_lt 0 (length (row net i)))
 
+-- a bound on the rows of all banks is one on every row
 pub longest_of_all : (net : Net) (longest : ℕ) → IsNetwork net
     → ((i : ℕ) → i < length net.banks → length (row net i) ≤ longest) → (i : ℕ) → length (row net i) ≤ longest
 longest_of_all net longest network h i = ⊎_elim
@@ -119,6 +124,7 @@ claim_in_limit net x network = ⊎_elim
     (λ (g : length net.debts ≤ x). omega (arith, claim_of_past net x g))
     (cases_lt x (length net.debts))
 
+-- those of a bank neither
 pub claims_in_limit : (net : Net) (i : ℕ) → IsNetwork net → All (λ claim. claim ≤ MAX_CLAIM) (claims_of net i)
 claims_in_limit net i network = All-from_get_or (λ claim. claim ≤ MAX_CLAIM) (claims_of net i) 0 (λ k l.
     let in_row : k < length (row net i) = omega (arith, length-claims_of net i) in

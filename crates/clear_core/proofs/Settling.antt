@@ -17,6 +17,7 @@ pub record IsPaying (f : List ℕ → List ℕ) (debts most : ℕ) : Type 0 wher
   pub within : (P : List ℕ) → sum (f P) ≤ most
 
 module _ (f : List ℕ → List ℕ) (debts most : ℕ) (paying : IsPaying f debts most) where
+  -- rounds keep the number of payments
   pub length-rounds_of : (P : List ℕ) → length P ≡ debts → (n : ℕ) → length (rounds_of f P n) ≡ debts
   unfolding rounds_of
   length-rounds_of P l zero = l
@@ -28,6 +29,7 @@ module _ (f : List ℕ → List ℕ) (debts most : ℕ) (paying : IsPaying f deb
   rounds_rise P h zero = h
   rounds_rise P h (suc n) = paying.rises (rounds_of f P n) (f (rounds_of f P n)) (rounds_rise P h n)
 
+  -- rounds that begin by falling go on so
   pub rounds_fall : (P : List ℕ) → IsAtMost (f P) P → (n : ℕ) → IsAtMost (f (rounds_of f P n)) (rounds_of f P n)
   unfolding rounds_of
   rounds_fall P h zero = h
@@ -39,6 +41,7 @@ module _ (f : List ℕ → List ℕ) (debts most : ℕ) (paying : IsPaying f deb
   rounds_below P Q h c zero = h
   rounds_below P Q h c (suc n) = λ x. omega (arith, paying.rises (rounds_of f P n) Q (rounds_below P Q h c n) x, c x)
 
+  -- they stay above payments that would not fall
   pub rounds_above : (P Q : List ℕ) → IsAtMost Q P → IsAtMost Q (f Q) → (n : ℕ) → IsAtMost Q (rounds_of f P n)
   unfolding rounds_of
   rounds_above P Q h c zero = h
@@ -48,6 +51,7 @@ module _ (f : List ℕ → List ℕ) (debts most : ℕ) (paying : IsPaying f deb
   stays_rising : (R : List ℕ) → length R ≡ debts → IsAtMost R (f R) → sum (f R) ≤ sum R → f R ≡ R
   stays_rising R l h s = sym (same_from_sum R (f R) (l ∙ sym (paying.as_many R)) h s)
 
+  -- falling payments whose sum stays are the same
   stays_falling : (R : List ℕ) → length R ≡ debts → IsAtMost (f R) R → sum R ≤ sum (f R) → f R ≡ R
   stays_falling R l h s = same_from_sum (f R) R (paying.as_many R ∙ sym l) h s
 
@@ -65,6 +69,7 @@ module _ (f : List ℕ → List ℕ) (debts most : ℕ) (paying : IsPaying f deb
       (λ (c : f (rounds_of f P n) ≡ rounds_of f P n). inr (ap f c))
       (rises_or_stays P l h n)
 
+  -- each round takes a unit off, or nothing changes any more
   falls_or_stays : (P : List ℕ) → length P ≡ debts → IsAtMost (f P) P → (n : ℕ)
       → (sum (rounds_of f P n) + n ≤ sum P) ⊎ (f (rounds_of f P n) ≡ rounds_of f P n)
   unfolding rounds_of
@@ -87,6 +92,7 @@ module _ (f : List ℕ → List ℕ) (debts most : ℕ) (paying : IsPaying f deb
       (λ (c : f (rounds_of f P n) ≡ rounds_of f P n). c)
       (rises_or_stays P l h n)
 
+  -- so falling rounds settle after as many as there are units
   pub falling_settles : (P : List ℕ) → length P ≡ debts → IsAtMost (f P) P → (n : ℕ) → sum P ≤ n
       → f (rounds_of f P n) ≡ rounds_of f P n
   falling_settles P l h n enough = ⊎_elim
@@ -120,6 +126,7 @@ pay_by_is_paying net f never = record {
   within = sum-pay_by_le net f;
 }
 
+-- it rises with what was paid, and is within what is owed
 pub pay_is_paying : (net : Net) → IsPaying (pay net) (length net.debts) (units_owed net)
 unfolding pay
 pay_is_paying net = pay_by_is_paying net (spend net) (spend_mono net)

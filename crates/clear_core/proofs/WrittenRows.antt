@@ -1,7 +1,7 @@
 -- What one bank pays is written into a list of payments, place by place of its row.
-use Rattle.std.proofs.Common.{◌≡◌, ◌≢◌, ℕ, ◌+◌, ◌<◌, ◌≤◌, List, length, get_or, set, sym, ap, ◌∙◌, ⊎_elim, arith}
+use Rattle.std.proofs.Common.{◌≡◌, ◌≢◌, ℕ, ◌+◌, ◌<◌, ◌≤◌, ◌++◌, List, length, get_or, set, take, sym, ap, ◌∙◌, ⊎_elim, arith}
 use Rattle.std.proofs.lemmas.Bool.{cases_eq}
-use Rattle.std.proofs.lemmas.List.{get_or-set_same, get_or-set_other}
+use Rattle.std.proofs.lemmas.List.{get_or-set_same, get_or-set_other, take-append-le, take_all}
 use Rattle.clr_net.specs.Net.{Net, debtor_of, place_in_row, row}
 use Rattle.clr_net.proofs.RowsAndColumns.{StandsInRow}
 use Rattle.clear_core.proofs.Rows.{debt_of_bank}
@@ -41,3 +41,7 @@ pub row_written : (net : Net) (i j : ℕ) (wanted : ℕ → ℕ) (start next : L
     → (x : ℕ) → x < length net.debts → debtor_of net x ≡ i → get_or next x 0 ≡ wanted x
 row_written net i j wanted start next g written x l owed =
     written.done x l owed (omega (arith, (debt_of_bank net i x l owed).within))
+
+-- a list of the same length, written back in place of another
+pub written_back : {X : Type 0} (n : ℕ) (xs ys : List X) → length xs ≡ n → take n (xs ++ ys) ≡ xs
+written_back n xs ys e = take-append-le n xs ys (omega arith) ∙ take_all n xs (omega arith)

@@ -7,3 +7,4 @@ pub mod Quiet
 pub mod Rounds
 pub mod Richer
 pub mod Raised
+pub mod Sums

@@ -1,7 +1,7 @@
 ghost use Rattle.clear_core.specs.Buffers.{HasRoom};
 ghost use Rattle.clear_core.specs.Clearing.{Clears};
 ghost use Rattle.clear_core.specs.Quiet.{IsFirstUnquiet, IsQuiet, IsWithinClaims};
-ghost use Rattle.std.specs.Prelude.{◌≡◌, ◌↔◌, IfSome, IsTrue, None, length};
+ghost use Rattle.std.specs.Prelude.{◌≡◌, ◌↔◌, IfSome, None, length};
 
 use crate::receipts::receipts_of;
 use crate::scratch::Scratch;
@@ -30,21 +30,4 @@ pub fn first_unquiet(net: &Network, paid: &[u64], scratch: &mut Scratch) -> Opti
         }
     }
     None
-}
-
-/// Whether each bank pays on each of its debts what its rule gives from its cash and from what it
-/// receives, less what it owes outside the network, all by `paid`: whether the payments clear the
-/// network.
-///
-/// `paid` has a place for each debt, in file order, in units. Takes no memory.
-pub fn is_quiet(net: &Network, paid: &[u64], scratch: &mut Scratch) -> bool
-    requires over { length paid.now ≡ length net.now.debts }
-    requires within { IsWithinClaims net.now paid.now }
-    requires room { HasRoom net.now scratch.old }
-
-    ensures quiet { IsTrue result ↔ IsQuiet net.now paid.now }
-    ensures clears { IsTrue result ↔ Clears net.now paid.now }
-    ensures room { scratch.new ≡ scratch.old }
-{
-    first_unquiet(net, paid, scratch).is_none()
 }

@@ -1,5 +1,6 @@
 ghost use Rattle.clear_core.specs.Buffers.{AreInLimit};
-ghost use Rattle.clear_core.specs.Clearing.{estate, receipts as receipts_in, spend as spend_of, spendable as spendable_of};
+ghost use Rattle.clear_core.specs.Clearing.{estate, paid_by as paid_by_bank, receipts as receipts_in, spend as spend_of, spendable as spendable_of};
+ghost use Rattle.clr_net.specs.Limits.{IsNetwork};
 ghost use Rattle.clr_net.specs.declared.TheConstants.{MAX_CASH, MAX_CLAIM, MAX_DEBTS};
 ghost use Rattle.std.specs.Prelude.{◌≡◌, ◌+◌, ◌*◌, ◌^◌, ◌<◌, ◌≤◌, length};
 
@@ -21,6 +22,23 @@ pub fn receipts_of(net: &Network, bank: BankId, paid: &[u64]) -> u64
         received += paid[id.0 as usize];
     }
     received
+}
+
+/// What a bank pays on its debts, in units, where so much is paid on each debt.
+///
+/// `paid` has a place for each debt, in file order, in units. Takes no memory.
+pub fn paid_by(net: &Network, bank: BankId, paid: &[u64]) -> u64
+    requires network { IsNetwork net.now }
+    requires bank { bank.0 < length net.now.banks }
+    requires over { length paid.now ≡ length net.now.debts }
+    requires paid_in_limit { AreInLimit paid.now }
+    ensures { result ≡ paid_by_bank net.now paid.now bank.0 }
+{
+    let mut total = 0;
+    for id in net.row(bank) {
+        total += paid[id.0 as usize];
+    }
+    total
 }
 
 /// What a bank has, in units, where so much is paid on each debt: its cash and what it receives.

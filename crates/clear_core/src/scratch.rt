@@ -1,12 +1,14 @@
 ghost use Rattle.clear_core.specs.Buffers.{AreInLimit, HasRoom};
 ghost use Rattle.clear_core.specs.Clearing.{division, division_of, pay};
 ghost use Rattle.clear_core.specs.Raised.{IsRaised};
+ghost use Rattle.clear_core.specs.Sums.{AreSums, AreSumsBut, HaveSums};
 ghost use Rattle.clr_net.specs.Limits.{IsNetwork};
 ghost use Rattle.clr_net.specs.Net.{debtor_of, place_in_row, row as row_of};
 ghost use Rattle.clr_net.specs.declared.TheConstants.{MAX_CLAIM, MAX_DEBTS};
 ghost use Rattle.std.specs.Bool.{OnFalse, OnTrue};
 ghost use Rattle.std.specs.Prelude.{◌≡◌, ◌≢◌, ◌*◌, ◌<◌, ◌≤◌, ◌↔◌, ℕ, IfOk, IsTrue, length, map, slice_index, sum};
 
+use crate::payments::{Payments, Sums};
 use crate::receipts::{receipts_of, spend};
 use crate::row_buffer::RowBuffer;
 use clr_net::{BankId, Mem, Network};
@@ -52,7 +54,7 @@ impl Scratch {
         requires room { HasRoom net.now self.old }
         ensures in_row { (x : ℕ) → x < length net.now.debts → debtor_of net.now x ≡ bank.0
             → slice_index next.new x ≡ slice_index (pay net.now paid.now) x }
-        ensures others { (x : ℕ) → debtor_of net.now x ≢ bank.0
+        ensures other_rows_kept { (x : ℕ) → debtor_of net.now x ≢ bank.0
             → slice_index next.new x ≡ slice_index next.old x }
         ensures room { self.new ≡ self.old }
     {
@@ -72,7 +74,7 @@ impl Scratch {
         ensures in_row { (x : ℕ) → x < length net.now.debts → debtor_of net.now x ≡ bank.0
             → slice_index next.new x
             ≡ slice_index (division_of net.now bank.0 units) (place_in_row net.now x) }
-        ensures others { (x : ℕ) → debtor_of net.now x ≢ bank.0
+        ensures other_rows_kept { (x : ℕ) → debtor_of net.now x ≢ bank.0
             → slice_index next.new x ≡ slice_index next.old x }
         ensures room { self.new ≡ self.old }
     {
@@ -86,32 +88,48 @@ impl Scratch {
     /// A bank pays on the debts of its row what its rule gives of so many units, which is no less
     /// than it has paid. Whoever it pays more is marked; answers whether it pays anyone more.
     ///
-    /// `paid` has a place for each debt, in file order, in units, and `marks` one for each bank.
-    /// Takes no memory.
+    /// `payments` have their sums, and keep them. `marks` has a place for each bank. Takes no memory,
+    /// and divides nothing where the bank pays in all what it has paid.
     pub fn raise_row(
         &mut self,
         net: &Network,
         bank: BankId,
         units: u64,
-        paid: &mut [u64],
+        payments: &mut Payments,
         marks: &mut [bool],
     ) -> bool
         requires network { IsNetwork net.now }
         requires bank { bank.0 < length net.now.banks }
-        requires paid { length paid.old ≡ length net.now.debts }
+        requires paid { length payments.old.paid ≡ length net.now.debts }
+        requires paid_in_limit { AreInLimit payments.old.paid }
+        requires sums { HaveSums net.now payments.old }
         requires marks { length marks.old ≡ length net.now.banks }
         requires rises { (m : ℕ) → m < length (row_of net.now bank.0)
-            → slice_index paid.old (slice_index (row_of net.now bank.0) m)
+            → slice_index payments.old.paid (slice_index (row_of net.now bank.0) m)
             ≤ slice_index (division_of net.now bank.0 units) m }
         requires room { HasRoom net.now self.old }
         ensures raised { IsRaised net.now bank.0 (division_of net.now bank.0 units)
-            paid.old paid.new marks.old marks.new }
-        ensures more { OnTrue result (sum paid.old < sum paid.new) }
-        ensures same { OnFalse result (paid.new ≡ paid.old) }
+            payments.old.paid payments.new.paid marks.old marks.new }
+        ensures sums { HaveSums net.now payments.new }
+        ensures rises_if_true { OnTrue result (sum payments.old.paid < sum payments.new.paid) }
+        ensures same_if_false { OnFalse result (payments.new.paid ≡ payments.old.paid) }
         ensures room { self.new ≡ self.old }
     {
+        let in_all = units.min(net.owed_by(bank));
+        if payments.sums[bank.0 as usize].paid == in_all {
+            return false;
+        }
         self.row.divide(net, bank, units);
-        raise(net, bank, self.row.awards(), paid, marks)
+        raise(
+            net,
+            bank,
+            self.row.awards(),
+            payments.paid.as_mut_slice(),
+            payments.sums.as_mut_slice(),
+            marks,
+        );
+        payments.sums[bank.0 as usize].paid = in_all;
+        true
     }
 
     /// What a bank's rule gives the debt in one place of its row, when the bank receives so many units.
@@ -165,31 +183,38 @@ pub fn longest_row(net: &Network) -> usize
     longest
 }
 
-// Pays the awards on the debts of a bank, where they are more than is paid, and marks whoever is
-// paid more. Answers whether any is.
-fn raise(net: &Network, bank: BankId, awards: &[u64], paid: &mut [u64], marks: &mut [bool]) -> bool
+// Pays the awards on the debts of a bank, where they are more than is paid: each creditor receives
+// so much more, and is marked where that is anything. What the bank pays in all is left as it was.
+fn raise(
+    net: &Network,
+    bank: BankId,
+    awards: &[u64],
+    paid: &mut [u64],
+    sums: &mut [Sums],
+    marks: &mut [bool],
+)
     requires network { IsNetwork net.now }
     requires bank { bank.0 < length net.now.banks }
     requires paid { length paid.old ≡ length net.now.debts }
+    requires paid_in_limit { AreInLimit paid.old }
+    requires sums { AreSums net.now paid.old sums.old }
     requires marks { length marks.old ≡ length net.now.banks }
     requires places { length awards.now ≡ length (row_of net.now bank.0) }
+    requires awards_in_limit { AreInLimit awards.now }
     requires rises { (m : ℕ) → m < length (row_of net.now bank.0)
         → slice_index paid.old (slice_index (row_of net.now bank.0) m) ≤ slice_index awards.now m }
     ensures raised { IsRaised net.now bank.0 awards.now paid.old paid.new marks.old marks.new }
-    ensures more { OnTrue result (sum paid.old < sum paid.new) }
-    ensures same { OnFalse result (paid.new ≡ paid.old) }
+    ensures sums { AreSumsBut net.now bank.0 paid.new sums.new }
 {
-    let mut any = false;
     // Without a branch: nobody can foretell which debts are paid more.
     for (place, id) in net.row(bank).iter().enumerate() {
         let award = awards[place];
         let creditor = net.debt(*id).creditor.0 as usize;
-        let more = paid[id.0 as usize] < award;
+        let more = award - paid[id.0 as usize];
         paid[id.0 as usize] = award;
-        marks[creditor] = marks[creditor] | more;
-        any |= more;
+        sums[creditor].received += more;
+        marks[creditor] = marks[creditor] | (more > 0);
     }
-    any
 }
 
 // Whether the payments on the row of a bank are the awards, in file order.

@@ -1,7 +1,9 @@
 -- Where memory is wanting before the run, no file is named and nothing is written.
 use Rattle.std.proofs.Common.{◌≡◌, refl, Option, None, Some, inr}
 use Rattle.clear_words.specs.declared.job.Job.{Job}
-use Rattle.clear_top.specs.Ending.{RunEnds, ShelfCall, SinkCall}
+use Rattle.clear_load.specs.Loading.{ShelfCall}
+use Rattle.clear_top.specs.Ending.{RunEnds}
+use Rattle.clr_edge.specs.Taking.{SinkCall}
 use Rattle.clear_top.specs.Message.{message}
 use Rattle.clear_top.specs.declared.status.Ended.{Ended}
 use Rattle.clear_top.specs.declared.status.Status.TheVariants as status

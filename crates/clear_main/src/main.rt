@@ -12,9 +12,6 @@ mod start;
 use clr_host::{DirShelf, StdSink};
 use start::{Exit, arguments, refuse, start};
 
-#[cfg(test)]
-mod tests;
-
 fn main(rt: HostRuntime) -> Exit {
     let mut files = DirShelf::new(&rt);
     let mut out = StdSink::new(rt.stdout());

@@ -1,7 +1,9 @@
 ghost use Rattle.clear_main.specs.Words.{words_of};
-ghost use Rattle.clear_top.specs.Ending.{RunEnds, WritesNothing, shelf_call, sink_call};
+ghost use Rattle.clear_load.specs.Loading.{on_shelf};
+ghost use Rattle.clear_top.specs.Ending.{RunEnds, WritesNothing};
+ghost use Rattle.clr_edge.specs.Taking.{on_sink};
 ghost use Rattle.clear_top.specs.Message.{message, TakesText};
-ghost use Rattle.clear_top.specs.Sources.{HasNoFiles};
+ghost use Rattle.clear_load.specs.Sources.{HasNoFiles};
 ghost use Rattle.clear_top.specs.Status.{code_of};
 ghost use Rattle.clear_top.specs.declared.status.Status.{Status};
 ghost use Rattle.clear_words.specs.Job.{job_of};
@@ -47,12 +49,9 @@ pub fn start<R: Threads + Sync + AllocGlobal, F: Shelf, O: Sink, E: Sink>(
     out: &mut O,
     err: &mut E,
 ) -> Exit
-    ensures ends { RunEnds
-        (shelf_call (F.files files.old) (F.faults files.old) (F.faults files.new))
-        (sink_call (O.written out.old) (O.written out.new) (O.faults out.old) (O.faults out.new))
-        (job_of (words_of args.now)) result.ended }
-    ensures told { TakesText
-        (sink_call (E.written err.old) (E.written err.new) (E.faults err.old) (E.faults err.new))
+    ensures ends { RunEnds (on_shelf F.files F.faults files.old files.new)
+        (on_sink O.written O.faults out.old out.new) (job_of (words_of args.now)) result.ended }
+    ensures told { TakesText (on_sink E.written E.faults err.old err.new)
         (message result.ended.status (job_of (words_of args.now))) }
     ensures files { F.files files.new ≡ F.files files.old }
     ensures unasked { HasNoFiles (job_of (words_of args.now)) → files.new ≡ files.old }
@@ -76,8 +75,7 @@ pub fn refuse<E: Sink>(err: &mut E, cause: ErrorKind) -> Exit
     ensures mem { (result.ended.status ≡ Status.Mem) ↔ (cause ≡ ErrorKind.OutOfMemory) }
     ensures usage { (result.ended.status ≡ Status.Mem) ⊎ (result.ended.status ≡ Status.Usage) }
     ensures unsealed { result.ended.sealed ≡ None }
-    ensures told { TakesText
-        (sink_call (E.written err.old) (E.written err.new) (E.faults err.old) (E.faults err.new))
+    ensures told { TakesText (on_sink E.written E.faults err.old err.new)
         (message result.ended.status None) }
 {
     match cause {
@@ -89,9 +87,7 @@ pub fn refuse<E: Sink>(err: &mut E, cause: ErrorKind) -> Exit
 // Tells of a status, and ends with it.
 fn end<E: Sink>(err: &mut E, status: Status) -> Exit
     ensures ended { result.ended ≡ record { status = status; sealed = None } }
-    ensures told { TakesText
-        (sink_call (E.written err.old) (E.written err.new) (E.faults err.old) (E.faults err.new))
-        (message status None) }
+    ensures told { TakesText (on_sink E.written E.faults err.old err.new) (message status None) }
 {
     tell(err, status, None);
     Exit {

@@ -5,6 +5,7 @@ use Rattle.clr_net.specs.Net.{Net}
 use Rattle.cascade.specs.Standings.{bank_numbers}
 use Rattle.stress.specs.Breaking.{breaking_within}
 use Rattle.clear_many.specs.Blocks.{across, edge}
+use Rattle.clear_many.specs.declared.breaking.TheConstants.{BLOCKS}
 
 -- there is one for each bank
 pub as_many_broken : (net : Net) (low high : ℕ) → length (map (breaking_within low high net) (bank_numbers net)) ≡ length net.banks
@@ -15,5 +16,5 @@ pub edges_rise : (block : ℕ) → edge block ≤ edge (block + 1)
 edges_rise block = omega arith
 
 -- a block is the block of its place
-pub across_back : (block : ℕ) → block < 16 → (across block < 16) × (across (across block) ≡ block)
+pub across_back : (block : ℕ) → block < BLOCKS → (across block < BLOCKS) × (across (across block) ≡ block)
 across_back block l = (omega arith, omega arith)

@@ -1,5 +1,5 @@
 -- Scenarios in sums, as they are told and counted share by share.
-use Rattle.std.proofs.Common.{◌≡◌, ℕ, ◌+◌, ◌≤◌, List, [], Vec, Global, get_or, length, ap, ◌∙◌, arith}
+use Rattle.std.proofs.Common.{◌≡◌, ℕ, ◌+◌, ◌≤◌, List, [], Vec, Global, get_or, length, slice_range, ap, ◌∙◌, arith}
 use Rattle.std.specs.List.{flat_map}
 use Rattle.clr_net.specs.Net.{Net}
 use Rattle.clear_report.specs.Outcomes.{scenario_sums}
@@ -11,9 +11,8 @@ use Rattle.stress.specs.Outcomes.{AreWithin, tally}
 use Rattle.stress.specs.declared.TheConstants.{MAX_SCENARIOS}
 use Rattle.stress.specs.declared.scenario.Scenario.{Scenario}
 use Rattle.stress.specs.declared.tally.Falls.{Falls}
-use Rattle.clear_many.specs.Between.{between}
 use Rattle.clear_many.specs.Texts.{text_of}
-use Rattle.clear_many.proofs.Between.{between_length}
+use Rattle.clear_many.proofs.Ranges.{range_fits}
 
 -- the line of the scenario in the place k
 abbrev pub IsLineAt : Net → List Scenario → ℕ → Vec ℕ Global → Type 0
@@ -33,13 +32,13 @@ lines_of_all net scenarios lines as_many are =
 module _ (net : Net) (scenarios : List Scenario) where
   -- no share counts more than all scenarios
   pub counted_within : (low high : ℕ) (counts : List Falls) → length scenarios ≤ MAX_SCENARIOS
-      → counts ≡ tally net (between scenarios low high) → AreWithin MAX_SCENARIOS counts
+      → counts ≡ tally net (slice_range scenarios low high) → AreWithin MAX_SCENARIOS counts
   counted_within low high counts few is =
-      let within = falls_within net (between scenarios low high) MAX_SCENARIOS
-      (omega (arith, few, between_length scenarios low high)) in
+      let within = falls_within net (slice_range scenarios low high) MAX_SCENARIOS
+      (omega (arith, few, range_fits scenarios low high)) in
       rw is within
 
   -- and each has as many as banks
-  pub as_many_counted : (low high : ℕ) (counts : List Falls) → counts ≡ tally net (between scenarios low high)
+  pub as_many_counted : (low high : ℕ) (counts : List Falls) → counts ≡ tally net (slice_range scenarios low high)
       → length counts ≡ length net.banks
-  as_many_counted low high counts is = ap length is ∙ as_many_falls net (between scenarios low high)
+  as_many_counted low high counts is = ap length is ∙ as_many_falls net (slice_range scenarios low high)

@@ -1,4 +1,4 @@
-pub mod Between
+pub mod Ranges
 pub mod Tabled
 pub mod Counting
 pub mod Broken

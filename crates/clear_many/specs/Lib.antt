@@ -1,4 +1,3 @@
-pub mod Between
 pub mod Blocks
 pub mod Texts
 pub mod Shocked

@@ -12,7 +12,7 @@ use clr_net::{Mem, Network};
 use shares::{Made, Piecework, THREADS, in_shares};
 use std::alloc::Global;
 use std::thread::Threads;
-use stress::{Broken, breaking_within, joined};
+use stress::{Broken, MAX_CUT, breaking_within, joined};
 
 /// The text of the least cut that breaks each bank, and of how the bank stands at it. `Mem` for want
 /// of memory alone.
@@ -34,15 +34,27 @@ pub fn tell_breaking<R: Threads + Sync>(
 // How many blocks the cuts are parted into: as many for each thread as there are threads.
 const BLOCKS: usize = THREADS * THREADS;
 
+// A clearing after which hardly any cash is left takes the longest by far. So the last block has
+// this many cuts alone, the greatest, and the thread that has it has nothing else.
+const LAST_CUTS: u32 = 3;
+
+// The cut at which the last block begins.
+const LAST_EDGE: u32 = MAX_CUT as u32 + 1 - LAST_CUTS;
+
+// How many cuts a block of the other threads has: the least number by which their blocks, of which
+// there are twelve, have all cuts below the last block. The twelfth has what is left.
+const BLOCK_CUTS: u32 = (LAST_EDGE - 1) / (BLOCKS - THREADS) as u32 + 1;
+
 // The cut at which a block begins, and at which the one before it has ended: 0, 84, 168 and so on up
-// to 924, then 998 and 1001. A clearing after which hardly any cash is left takes the longest by far.
-// So blocks 3, 7 and 11 have no cut, and the thread that has the last block has nothing else.
+// to 924, then 998 and 1001. Blocks 3, 7 and 11 have no cut, since they stand on the thread of the
+// last block.
 fn edge(block: usize) -> u32
     requires { block ≤ BLOCKS }
     ensures { result ≡ edge_of block }
 {
-    let block = block as u32;
-    (84 * (block - block / 4)).min(998 + 3 * (block / 16))
+    let ended = (block / BLOCKS) as u32;
+    let with_cuts = (block - block / THREADS) as u32;
+    (BLOCK_CUTS * with_cuts).min(LAST_EDGE + LAST_CUTS * ended)
 }
 
 // The block that is gone through in a place, and the place of a block. The higher the cuts, the more

@@ -6,7 +6,7 @@ ghost use Rattle.clear_many.specs.Texts.{text_of};
 ghost use Rattle.impact.specs.Ruined.{IsDescentByRuins};
 ghost use Rattle.std.specs.Prelude.{◌≡◌, IfOk, length};
 
-use crate::stand::{is_network, least_stand};
+use crate::stand::least_stand;
 use crate::tables::laid_below;
 use cascade::Standing;
 use clear_report::{Piece, impact_begun, impact_piece};
@@ -30,7 +30,6 @@ pub fn tell_impact<R: Threads + Sync>(
 ) -> Result<Vec<Vec<u8>>, Mem>
     ensures { IfOk result (λ all. text_of all.items ≡ impact_text net.now) }
 {
-    is_network(net);
     let stand = least_stand(alloc, net)?;
     let ruins = Ruins {
         alloc,
@@ -66,7 +65,6 @@ impl<'a> Piecework<Piece, Descent> for Ruins<'a> {
     }
 
     fn piece(&self, desk: Descent, place: usize) -> Result<(Piece, Descent), Mem> {
-        is_network(self.net);
         let mut descent = desk;
         let bank = BankId(place as u32);
         let impact = impact_of(self.alloc, self.net, &mut descent, self.before, bank)?;

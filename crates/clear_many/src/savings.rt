@@ -12,7 +12,7 @@ use crate::tables::laid_below;
 use cascade::Standing;
 use clear_report::{Piece, saving_piece, savings_begun};
 use clr_net::{BankId, Mem, Network};
-use rescue::{Search, banks_in_default, saving_of};
+use rescue::{Before, Search, banks_in_default, saving_of};
 use shares::{Made, Piecework, THREADS, in_shares};
 use std::alloc::Global;
 use std::thread::Threads;
@@ -75,14 +75,12 @@ impl<'a> Piecework<Piece, Search> for Savings<'a> {
     fn piece(&self, desk: Search, place: usize) -> Result<(Piece, Search), Mem> {
         let mut search = desk;
         let bank = self.banks[place];
-        let saving = saving_of(
-            self.alloc,
-            self.net,
-            &mut search,
-            self.least,
-            self.before,
-            bank,
-        )?;
+        let before = Before {
+            net: self.net,
+            least: self.least,
+            standings: self.before,
+        };
+        let saving = saving_of(self.alloc, &mut search, &before, bank)?;
         let piece = saving_piece(self.alloc, self.net, bank, &saving)?;
         Ok((piece, search))
     }

@@ -4,23 +4,19 @@ ghost use Rattle.clear_core.specs.Clearing.{least};
 ghost use Rattle.clear_report.specs.Outcomes.{falls_text as falls_text_of, outcomes_header as header};
 ghost use Rattle.clear_report.specs.Outcomes.{outcome_line as outcome_line_of, outcomes_text, scenario_sums};
 ghost use Rattle.clear_report.specs.Words.{one_above_other};
-ghost use Rattle.clear_many.specs.Between.{between};
-ghost use Rattle.clear_many.specs.Shocked.{cash_rows};
+ghost use Rattle.clear_many.specs.Shocked.{IsDescentByRows, cash_rows};
 ghost use Rattle.clear_many.specs.Texts.{text_of};
 ghost use Rattle.clr_net.specs.Limits.{IsNetwork};
-ghost use Rattle.descent.specs.Cashes.{cash_in_row, lowest};
-ghost use Rattle.descent.specs.Halves.{IsDescentOf};
-ghost use Rattle.std.specs.Prelude.{◌≡◌, ◌++◌, ◌≤◌, All, IfOk, OnOk, length, slice_index_or};
+ghost use Rattle.std.specs.Prelude.{◌≡◌, ◌++◌, ◌<◌, ◌≤◌, All, IfOk, OnOk, length, slice_index_or, slice_range};
 ghost use Rattle.stress.specs.Outcomes.{AreWithin, added, sums as sums_of, tally as tally_of, tally_of_one};
-ghost use Rattle.stress.specs.Shocks.{IsScenarioOf};
+ghost use Rattle.stress.specs.Shocks.{IsScenarioOf, shocked};
 ghost use Rattle.stress.specs.declared.TheConstants.{MAX_SCENARIOS};
 ghost use Rattle.stress.specs.declared.scenario.Scenario.{Scenario};
 
-use crate::shocks::{cash_left, standings_in};
-use crate::stand::is_network;
+use crate::shocks::cash_left;
 use cascade::Standing;
 use clear_report::{falls_text, outcome_line, outcomes_header};
-use clr_net::{Mem, Name, Network};
+use clr_net::{MAX_BANKS, Mem, Name, Network};
 use descent::{Descent, Table};
 use shares::{Made, Piecework, THREADS, in_shares};
 use std::alloc::Global;
@@ -40,10 +36,10 @@ pub fn tell_outcomes<R: Threads + Sync>(
     scenarios: &[Scenario],
 ) -> Result<Vec<Vec<u8>>, Mem>
     requires scenarios { All (IsScenarioOf net.now) scenarios.now }
-    requires few { length scenarios.now ≤ MAX_SCENARIOS }
+    requires scenarios_in_limit { length scenarios.now ≤ MAX_SCENARIOS }
     ensures { IfOk result (λ all. text_of all.items ≡ outcomes_text net.now scenarios.now) }
 {
-    is_network(net);
+    prove!(net.banks() <= MAX_BANKS);
     let table = cash_left(alloc, net, scenarios)?;
     let sums = Sums {
         alloc,
@@ -84,6 +80,30 @@ struct Sums<'a> {
     table: &'a Table,
 }
 
+impl<'a> Sums<'a> {
+    // How each bank stands in a scenario, under the least payments that clear then. The clearing goes
+    // on from what is common to many scenarios.
+    fn standings_in(&self, descent: &mut Descent, place: usize) -> Result<Vec<Standing>, Mem>
+        requires network { IsNetwork self.now.net.now }
+        requires scenarios { All (IsScenarioOf self.now.net.now) self.now.scenarios.now }
+        requires scenarios_in_limit { length self.now.scenarios.now ≤ MAX_SCENARIOS }
+        requires table { self.now.table.now.rows.items
+            ≡ cash_rows self.now.net.now self.now.scenarios.now }
+        requires place { place < length self.now.scenarios.now }
+        requires descent { IsDescentByRows self.now.net.now self.now.table.now.rows.items
+            descent.old }
+        ensures descent { IsDescentByRows self.now.net.now self.now.table.now.rows.items
+            descent.new }
+        ensures cleared { (d : Scenario) → OnOk result (descent.new.left
+            ≡ shocked self.now.net.now (slice_index_or self.now.scenarios.now place d)) }
+        ensures all { (d : Scenario) → let left = shocked self.now.net.now
+            (slice_index_or self.now.scenarios.now place d)
+            in IfOk result (λ all. all.items ≡ standings_of left (least left)) }
+    {
+        descent.standings_at(self.alloc, self.net, self.table, place as u32)
+    }
+}
+
 // The desk at which scenarios are summed up: a descent through halves of them, and how often each
 // bank falls in those that are done.
 #[derive(Drop)]
@@ -104,9 +124,8 @@ impl<'a> Piecework<Vec<u8>, Counting> for Sums<'a> {
         → text.items ≡ scenario_sums w.net.now (slice_index_or w.scenarios.now k d) };
 
     ghost has_done = { λ w low high desk. (low ≤ high)
-        × IsDescentOf w.net.now (length w.table.now.rows.items)
-        (λ a b i. lowest (cash_in_row w.table.now.rows.items i) a b) desk.descent
-        × (desk.tally ≡ tally_of w.net.now (between w.scenarios.now low high)) };
+        × IsDescentByRows w.net.now w.table.now.rows.items desk.descent
+        × (desk.tally ≡ tally_of w.net.now (slice_range w.scenarios.now low high)) };
 
     fn desk(&self) -> Result<Counting, Mem> {
         Ok(Counting {
@@ -120,14 +139,7 @@ impl<'a> Piecework<Vec<u8>, Counting> for Sums<'a> {
             mut descent,
             mut tally,
         } = desk;
-        let standings = standings_in(
-            self.alloc,
-            self.net,
-            self.scenarios,
-            self.table,
-            &mut descent,
-            place,
-        )?;
+        let standings = self.standings_in(&mut descent, place)?;
         let name = &self.scenarios[place].name;
         let left = descent.cleared();
         let text = counted(self.alloc, left, standings.as_slice(), name, &mut tally)?;

@@ -38,6 +38,7 @@ line_of net C k (Some d) e at is =
     let same : of_claim (get_or C k 0) d ≡ e = cc in
     subst (λ x. claim_line net C k ≡ debt_line (with_claims net C) x) same (rw (at) refl)
 
+-- so the text of claims is the file of the network with these claims
 pub claims_text_is : (net : Net) (C : List ℕ) → length C ≡ length net.debts
     → claims_text net C ≡ debts_text (with_claims net C)
 claims_text_is net C l =

@@ -32,5 +32,6 @@ names_from net entry last P (r ∷ rs) =
     (names_either net (is_unlawful net P r) _ _ tt
     (names_from net (entry + 1) r.stamp (set P r.debt.0 r.to) rs))
 
+-- so the bank that any verdict names is one of the network
 pub verdict_names_bank : (net : Net) (rs : List Raise) → NamesBankOf net (judged net rs).verdict
 verdict_names_bank net rs = names_from net 1 0 _ rs

@@ -5,9 +5,9 @@ use Rattle.std.specs.Fmt.{decimal}
 use Rattle.clr_net.specs.Lines.{line}
 use Rattle.clr_net.specs.Net.{Net, name_of, claim_of, debt_numbers}
 use Rattle.net_csv.specs.Reading.{debts_header}
-use Rattle.cascade.specs.Standings.{bank_numbers}
+use Rattle.cascade.specs.Standings.{bank_numbers, is_default}
 use Rattle.cascade.specs.declared.standing.Standing.{Standing}
-use Rattle.clear_report.specs.Words.{at_place, is_default, one_above_other, yes_or_no}
+use Rattle.clear_report.specs.Words.{at_place, one_above_other, yes_or_no}
 use Rattle.clear_report.specs.Text.{debt_fields}
 
 -- the header of the debts

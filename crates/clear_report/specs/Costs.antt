@@ -4,9 +4,9 @@ use Rattle.std.specs.List.{flat_map}
 use Rattle.std.specs.Fmt.{decimal}
 use Rattle.clr_net.specs.Lines.{line}
 use Rattle.clr_net.specs.Net.{Net, name_of, all_cash}
-use Rattle.cascade.specs.Standings.{bank_numbers}
+use Rattle.cascade.specs.Standings.{bank_numbers, is_default}
 use Rattle.costs.specs.declared.standing.CostStanding.{CostStanding}
-use Rattle.clear_report.specs.Words.{at_place, is_default, number_line, one_above_other, state_word}
+use Rattle.clear_report.specs.Words.{at_place, number_line, one_above_other, state_word}
 use Rattle.clear_report.specs.Text.{payments_text}
 
 -- the header of the banks

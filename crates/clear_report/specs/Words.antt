@@ -33,12 +33,6 @@ state_word health.Sound = codes "sound"
 state_word health.Fundamental = codes "fundamental"
 state_word health.Contagion = codes "contagion"
 
--- a bank is in default where it is not sound
-abbrev pub is_default : Health → Bool
-is_default health.Sound = false
-is_default health.Fundamental = true
-is_default health.Contagion = true
-
 -- the word of a test that passes, and of one that does not
 abbrev pub yes_or_no : Bool → List ℕ
 yes_or_no true = codes "yes"

@@ -6,8 +6,8 @@ use crate::line::{Field, name, push_debt, push_line, yes_or_no};
 use crate::sums::is_default;
 use crate::table::{BankTable, DebtTable, push_banks, push_debts};
 use cascade::Standing;
+use clr_edge::line::Line;
 use clr_net::{BankId, DebtId, Mem, Network};
-use net_csv::line::Line;
 use std::alloc::Global;
 
 /// The text of the least and of the greatest payments that clear: a table of the debts, in file
@@ -33,7 +33,7 @@ pub fn bounds_text(
     ensures { IfOk result (λ text. text.items
         ≡ bounds_tables net.now least.now greatest.now waves.now standings.now) }
 {
-    let mut text = debts_table(alloc, net, least, greatest)?;
+    let mut text = debts_table(alloc, net, &DebtBounds { least, greatest })?;
     push_line(&mut text, &[])?;
     let banks = Waves { waves, standings };
     push_banks(&mut text, b"bank,wave,gridlock,equity\n", net, &banks)?;
@@ -41,27 +41,23 @@ pub fn bounds_text(
 }
 
 // The table of the debts.
-pub fn debts_table(
-    alloc: Global,
-    net: &Network,
-    least: &[u64],
-    greatest: &[u64],
-) -> Result<Vec<u8>, Mem>
-    requires least { length least.now ≡ length net.now.debts }
-    requires greatest { length greatest.now ≡ length net.now.debts }
-    ensures { IfOk result (λ text. text.items ≡ debts_table_of net.now least.now greatest.now) }
+pub fn debts_table(alloc: Global, net: &Network, paid: &DebtBounds) -> Result<Vec<u8>, Mem>
+    requires least { length paid.now.least.now ≡ length net.now.debts }
+    requires greatest { length paid.now.greatest.now ≡ length net.now.debts }
+    ensures { IfOk result
+        (λ text. text.items ≡ debts_table_of net.now paid.now.least.now paid.now.greatest.now) }
 {
     let header = b"debtor,creditor,class,claim,least,greatest\n";
     let mut text = Vec::new(alloc);
-    push_debts(&mut text, header, net, &DebtBounds { least, greatest })?;
+    push_debts(&mut text, header, net, paid)?;
     Ok(text)
 }
 
 // The least and the greatest that is paid on each debt, in file order.
 #[derive(Drop)]
-struct DebtBounds<'a> {
-    least: &'a [u64],
-    greatest: &'a [u64],
+pub struct DebtBounds<'a> {
+    pub least: &'a [u64],
+    pub greatest: &'a [u64],
 }
 
 impl<'a> DebtTable for DebtBounds<'a> {

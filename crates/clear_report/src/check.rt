@@ -1,7 +1,7 @@
-ghost use Rattle.clear_report.specs.Text.{checked_text, totals_text};
+ghost use Rattle.clear_report.specs.Text.{totals_text};
 ghost use Rattle.std.specs.Prelude.{◌≡◌, ◌++◌, IfOk, OnOk};
 
-use crate::line::{Field, push_below, push_line};
+use crate::line::{Field, push_line};
 use clr_net::{Mem, Network};
 use std::alloc::Global;
 
@@ -12,17 +12,6 @@ pub fn totals_text(alloc: Global, net: &Network) -> Result<Vec<u8>, Mem>
 {
     let mut text = Vec::new(alloc);
     push_totals(&mut text, net)?;
-    Ok(text)
-}
-
-/// The text of a network that was checked: its totals, and then these two texts of its banks and of
-/// its debts, with an empty line before each. `Mem` for want of memory alone.
-pub fn check_text(alloc: Global, net: &Network, banks: &[u8], debts: &[u8]) -> Result<Vec<u8>, Mem>
-    ensures { IfOk result (λ text. text.items ≡ checked_text net.now banks.now debts.now) }
-{
-    let mut text = totals_text(alloc, net)?;
-    push_below(&mut text, banks)?;
-    push_below(&mut text, debts)?;
     Ok(text)
 }
 

@@ -8,8 +8,8 @@ ghost use Rattle.std.specs.Prelude.{◌≡◌, ◌++◌, ◌*◌, ◌<◌, ◌�
 
 use crate::line::{Field, name, push_below, push_debt, push_line};
 use crate::table::{BankTable, DebtTable, push_bank_rows, push_debts};
+use clr_edge::line::Line;
 use clr_net::{BankId, DebtId, MAX_CLASS, Mem, Network};
-use net_csv::line::Line;
 use std::alloc::Global;
 
 /// The text of claims that were compressed: the debts file with these claims, and below it, after

@@ -2,7 +2,7 @@ ghost use Rattle.clear_report.specs.CostBounds.{cost_bounds_text as text_of, end
 ghost use Rattle.clear_report.specs.CostBounds.{ends_line_of};
 ghost use Rattle.std.specs.Prelude.{◌≡◌, ◌++◌, length, IfOk, OnOk};
 
-use crate::bounds::debts_table;
+use crate::bounds::{DebtBounds, debts_table};
 use crate::line::{Field, name, push_line, state_word};
 use crate::table::{BankTable, push_banks};
 use clr_net::{BankId, Mem, Network};
@@ -34,7 +34,7 @@ pub fn cost_bounds_text(
 {
     let header = b"bank,lost_at_least,equity_at_least,state_at_least,\
         lost_at_greatest,equity_at_greatest,state_at_greatest\n";
-    let mut text = debts_table(alloc, net, least, greatest)?;
+    let mut text = debts_table(alloc, net, &DebtBounds { least, greatest })?;
     push_line(&mut text, &[])?;
     let banks = Ends {
         at_least,

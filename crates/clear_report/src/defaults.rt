@@ -1,4 +1,5 @@
-ghost use Rattle.clear_report.specs.Defaults.{bank_line, defaults_header, defaults_text};
+ghost use Rattle.clear_report.specs.Defaults.{bank_line, columns_line, defaults_header};
+ghost use Rattle.clear_report.specs.Defaults.{defaults_text};
 ghost use Rattle.clear_report.specs.Defaults.{owes_outside as owes_any_outside, standing_line};
 ghost use Rattle.clear_report.specs.Defaults.{total_line};
 ghost use Rattle.std.specs.Prelude.{◌≡◌, ◌++◌, length, IfOk, OnOk};
@@ -80,14 +81,60 @@ fn push_standing(
     ensures { OnOk result
         (text.new.items ≡ text.old.items ++ standing_line outside name.now standing) }
 {
-    let s = standing;
-    let name = Field::Word(name);
-    let estate = Field::Number(s.estate);
-    let outside_paid = Field::Number(s.outside_paid);
-    let paid = Field::Number(s.paid);
-    let owed = Field::Number(s.owed);
-    let equity = Field::Number(s.equity);
-    let state = Field::Word(state_word(s.health).as_bytes());
+    let row = Columns {
+        name: Field::Word(name),
+        estate: Field::Number(standing.estate),
+        outside_paid: Field::Number(standing.outside_paid),
+        paid: Field::Number(standing.paid),
+        owed: Field::Number(standing.owed),
+        equity: Field::Number(standing.equity),
+        state: Field::Word(state_word(standing.health).as_bytes()),
+    };
+    push_columns(text, outside, row)
+}
+
+// Appends the line of the sums over all banks, and of how many are in default.
+fn push_total(text: &mut Vec<u8>, outside: bool, standings: &[Standing]) -> Result<(), Mem>
+    ensures { OnOk result (text.new.items ≡ text.old.items ++ total_line outside standings.now) }
+{
+    let [estate, outside_paid, paid, owed, equity] = totals_of(standings);
+    let row = Columns {
+        name: Field::Word(b"total"),
+        estate: Field::Sum(estate),
+        outside_paid: Field::Sum(outside_paid),
+        paid: Field::Sum(paid),
+        owed: Field::Sum(owed),
+        equity: Field::Sum(equity),
+        state: Field::Number(defaults_of(standings)),
+    };
+    push_columns(text, outside, row)
+}
+
+// The fields of a line, of a bank or of all: the state of all is how many are in default.
+#[derive(Clone, Copy)]
+struct Columns<'a> {
+    name: Field<'a>,
+    estate: Field<'a>,
+    outside_paid: Field<'a>,
+    paid: Field<'a>,
+    owed: Field<'a>,
+    equity: Field<'a>,
+    state: Field<'a>,
+}
+
+// Appends a line of these fields, with what is paid outside the network or without.
+fn push_columns(text: &mut Vec<u8>, outside: bool, row: Columns) -> Result<(), Mem>
+    ensures { OnOk result (text.new.items ≡ text.old.items ++ columns_line outside row.entry) }
+{
+    let Columns {
+        name,
+        estate,
+        outside_paid,
+        paid,
+        owed,
+        equity,
+        state,
+    } = row;
     if outside {
         push_line(
             text,
@@ -95,27 +142,5 @@ fn push_standing(
         )
     } else {
         push_line(text, &[name, estate, paid, owed, equity, state])
-    }
-}
-
-// Appends the line of the sums over all banks, and of how many are in default.
-fn push_total(text: &mut Vec<u8>, outside: bool, standings: &[Standing]) -> Result<(), Mem>
-    ensures { OnOk result (text.new.items ≡ text.old.items ++ total_line outside standings.now) }
-{
-    let total = Field::Word(b"total");
-    let [estate, outside_paid, paid, owed, equity] = totals_of(standings);
-    let estate = Field::Sum(estate);
-    let outside_paid = Field::Sum(outside_paid);
-    let paid = Field::Sum(paid);
-    let owed = Field::Sum(owed);
-    let equity = Field::Sum(equity);
-    let defaults = Field::Number(defaults_of(standings));
-    if outside {
-        push_line(
-            text,
-            &[total, estate, outside_paid, paid, owed, equity, defaults],
-        )
-    } else {
-        push_line(text, &[total, estate, paid, owed, equity, defaults])
     }
 }

@@ -1,30 +1,14 @@
-ghost use Rattle.clear_report.specs.Journals.{NamesBankOf, journal_and_rounds, lawful_and_payments};
+ghost use Rattle.clear_report.specs.Journals.{NamesBankOf, lawful_and_payments};
 ghost use Rattle.raise_journal.specs.Texts.{rounds_line, verdict_line};
 ghost use Rattle.clr_net.specs.Lines.{line};
 ghost use Rattle.std.specs.Fmt.{decimal};
-ghost use Rattle.std.specs.Prelude.{◌≡◌, ◌<◌, ◌++◌, ◌∷◌, All, IfOk, OnOk, length, map};
+ghost use Rattle.std.specs.Prelude.{◌≡◌, ◌++◌, ◌∷◌, IfOk, OnOk, length, map};
 
 use crate::line::{Field, name, push_line};
 use crate::payments::push_payments_below;
-use clear_core::Raise;
 use clr_net::{Mem, Network};
-use raise_journal::{Verdict, print_journal};
+use raise_journal::Verdict;
 use std::alloc::Global;
-
-/// The text of a journal, and a line of how many rounds there were. `Mem` for want of memory alone.
-pub fn journal_text(
-    alloc: Global,
-    net: &Network,
-    journal: &[Raise],
-    rounds: u64,
-) -> Result<Vec<u8>, Mem>
-    requires { All (λ r. r.debt.0 < length net.now.debts) journal.now }
-    ensures { IfOk result (λ text. text.items ≡ journal_and_rounds net.now journal.now rounds) }
-{
-    let mut text = print_journal(alloc, net, journal)?;
-    push_line(&mut text, &[Field::Word(b"rounds"), Field::Number(rounds)])?;
-    Ok(text)
-}
 
 /// The line that closes a journal: how many rounds there were. `Mem` for want of memory alone.
 pub fn rounds_text(alloc: Global, rounds: u64) -> Result<Vec<u8>, Mem>

@@ -9,8 +9,8 @@ ghost use Rattle.clr_net.specs.Net.{name_of};
 ghost use Rattle.std.specs.Prelude.{◌≡◌, ◌<◌, ◌≤◌, ◌++◌, ◌∷◌, [], OnOk, length, map};
 
 use cascade::Health;
+use clr_edge::line::{Line, push_field, push_number};
 use clr_net::{BankId, DebtId, Mem, Network};
-use net_csv::line::{Line, push_field, push_number};
 
 // A field of a line.
 #[derive(Clone, Copy)]

@@ -4,8 +4,8 @@ ghost use Rattle.std.specs.Prelude.{◌≡◌, ◌++◌, ◌^◌, ◌<◌, lengt
 
 use crate::line::{push_debt, push_line};
 use crate::table::{DebtTable, push_debts};
+use clr_edge::line::Line;
 use clr_net::{DebtId, Mem, Network};
-use net_csv::line::Line;
 use std::alloc::Global;
 
 // About how many bytes the line of a debt takes.
@@ -24,14 +24,14 @@ pub fn pay_text(alloc: Global, net: &Network, paid: &[u64]) -> Result<Vec<u8>, M
 }
 
 // About how many bytes the text of payments takes: a hint, for a text may grow beyond it.
-pub fn payments_room(net: &Network) -> usize
+fn payments_room(net: &Network) -> usize
     ensures { result < 2 ^ 40 }
 {
     (net.debts() as usize + 1) * LINE
 }
 
 // The header of payments.
-pub fn payments_head() -> &'static [u8]
+fn payments_head() -> &'static [u8]
     ensures { result.now ≡ payments_header }
 {
     b"debtor,creditor,class,claim,paid\n"

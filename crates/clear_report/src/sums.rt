@@ -1,5 +1,5 @@
 // Sums over all banks, which no number of banks and no standing makes too great.
-ghost use Rattle.clear_report.specs.Words.{is_default as stands_in_default};
+ghost use Rattle.cascade.specs.Standings.{is_default as stands_in_default};
 ghost use Rattle.std.specs.Prelude.{◌≡◌, ◌<◌, ◌∷◌, [], ℕ, List, count_by, slice_index, sum};
 ghost use Rattle.std.specs.Prelude.{sum_by};
 

@@ -7,8 +7,8 @@ ghost use Rattle.std.specs.List.{flat_map};
 ghost use Rattle.std.specs.Prelude.{◌≡◌, ◌++◌, ◌<◌, ℕ, List, OnOk, length};
 
 use crate::line::name;
+use clr_edge::line::Line;
 use clr_net::{BankId, DebtId, Mem, Network};
-use net_csv::line::Line;
 
 // What a table says of the banks of a network.
 pub trait BankTable {

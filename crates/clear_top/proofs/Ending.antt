@@ -5,10 +5,12 @@ use Rattle.pay_words.specs.Sealed.{Sealed}
 use Rattle.clear_words.specs.declared.job.Job.{Job}
 use Rattle.net_check.specs.declared.fault.Fault.{Fault}
 use Rattle.clear_top.specs.Ending.{IsRefusedOrMem, IsUntouched, IsUsageOrMem, JobEnds}
-use Rattle.clear_top.specs.Ending.{NoneRose, OnFiles, RunEnds, ShelfCall, SinkCall, SinkRose}
+use Rattle.clear_load.specs.Loading.{NoneRose, OnFiles, ShelfCall}
+use Rattle.clear_top.specs.Ending.{RunEnds}
+use Rattle.clr_edge.specs.Taking.{SinkCall, SinkRose}
 use Rattle.clear_top.specs.Ending.{WasPartWritten, WasWritten, Works, WritesText}
 use Rattle.clear_top.specs.Meaning.{Means}
-use Rattle.clear_top.specs.Reading.{Files, Input, reading}
+use Rattle.clear_load.specs.Reading.{Files, Input, reading}
 use Rattle.clear_top.specs.Outcome.{Outcome}
 use Rattle.clear_top.specs.declared.status.Ended.{Ended}
 use Rattle.clear_top.specs.declared.status.Status.{Status}

@@ -21,11 +21,11 @@ use Rattle.raise_journal.specs.Verdicts.{judged}
 use Rattle.raise_journal.specs.declared.verdict.Verdict.TheVariants as verdict
 use Rattle.clear_top.specs.Evidence.{IsEvidence, ReplaysText, ShowsJournal}
 use Rattle.clear_top.specs.Meaning.{ComesTo, Means, Settles, answer_to, clear_text, plan_of}
-use Rattle.clear_top.specs.Reading.{Files, Input, Read, alone, all_whole, both_whole, contents}
-use Rattle.clear_top.specs.Reading.{net_in, reading, reading_by, then_read, whole}
-use Rattle.clear_top.specs.Sources.{source_of}
+use Rattle.clear_load.specs.Reading.{Files, Input, Read, alone, all_whole, both_whole, contents}
+use Rattle.clear_load.specs.Reading.{net_in, reading, reading_by, then_read, whole}
+use Rattle.clear_load.specs.Sources.{source_of}
 use Rattle.clear_top.specs.Outcome.{Outcome}
-use Rattle.clear_top.specs.declared.source.Source.TheVariants as source
+use Rattle.clear_load.specs.declared.source.Source.TheVariants as source
 
 -- two files, the network that they give by these limits, and that it is all that was read
 pub record TwoFiles (by : Limits) (r : Read (List ℕ × List ℕ)) (on : Input) : Type 0 where
@@ -34,6 +34,7 @@ pub record TwoFiles (by : Limits) (r : Read (List ℕ × List ℕ)) (on : Input)
   pub net_is : net_in by both ≡ Ok on.net
   pub on_is : alone on.net ≡ on
 
+-- if the contents of two files give an input, they are read, and the input is their network alone
 pub two_files : (by : Limits) (r : Read (List ℕ × List ℕ)) (on : Input)
     → then_read r (λ both. Some (contents by both)) ≡ Some (Ok on) → TwoFiles by r on
 two_files by None on h = absurd (cc)

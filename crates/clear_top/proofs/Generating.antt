@@ -5,12 +5,14 @@ use Rattle.clear_words.specs.declared.task.Task.TheVariants as task
 use Rattle.net_check.specs.declared.fault.FileKind.{FileKind}
 use Rattle.net_gen.specs.Generated.{generated}
 use Rattle.pay_words.specs.Sealed.{Sealed}
-use Rattle.clear_top.specs.Ending.{AreRead, BlamesNoFile, Gives, JobEnds, ShelfCall, SinkCall}
+use Rattle.clear_load.specs.Loading.{AreRead, Gives, ShelfCall}
+use Rattle.clear_top.specs.Ending.{BlamesNoFile, JobEnds}
+use Rattle.clr_edge.specs.Taking.{SinkCall}
 use Rattle.clear_top.specs.Ending.{Works, WritesText, WroteSummary}
 use Rattle.clear_top.specs.Meaning.{ComesTo, Settles, plan_of, summary_report}
 use Rattle.clear_top.specs.Outcome.{Outcome}
-use Rattle.clear_top.specs.Reading.{Files, Input, alone, reading, reading_by}
-use Rattle.clear_top.specs.Sources.{name_by, name_in, source_of}
+use Rattle.clear_load.specs.Reading.{Files, Input, alone, reading, reading_by}
+use Rattle.clear_load.specs.Sources.{name_by, name_in, source_of}
 use Rattle.clear_top.specs.declared.status.Status.{Status}
 use Rattle.clear_top.specs.declared.status.Status.TheVariants as status
 
@@ -19,19 +21,24 @@ module _ (files : Option Files) (job : Job) (is_gen : job.task ≡ task.Gen) whe
   no_files : Files
   no_files name = None
 
+  -- a task that generates has read all its files, whichever they are
   any_read : AreRead (source_of job.task) files no_files
   any_read = subst (λ t. AreRead (source_of t) files no_files) (sym is_gen) tt
 
+  -- what it reads is the network made from its numbers, with nothing beside it
   reads_alone : reading no_files job ≡ Some (Ok (alone (generated job.seed job.size job.tries)))
   reads_alone = subst (λ t. reading_by (source_of t) no_files job ≡ Some (Ok (alone (generated job.seed job.size job.tries))))
       (sym is_gen) refl
 
+  -- no fault comes of it
   pub gives_no_fault : {f : _} → Gives files job (Err f) → ⊥
   gives_no_fault {f} gives = let both = sym (gives no_files any_read) ∙ reads_alone in cc
 
+  -- what it is given is that network
   pub gives_generated : (on : Input) → Gives files job (Ok on) → on ≡ alone (generated job.seed job.size job.tries)
   gives_generated on gives = let both = sym (gives no_files any_read) ∙ reads_alone in cc
 
+  -- its job names no file
   pub names_no_file : (k : FileKind) (name : List ℕ) → name_in job k ≡ Some name → ⊥
   names_no_file k name named =
       let none : name_in job k ≡ None = subst (λ t. name_by (source_of t) job k ≡ None) (sym is_gen) refl in

@@ -1,13 +1,6 @@
 pub mod Ending
-pub mod Pieces
-pub mod Passed
-pub mod Waits
-pub mod Loading
 pub mod Runs
 pub mod Writing
-pub mod Shocked
-pub mod Made
-pub mod Begun
 pub mod Evidence
 pub mod Printed
 pub mod Records

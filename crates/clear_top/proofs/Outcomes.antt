@@ -15,8 +15,8 @@ use Rattle.settle.specs.declared.plan.Plan.{Plan}
 use Rattle.settle.specs.declared.runs.Settled.{Settled}
 use Rattle.clear_top.specs.Meaning.{ComesTo, IsPlain, Settles, answer_to}
 use Rattle.clear_top.specs.Outcome.{Outcome}
-use Rattle.clear_top.specs.Reading.{Input}
-use Rattle.clear_top.specs.Sources.{has_record}
+use Rattle.clear_load.specs.Reading.{Input}
+use Rattle.clear_load.specs.Sources.{has_record}
 use Rattle.clear_top.specs.Visited.{IsAllByBells, IsByBells}
 use Rattle.clear_top.specs.declared.status.Status.TheVariants as status
 
@@ -34,6 +34,7 @@ IsRecorded t o =
     (has_record t ≡ true) × (o.status ≡ status.Done)
     × ((sealed : Sealed) × (o.sealed ≡ Some sealed) × IsAllByBells t sealed)
 
+-- of which kind the outcome of a task is
 abbrev pub IsOfAKind : Task → Input → Outcome → Type 0
 IsOfAKind t on o = IsBare t o ⊎ (IsAnswer t on o ⊎ IsRecorded t o)
 

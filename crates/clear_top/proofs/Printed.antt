@@ -16,9 +16,9 @@ use Rattle.net_csv.proofs.Networks.{network_of_ok}
 use Rattle.clear_top.specs.Meaning.{ComesTo, Means, Settles, clear_text, plan_of}
 use Rattle.clear_top.specs.Outcome.{Outcome}
 use Rattle.clear_top.specs.Printed.{PrintsLeast, ShowsPayments}
-use Rattle.clear_top.specs.Reading.{Files, both_whole, reading_by}
-use Rattle.clear_top.specs.Sources.{source_of}
-use Rattle.clear_top.specs.declared.source.Source.TheVariants as source
+use Rattle.clear_load.specs.Reading.{Files, both_whole, reading_by}
+use Rattle.clear_load.specs.Sources.{source_of}
+use Rattle.clear_load.specs.declared.source.Source.TheVariants as source
 use Rattle.clear_top.proofs.Evidence.{two_files}
 
 -- what is shown begins with the payments
@@ -31,6 +31,7 @@ front show.Both net journal rounds ne = (
   append_assoc (payments_text net (least net)) empty_line (journal_and_rounds net journal rounds),
 )
 
+-- a job that shows payments prints the least ones, whatever it shows beside them
 pub prints_least : (files : Files) (job : Job) (o : Outcome) → ShowsPayments job → Means files job o → PrintsLeast files job o
 prints_least files job o (clears, shows) (on, given, comes) =
     let is_read : reading_by source.Files files job ≡ Some (Ok on) =

@@ -10,17 +10,20 @@ use Rattle.pay_words.specs.Sealed.{Sealed}
 use Rattle.raise_journal.specs.Verdicts.{judged}
 use Rattle.raise_journal.specs.declared.verdict.Verdict.{Verdict}
 use Rattle.raise_journal.specs.declared.verdict.Verdict.TheVariants as verdict
-use Rattle.clear_top.specs.Ending.{WritesNothing, AnswersRecord, AreRead, IsFoundUnlawful, JobEnds, OnFiles, RunEnds, ShelfCall}
-use Rattle.clear_top.specs.Ending.{SinkCall, Works, WritesText}
+use Rattle.clear_load.specs.Loading.{AreRead, OnFiles, ShelfCall}
+use Rattle.clear_top.specs.Ending.{WritesNothing, AnswersRecord, IsFoundUnlawful, JobEnds, RunEnds}
+use Rattle.clear_top.specs.Ending.{Works, WritesText}
+use Rattle.clr_edge.specs.Taking.{SinkCall}
 use Rattle.clear_top.specs.Meaning.{ComesTo, answer_to}
 use Rattle.clear_top.specs.Visited.{IsAllByBells}
 use Rattle.clear_top.proofs.Outcomes.{IsOfAKind, kind_of}
-use Rattle.clear_top.specs.Reading.{Files, Input}
+use Rattle.clear_load.specs.Reading.{Files, Input}
 use Rattle.clear_top.specs.Outcome.{Outcome}
-use Rattle.clear_top.specs.Sources.{has_record, source_of}
+use Rattle.clear_load.specs.Sources.{has_record, source_of}
 use Rattle.clear_top.specs.declared.status.Status.{Status}
 use Rattle.clear_top.specs.declared.status.Status.TheVariants as status
 
+-- the answer to a journal has no record of a run
 answer_without : (net : Net) (rs : List Raise) (v : Verdict) → (answer_to net rs v).sealed ≡ None
 answer_without net rs verdict.Lawful = refl
 answer_without net rs v = refl
@@ -124,9 +127,11 @@ record_of t on o sealed (inr (inr (has, done, (found, there, made)))) is =
     subst (IsAllByBells t) same made
 
 module _ (shelf : ShelfCall) (sink : SinkCall) (job : Job) (sealed : Sealed) where
+  -- a record that work answers is of a run by bells
   of_works : (o : Outcome) → Works shelf.files job o → o.sealed ≡ Some sealed → IsAllByBells job.task sealed
   of_works o (on, given, comes) is = record_of job.task on o sealed (kind_of job.task job on o comes) is
 
+  -- nothing is to be shown of an outcome without a record
   of_none : (given : Option Sealed) → given ≡ None → given ≡ Some sealed → IsAllByBells job.task sealed
   of_none given none is = absurd (let both : Some sealed ≡ None = sym is ∙ none in cc)
 

@@ -1,10 +1,8 @@
--- What a run of settle comes to, and the lists that its reports are made of.
-use Rattle.cascade.proofs.Limits.{clearing_over}
+-- What a run of settle comes to.
 use Rattle.std.proofs.Common.{◌≡◌, ◌+◌, ◌≤◌, List, length, sum, All, ap, ◌∙◌, subst, arith}
 use Rattle.std.proofs.lemmas.List.{length-append}
 use Rattle.clr_net.specs.Limits.{IsNetwork}
 use Rattle.clr_net.specs.Net.{Net}
-use Rattle.clear_core.proofs.Least.{least_clears}
 use Rattle.clear_core.specs.Clearing.{least}
 use Rattle.clear_core.specs.declared.event.Raise.{Raise}
 use Rattle.raise_journal.proofs.Lawful.{lawful_pays_least}
@@ -13,10 +11,6 @@ use Rattle.settle.specs.Runs.{IsSettled}
 use Rattle.settle.specs.declared.plan.Plan.{Plan}
 use Rattle.settle.specs.declared.runs.Settled.{Settled}
 use Rattle.clear_top.specs.Meaning.{IsRun}
-
--- the least payments have a place for each debt
-pub least_places : (net : Net) → length (least net) ≡ length net.debts
-least_places net = clearing_over net (least net) (least_clears net)
 
 -- what was settled, from whatever past, is a run
 pub run_of : (net : Net) → IsNetwork net → (past : List Raise) (plan : Plan) (s : Settled) → IsSettled net past plan s

@@ -8,18 +8,22 @@ use Rattle.pay_words.specs.Sealed.{Sealed}
 use Rattle.raise_journal.specs.Verdicts.{judged}
 use Rattle.raise_journal.specs.declared.verdict.Verdict.{Verdict}
 use Rattle.raise_journal.specs.declared.verdict.Verdict.TheVariants as verdict
-use Rattle.clear_top.specs.Ending.{Gives, JobEnds, ShelfCall, SinkCall, TakesWhole, WritesNothing, WritesText}
+use Rattle.clear_load.specs.Loading.{Gives, ShelfCall}
+use Rattle.clear_top.specs.Ending.{JobEnds, WritesNothing, WritesText}
+use Rattle.clr_edge.specs.Taking.{SinkCall, TakesWhole}
 use Rattle.clear_top.specs.Meaning.{ComesTo, answer_to}
-use Rattle.clear_top.specs.Reading.{Input}
+use Rattle.clear_load.specs.Reading.{Input}
 use Rattle.clear_top.specs.Outcome.{Outcome}
 use Rattle.clear_top.proofs.Outcomes.{IsOfAKind, kind_of}
 use Rattle.clear_top.specs.declared.status.Status.{Status}
 use Rattle.clear_top.specs.declared.status.Status.TheVariants as status
 
+-- the answer to a journal is printed, whatever the verdict
 answer_writes : (net : Net) (rs : List Raise) (v : Verdict) → WritesText (answer_to net rs v).status
 answer_writes net rs verdict.Lawful = tt
 answer_writes net rs v = tt
 
+-- an outcome of each kind is printed
 kind_writes : (t : Task) (on : Input) (o : Outcome) → IsOfAKind t on o → WritesText o.status
 kind_writes t on o (inl (none, done, no_record)) = rw done tt
 kind_writes t on o (inr (inl (replays, is))) =
@@ -32,6 +36,7 @@ module _ (job : Job) (on : Input) where
       → ComesTo job.task job on (record { status = s; sealed = sealed; text = text }) → WritesText s
   writes s sealed text comes = kind_writes job.task on _ (kind_of job.task job on _ comes)
 
+  -- no work comes to a status at which nothing is written
   pub work_writes : (s : Status) (sealed : Option Sealed) (text : List ℕ)
       → ComesTo job.task job on (record { status = s; sealed = sealed; text = text }) → WritesNothing s → ⊥
   work_writes status.Done sealed text comes nothing = nothing

@@ -3,7 +3,7 @@ use Rattle.std.specs.Prelude.{ℕ, List, Option, None, Some, map}
 use Rattle.clear_report.specs.Blocks.{stress_text}
 use Rattle.pay_words.specs.Sealed.{Sealed}
 use Rattle.clear_top.specs.Outcome.{with_journal}
-use Rattle.clear_top.specs.Waiting.{waiting_text}
+use Rattle.clear_stress.specs.Waiting.{waiting_text}
 use Rattle.clear_top.specs.declared.outcome.Body.{Body}
 use Rattle.clear_top.specs.declared.outcome.Body.TheVariants as body
 use Rattle.clear_top.specs.declared.recorded.Recorded.{Recorded}

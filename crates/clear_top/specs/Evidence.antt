@@ -8,7 +8,7 @@ use Rattle.clear_words.specs.declared.show.Show.TheVariants as show
 use Rattle.clear_words.specs.declared.task.Task.TheVariants as task
 use Rattle.pay_words.specs.Sealed.{Sealed}
 use Rattle.clear_top.specs.Meaning.{IsPlain, Means}
-use Rattle.clear_top.specs.Reading.{Files, alone, reading}
+use Rattle.clear_load.specs.Reading.{Files, alone, reading}
 use Rattle.clear_top.specs.Outcome.{Outcome}
 
 -- the job clears, and shows the journal alone

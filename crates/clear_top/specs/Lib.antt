@@ -1,14 +1,10 @@
 pub mod Status
-pub mod Sources
-pub mod Reading
 pub mod Outcome
-pub mod Waiting
 pub mod Bodies
 pub mod Meaning
 pub mod Evidence
 pub mod Printed
 pub mod Ending
-pub mod Passing
 pub mod Visited
 pub mod Message
 pub mod Cases

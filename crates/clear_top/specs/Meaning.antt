@@ -1,18 +1,15 @@
 -- What a job comes to: from what it works on, how the run ends and the text that is written.
 use Rattle.std.specs.Prelude.{◌≡◌, ℕ, ◌+◌, ◌≤◌, All, List, [], length, map, sum, None, Some, Ok}
 use Rattle.clr_net.specs.Net.{Net, units_owed}
-use Rattle.cascade.specs.Standings.{standings}
-use Rattle.cascade.specs.declared.standing.Standing.{Standing}
 use Rattle.clear_core.specs.Clearing.{least}
 use Rattle.clear_core.specs.History.{IsTraced, ordered}
 use Rattle.clear_core.specs.declared.event.Raise.{Raise}
-use Rattle.clear_report.specs.Blocks.{scenario_block, stress_text}
+use Rattle.clear_report.specs.Blocks.{stress_text}
 use Rattle.clear_report.specs.Bounds.{bounds_tables}
 use Rattle.clear_report.specs.Compression.{compressed_text}
 use Rattle.clear_many.specs.Texts.{breaking_report}
 use Rattle.clear_report.specs.CostBounds.{cost_bounds_text}
 use Rattle.clear_report.specs.Costs.{costs_text}
-use Rattle.clear_report.specs.Defaults.{defaults_text}
 use Rattle.clear_report.specs.Impact.{impact_text}
 use Rattle.clear_report.specs.Journals.{journal_and_rounds, lawful_and_payments}
 use Rattle.clear_report.specs.Outcomes.{outcomes_text}
@@ -21,6 +18,7 @@ use Rattle.clear_report.specs.Savings.{savings_text}
 use Rattle.clear_report.specs.Summary.{summary_lines}
 use Rattle.clear_report.specs.Text.{checked_text, payments_text}
 use Rattle.clear_report.specs.Words.{one_above_other}
+use Rattle.clear_stress.specs.Told.{block_of, defaults_report, least_standings}
 use Rattle.clear_words.specs.declared.job.Job.{Job}
 use Rattle.clear_words.specs.declared.show.Show.{Show}
 use Rattle.clear_words.specs.declared.show.Show.TheVariants as show
@@ -41,10 +39,8 @@ use Rattle.rescue.specs.Rescue.{added, rescue, short_of}
 use Rattle.settle.specs.Runs.{CanGoOn, IsRecordOf, IsSettled}
 use Rattle.settle.specs.declared.plan.Plan.{Plan}
 use Rattle.settle.specs.declared.runs.Settled.{Settled}
-use Rattle.stress.specs.Shocks.{shocked}
-use Rattle.stress.specs.declared.scenario.Scenario.{Scenario}
 use Rattle.upper.specs.Bounds.{greatest, waves}
-use Rattle.clear_top.specs.Reading.{Files, Input, reading}
+use Rattle.clear_load.specs.Reading.{Files, Input, reading}
 use Rattle.clear_top.specs.Outcome.{Outcome}
 use Rattle.clear_top.specs.declared.status.Status.TheVariants as status
 
@@ -104,14 +100,6 @@ answer_to net journal v = record {
   text = verdict_line net (length journal) v;
 }
 
--- how the banks stand under the least payments
-abbrev pub least_standings : Net → List Standing
-least_standings net = standings net (least net)
-
--- who defaults under the least payments, and with which label
-abbrev pub defaults_report : Net → List ℕ
-defaults_report net = defaults_text net (least_standings net)
-
 -- a network in numbers, and what its least payments come to
 abbrev pub summary_report : Net → List ℕ
 summary_report net = summary_lines net (least net) (least_standings net)
@@ -127,13 +115,6 @@ shown_of task.Defaults show net journal rounds = defaults_report net
 shown_of task.Gen show net journal rounds = summary_report net
 shown_of task.Bounds show net journal rounds = bounds_report net
 shown_of t show net journal rounds = clear_text show net journal rounds
-
--- what one scenario leaves: its name, the least payments and who defaults
-abbrev pub block_of : Net → Scenario → List ℕ
-block_of net s =
-    scenario_block s.name
-    (payments_text (shocked net s) (least (shocked net s)))
-    (defaults_report (shocked net s))
 
 -- some claims, ranks and units cancelled that compress the network, and their text
 abbrev pub IsCompressed : Net → Outcome → Type 0

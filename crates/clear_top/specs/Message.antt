@@ -6,8 +6,8 @@ use Rattle.clr_edge.specs.Sink.{with_bytes, WritesPart}
 use Rattle.net_check.specs.declared.fault.FileKind.{FileKind}
 use Rattle.net_check.specs.FaultText.{fault_text}
 use Rattle.clear_words.specs.declared.job.Job.{Job}
-use Rattle.clear_top.specs.Ending.{SinkCall, SinkRose}
-use Rattle.clear_top.specs.Sources.{name_in}
+use Rattle.clr_edge.specs.Taking.{SinkCall, SinkRose}
+use Rattle.clear_load.specs.Sources.{name_in}
 use Rattle.clear_top.specs.declared.status.Status.{Status}
 use Rattle.clear_top.specs.declared.status.Status.TheVariants as status
 

@@ -8,7 +8,7 @@ use Rattle.clear_words.specs.declared.job.Job.{Job}
 use Rattle.clear_words.specs.declared.show.Show.TheVariants as show
 use Rattle.clear_words.specs.declared.task.Task.TheVariants as task
 use Rattle.clear_top.specs.Outcome.{Outcome}
-use Rattle.clear_top.specs.Reading.{Files, alone, reading}
+use Rattle.clear_load.specs.Reading.{Files, alone, reading}
 
 -- the job clears, and shows payments, with the journal or without
 abbrev pub ShowsPayments : Job → Type 0

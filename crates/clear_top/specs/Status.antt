@@ -1,7 +1,7 @@
--- The code of each status, and the status of a network that is not read.
+-- The code of each status, and the status of a run whose files give nothing to work on.
 use Rattle.std.specs.Prelude.{ℕ}
-use Rattle.net_check.specs.declared.fault.ReadNet.{ReadNet}
-use Rattle.net_check.specs.declared.fault.ReadNet.TheVariants as read
+use Rattle.clear_load.specs.declared.fault.LoadFault.{LoadFault}
+use Rattle.clear_load.specs.declared.fault.LoadFault.TheVariants as fault
 use Rattle.clear_top.specs.declared.status.Status.{Status}
 use Rattle.clear_top.specs.declared.status.Status.TheVariants as status
 
@@ -15,7 +15,8 @@ code_of status.WriteFault = 5
 code_of status.Mem = 6
 code_of (status.Unlawful v) = 7
 
--- the status where what was fetched is not read
-abbrev pub unread : ReadNet → Status
-unread (read.Refused f) = status.Refused f
-unread read.Mem = status.Mem
+-- the status with which a run ends that has nothing to work on
+abbrev pub status_of : LoadFault → Status
+status_of (fault.Unread k) = status.ReadFault k
+status_of (fault.Refused f) = status.Refused f
+status_of fault.Mem = status.Mem

@@ -7,11 +7,11 @@ ghost use Rattle.raise_journal.specs.Texts.{verdict_line};
 ghost use Rattle.raise_journal.specs.Verdicts.{judged};
 ghost use Rattle.std.specs.Prelude.{◌≡◌, ◌<◌, All, IfOk, None, length};
 
-use crate::clear::is_network;
-use crate::outcome::{Outcome, Text};
+use crate::outcome::Outcome;
 use crate::status::Status;
 use clear_core::{Raise, Scratch};
 use clear_report::{lawful_text, verdict_text};
+use clr_edge::Text;
 use clr_net::{Amounts, Mem, Network};
 use raise_journal::{Verdict, replay_with};
 use std::alloc::Global;
@@ -51,7 +51,6 @@ fn judge_by(
     ensures { IfOk result (λ o.
         o ≡ answer_to net.now journal.now (judged net.now journal.now).verdict) }
 {
-    is_network(net);
     let verdict = replay_with(net, journal, paid, awards, scratch);
     let raises = journal.len() as u64;
     match verdict {

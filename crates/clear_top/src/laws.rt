@@ -1,15 +1,15 @@
-//! What follows from how a run ends, and of the networks that a run works on. A law has nothing to
-//! run; its `ensures` is proved.
+//! What follows from how a run ends. A law has nothing to run; its `ensures` is proved.
 ghost use Rattle.clear_top.specs.Ending.{AnswersRecord, BlamesNoFile, IsFoundUnlawful};
 ghost use Rattle.clear_top.specs.Ending.{IsRefusedOrMem, WroteSummary};
-ghost use Rattle.clear_top.specs.Ending.{IsUsageOrMem, NoneRose, OnFiles, RunEnds};
-ghost use Rattle.clear_top.specs.Ending.{IsUntouched, ShelfCall, SinkCall, SinkRose};
+ghost use Rattle.clear_load.specs.Loading.{NoneRose, OnFiles, ShelfCall};
+ghost use Rattle.clear_top.specs.Ending.{IsUntouched, IsUsageOrMem, RunEnds};
+ghost use Rattle.clr_edge.specs.Taking.{SinkCall, SinkRose};
 ghost use Rattle.clear_top.specs.Ending.{WasPartWritten, WasWritten, WritesText};
 ghost use Rattle.clear_top.specs.Evidence.{IsEvidence};
 ghost use Rattle.clear_top.specs.Evidence.{ReplaysText, ShowsJournal};
 ghost use Rattle.clear_top.specs.Meaning.{Means};
 ghost use Rattle.clear_top.specs.Printed.{PrintsLeast, ShowsPayments};
-ghost use Rattle.clear_top.specs.Reading.{Files, Input, IsReadBack, reading};
+ghost use Rattle.clear_load.specs.Reading.{Files, Input, reading};
 ghost use Rattle.clear_top.specs.Outcome.{Outcome};
 ghost use Rattle.clear_top.specs.Visited.{IsAllByBells};
 ghost use Rattle.clear_top.specs.declared.status.Ended.{Ended};
@@ -17,19 +17,10 @@ ghost use Rattle.clear_top.specs.declared.status.Status.{Status};
 ghost use Rattle.clear_words.specs.declared.job.Job.{Job};
 ghost use Rattle.clear_words.specs.declared.task.Task.{Task};
 ghost use Rattle.pay_words.specs.Sealed.{Sealed};
-ghost use Rattle.clr_net.specs.Limits.{IsNetwork};
-ghost use Rattle.clr_net.specs.Net.{Net};
-ghost use Rattle.net_check.specs.Within.{IsWithin};
 ghost use Rattle.net_check.specs.declared.fault.Fault.{Fault};
-ghost use Rattle.net_check.specs.declared.limits.Limits.{Limits};
-ghost use Rattle.net_csv.specs.Printing.{KeepsNames};
-ghost use Rattle.net_csv.specs.Reading.{network_within};
-ghost use Rattle.net_gen.specs.Generated.{generated};
 ghost use Rattle.raise_journal.specs.declared.verdict.Verdict.{Verdict};
-ghost use Rattle.std.specs.Prelude.{◌≡◌, ◌≢◌, ◌≤◌, ◌⊎◌, ◌↔◌, ℕ, List, Option, IsSome};
+ghost use Rattle.std.specs.Prelude.{◌≡◌, ◌≢◌, ◌⊎◌, ◌↔◌, Option, IsSome};
 ghost use Rattle.std.specs.Prelude.{None, Some, Ok, Err};
-ghost use Rattle.stress.specs.Shocks.{shocked};
-ghost use Rattle.stress.specs.declared.scenario.Scenario.{Scenario};
 
 /// A usage fault comes exactly where the words ask for no job, unless memory is wanting.
 pub fn usage_comes_where_no_job_is_asked_for()
@@ -126,24 +117,4 @@ pub fn a_shown_journal_is_evidence()
     ensures { (files later : Files) (job again : Job) (o : Outcome)
         → ShowsJournal job → Means files job o → ReplaysText files job later again o.text
         → IsEvidence files job o later again }
-{}
-
-/// What is printed of the network that a scenario leaves is read back as that network by each
-/// limits that the network is within, where no name begins or ends with a space.
-pub fn a_shocked_network_is_read_back()
-    ensures { (by : Limits) (net : Net) (s : Scenario) → IsNetwork net → IsWithin by net
-        → KeepsNames net → IsReadBack by (shocked net s) }
-{}
-
-/// So it is, whatever the scenario, of every network that is read from files, by the limits by
-/// which it is read.
-pub fn a_shock_of_what_is_read_is_read_back()
-    ensures { (by : Limits) (banks debts : List ℕ) (net : Net) (s : Scenario)
-        → network_within by banks debts ≡ Ok net → IsReadBack by (shocked net s) }
-{}
-
-/// What is printed of a generated network is read back as that network, by either limits.
-pub fn a_generated_network_is_read_back()
-    ensures { (by : Limits) (seed size tries : ℕ) → 1 ≤ size → size ≤ 1000 → tries ≤ 20000
-        → IsReadBack by (generated seed size tries) }
 {}

@@ -5,22 +5,15 @@
 //! contract is the program's theorem.
 #![tactic(auto)]
 
-mod blocks;
+mod alone;
 mod clear;
 mod judge;
 pub mod laws;
-mod lines;
-mod load;
-mod many;
 mod message;
 mod outcome;
-mod passing;
-mod plain;
 mod recorded;
 mod reports;
 mod saving;
-mod scenarios;
-mod source;
 mod status;
 mod top;
 mod work;

@@ -1,11 +1,11 @@
-ghost use Rattle.clear_top.specs.Ending.{sink_call};
+ghost use Rattle.clr_edge.specs.Taking.{on_sink};
 ghost use Rattle.clear_top.specs.Message.{message, name_if, TakesText};
 ghost use Rattle.std.specs.List.{concat};
 ghost use Rattle.std.specs.Option.{option_map};
 ghost use Rattle.std.specs.Prelude.{◌≡◌, ◌∷◌, [], codes, map};
 
-use crate::source::{Source, source_of};
 use crate::status::Status;
+use clear_load::{Source, source_of};
 use clear_words::Job;
 use clr_edge::{Sink, put_all};
 use itoa::Buffer;
@@ -14,8 +14,7 @@ use net_check::{Fault, FileKind};
 /// Writes the line that tells a person of a status, and nothing where the run is done. It takes no
 /// memory, and a fault of the sink changes nothing.
 pub fn tell<E: Sink>(err: &mut E, status: Status, job: Option<&Job>)
-    ensures told { TakesText
-        (sink_call (E.written err.old) (E.written err.new) (E.faults err.old) (E.faults err.new))
+    ensures told { TakesText (on_sink E.written E.faults err.old err.new)
         (message status (option_map (λ job. job.now) job.entry)) }
     ensures quiet { status ≡ Status.Done → err.new ≡ err.old }
 {
@@ -35,10 +34,7 @@ pub fn tell<E: Sink>(err: &mut E, status: Status, job: Option<&Job>)
 
 // Writes a text, up to a fault of the sink. Takes no memory.
 fn put_text<S: Sink>(sink: &mut S, text: &str)
-    ensures { TakesText
-        (sink_call
-        (S.written sink.old) (S.written sink.new) (S.faults sink.old) (S.faults sink.new))
-        text.now }
+    ensures { TakesText (on_sink S.written S.faults sink.old sink.new) text.now }
 {
     let _ = put_all(sink, text.as_bytes());
 }
@@ -61,8 +57,7 @@ fn name_of<'a>(job: Option<&'a Job>, kind: FileKind) -> &'a str
 }
 
 fn tell_name<E: Sink>(err: &mut E, name: &str)
-    ensures { TakesText
-        (sink_call (E.written err.old) (E.written err.new) (E.faults err.old) (E.faults err.new))
+    ensures { TakesText (on_sink E.written E.faults err.old err.new)
         (concat (codes "clearing: cannot read " ∷ name.now ∷ codes "\n" ∷ [])) }
 {
     let pieces = [
@@ -74,8 +69,7 @@ fn tell_name<E: Sink>(err: &mut E, name: &str)
 }
 
 fn tell_fault<E: Sink>(err: &mut E, fault: Fault)
-    ensures { TakesText
-        (sink_call (E.written err.old) (E.written err.new) (E.faults err.old) (E.faults err.new))
+    ensures { TakesText (on_sink E.written E.faults err.old err.new)
         (message (Status.Refused fault) None) }
 {
     let mut row = Buffer::new();
@@ -96,9 +90,7 @@ fn tell_fault<E: Sink>(err: &mut E, fault: Fault)
 
 // Writes pieces one after another, up to a fault of the sink.
 fn put_pieces<S: Sink>(sink: &mut S, pieces: &[&[u8]])
-    ensures { TakesText
-        (sink_call
-        (S.written sink.old) (S.written sink.new) (S.faults sink.old) (S.faults sink.new))
+    ensures { TakesText (on_sink S.written S.faults sink.old sink.new)
         (concat (map (λ piece. piece.now) pieces.now)) }
 {
     for piece in pieces {

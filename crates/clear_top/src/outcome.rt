@@ -1,20 +1,18 @@
 //! What the work on a job comes to, before it is written.
-ghost use Rattle.clear_many.specs.Texts.{text_of};
 ghost use Rattle.clear_report.specs.Blocks.{stress_text};
-ghost use Rattle.clear_report.specs.Words.{empty_line};
-ghost use Rattle.clear_top.specs.Ending.{TakesPart, TakesWhole, sink_call};
+ghost use Rattle.clr_edge.specs.Taking.{TakesPart, TakesWhole, on_sink};
 ghost use Rattle.clear_top.specs.Meaning.{IsPlain};
 ghost use Rattle.clear_top.specs.Outcome.{with_journal};
-ghost use Rattle.clear_top.specs.Waiting.{waiting_text};
+ghost use Rattle.clear_stress.specs.Waiting.{waiting_text};
 ghost use Rattle.clear_top.specs.declared.status.Status.{Status};
 ghost use Rattle.raise_journal.specs.declared.TheConstants.{ROOM};
 ghost use Rattle.std.specs.Prelude.{◌≡◌, ◌++◌, ◌<◌, ◌≤◌, [], All, IfOk, OnOk, OnErr, None, Some};
 ghost use Rattle.std.specs.Prelude.{length, map, vec_capacity};
 
-use crate::blocks::Blocks;
 use crate::recorded::Recorded;
 use crate::status::{Ended, Status};
-use clr_edge::{Sink, SinkFault, put_all};
+use clear_stress::Blocks;
+use clr_edge::{Sink, SinkFault, Text};
 use clr_net::Mem;
 use pay_words::Record;
 use std::alloc::Global;
@@ -113,13 +111,9 @@ impl Outcome {
     /// its front have been written, but not all, and the count rose. It takes no memory.
     pub fn put<S: Sink>(&self, sink: &mut S, room: &mut Vec<u8>) -> Result<(), SinkFault>
         requires { ROOM ≤ vec_capacity room.old }
-        ensures written { OnOk result (TakesWhole
-            (sink_call
-            (S.written sink.old) (S.written sink.new) (S.faults sink.old) (S.faults sink.new))
+        ensures written { OnOk result (TakesWhole (on_sink S.written S.faults sink.old sink.new)
             self.now.text) }
-        ensures part { OnErr result (TakesPart
-            (sink_call
-            (S.written sink.old) (S.written sink.new) (S.faults sink.old) (S.faults sink.new))
+        ensures part { OnErr result (TakesPart (on_sink S.written S.faults sink.old sink.new)
             self.now.text) }
         ensures well { S.counts_faults_alone → OnOk result (S.faults sink.new ≡ S.faults sink.old) }
     {
@@ -145,94 +139,5 @@ impl Outcome {
                 sealed: None,
             },
         }
-    }
-}
-
-/// A text in pieces, which are written one after another, so that none is copied into one.
-///
-/// Contracts see its bytes.
-#[derive(Drop)]
-pub struct Text {
-    pieces: Vec<Vec<u8>>,
-}
-
-impl Model for Text {
-    ghost use Rattle.std.specs.List.{concat};
-    ghost use Rattle.std.specs.Prelude.{ℕ, List, map};
-
-    ghost Value = { List ℕ };
-
-    ghost view = { λ t. concat (map (λ piece. piece.items) t.pieces.items) };
-}
-
-impl Text {
-    /// No text yet. Takes no memory.
-    pub fn empty(alloc: Global) -> Text
-        ensures { result ≡ [] }
-    {
-        Text {
-            pieces: Vec::new(alloc),
-        }
-    }
-
-    /// A text of one piece.
-    pub fn of(alloc: Global, piece: Vec<u8>) -> Result<Text, Mem>
-        ensures { IfOk result (λ text. text ≡ piece.items) }
-    {
-        let mut text = Text::empty(alloc);
-        text.add(piece)?;
-        Ok(text)
-    }
-
-    /// A text of these pieces. Takes no memory.
-    pub fn of_pieces(pieces: Vec<Vec<u8>>) -> Text
-        ensures { result ≡ text_of pieces.items }
-    {
-        Text { pieces }
-    }
-
-    /// Adds a piece at the end.
-    pub fn add(&mut self, piece: Vec<u8>) -> Result<(), Mem>
-        ensures { OnOk result (self.new ≡ self.old ++ piece.items) }
-    {
-        self.pieces.push(piece)?;
-        Ok(())
-    }
-
-    /// Adds an empty line at the end.
-    pub fn add_line(&mut self, alloc: Global) -> Result<(), Mem>
-        ensures { OnOk result (self.new ≡ self.old ++ empty_line) }
-    {
-        let line = vec![in alloc; b'\n']?;
-        self.add(line)
-    }
-
-    /// Adds a piece at the end, with an empty line before it.
-    pub fn add_below(&mut self, alloc: Global, piece: Vec<u8>) -> Result<(), Mem>
-        ensures { OnOk result (self.new ≡ self.old ++ (empty_line ++ piece.items)) }
-    {
-        self.add_line(alloc)?;
-        self.add(piece)
-    }
-
-    /// Writes the text. At a fault some bytes from its front have been written, but not all, and
-    /// the count rose. It takes no memory.
-    pub fn put<S: Sink>(&self, sink: &mut S) -> Result<(), SinkFault>
-        ensures written { OnOk result (TakesWhole
-            (sink_call
-            (S.written sink.old) (S.written sink.new) (S.faults sink.old) (S.faults sink.new))
-            self.now) }
-        ensures part { OnErr result (TakesPart
-            (sink_call
-            (S.written sink.old) (S.written sink.new) (S.faults sink.old) (S.faults sink.new))
-            self.now) }
-        ensures faults { S.faults sink.old ≤ S.faults sink.new }
-        ensures well { S.counts_faults_alone → OnOk result (S.faults sink.new ≡ S.faults sink.old) }
-    {
-        let pieces = self.pieces.as_slice();
-        for piece in pieces {
-            put_all(sink, piece.as_slice())?;
-        }
-        Ok(())
     }
 }

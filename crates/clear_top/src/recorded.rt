@@ -1,13 +1,12 @@
 //! A text with the record of a board, whose journal is written from the record.
-ghost use Rattle.clear_top.specs.Ending.{TakesPart, TakesWhole, sink_call};
+ghost use Rattle.clr_edge.specs.Taking.{TakesPart, TakesWhole, on_sink};
 ghost use Rattle.clear_top.specs.Outcome.{with_journal};
 ghost use Rattle.raise_journal.specs.declared.TheConstants.{ROOM};
 ghost use Rattle.std.specs.Prelude.{◌≡◌, ◌<◌, ◌≤◌, All, OnOk, OnErr, length, vec_capacity};
 
-use crate::lines::put_raises;
-use crate::outcome::Text;
-use clr_edge::{Sink, SinkFault};
+use clr_edge::{Sink, SinkFault, Text};
 use pay_words::Record;
+use raise_journal::put_raises;
 
 /// A text, the record of a board, and where its journal is to be written below the text, the line
 /// that closes it.
@@ -25,14 +24,10 @@ impl Recorded {
     /// memory.
     pub fn put<S: Sink>(&self, sink: &mut S, room: &mut Vec<u8>) -> Result<(), SinkFault>
         requires { ROOM ≤ vec_capacity room.old }
-        ensures written { OnOk result (TakesWhole
-            (sink_call
-            (S.written sink.old) (S.written sink.new) (S.faults sink.old) (S.faults sink.new))
+        ensures written { OnOk result (TakesWhole (on_sink S.written S.faults sink.old sink.new)
             (with_journal self.now.sealed.net self.now.sealed.journal self.now.text
             self.now.closing)) }
-        ensures part { OnErr result (TakesPart
-            (sink_call
-            (S.written sink.old) (S.written sink.new) (S.faults sink.old) (S.faults sink.new))
+        ensures part { OnErr result (TakesPart (on_sink S.written S.faults sink.old sink.new)
             (with_journal self.now.sealed.net self.now.sealed.journal self.now.text
             self.now.closing)) }
         ensures well { S.counts_faults_alone → OnOk result (S.faults sink.new ≡ S.faults sink.old) }

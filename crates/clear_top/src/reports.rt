@@ -1,18 +1,16 @@
 //! What is shown of a network that was cleared by workers on a board.
 ghost use Rattle.clear_core.specs.Clearing.{least};
 ghost use Rattle.clear_core.specs.declared.event.Raise.{Raise};
-ghost use Rattle.clear_top.specs.Meaning.{bounds_report, clear_text, defaults_report};
-ghost use Rattle.clear_top.specs.Meaning.{least_standings, shown_of, summary_report};
+ghost use Rattle.clear_top.specs.Meaning.{bounds_report, clear_text, shown_of, summary_report};
 ghost use Rattle.clear_top.specs.Outcome.{with_journal};
 ghost use Rattle.clr_net.specs.Lines.{line};
 ghost use Rattle.raise_journal.specs.Texts.{journal_header, rounds_line};
-ghost use Rattle.std.specs.Prelude.{◌≡◌, ◌++◌, IfOk, List, None, Some, length};
+ghost use Rattle.std.specs.Prelude.{◌≡◌, ◌++◌, IfOk, List, None, Some};
 
-use crate::clear::is_network;
-use crate::outcome::Text;
-use cascade::{Standing, defaults};
-use clear_report::{bounds_text, default_text, pay_text, rounds_text, summary_text};
+use clear_report::{bounds_text, pay_text, rounds_text, summary_text};
+use clear_stress::{defaults_of, stand};
 use clear_words::{Job, Show, Task};
+use clr_edge::Text;
 use clr_net::{Mem, Network};
 use raise_journal::journal_head;
 use std::alloc::Global;
@@ -95,25 +93,6 @@ fn above_journal(alloc: Global, text: Text, rounds: u64) -> Result<Showing, Mem>
         text,
         closing: Some(closing),
     })
-}
-
-// How the banks stand under the least payments.
-fn stand(alloc: Global, net: &Network, paid: &[u64]) -> Result<Vec<Standing>, Mem>
-    requires { paid.now ≡ least net.now }
-    ensures standings { IfOk result (λ all. all.items ≡ least_standings net.now) }
-    ensures as_many { IfOk result (λ all. length all.items ≡ length net.now.banks) }
-{
-    is_network(net);
-    defaults(alloc, net, paid)
-}
-
-/// The text of who defaults under the least payments, and with which label.
-pub fn defaults_of(alloc: Global, net: &Network, paid: &[u64]) -> Result<Vec<u8>, Mem>
-    requires { paid.now ≡ least net.now }
-    ensures { IfOk result (λ text. text.items ≡ defaults_report net.now) }
-{
-    let standings = stand(alloc, net, paid)?;
-    default_text(alloc, net, standings.as_slice())
 }
 
 // The summary of a network and of its least payments.

@@ -6,36 +6,31 @@ ghost use Rattle.settle.specs.Runs.{IsSettled};
 ghost use Rattle.settle.specs.declared.runs.Settled.{Settled};
 ghost use Rattle.std.specs.Prelude.{◌≡◌, ◌<◌, [], IfOk, length};
 
-use crate::clear::{Clearer, is_network};
-use crate::outcome::{Outcome, Text};
+use crate::outcome::Outcome;
 use clear_core::Raise;
 use clear_report::rescue_text;
-use clr_edge::Gate;
-use clr_net::{BankId, Mem, Network};
+use clr_edge::{Gate, Text};
+use clr_net::{BankId, MAX_BANKS, Mem, Network};
 use rescue::{Rescued, added, rescue};
-use settle::{Settled, settle_owned, settle_owned_from};
+use settle::{Engine, Settled, settle_owned};
 use std::alloc::Global;
 use std::thread::Threads;
 
 /// Finds the least sum that saves a bank, adds it to the bank's cash, and goes on from the payments
 /// that were made without it.
 pub fn save<R: Threads + Sync, G: Gate + Sync>(
-    clearer: &Clearer<'_, R, G>,
+    rt: &R,
+    engine: &Engine<'_, G>,
     net: Network,
     bank: BankId,
 ) -> Result<Outcome, Mem>
     requires { bank.0 < length net.banks }
-    ensures { IfOk result (Rescues net clearer.now.plan bank.0) }
+    ensures { IfOk result (Rescues net engine.now.plan bank.0) }
 {
-    let Settled { paid, sealed, .. } = settle_owned(
-        clearer.rt,
-        clearer.alloc,
-        net,
-        clearer.plan,
-        clearer.gate,
-    )?;
+    let Settled { paid, sealed, .. } = settle_owned(rt, engine, net, &[])?;
     save_after(
-        clearer,
+        rt,
+        engine,
         sealed.net(),
         bank,
         paid.as_slice(),
@@ -45,7 +40,8 @@ pub fn save<R: Threads + Sync, G: Gate + Sync>(
 
 // So it does after a run of this journal, which made the least payments.
 fn save_after<R: Threads + Sync, G: Gate + Sync>(
-    clearer: &Clearer<'_, R, G>,
+    rt: &R,
+    engine: &Engine<'_, G>,
     net: &Network,
     bank: BankId,
     least_paid: &[u64],
@@ -53,23 +49,16 @@ fn save_after<R: Threads + Sync, G: Gate + Sync>(
 ) -> Result<Outcome, Mem>
     requires bank { bank.0 < length net.now.banks }
     requires paid { least_paid.now ≡ least net.now }
-    requires run { (first : Settled) × IsSettled net.now [] clearer.now.plan first
+    requires run { (first : Settled) × IsSettled net.now [] engine.now.plan first
         × (first.sealed.journal ≡ past.now) }
-    ensures { IfOk result (Rescues net.now clearer.now.plan bank.0) }
+    ensures { IfOk result (Rescues net.now engine.now.plan bank.0) }
 {
-    let alloc = clearer.alloc;
-    is_network(net);
+    let alloc = engine.alloc;
+    prove!(net.banks() <= MAX_BANKS);
     let found = rescue(alloc, net, bank, least_paid)?;
     let saved = added(alloc, net, bank, found.added)?;
-    is_network(&saved);
-    let Settled { paid, sealed, .. } = settle_owned_from(
-        clearer.rt,
-        alloc,
-        saved,
-        clearer.plan,
-        past,
-        clearer.gate,
-    )?;
+    prove!(saved.banks() <= MAX_BANKS);
+    let Settled { paid, sealed, .. } = settle_owned(rt, engine, saved, past)?;
     let text = saved_text(alloc, net, bank, &found, paid.as_slice())?;
     Ok(Outcome::with_record(sealed, text, None))
 }

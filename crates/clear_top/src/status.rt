@@ -1,9 +1,8 @@
-ghost use Rattle.clear_top.specs.Status.{code_of, unread};
-ghost use Rattle.clear_top.specs.declared.status.Status.{Status};
+ghost use Rattle.clear_top.specs.Status.{code_of, status_of};
 ghost use Rattle.std.specs.Prelude.{◌≡◌};
 
-use clr_net::Mem;
-use net_check::{Fault, FileKind, ReadNet};
+use clear_load::LoadFault;
+use net_check::{Fault, FileKind};
 use pay_words::Record;
 use raise_journal::Verdict;
 
@@ -51,21 +50,14 @@ impl Status {
     }
 }
 
-impl From<Mem> for Status {
-    ghost from_gives = { λ _ s. s ≡ Status.Mem };
+impl From<LoadFault> for Status {
+    ghost from_gives = { λ why s. s ≡ status_of why };
 
-    fn from(_: Mem) -> Status {
-        Status::Mem
-    }
-}
-
-impl From<ReadNet> for Status {
-    ghost from_gives = { λ why s. s ≡ unread why };
-
-    fn from(why: ReadNet) -> Status {
+    fn from(why: LoadFault) -> Status {
         match why {
-            ReadNet::Refused(fault) => Status::Refused(fault),
-            ReadNet::Mem => Status::Mem,
+            LoadFault::Unread(kind) => Status::ReadFault(kind),
+            LoadFault::Refused(fault) => Status::Refused(fault),
+            LoadFault::Mem => Status::Mem,
         }
     }
 }

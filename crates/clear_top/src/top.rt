@@ -1,13 +1,13 @@
 //! The top call: a run of the program.
 ghost use Rattle.clear_top.specs.Ending.{JobEnds, RunEnds, WritesNothing, asked};
-ghost use Rattle.clear_top.specs.Ending.{shelf_call, sink_call};
+ghost use Rattle.clear_load.specs.Loading.{on_shelf};
+ghost use Rattle.clr_edge.specs.Taking.{on_sink};
 ghost use Rattle.clear_top.specs.Message.{message, TakesText};
-ghost use Rattle.clear_top.specs.Sources.{HasNoFiles, has_files, source_of};
+ghost use Rattle.clear_load.specs.Sources.{HasNoFiles, has_files, source_of};
 ghost use Rattle.clear_top.specs.declared.status.Status.{Status};
 ghost use Rattle.clear_words.specs.Limits.{IsJob};
 ghost use Rattle.std.specs.Prelude.{◌≡◌, ◌≢◌, false};
 
-use crate::load::load;
 use crate::message::tell;
 use crate::status::{Ended, Status};
 use crate::work::work;
@@ -36,12 +36,9 @@ pub fn run<R: Threads + Sync, F: Shelf, O: Sink, E: Sink, G: Gate + Sync>(
     err: &mut E,
     gate: &G,
 ) -> Ended
-    ensures ends { RunEnds
-        (shelf_call (F.files files.old) (F.faults files.old) (F.faults files.new))
-        (sink_call (O.written out.old) (O.written out.new) (O.faults out.old) (O.faults out.new))
-        (asked words.now) result }
-    ensures told { TakesText
-        (sink_call (E.written err.old) (E.written err.new) (E.faults err.old) (E.faults err.new))
+    ensures ends { RunEnds (on_shelf F.files F.faults files.old files.new)
+        (on_sink O.written O.faults out.old out.new) (asked words.now) result }
+    ensures told { TakesText (on_sink E.written E.faults err.old err.new)
         (message result.status (asked words.now)) }
     ensures files { F.files files.new ≡ F.files files.old }
     ensures unasked { HasNoFiles (asked words.now) → files.new ≡ files.old }
@@ -77,7 +74,7 @@ fn without_record(status: Status) -> Ended
     }
 }
 
-// Carries out a job: reads its files, does the task, and writes its text, for which the room is
+// Carries out a job: reads its files and does the task, and writes its text, for which the room is
 // taken before the first byte is written.
 fn carry_out<R: Threads + Sync, F: Shelf, O: Sink, G: Gate + Sync>(
     rt: &R,
@@ -88,22 +85,17 @@ fn carry_out<R: Threads + Sync, F: Shelf, O: Sink, G: Gate + Sync>(
     gate: &G,
 ) -> Ended
     requires { IsJob job.now }
-    ensures ends { JobEnds
-        (shelf_call (F.files files.old) (F.faults files.old) (F.faults files.new))
-        (sink_call (O.written out.old) (O.written out.new) (O.faults out.old) (O.faults out.new))
-        job.now result.status result.sealed }
+    ensures ends { JobEnds (on_shelf F.files F.faults files.old files.new)
+        (on_sink O.written O.faults out.old out.new) job.now result.status result.sealed }
     ensures files { F.files files.new ≡ F.files files.old }
     ensures unasked { has_files (source_of job.now.task) ≡ false → files.new ≡ files.old }
     ensures untouched { WritesNothing result.status → out.new ≡ out.old }
     ensures no_fault { O.counts_faults_alone → result.status ≢ Status.WriteFault
         → O.faults out.new ≡ O.faults out.old }
 {
-    let input = match load(alloc, job, files) {
-        Ok(input) => input,
-        Err(status) => return without_record(status),
-    };
-    let Ok(outcome) = work(rt, alloc, job, input, gate) else {
-        return without_record(Status::Mem);
+    let outcome = match work(rt, alloc, job, files, gate) {
+        Ok(outcome) => outcome,
+        Err(why) => return without_record(Status::from(why)),
     };
     let Ok(mut room) = Vec::with_capacity(alloc, ROOM) else {
         return without_record(Status::Mem);

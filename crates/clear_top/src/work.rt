@@ -1,75 +1,127 @@
-//! The work on a job, by its task.
-ghost use Rattle.clear_top.specs.Ending.{IsUsable};
-ghost use Rattle.clear_top.specs.Meaning.{ComesTo, Rescues};
-ghost use Rattle.clear_top.specs.Sources.{source_of};
+//! The work on a job, by what its task works on and by the task.
+ghost use Rattle.clear_load.specs.Loading.{Stops, on_shelf};
+ghost use Rattle.clear_load.specs.Reading.{alone};
+ghost use Rattle.clear_load.specs.Sources.{has_files, source_of};
+ghost use Rattle.clear_load.specs.declared.source.Source.{Source};
+ghost use Rattle.clear_top.specs.Ending.{Works};
+ghost use Rattle.clear_top.specs.Meaning.{ComesTo, plan_of};
 ghost use Rattle.clear_words.specs.Limits.{IsJob};
-ghost use Rattle.std.specs.Prelude.{◌≡◌, ◌<◌, IfOk, length};
+ghost use Rattle.std.specs.Prelude.{◌≡◌, ◌≤◌, All, IfErr, IfOk, false, length};
+ghost use Rattle.stress.specs.Shocks.{IsScenarioOf};
+ghost use Rattle.stress.specs.declared.TheConstants.{MAX_SCENARIOS};
 
-use crate::clear::Clearer;
+use crate::alone::{bound_with_costs, cancel_cycles, check, clear_centrally, clear_with_costs};
+use crate::clear::report;
 use crate::judge::judge;
-use crate::load::Input;
-use crate::many::{report_breaking, report_impact, report_outcomes, report_rescues};
 use crate::outcome::Outcome;
-use crate::plain::{
-    bound_with_costs, cancel_cycles, check, clear_centrally, clear_with_costs, convert,
-};
 use crate::saving::save;
-use crate::scenarios::report_scenarios;
+use clear_load::{
+    LoadFault, Source, load_bank, load_generated, load_journal, load_network, load_scenarios,
+    source_of,
+};
+use clear_many::{tell_breaking, tell_impact, tell_outcomes, tell_rescues};
+use clear_stress::tell_scenarios;
 use clear_words::{Job, Task};
-use clr_edge::Gate;
+use clr_edge::{Gate, Shelf, Text};
 use clr_net::{Mem, Network};
+use net_csv::print_banks_2;
+use settle::{Engine, Plan};
 use std::alloc::Global;
 use std::thread::Threads;
+use stress::Scenario;
 
-/// Does a job's task on its input: a row for each task. `Mem` is want of memory.
-pub fn work<R: Threads + Sync, G: Gate + Sync>(
+/// Loads what a job works on, and does its task: a row for each thing that a task may work on. An
+/// `Err` says why there is nothing to work on, or that memory is wanting for the work.
+pub fn work<R: Threads + Sync, F: Shelf, G: Gate + Sync>(
     rt: &R,
     alloc: Global,
     job: &Job,
-    input: Input,
+    files: &mut F,
     gate: &G,
-) -> Result<Outcome, Mem>
-    requires job { IsJob job.now }
-    requires usable { IsUsable (source_of job.now.task) input }
-    ensures { IfOk result (ComesTo job.now.task job.now input) }
+) -> Result<Outcome, LoadFault>
+    requires { IsJob job.now }
+    ensures files { F.files files.new ≡ F.files files.old }
+    ensures unasked { has_files (source_of job.now.task) ≡ false → files.new ≡ files.old }
+    ensures works { IfOk result (Works (F.files files.old) job.now) }
+    ensures stopped { IfErr result (Stops (on_shelf F.files F.faults files.old files.new) job.now) }
 {
-    let clearer = Clearer::of(rt, alloc, job, gate);
-    match job.task {
-        Task::Check => check(alloc, &input.net),
-        Task::Clear | Task::Defaults | Task::Gen | Task::Bounds => {
-            clearer.report(net_of(input), job)
+    let plan = Plan {
+        workers: job.workers,
+        sweeps: job.sweeps,
+    };
+    let engine = Engine { alloc, plan, gate };
+    match source_of(job.task) {
+        Source::Files => {
+            let net = load_network(alloc, job, files)?;
+            Ok(work_on_network(rt, &engine, job, net)?)
         }
-        Task::Central => clear_centrally(alloc, &input.net),
-        Task::Stress => report_scenarios(&clearer, &input.net, input.scenarios.as_slice()),
-        Task::Replay => judge(alloc, &input.net, input.journal.as_slice()),
-        Task::Convert => convert(alloc, &input.net),
-        Task::Rescue => save_bank(&clearer, input),
-        Task::Compress => cancel_cycles(alloc, &input.net),
-        Task::Costs => clear_with_costs(alloc, &input.net, job.keep),
-        Task::Breaking => report_breaking(rt, alloc, &input.net),
-        Task::Impact => report_impact(rt, alloc, &input.net),
-        Task::Rescues => report_rescues(rt, alloc, &input.net),
-        Task::Outcomes => report_outcomes(rt, alloc, &input.net, input.scenarios.as_slice()),
-        Task::CostBounds => bound_with_costs(alloc, &input.net, job.keep),
+        Source::FilesAndScenarios => {
+            let (net, scenarios) = load_scenarios(alloc, job, files)?;
+            Ok(work_on_scenarios(rt, &engine, job, &net, scenarios.as_slice())?)
+        }
+        Source::FilesAndJournal => {
+            let (net, journal) = load_journal(alloc, job, files)?;
+            Ok(judge(alloc, &net, journal.as_slice())?)
+        }
+        Source::FilesAndBank => {
+            let (net, bank) = load_bank(alloc, job, files)?;
+            Ok(save(rt, &engine, net, bank)?)
+        }
+        Source::Generated => {
+            let net = load_generated(alloc, job)?;
+            Ok(report(rt, &engine, net, job)?)
+        }
     }
 }
 
-// The network of an input.
-fn net_of(input: Input) -> Network
-    ensures { result ≡ input.net }
+// Does a task that works on the network of both files alone: a row for each, but one for those that
+// clear on one board.
+fn work_on_network<R: Threads + Sync, G: Gate + Sync>(
+    rt: &R,
+    engine: &Engine<'_, G>,
+    job: &Job,
+    net: Network,
+) -> Result<Outcome, Mem>
+    requires job { IsJob job.now }
+    requires alone { source_of job.now.task ≡ Source.Files }
+    requires plan { engine.now.plan ≡ plan_of job.now }
+    ensures { IfOk result (ComesTo job.now.task job.now (alone net)) }
 {
-    let Input { net, .. } = input;
-    net
+    let alloc = engine.alloc;
+    match job.task {
+        Task::Check => check(alloc, &net),
+        Task::Central => clear_centrally(alloc, &net),
+        Task::Convert => Outcome::plain(alloc, print_banks_2(alloc, &net)?),
+        Task::Compress => cancel_cycles(alloc, &net),
+        Task::Costs => clear_with_costs(alloc, &net, job.keep),
+        Task::CostBounds => bound_with_costs(alloc, &net, job.keep),
+        Task::Breaking => Outcome::plain(alloc, tell_breaking(rt, alloc, &net)?),
+        Task::Impact => Ok(Outcome::of(Text::of_pieces(tell_impact(rt, alloc, &net)?))),
+        Task::Rescues => Ok(Outcome::of(Text::of_pieces(tell_rescues(rt, alloc, &net)?))),
+        _ => report(rt, engine, net, job),
+    }
 }
 
-// Saves the bank of an input.
-fn save_bank<R: Threads + Sync, G: Gate + Sync>(
-    clearer: &Clearer<'_, R, G>,
-    input: Input,
+// Does a task that works on scenarios: it tells of each alone, or what they come to in sums.
+fn work_on_scenarios<R: Threads + Sync, G: Gate + Sync>(
+    rt: &R,
+    engine: &Engine<'_, G>,
+    job: &Job,
+    net: &Network,
+    scenarios: &[Scenario],
 ) -> Result<Outcome, Mem>
-    requires { input.bank < length input.net.banks }
-    ensures { IfOk result (Rescues input.net clearer.now.plan input.bank) }
+    requires task { source_of job.now.task ≡ Source.FilesAndScenarios }
+    requires scenarios { All (IsScenarioOf net.now) scenarios.now }
+    requires few { length scenarios.now ≤ MAX_SCENARIOS }
+    ensures { IfOk result
+        (ComesTo job.now.task job.now (record (alone net.now) { scenarios = scenarios.now })) }
 {
-    let bank = input.bank;
-    save(clearer, net_of(input), bank)
+    let alloc = engine.alloc;
+    match job.task {
+        Task::Outcomes => {
+            let pieces = tell_outcomes(rt, alloc, net, scenarios)?;
+            Ok(Outcome::of(Text::of_pieces(pieces)))
+        }
+        _ => Ok(Outcome::of_blocks(tell_scenarios(rt, engine, net, scenarios)?)),
+    }
 }

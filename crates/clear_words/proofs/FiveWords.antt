@@ -21,9 +21,11 @@ use Rattle.clear_words.proofs.PlainWords.{plain_walk_fault}
 abbrev app : App
 app = built command
 
+-- what options the command has
 abbrev shape : Shape
 shape = app.top
 
+-- and which of them each task asks for or refuses
 abbrev rules : List Rule
 rules = shape.rules
 
@@ -31,9 +33,11 @@ rules = shape.rules
 abbrev banks_word : Text
 banks_word = codes "--banks"
 
+-- the option of the debts file
 abbrev debts_word : Text
 debts_word = codes "--debts"
 
+-- a task, both options and a value for each
 abbrev words : Text → Text → Text → List Text
 words task banks debts = task ∷ banks_word ∷ banks ∷ debts_word ∷ debts ∷ []
 
@@ -43,12 +47,15 @@ with_value w word =
     after_step rules word w (plain_word rules w.waiting word w.held).0
     (plain_word rules w.waiting word w.held).1
 
+-- after the task
 abbrev before_banks : Text → Walk
 before_banks task = walked rules [] (with_value (walk_from nothing_held) task) banks_word
 
+-- after the banks file
 abbrev before_debts : Text → Text → Walk
 before_debts task banks = walked rules [] (with_value (before_banks task) banks) debts_word
 
+-- after the debts file, at the end
 abbrev after_debts : Text → Text → Text → Walk
 after_debts task banks debts = with_value (before_debts task banks) debts
 

@@ -1,3 +1,5 @@
 pub mod Names
+pub mod Passed
+pub mod Pieces
 pub mod Rises
 pub mod Written

@@ -29,21 +29,25 @@ pub record IsFirst (name : List ℕ) (entries : List (List ℕ × List ℕ)) (pl
 abbrev pub IsMissing : List ℕ → List (List ℕ × List ℕ) → Type 0
 IsMissing name entries = (k : ℕ) → k < length entries → is_named name (entry_at entries k) ≡ false
 
+-- the first entry of a name stands where a search finds it
 pub first_from_position : (name : List ℕ) (entries : List (List ℕ × List ℕ)) (place : ℕ) → position (is_named name) entries ≡ Some place → IsFirst name entries place
 first_from_position name entries place e =
     let found = position-Some (is_named name) entries place ([], []) e in
     record { within = found.0; named = found.1; earlier = found.2 }
 
+-- a choice that gives nothing failed its test
 not_chosen : (b : Bool) (n : ℕ) → cond b (Some n) None ≡ None → b ≡ false
 not_chosen true n e = cc
 not_chosen false n e = refl
 
+-- where a search finds none no entry has the name
 pub missing_from_position : (name : List ℕ) (entries : List (List ℕ × List ℕ)) → position (is_named name) entries ≡ None → IsMissing name entries
 missing_from_position name entries e k lt =
     let first = position_or_len (is_named name) entries in
     let all : length entries ≤ first = ltb-false first (length entries) (not_chosen _ first e) in
     fails_before_first (is_named name) entries k ([], []) (omega arith)
 
+-- with an entry less in front the first stands one place earlier
 later : (name : List ℕ) (e : List ℕ × List ℕ) (es : List (List ℕ × List ℕ)) (place : ℕ) → IsFirst name (e ∷ es) (suc place) → IsFirst name es place
 later name e es place first = record {
   within = let within = first.within in omega arith;
@@ -84,6 +88,7 @@ bytes_of-push name bytes other (e ∷ es) missing =
     ap (λ (found : Option (List ℕ)). cond (bytes_eq e.0 other) (Some e.1) found) (bytes_of-push name bytes other es (λ k lt. missing (suc k) (omega arith)))
     ∙ passed_over name bytes other e (bytes_of es other) (missing 0 (omega arith))
 
+-- it stands for what was there under its name
 replaced : (own name bytes other was : List ℕ) (found : Option (List ℕ)) → own ≡ name
     → cond (bytes_eq own other) (Some bytes) found ≡ cond (bytes_eq name other) (Some bytes) (cond (bytes_eq own other) (Some was) found)
 replaced own name bytes other was found is = rw is (hidden (bytes_eq name other) (Some bytes) (Some was) found)
@@ -111,6 +116,7 @@ IsAdded name bytes before after =
 -- the two ways in which a file is added to the entries
 module _ (name bytes : List ℕ) (before after : List (List ℕ × List ℕ)) (entries : List (List ℕ × List ℕ)) (copy : List ℕ)
     (entries_are : entries ≡ before) (copy_is : copy ≡ bytes) where
+  -- the entry of this name has the new bytes
   pub added_in_place : (place : ℕ) → position (is_named name) entries ≡ Some place
       → after ≡ set entries place ((entry_at entries place).0, copy) → IsAdded name bytes before after
   added_in_place place found is other =
@@ -118,6 +124,7 @@ module _ (name bytes : List ℕ) (before after : List (List ℕ × List ℕ)) (e
       ∙ bytes_of-set name copy other entries place (first_from_position name entries place found)
       ∙ (λ i. cond (bytes_eq name other) (Some (copy_is i)) (bytes_of (entries_are i) other))
 
+  -- a new entry stands behind the others
   pub added_behind : position (is_named name) entries ≡ None → after ≡ entries ++ (name, copy) ∷ [] → IsAdded name bytes before after
   added_behind none is other =
       ap (λ (es : List (List ℕ × List ℕ)). bytes_of es other) is

@@ -1,5 +1,5 @@
 -- Counts of faults that rise.
-use Rattle.std.proofs.Common.{◌≡◌, ◌≢◌, inl, ℕ, ◌+◌, cond, List, [], ◌∷◌, ◌++◌, bytes_eq, refl, sym, ◌∙◌, ap, arith}
+use Rattle.std.proofs.Common.{◌≡◌, ◌≢◌, ◌<◌, ◌≤◌, ⊎_elim, inl, inr, ℕ, ◌+◌, cond, List, [], ◌∷◌, ◌++◌, bytes_eq, refl, sym, ◌∙◌, ap, arith}
 use Rattle.std.specs.List.{count_by}
 use Rattle.std.proofs.lemmas.Bool.{cond-true, cond-false, false_from_ne_true}
 use Rattle.std.proofs.lemmas.List.Sums.{sum_by-append}
@@ -33,3 +33,7 @@ module _ (before after : List (List ℕ)) (name : List ℕ) (is : after ≡ befo
       let more : count_of after other ≡ count_of before other + 0 =
       ap (λ (noted : List (List ℕ)). count_of noted other) is ∙ count_of-push before name other ∙ ap (λ (n : ℕ). count_of before other + n) none in
       omega (arith, more)
+
+-- a rise since a later moment is one since an earlier
+pub risen_since : (a b c : ℕ) → a ≤ b → HasRisen b c → HasRisen a c
+risen_since a b c l h = ⊎_elim (λ (r : b < c). inl (omega arith)) (λ r. inr r) h

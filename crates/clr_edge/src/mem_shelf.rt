@@ -70,7 +70,7 @@ impl MemShelf {
     pub fn add(&mut self, name: &str, bytes: &[u8]) -> Result<(), Mem>
         ensures files { OnOk result
             (file_at self.new ≡ with_file (file_at self.old) name.now bytes.now) }
-        ensures others { self.new ≡ record self.old { entries = self.new.entries } }
+        ensures only_entries_change { self.new ≡ record self.old { entries = self.new.entries } }
         ensures err { OnErr result (self.new ≡ self.old) }
     {
         let copy = Vec::from_slice(self.alloc, bytes)?;

@@ -73,7 +73,7 @@ impl Sink for MemSink {
 
     fn put(&mut self, piece: &[u8]) -> Result<usize, SinkFault>
         requires { 0 < length piece.now }
-        ensures some { IfOk result (λ n. 1 ≤ n) }
+        ensures at_least_one { IfOk result (λ n. 1 ≤ n) }
         ensures within { IfOk result (λ n. n ≤ length piece.now) }
         ensures written { IfOk result
             (λ n. Some self.new.bytes ≡ with_bytes (Some self.old.bytes) (take n piece.now)) }

@@ -34,7 +34,7 @@ pub trait Sink {
     /// it took none, and the count rose. It takes no memory.
     fn put(&mut self, piece: &[u8]) -> Result<usize, SinkFault>
         requires { 0 < length piece.now }
-        ensures some { IfOk result (λ n. 1 ≤ n) }
+        ensures at_least_one { IfOk result (λ n. 1 ≤ n) }
         ensures within { IfOk result (λ n. n ≤ length piece.now) }
         ensures written { IfOk result
             (λ n. written self.new ≡ with_bytes (written self.old) (take n piece.now)) }

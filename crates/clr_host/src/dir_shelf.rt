@@ -43,7 +43,7 @@ impl<'a, R: Files> Shelf for DirShelf<'a, R> {
         // alone.
         ensures front { IfOk result (λ bytes.
             (file : R.File) × IsFront (R.File.remaining file) limit bytes.items) }
-        ensures one { IsErrOf result FetchFault.Failed
+        ensures fault_counted { IsErrOf result FetchFault.Failed
             → self.new.faults ≡ counted self.old.faults }
         ensures ok { OnOk result (self.new.faults ≡ self.old.faults) }
         ensures mem { IsErrOf result FetchFault.Mem → self.new.faults ≡ self.old.faults }

@@ -9,8 +9,3 @@ mod std_sink;
 
 pub use dir_shelf::DirShelf;
 pub use std_sink::StdSink;
-
-#[cfg(test)]
-mod shelf_tests;
-#[cfg(test)]
-mod stream_tests;

@@ -31,14 +31,14 @@ impl<W: Write> Sink for StdSink<W> {
 
     fn put(&mut self, piece: &[u8]) -> Result<usize, SinkFault>
         requires { 0 < length piece.now }
-        ensures some { IfOk result (λ n. 1 ≤ n) }
+        ensures at_least_one { IfOk result (λ n. 1 ≤ n) }
         ensures within { IfOk result (λ n. n ≤ length piece.now) }
         ensures faults { self.old.faults ≤ self.new.faults }
         ensures failed { OnErr result (HasRisen self.old.faults self.new.faults) }
 
         // A failure is counted once, and nothing else; the stream holds what the answer says.
         ensures well { OnOk result (self.new.faults ≡ self.old.faults) }
-        ensures one { OnErr result (self.new.faults ≡ counted self.old.faults) }
+        ensures fault_counted { OnErr result (self.new.faults ≡ counted self.old.faults) }
         ensures taken { IfOk result (λ n.
             Appends (W.contents self.old.stream) (W.contents self.new.stream) (take n piece.now)) }
     {
@@ -58,7 +58,7 @@ const TRIES: u32 = 64;
 // Writes bytes from the front of a piece, one at least, and answers how many.
 fn write_some<W: Write>(stream: &mut W, piece: &[u8]) -> io::Result<usize>
     requires { 0 < length piece.now }
-    ensures some { IfOk result (λ n. 1 ≤ n) }
+    ensures at_least_one { IfOk result (λ n. 1 ≤ n) }
     ensures within { IfOk result (λ n. n ≤ length piece.now) }
     ensures taken { IfOk result (λ n. Appends (W.contents stream.old) (W.contents stream.new)
         (take n piece.now)) }

@@ -23,6 +23,7 @@ next_of-none rule claims awards w = (
     none_when_met claims awards None e n = refl
     none_when_met claims awards (Some j) e n = absurd (omega (arith, n.1, ap (λ xs. get_or xs j 0) e))
 
+-- the next debt of each kind is a choice that unit rules may make
 pub kind_is_unit_choice : (kind : RuleKind) → IsUnitChoice (next_of kind)
 kind_is_unit_choice kind = record {
   none_where_met = next_of-none kind;
@@ -30,12 +31,15 @@ kind_is_unit_choice kind = record {
   leaves_out_met = λ claims awards i w l e. next_of-remove kind claims awards i l w.as_many (le_of_eq (sym e));
 }
 
+-- each debt gets at most its claim
 pub award_within : (rule : RuleKind) (claims : List ℕ) (e : ℕ) → IsWithin claims (award rule claims e)
 award_within rule claims e = unit.award_within (next_of rule) (kind_is_unit_choice rule) claims e
 
+-- an estate is given out whole, up to all that is claimed
 pub sum_award : (rule : RuleKind) (claims : List ℕ) (e : ℕ) → sum (award rule claims e) ≡ min e (sum claims)
 sum_award rule claims e = unit.sum_award (next_of rule) (kind_is_unit_choice rule) claims e
 
+-- no award falls as the estate grows
 pub award_mono : (rule : RuleKind) (claims : List ℕ) (d e : ℕ) → d ≤ e → IsAtMost (award rule claims d) (award rule claims e)
 award_mono rule claims d e l = unit.awards_mono (next_of rule) claims (replicate (length claims) 0) d e l
 

@@ -24,6 +24,7 @@ position_or_len_through : {X Y : Type 0} (f : X → Y) (p : X → Bool) (q : Y �
 position_or_len_through f p q same [] = refl
 position_or_len_through f p q same (x ∷ xs) = rw (same x, position_or_len_through f p q same xs) refl
 
+-- the first place that passes a test is that of the images under an equal test
 position_through : {X Y : Type 0} (f : X → Y) (p : X → Bool) (q : Y → Bool) → ((x : X) → p x ≡ q (f x)) → (xs : List X)
     → position p xs ≡ position q (map f xs)
 position_through f p q same xs = rw (position_or_len_through f p q same xs, length-map xs f) refl
@@ -38,12 +39,14 @@ none_passes p xs i d l none =
     fails_before_first p xs i d (omega (arith, ltb-false (position_or_len p xs) (length xs) past))
 
 module _ (net : Net) (name : List ℕ) where
+  -- the first bank of a name stands where the name first stands among the names
   by_names : position (has_name name) net.banks ≡ position (bytes_eq name) (map (λ b. b.name) net.banks)
   by_names = position_through (λ b. b.name) (has_name name) (bytes_eq name) (λ b.
       let there = bytes_eq-Decides b.name name in
       let back = bytes_eq-Decides name b.name in
       same_from_decides _ _ there (λ e. sym (back.0 e), λ e. back.1 (sym e))) net.banks
 
+  -- the name in a place is that of the bank there
   name_at : (i : ℕ) → get_or (map (λ b. b.name) net.banks) i [] ≡ name_of net i
   name_at i = get_or-map_read (λ b. b.name) net.banks i []
 

@@ -26,6 +26,7 @@ module _ (net : Net) (i cash : ℕ) where
       → map f (with_cash net i cash).banks ≡ map f net.banks
   all_kept f same = map-changed_at f (of_cash cash) same net.banks i
 
+  -- what does not read the cash of a bank reads the same of each bank
   kept : {X : Type 0} (f : Bank → X) → ((b : Bank) → f (of_cash cash b) ≡ f b) → (j : ℕ) (d : X)
       → option_map_or f (slice_get (with_cash net i cash).banks j) d
       ≡ option_map_or f (slice_get net.banks j) d
@@ -40,6 +41,7 @@ module _ (net : Net) (i cash : ℕ) where
       (rw (get_or_from_slice_get net.banks i b b at) at (sum_by-set (λ b. b.cash) net.banks i
       (of_cash cash b) b (slice_get_within net.banks i b at)))
 
+  -- with other cash within the limit it is still a network
   IsNetwork-with_cash : cash ≤ MAX_CASH → IsNetwork net → IsNetwork (with_cash net i cash)
   IsNetwork-with_cash c network =
       let len : length (with_cash net i cash).banks ≡ length net.banks =
@@ -65,11 +67,13 @@ module _ (net : Net) (i cash : ℕ) where
 
 module _ (all : List Account) (ds : List Debt) (i : ℕ) (u : Account) (cash : ℕ)
     (within : i < length all) (read : u ≡ get_or all i u) where
+  -- the account in this place is that of the bank
   bank_at : slice_get (net_of all ds).banks i ≡ Some u.bank
   bank_at =
       slice_get-map (λ c. c.bank) all i ∙ ap (option_map (λ c. c.bank))
       (slice_get_read all (length all) i u refl within read)
 
+  -- the accounts with new cash at one of them are those of the network with that cash
   pub net_of-with_cash : net_of (set all i (of_account_cash cash u)) ds
       ≡ with_cash (net_of all ds) i cash
   net_of-with_cash =
@@ -78,9 +82,11 @@ module _ (all : List Account) (ds : List Debt) (i : ℕ) (u : Account) (cash : �
 
   module _ {index : List (List ℕ)} {total money senior : ℕ}
       (before : AreKept all ds index total money senior) where
+    -- the cash of one bank is at most all cash
     pub cash_within : u.bank.cash ≤ money
     cash_within = omega (arith, before.cash, sum-with_cash (net_of all ds) i 0 u.bank bank_at)
 
+    -- the accounts and sums are kept with new cash at one of them
     pub AreKept-with_cash : cash ≤ MAX_CASH
         → AreKept (set all i (of_account_cash cash u)) ds index total (money - u.bank.cash + cash)
         senior

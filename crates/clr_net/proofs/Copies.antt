@@ -13,6 +13,7 @@ use Rattle.clr_net.specs.Limits.{IsNetwork, IsNewBank, IsNewDebt, IsNewName}
 use Rattle.clr_net.specs.Net.{Net, with_bank, with_debt}
 use Rattle.clr_net.proofs.BankNames.{names_grow}
 
+-- a call without an error has kept what it promises for that case
 pub ok_told : {T E P : Type 0} (r : Result T E) → is_err r ≡ false → OnOk r P → P
 ok_told (Ok x) e p = p
 ok_told (Err x) e p = absurd (true≢false e)
@@ -25,12 +26,14 @@ first_banks net n = record { banks = take n net.banks; debts = [] }
 abbrev pub first_debts : Net → ℕ → Net
 first_debts net n = record { banks = net.banks; debts = take n net.debts }
 
+-- a place below n reads the same of the first n
 pub slice_get-take : {X : Type 0} (xs : List X) (n j : ℕ) → j < n → n ≤ length xs → slice_get (take n xs) j ≡ slice_get xs j
 slice_get-take [] n j l m = absurd (omega arith)
 slice_get-take (x ∷ xs) zero j l m = absurd (omega arith)
 slice_get-take (x ∷ xs) (suc n) zero l m = refl
 slice_get-take (x ∷ xs) (suc n) (suc j) l m = slice_get-take xs n j (omega arith) (omega arith)
 
+-- the first n + 1 are the first n and the next one
 take_next : {X : Type 0} (xs : List X) (n : ℕ) (x : X) → slice_get xs n ≡ Some x → take (n + 1) xs ≡ take n xs ++ x ∷ []
 take_next xs n x at =
     take_more xs n x (slice_get_within xs n x at) ∙ ap (λ y. take n xs ++ y ∷ []) (get_or_from_slice_get xs n x x at)
@@ -45,6 +48,7 @@ next_name_is_new net own n b at j m =
     (rw at at (own n j l (omega arith)))
 
 module _ (net : Net) (network : IsNetwork net) where
+  -- the next bank may be added to those before it
   pub next_bank_is_new : (n : ℕ) (b : Bank) → slice_get net.banks n ≡ Some b → IsNewBank (first_banks net n) b
   next_bank_is_new n b at =
       let l = slice_get_within net.banks n b at in
@@ -57,6 +61,7 @@ module _ (net : Net) (network : IsNetwork net) where
             n b at,
       )
 
+  -- the next debt may be added to those before it
   pub next_debt_is_new : (n : ℕ) (d : Debt) → slice_get net.debts n ≡ Some d → IsNewDebt (first_debts net n) d
   next_debt_is_new n d at =
       let l = slice_get_within net.debts n d at in
@@ -66,12 +71,15 @@ module _ (net : Net) (network : IsNetwork net) where
       (λ (d : Debt). d.claim) net.debts n d l) in
       search (arith, at, slice_get-take net.debts n, old.only_of_its_kind)
 
+-- with it they are the first n + 1 banks
 pub bank_copied : (net : Net) (n : ℕ) (b : Bank) → slice_get net.banks n ≡ Some b → with_bank (first_banks net n) b ≡ first_banks net (n + 1)
 bank_copied net n b at = rw (take_next net.banks n b at)
 
+-- with it they are the first n + 1 debts
 pub debt_copied : (net : Net) (n : ℕ) (d : Debt) → slice_get net.debts n ≡ Some d → with_debt (first_debts net n) d ≡ first_debts net (n + 1)
 debt_copied net n d at = rw (take_next net.debts n d at)
 
+-- with the last of them the copy is the network
 pub debts_copied : (net : Net) (n : ℕ) → length net.debts ≤ n → first_debts net n ≡ net
 debts_copied net n l = rw (take_all n net.debts l)
 

@@ -40,6 +40,7 @@ abbrev with_if : Bool → List ℕ → ℕ → List ℕ
 with_if b xs x = cond b (xs ++ x ∷ []) xs
 
 module _ (net : Net) (d : Debt) where
+  -- what is read of each earlier debt is the same with one debt more
   same_before : {X : Type 0} (h : Option Debt → X)
       → All (λ x. h (slice_get (net.debts ++ d ∷ []) x) ≡ h (slice_get net.debts x))
       (debt_numbers net)
@@ -149,6 +150,7 @@ pub record IsShown (net : Net) (shows : List Shown) (index : List (List ℕ))
   pub outside : senior ≡ all_outside net
 
 module _ {index : List (List ℕ)} {total money senior : ℕ} where
+  -- accounts that are kept show their network
   pub shown_from : (all : List Account) (ds : List Debt) → AreKept all ds index total money senior
       → IsShown (net_of all ds) (map shown all) index total money senior
   shown_from all ds kept = search accounts
@@ -165,6 +167,7 @@ module _ {index : List (List ℕ)} {total money senior : ℕ} where
                 i,
           )
 
+  -- what shows a network is kept for it
   pub kept_from : (net : Net) (all : List Account) (ds : List Debt) → net_of all ds ≡ net
       → IsShown net (map shown all) index total money senior
       → AreKept all ds index total money senior

@@ -22,9 +22,11 @@ pub record IsPartOf (f : ℕ → ℕ) (claims awards part_claims part_awards : L
 
 module _ (rule : RuleKind) (f : ℕ → ℕ) (claims awards part_claims part_awards : List ℕ)
     (part : IsPartOf f claims awards part_claims part_awards) where
+  -- an unmet place of the part stands for an unmet place of the whole
   same_unmet : (j : ℕ) → is_unmet part_claims part_awards j ≡ true → is_unmet claims awards (f j) ≡ true
   same_unmet j u = let c = part.same_claim j u in let a = part.same_award j u in cc
 
+  -- of two such places the same goes first in both
   same_precedes : (i j : ℕ) → is_unmet part_claims part_awards i ≡ true → is_unmet part_claims part_awards j ≡ true
       → precedes rule claims awards (f i) (f j) ≡ precedes rule part_claims part_awards i j
   same_precedes i j u v =
@@ -34,6 +36,7 @@ module _ (rule : RuleKind) (f : ℕ → ℕ) (claims awards part_claims part_awa
       let b = part.same_award j v in
       rw (c, a, d, b) refl
 
+  -- the best so far of the part stands for the best so far of the whole
   part_best : (r : Option ℕ) → IsNextSoFar rule part_claims part_awards (length part_claims) r
       → IsNextSoFar rule claims awards (length claims) (option_map f r)
   part_best None none =
@@ -58,6 +61,7 @@ module _ (rule : RuleKind) (f : ℕ → ℕ) (claims awards part_claims part_awa
   next_of_part = next_of_is_best rule claims awards (option_map f (next_of rule part_claims part_awards))
       (part_best (next_of rule part_claims part_awards) (next_of_best rule part_claims part_awards))
 
+-- only a place with a claim is unmet
 pub unmet_in_range : (claims awards : List ℕ) (j : ℕ) → is_unmet claims awards j ≡ true → j < length claims
 unmet_in_range claims awards j u = grind (arith, get_or_past claims j 0, cases_lt j (length claims))
 

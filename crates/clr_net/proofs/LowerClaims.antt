@@ -17,11 +17,13 @@ claim_set [] (d ∷ ds) x l = absurd (omega arith)
 claim_set (claim ∷ C) (d ∷ ds) zero l = refl
 claim_set (claim ∷ C) (d ∷ ds) (suc x) l = claim_set C ds x (omega arith)
 
+-- there are as many debts as before
 pub length-of_claims : (C : List ℕ) (ds : List Debt) → length (of_claims C ds) ≡ length ds
 length-of_claims C [] = refl
 length-of_claims [] (d ∷ ds) = refl
 length-of_claims (claim ∷ C) (d ∷ ds) = ap suc (length-of_claims C ds)
 
+-- and their claims are the new ones
 claims_are : (C : List ℕ) (ds : List Debt) → length C ≡ length ds
     → map (λ d. d.claim) (of_claims C ds) ≡ C
 claims_are [] [] l = refl
@@ -39,6 +41,7 @@ numbers_kept f same (claim ∷ C) (d ∷ ds) = rw (same claim d, numbers_kept f 
 
 module _ (net : Net) (C : List ℕ) (network : IsNetwork net) (l : length C ≡ length net.debts)
     (within : IsAtMost C (all_claims net)) where
+  -- what does not read the claim of a debt reads the same of each debt
   kept : (f : Debt → ℕ) → ((claim : ℕ) (d : Debt) → f (of_claim claim d) ≡ f d) → (x : ℕ)
       → option_map_or f (slice_get (of_claims C net.debts) x) 0
       ≡ option_map_or f (slice_get net.debts x) 0
@@ -46,6 +49,7 @@ module _ (net : Net) (C : List ℕ) (network : IsNetwork net) (l : length C ≡ 
       sym (get_or-map_read f _ x 0) ∙ ap (λ xs. get_or xs x 0) (numbers_kept f same C net.debts)
       ∙ get_or-map_read f _ x 0
 
+  -- no claim is greater than it was
   claim_le : (x : ℕ) → claim_of (with_claims net C) x ≤ claim_of net x
   claim_le x =
       rw (
@@ -55,6 +59,7 @@ module _ (net : Net) (C : List ℕ) (network : IsNetwork net) (l : length C ≡ 
             get_or-map_read (λ d. d.claim) net.debts x 0,
       ) (within x)
 
+  -- so it is a network
   pub lower_is_network : IsNetwork (with_claims net C)
   lower_is_network = record {
     banks_in_limit = network.banks_in_limit;
@@ -77,6 +82,7 @@ module _ (net : Net) (C : List ℕ) (network : IsNetwork net) (l : length C ≡ 
         search (arith, debtor, creditor, class, debt.only_of_its_kind);
   }
 
+-- claims that are nowhere greater give a network, whose claims they are
 pub lower_claims : (net : Net) (C : List ℕ) → IsNetwork net → length C ≡ length net.debts
     → IsAtMost C (all_claims net)
     → IsNetwork (with_claims net C) × (all_claims (with_claims net C) ≡ C)

@@ -10,16 +10,19 @@ use Rattle.clr_net.specs.declared.debt.Debt.{Debt}
 use Rattle.clr_net.specs.Net.{Net, empty_net, with_bank, with_debt, all_cash, all_outside}
 use Rattle.clr_net.specs.Limits.{IsNetwork, IsNewBank, IsNewDebt}
 
+-- with one element more each earlier place reads as before
 pub slice_get_push_before : {X : Type 0} (xs : List X) (y : X) (k : ℕ) → k < length xs
     → slice_get (xs ++ y ∷ []) k ≡ slice_get xs k
 slice_get_push_before [] y k l = absurd (omega arith)
 slice_get_push_before (x ∷ xs) y zero l = refl
 slice_get_push_before (x ∷ xs) y (suc k) l = slice_get_push_before xs y k (omega arith)
 
+-- and the last place reads the new one
 pub slice_get_push_at : {X : Type 0} (xs : List X) (y : X) → slice_get (xs ++ y ∷ []) (length xs) ≡ Some y
 slice_get_push_at [] y = refl
 slice_get_push_at (x ∷ xs) y = slice_get_push_at xs y
 
+-- without banks and debts it is a network
 pub IsNetwork-empty_net : IsNetwork empty_net
 IsNetwork-empty_net = record {
   banks_in_limit = omega arith;
@@ -29,6 +32,7 @@ IsNetwork-empty_net = record {
   each_debt = λ x l. absurd (omega arith);
 }
 
+-- a new bank leaves a network
 pub IsNetwork-with_bank : (net : Net) (b : Bank) → IsNetwork net → IsNewBank net b → IsNetwork (with_bank net b)
 IsNetwork-with_bank net b network new =
     let longer = length_push net.banks b in
@@ -50,6 +54,7 @@ IsNetwork-with_bank net b network new =
       each_debt = λ x l. let old = network.each_debt x l in search arith;
     }
 
+-- a new debt leaves a network
 pub IsNetwork-with_debt : (net : Net) (d : Debt) → IsNetwork net → IsNewDebt net d → IsNetwork (with_debt net d)
 IsNetwork-with_debt net d network new =
     let longer = length_push net.debts d in

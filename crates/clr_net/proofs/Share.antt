@@ -21,6 +21,7 @@ pub record IsShare (claims classes : List ℕ) (c : ℕ) (shares : List ℕ) : T
   pub earlier : (k : ℕ) → get_or classes k 0 < c → get_or shares k 0 ≡ 0
 
 module _ (choice : List ℕ → List ℕ → Option ℕ) (lawful : IsUnitChoice choice) (claims classes : List ℕ) where
+  -- shares of any number of classes are such
   pub share_by_from_is : (c n e : ℕ) → IsShare claims classes c (share_by_from choice claims classes c n e)
   unfolding share_by_from
   share_by_from_is c zero e = search (arith, length-replicate, zeros_at)
@@ -51,12 +52,14 @@ module _ (choice : List ℕ → List ℕ → Option ℕ) (lawful : IsUnitChoice 
   pub share_by_within : (e : ℕ) → IsAtMost (share_by choice claims classes e) claims
   share_by_within e = (share_by_from_is 1 MAX_CLASS e).within
 
+  -- the awards of one class are as many as the shares of the next
   pub lengths_agree : (c n d e : ℕ)
       → length (award choice (class_claims c claims classes) d) ≡ length (share_by_from choice claims classes (c + 1) n e)
   lengths_agree c n d e =
       (award_within choice lawful (class_claims c claims classes) d).as_many ∙ length-class_claims c claims classes
       ∙ sym (share_by_from_is (c + 1) n e).as_many
 
+  -- all shares come to the estate, up to what the classes claim
   sum_share_by_from : (c n e : ℕ) → sum (share_by_from choice claims classes c n e) ≡ min e (class_total claims classes c n)
   unfolding share_by_from
   sum_share_by_from c zero e =
@@ -78,6 +81,7 @@ module _ (choice : List ℕ → List ℕ → Option ℕ) (lawful : IsUnitChoice 
       → sum (share_by choice claims classes e) ≡ min e (sum claims)
   sum_share_by e l h = sum_share_by_from 1 MAX_CLASS e ∙ ap (λ t. min e t) (class_total_all claims classes 1 MAX_CLASS l h)
 
+  -- no share falls as the estate grows
   share_by_from_mono : (c n d e : ℕ) → d ≤ e
       → IsAtMost (share_by_from choice claims classes c n d) (share_by_from choice claims classes c n e)
   unfolding share_by_from
@@ -102,16 +106,20 @@ module _ (choice : List ℕ → List ℕ → Option ℕ) (lawful : IsUnitChoice 
 
 -- the same of each kind of rule
 module _ (rule : RuleKind) (claims classes : List ℕ) where
+  -- there is a share for each claim
   pub length-share : (e : ℕ) → length (share rule claims classes e) ≡ length claims
   length-share e = (share_by_from_is (next_of rule) (kind_is_unit_choice rule) claims classes 1 MAX_CLASS e).as_many
 
+  -- each is at most its claim
   pub share_within : (e : ℕ) → IsAtMost (share rule claims classes e) claims
   share_within e = share_by_within (next_of rule) (kind_is_unit_choice rule) claims classes e
 
+  -- all come to the estate, up to all claims
   pub sum_share : (e : ℕ) → length claims ≡ length classes → AreClasses classes 1 MAX_CLASS
       → sum (share rule claims classes e) ≡ min e (sum claims)
   sum_share e l h = sum_share_by (next_of rule) (kind_is_unit_choice rule) claims classes e l h
 
+  -- none falls as the estate grows
   pub share_mono : (d e : ℕ) → d ≤ e → IsAtMost (share rule claims classes d) (share rule claims classes e)
   share_mono d e l = share_by_mono (next_of rule) (kind_is_unit_choice rule) claims classes d e l
 

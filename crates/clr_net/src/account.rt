@@ -82,7 +82,7 @@ pub fn make_room(accounts: &mut Vec<Account>, debtor: BankId, creditor: BankId) 
 
 /// Enters a debt into the accounts of its debtor and its creditor, which have room for it.
 pub fn enter(accounts: &mut Vec<Account>, id: DebtId, debt: Debt)
-    requires few { vec_len accounts.old ≤ MAX_BANKS }
+    requires banks_in_limit { vec_len accounts.old ≤ MAX_BANKS }
     requires debtor { debt.debtor.0 < vec_len accounts.old }
     requires creditor { debt.creditor.0 < vec_len accounts.old }
     requires two { debt.debtor.0 ≢ debt.creditor.0 }

@@ -9,7 +9,7 @@ use Rattle.clr_net.specs.Limits.{IsNetwork}
 use Rattle.clr_net.specs.Net.{Net, debtor_of, creditor_of, class_of}
 use Rattle.compress.specs.Compression.{IsBalanceKept, IsLive, Leads}
 use Rattle.compress.specs.Lowering.{lowered, CanLower}
-use Rattle.compress.proofs.Cycles.{cycle_keeps}
+use Rattle.compress.proofs.Cycles.{cycle_keeps, live_class, live_claim, live_with}
 use Rattle.compress.specs.declared.mark.Mark.{Mark}
 use Rattle.compress.specs.declared.mark.Mark.TheVariants.{New, Walked, Done}
 use Rattle.compress.specs.declared.step.Step.{Step}
@@ -23,6 +23,7 @@ lowered_push : (C : List ℕ) (m : ℕ) (xs : List ℕ) (y : ℕ)
 lowered_push C m [] y = refl
 lowered_push C m (x ∷ xs) y = lowered_push (set C x (get_or C x 0 - m)) m xs y
 
+-- lowering claims leaves their count
 length-lowered : (C : List ℕ) (m : ℕ) (xs : List ℕ) → length (lowered C m xs) ≡ length C
 length-lowered C m [] = refl
 length-lowered C m (x ∷ xs) = omega (
@@ -31,6 +32,7 @@ length-lowered C m (x ∷ xs) = omega (
   length-set {A = ℕ},
 )
 
+-- if the debts can be lowered and then one more has m, all of them can be lowered
 can_push : (C : List ℕ) (m : ℕ) (xs : List ℕ) (y : ℕ) → CanLower C m xs → y < length C
     → m ≤ get_or (lowered C m xs) y 0 → CanLower C m (xs ++ y ∷ [])
 can_push C m [] y can l e = (l, e, tt)
@@ -40,11 +42,13 @@ can_push C m (x ∷ xs) y can l e = (
   can_push (set C x (get_or C x 0 - m)) m xs y can.2 (omega (arith, length-set {A = ℕ})) e,
 )
 
+-- debts that lead to the bank where one more begins lead on to its end
 leads_push : (from to : ℕ → ℕ) (i j : ℕ) (xs : List ℕ) (y : ℕ) → Leads from to i xs j → from y ≡ j
     → Leads from to i (xs ++ y ∷ []) (to y)
 leads_push from to i j [] y leads e = (e ∙ sym leads, refl)
 leads_push from to i j (x ∷ xs) y leads e = (leads.0, leads_push from to (to x) j xs y leads.1 e)
 
+-- lowering raises no claim
 lowered_le : (C : List ℕ) (m : ℕ) (xs : List ℕ) → IsAtMost (lowered C m xs) C
 lowered_le C m [] = λ k. omega arith
 lowered_le C m (x ∷ xs) = λ k.
@@ -61,9 +65,11 @@ lowered_le C m (x ∷ xs) = λ k.
 walk_stays : {net : Net} {c s : ℕ} {C W : List ℕ} {marks : List Mark} (D : List ℕ) → IsWalk net c s C W marks
     → ((k : ℕ) → k < length W → get_or D (get_or W k 0) 0 ≡ get_or C (get_or W k 0) 0)
     → IsWalk net c s D W marks
-walk_stays D w same = record {
-  live = λ k l. let old = w.live k l in record
-      { debt = old.debt; class = old.class; claim = omega (arith, old.claim, same k l) };
+walk_stays {net = net} {c = c} {W = W} D w same = record {
+  live = λ k l.
+      let old = w.live k l in
+      live_with net D c (get_or W k 0) old.debt (live_class old)
+      (omega (arith, live_claim old, same k l));
   links = w.links;
   marked = w.marked;
   placed = w.placed;
@@ -104,12 +110,12 @@ cancelling_begins net c s place m C W marks x l w live link in_walk closed pos e
       xs = x ∷ [];
       claims = refl;
       can = (r, enough, tt);
-      classes = λ k b. let first : k ≡ 0 = omega arith in rw first live.class;
+      classes = λ k b. let first : k ≡ 0 = omega arith in rw first (live_class live);
       leads = (sym closed, link);
       within = in_walk;
       walk = walk_stays (set C x (get_or C x 0 - m)) w same;
       enough = λ k g b. omega (arith, all k g b, same k b);
-      others = λ y ne. other y (λ e. ne (ap (class_of net) e ∙ live.class));
+      others = λ y ne. other y (λ e. ne (ap (class_of net) e ∙ live_class live));
       less = omega (arith, sum_by-set (λ n. n) C x (get_or C x 0 - m) 0 r);
       banks = refl;
       stays = λ b e. e;
@@ -125,6 +131,7 @@ pub record IsLast (net : Net) (c m : ℕ) (D : List ℕ) (y : ℕ) : Type 0 wher
   pub enough : m ≤ get_or D y 0
   pub in_claims : y < length D
 
+-- while a cycle is taken back, its last debt is of the class, has a claim of m and leads on
 pub cancelling_last : {net : Net} {c s place m : ℕ} {C : List ℕ} {before : List Mark}
     {D : List ℕ} {marks : List Mark} (W : List ℕ) (y : ℕ)
     → length C ≡ length net.debts → IsCancelling net c s place m C before D (W ++ y ∷ []) marks
@@ -173,7 +180,7 @@ cancelling_goes_on net c s place m C before D W marks y network l bl old in_walk
           (λ (h : k < length old.xs). ap (class_of net) (get_or-append old.xs (y ∷ []) 0 k h)
           ∙ old.classes k h)
           (λ (g : length old.xs ≤ k). ap (class_of net)
-          (get_or_push old.xs y 0 k (omega (arith, h, length_push old.xs y))) ∙ live.class)
+          (get_or_push old.xs y 0 k (omega (arith, h, length_push old.xs y))) ∙ live_class live)
           (cases_lt k (length old.xs));
       leads = subst (λ i. Leads (debtor_of net) (creditor_of net) i (old.xs ++ y ∷ [])
           (end_of net s W)) (stop_before net s W y place in_walk)
@@ -192,7 +199,7 @@ cancelling_goes_on net c s place m C before D W marks y network l bl old in_walk
         subst (λ x. m ≤ get_or D x 0) (get_or-append W (y ∷ []) 0 k h)
             (old.enough k g (omega (arith, n))),
       );
-      others = λ x other. same x (λ e. other (ap (class_of net) e ∙ live.class))
+      others = λ x other. same x (λ e. other (ap (class_of net) e ∙ live_class live))
           ∙ old.others x other;
       less = omega (
         arith,
@@ -246,16 +253,20 @@ module _ {net : Net} {c s place m : ℕ} {C : List ℕ} {before : List Mark} {D 
     (bl : length before ≡ length net.banks) (e : ks ≡ take (n - 1) ids) (len : n ≡ length ids)
     (at : d ≡ get_or ids (n - 1) d) (more : place < n)
     (old : IsCancelling net c s place m C before D (numbers ids) marks) where
+  -- as the walk's debts are given with the last one apart, the cycle is taken back so far
   parted : IsCancelling net c s place m C before D (numbers ks ++ d.debt.0 ∷ []) marks
   parted = subst (λ W. IsCancelling net c s place m C before D W marks)
       (split_last ids ks n d e len (omega arith) at) old
 
+  -- where the cycle begins is not past the last debt
   in_front : place < length (numbers ks) + 1
   in_front = omega (arith, length-map ks (λ s. s.debt.0), ap length e, length-take (n - 1) ids)
 
+  -- the last step is of a debt of the class that has at least m
   pub step_last : IsLast net c m D d.debt.0
   step_last = cancelling_last (numbers ks) d.debt.0 l parted in_front
 
+  -- with that debt lowered and its debtor new, the cycle is taken back one debt further
   pub step_more : IsStep net d → 0 < m
       → IsCancelling net c s place m C before (set D d.debt.0 (get_or D d.debt.0 0 - m)) (numbers ks)
       (set marks d.debtor.0 New)

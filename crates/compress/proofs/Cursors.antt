@@ -7,18 +7,16 @@ use Rattle.compress.specs.declared.mark.Mark.{Mark}
 use Rattle.compress.specs.Walk.{IsPassed, ArePassed, IsKept, IsReady, mark_of}
 use Rattle.compress.specs.Compression.{IsLive}
 use Rattle.compress.specs.declared.mark.Mark.TheVariants.{Done}
-use Rattle.compress.proofs.Cycles.{in_column}
+use Rattle.compress.proofs.Cycles.{in_column, live_class, live_claim, live_with}
 
 -- claims only fall and what is done stays done, so what is passed stays passed
 pub passed_kept : {net : Net} {c : ℕ} {C D : List ℕ} {before after : List Mark} (K : List ℕ)
     → IsKept net c C D before after → ArePassed net c C before K → ArePassed net c D after K
-passed_kept {net = net} K kept passed b k l live =
+passed_kept {net = net} {c = c} {C = C} K kept passed b k l live =
     let x = get_or (column net b) k 0 in
-    kept.stays (debtor_of net x) (passed b k l record {
-      debt = live.debt;
-      class = live.class;
-      claim = omega (arith, live.claim, kept.falls x);
-    })
+    kept.stays (debtor_of net x)
+    (passed b k l (live_with net C c x live.debt (live_class live)
+    (omega (arith, live_claim live, kept.falls x))))
 
 -- a cursor is moved over places that are passed
 pub passed_moved : (net : Net) (c b : ℕ) (C : List ℕ) (marks : List Mark) (K : List ℕ) (v : ℕ)

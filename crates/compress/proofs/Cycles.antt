@@ -3,7 +3,7 @@ use Rattle.std.proofs.Common.{◌≡◌, ◌≢◌, ℕ, zero, suc, ◌+◌, ◌
 use Rattle.std.specs.List.{range_with_len}
 use Rattle.std.proofs.Math.Dec.{ltb}
 use Rattle.std.proofs.Math.Nat.{mul-add}
-use Rattle.std.proofs.lemmas.Bool.{cases_eq, and_from, lt-ltb}
+use Rattle.std.proofs.lemmas.Bool.{cases_eq, and_from, and_parts, eqb-true, lt-ltb, ltb-true}
 use Rattle.std.proofs.lemmas.List.{ext_get_or, get_or-set_same, get_or-set_other}
 use Rattle.std.proofs.lemmas.List.FromFn.{get_or-map-range_with_len, length-map-range_with_len}
 use Rattle.std.proofs.lemmas.List.Sums.{sum_by-cons, sum_by-set}
@@ -36,10 +36,26 @@ in_column net x l =
     (omega arith) l (eq-eqb i i refl) in
     (f.0, f.1.within, f.1.at)
 
--- a debt above 0 passes the test of one
-pub live_is : (net : Net) (C : List ℕ) (c x : ℕ) → IsLive net C c x → is_live net C c x ≡ true
-live_is net C c x live = and_from (class_of net x == c) (ltb 0 (get_or C x 0))
-    (eq-eqb (class_of net x) c live.class) (lt-ltb 0 (get_or C x 0) live.claim)
+-- a live debt is of its class
+pub live_class : {net : Net} {C : List ℕ} {c x : ℕ} → IsLive net C c x → class_of net x ≡ c
+live_class {net = net} {C = C} {c = c} {x = x} live =
+    eqb-true (class_of net x) c
+    (and_parts (class_of net x == c) (ltb 0 (get_or C x 0)) live.live).0
+
+-- and has a claim above 0
+pub live_claim : {net : Net} {C : List ℕ} {c x : ℕ} → IsLive net C c x → 0 < get_or C x 0
+live_claim {net = net} {C = C} {c = c} {x = x} live =
+    ltb-true 0 (get_or C x 0)
+    (and_parts (class_of net x == c) (ltb 0 (get_or C x 0)) live.live).1
+
+-- a debt of the class with a claim above 0 is live
+pub live_with : (net : Net) (C : List ℕ) (c x : ℕ) → x < length net.debts → class_of net x ≡ c
+    → 0 < get_or C x 0 → IsLive net C c x
+live_with net C c x l e pos = record {
+  debt = l;
+  live = and_from (class_of net x == c) (ltb 0 (get_or C x 0)) (eq-eqb (class_of net x) c e)
+      (lt-ltb 0 (get_or C x 0) pos);
+}
 
 -- the numbers rise along each debt above 0
 pub rank_rises : (net : Net) (C : List ℕ) (rank : ℕ → ℕ) (c x : ℕ) → IsLive net C c x
@@ -51,7 +67,7 @@ rank_rises net C rank c x live e =
     let below : f x ≤ rank_above net C rank c (creditor_of net x) =
     subst (λ y. f y ≤ rank_above net C rank c (creditor_of net x)) place.2
     (most_ge f (is_live net C c) (column net (creditor_of net x)) place.0 place.1
-    (ap (is_live net C c) place.2 ∙ live_is net C c x live)) in
+    (ap (is_live net C c) place.2 ∙ live.live)) in
     omega (arith, below, e)
 
 -- along debts above 0 the numbers never fall
@@ -70,6 +86,7 @@ ranks_rise net C rank c h i j (x ∷ xs) live leads =
           (λ k d l. live (suc k) d (omega arith)) leads.1,
     )
 
+-- in a compression no class has a cycle left
 pub no_cycle : (net : Net) (C R : List ℕ) (n : ℕ) → IsNetwork net → Compression net C R n
     → (c : ℕ) → HasNoCycle net C c
 no_cycle net C R n network made c i x xs live leads =
@@ -77,8 +94,8 @@ no_cycle net C R n network made c i x xs live leads =
     let h : (y : ℕ) → IsLive net C c y → rank (creditor_of net y)
     ≡ rank_above net C rank c (creditor_of net y) =
     λ y l. let d = network.each_debt y l.debt in
-    made.ranks c (creditor_of net y) (omega (arith, d.class_at_least_1, l.class))
-    (omega (arith, d.class_in_limit, l.class)) d.creditor_known in
+    made.ranks c (creditor_of net y) (omega (arith, d.class_at_least_1, live_class l))
+    (omega (arith, d.class_in_limit, live_class l)) d.creditor_known in
     absurd (omega (
       arith,
       rank_rises net C rank c x (live 0 0 (omega arith)) (h x (live 0 0 (omega arith))),
@@ -91,6 +108,7 @@ no_cycle net C R n network made c i x xs live leads =
 abbrev passing : (ℕ → Bool) → List ℕ → ℕ → ℕ
 passing p C y = cond (p y) (get_or C y 0) 0
 
+-- a sum over the numbers that pass is the sum over all with 0 for those that do not
 sum_by-passing : (p : ℕ → Bool) (C xs : List ℕ) → sum_by (λ y. get_or C y 0) (filter p xs) ≡ sum (map (passing p C) xs)
 sum_by-passing p C [] = refl
 sum_by-passing p C (x ∷ xs) = by_test (p x) (sum_by-passing p C xs)
@@ -135,6 +153,7 @@ scaled : (b : Bool) (m n w k : ℕ) → m ≤ w → k + cond b w 0 ≡ n + cond 
 scaled true m n w k l e = omega (arith, e)
 scaled false m n w k l e = omega (arith, e)
 
+-- lowering debts one after another: m off the sum over all that pass, for each of them in the list
 pub sum_lowered : (p : ℕ → Bool) (n m : ℕ) (C xs : List ℕ) → length C ≡ n → CanLower C m xs
     → sum_by (λ y. get_or (lowered C m xs) y 0)
     (filter p (range_with_len 0 n)) + m * count_by p xs

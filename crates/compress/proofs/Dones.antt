@@ -1,12 +1,13 @@
 -- What stays of the banks that are done, as marks change, a claim is lowered, and a bank is done.
 use Rattle.std.proofs.Common.{◌≡◌, ◌≢◌, ℕ, suc, ◌+◌, ◌-◌, ◌<◌, ◌≤◌, ◌==◌, ◌&&◌, Bool, true, false, cond, List, [], ◌∷◌, length, get_or, set, map, filter, sum_by, refl, sym, ap, ◌∙◌, subst, ⊎_elim, arith, zero-le}
 use Rattle.std.proofs.Math.Dec.{ltb}
-use Rattle.std.proofs.lemmas.Bool.{cases_eq, and_parts, eqb-true, ltb-true, true≢false}
+use Rattle.std.proofs.lemmas.Bool.{cases_eq, eqb-true, true≢false}
 use Rattle.std.proofs.lemmas.List.{get_or-set_same, get_or-set_other}
 use Rattle.std.proofs.lemmas.List.Sums.{sum_by-set}
 use Rattle.clr_net.specs.Net.{Net, debtor_of, creditor_of, class_of, column}
 use Rattle.clr_net.proofs.RowsAndColumns.{column_place}
 use Rattle.compress.specs.Compression.{is_live, IsLive, most, rank_above}
+use Rattle.compress.proofs.Cycles.{live_class, live_claim, live_with}
 use Rattle.compress.specs.declared.mark.Mark.{Mark}
 use Rattle.compress.specs.declared.mark.Mark.TheVariants.{New, Walked, Done}
 use Rattle.compress.specs.Walk.{mark_of, undone, AreDone}
@@ -30,6 +31,7 @@ most_same f g p q (x ∷ xs) h e =
     by_test false true s h r = absurd (true≢false (sym s))
     by_test false false s h r = r
 
+-- a bound on a function at each number of a list bounds its greatest value over those that pass
 most_le : (f : ℕ → ℕ) (p : ℕ → Bool) (n : ℕ) (xs : List ℕ)
     → ((k : ℕ) → k < length xs → f (get_or xs k 0) ≤ n) → most (map f (filter p xs)) ≤ n
 most_le f p n [] h = zero-le
@@ -40,17 +42,7 @@ most_le f p n (x ∷ xs) h = by_test (p x) (most_le f p n xs (λ k l. h (suc k) 
     by_test true r = omega (arith, h 0, r)
     by_test false r = r
 
--- what the test of a debt tells
-pub live_from : (net : Net) (C : List ℕ) (c x : ℕ) → x < length net.debts
-    → is_live net C c x ≡ true → IsLive net C c x
-live_from net C c x l e =
-    let both = and_parts (class_of net x == c) (ltb 0 (get_or C x 0)) e in
-    record {
-      debt = l;
-      class = eqb-true (class_of net x) c both.0;
-      claim = ltb-true 0 (get_or C x 0) both.1;
-    }
-
+-- two tests that agree wherever a first one holds agree beside it
 same_test : (t a b : Bool) → (t ≡ true → a ≡ b) → (t && a) ≡ (t && b)
 same_test true a b h = h refl
 same_test false a b h = refl
@@ -73,9 +65,10 @@ rank_same net C D r t c b claims ranks =
     (λ k l e.
     let x = get_or (column net b) k 0 in
     let here = column_place net b k l in
-    let same = ranks x (live_from net C c x here.0 e) here.1 in
+    let same = ranks x (record { debt = here.0; live = e }) here.1 in
     ap (λ (n : ℕ). n + 1) same)
 
+-- a bank that is not done counts as 1
 undone_one : (m : Mark) → m ≢ Done → undone m ≡ 1
 undone_one New ne = refl
 undone_one (Walked p) ne = refl
@@ -118,11 +111,7 @@ pub done_lowered : {net : Net} {c : ℕ} {C R : List ℕ} {marks : List Mark} (D
     → AreDone net c D R marks
 done_lowered {net = net} {c = c} {C = C} {R = R} {marks = marks} D x d same less shut = record {
   debtors = λ y live e. d.debtors y
-      record {
-        debt = live.debt;
-        class = live.class;
-        claim = omega (arith, live.claim, no_more y);
-      } e;
+      (live_with net C c y live.debt (live_class live) (omega (arith, live_claim live, no_more y))) e;
   ranks = λ b l e.
       d.ranks b l e
       ∙ rank_same net C D (λ j. get_or R j 0) (λ j. get_or R j 0) c b

@@ -23,6 +23,7 @@ place_before k c i n g l m =
     (omega arith) in
     omega (arith, rows, add-mul (k - 1) 1 n)
 
+-- once each bank of a class is done, the classes up to it are compressed
 pub compressed_more : (net : Net) (c : ℕ) (C D R T H : List ℕ) (before marks : List Mark)
     → IsNetwork net → 1 ≤ c
     → IsCompressedTo net c C R → IsKept net c C D before marks → AreDone net c D H marks
@@ -64,6 +65,7 @@ compressed_more net c C D R T H before marks network pos made kept done all l pu
         ∙ rank_same net D D (λ j. get_or H j 0) (rank_of net T c) c i (λ x class owed. refl)
         (λ x live owed. sym (new (debtor_of net x) (network.each_debt x live.debt).debtor_known))
 
+-- classes that are compressed leave no more units than were owed
 pub left_le : {net : Net} {c : ℕ} {C R : List ℕ} → IsCompressedTo net c C R → sum C ≤ units_owed net
 left_le {net = net} {C = C} made = omega (
   arith,
@@ -71,6 +73,7 @@ left_le {net = net} {C = C} made = omega (
   sum-map (λ d. d.claim) net.debts,
 )
 
+-- with the last class this is a compression, which took off what was owed less what is left
 pub compressed_all : {net : Net} {C R : List ℕ} (n : ℕ) → IsCompressedTo net (MAX_CLASS + 1) C R
     → n ≡ units_owed net - sum C → Compression net C R n
 compressed_all n made e = record {

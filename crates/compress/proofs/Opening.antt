@@ -1,18 +1,10 @@
 -- What holds before a class is gone over: no bank is done, and no step stands beside one.
-use Rattle.std.proofs.Common.{◌≡◌, ◌≢◌, ℕ, ◌<◌, ◌≤◌, Option, Some, None, replicate, refl, sym, ◌∙◌, ⊎_elim, arith}
+use Rattle.std.proofs.Common.{◌≢◌, ℕ, ◌<◌, ◌≤◌, Option, Some, None, replicate, sym, ◌∙◌, ⊎_elim, arith}
 use Rattle.std.proofs.lemmas.Bool.{cases_lt}
 use Rattle.std.proofs.lemmas.List.{get_or-replicate, get_or_past, length-replicate}
 use Rattle.clr_net.specs.Net.{Net}
-use Rattle.compress.specs.declared.mark.Mark.{Mark}
-use Rattle.compress.specs.declared.mark.Mark.TheVariants.{New, Walked, Done}
 use Rattle.compress.specs.declared.step.Step.{Step}
 use Rattle.compress.specs.Walk.{AreHeads}
-
--- a bank that is not done is new, as long as no walk is under way
-pub new_from : (m : Mark) → m ≢ Done → ((p : ℕ) → m ≢ Walked p) → m ≡ New
-new_from New ne none = refl
-new_from (Walked p) ne none = absurd (none p refl)
-new_from Done ne none = absurd (ne refl)
 
 -- where no step stands beside any bank, none is wrong
 pub no_heads : (net : Net) (c n : ℕ) → AreHeads net c (replicate n None)

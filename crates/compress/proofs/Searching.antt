@@ -33,6 +33,7 @@ pub record StandsInColumn (net : Net) (i k x : ℕ) : Type 0 where
   pub in_range : x < length net.debts
   pub owed : creditor_of net x ≡ i
 
+-- a number that was read from a bank's column stands there in its place
 pub stands_in_column : (net : Net) (i : ℕ) (ids : List DebtId) (k : ℕ) (z : DebtId)
     → numbers ids ≡ column net i → k < length ids
     → StandsInColumn net i k (get_or ids k z).0

@@ -12,6 +12,7 @@ use Rattle.compress.specs.Walk.{mark_of, numbers, end_of, HasNoWalk, IsStep, IsW
 use Rattle.compress.proofs.Walks.{stop_last, walk_back, walk_ends, walked_not_done}
 use Rattle.compress.proofs.Dones.{marks_stay}
 
+-- a number that is not marked as done is that of a bank
 pub not_done_in_range : (marks : List Mark) (b : ℕ) → mark_of marks b ≢ Done → b < length marks
 not_done_in_range marks b ne = ⊎_elim (λ (l : b < length marks). l)
     (λ (g : length marks ≤ b). absurd (ne (get_or_past marks b Done g)))
@@ -49,12 +50,15 @@ kept_done net c C marks b v was = record {
 
 module _ (net : Net) (c s : ℕ) (C W : List ℕ) (marks : List Mark)
     (w : IsWalk net c s C W marks) where
+  -- the bank where a walk ends is not done
   pub end_not_done : mark_of marks (end_of net s W) ≢ Done
   end_not_done e = walked_not_done (length W) (sym (w.marked (length W) (omega arith)) ∙ e)
 
+  -- where a walk ends there is a bank
   pub end_in_range : end_of net s W < length marks
   end_in_range = not_done_in_range marks (end_of net s W) end_not_done
 
+  -- with its last bank done, the walk without its last debt is a walk
   pub retired_back : (V : List ℕ) (y : ℕ) → W ≡ V ++ y ∷ []
       → IsWalk net c s C V (set marks (end_of net s W) Done)
   retired_back V y e =
@@ -64,6 +68,7 @@ module _ (net : Net) (c s : ℕ) (C W : List ℕ) (marks : List Mark)
       (walk_back C V y Done (subst (λ U. IsWalk net c s C U marks) e w)
       (λ z ne. refl) (omega (arith, end_in_range, at)) (λ k f. absurd (cc)))
 
+  -- once the first bank of an empty walk is done, no walk is marked any more
   pub retired_ends : W ≡ [] → HasNoWalk (set marks (end_of net s W) Done) ×
       (mark_of (set marks (end_of net s W) Done) s ≡ Done)
   retired_ends e =

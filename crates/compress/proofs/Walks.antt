@@ -5,6 +5,7 @@ use Rattle.std.proofs.lemmas.Bool.{cases_eq, cases_lt}
 use Rattle.std.proofs.lemmas.List.{get_or_push, get_or-map, get_or-set_same, get_or-set_other, length_push, length-map, map-append}
 use Rattle.clr_net.specs.Net.{Net, debtor_of, creditor_of}
 use Rattle.compress.specs.Compression.{IsLive}
+use Rattle.compress.proofs.Cycles.{live_class, live_claim, live_with}
 use Rattle.compress.specs.declared.mark.Mark.{Mark}
 use Rattle.compress.specs.declared.mark.Mark.TheVariants.{New, Walked, Done}
 use Rattle.compress.specs.Walk.{mark_of, stops, end_of, IsWalk, HasNoWalk}
@@ -14,15 +15,18 @@ stops_push : (net : Net) (s : ℕ) (W : List ℕ) (x : ℕ)
     → stops net s (W ++ x ∷ []) ≡ stops net s W ++ debtor_of net x ∷ []
 stops_push net s W x = ap (λ (ds : List ℕ). s ∷ ds) (map-append (debtor_of net) W (x ∷ []))
 
+-- a walk has one stop more than debts
 pub length-stops : (net : Net) (s : ℕ) (W : List ℕ) → length (stops net s W) ≡ length W + 1
 length-stops net s W = omega (arith, length-map W (debtor_of net))
 
+-- one debt more leaves the stops before it
 pub stop_before : (net : Net) (s : ℕ) (W : List ℕ) (x k : ℕ) → k < length W + 1
     → get_or (stops net s (W ++ x ∷ [])) k 0 ≡ get_or (stops net s W) k 0
 stop_before net s W x k l =
     ap (λ (bs : List ℕ). get_or bs k 0) (stops_push net s W x)
     ∙ get_or-append (stops net s W) (debtor_of net x ∷ []) 0 k (omega (arith, length-stops net s W))
 
+-- the last stop is the debtor of the last debt
 pub stop_last : (net : Net) (s : ℕ) (W : List ℕ) (x k : ℕ) → k ≡ length W + 1
     → get_or (stops net s (W ++ x ∷ [])) k 0 ≡ debtor_of net x
 stop_last net s W x k e =
@@ -36,12 +40,15 @@ stop_after net s W k l =
     let more : k + 1 ≡ suc k = omega arith in
     ap (λ n. get_or (stops net s W) n 0) more ∙ get_or-map (debtor_of net) W k 0 0 l
 
+-- two marks of a walk that are equal name the same place
 same_place : (j k : ℕ) → Walked j ≡ Walked k → j ≡ k
 same_place j k e = cc
 
+-- a bank that is new is on no walk
 new_not_walked : (k : ℕ) → New ≢ Walked k
 new_not_walked k e = absurd (cc)
 
+-- a bank on the walk is not done
 pub walked_not_done : (k : ℕ) → Walked k ≢ Done
 walked_not_done k e = absurd (cc)
 
@@ -152,15 +159,8 @@ walk_back {net = net} {c = c} {s = s} {C = C} {marks = marks} D W x v w same l f
       let y = get_or W k 0 in
       let old = subst (IsLive net C c) (get_or-append W (x ∷ []) 0 k m)
       (w.live k (omega (arith, length_push W x))) in
-      record {
-        debt = old.debt;
-        class = old.class;
-        claim = omega (
-          arith,
-          old.claim,
-          same y (last_apart W x k w m),
-        );
-      };
+      live_with net D c y old.debt (live_class old)
+      (omega (arith, live_claim old, same y (last_apart W x k w m)));
   links = λ k m.
       ap (creditor_of net) (sym (get_or-append W (x ∷ []) 0 k m))
       ∙ w.links k (omega (arith, length_push W x))

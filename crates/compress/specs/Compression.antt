@@ -1,7 +1,7 @@
 -- What a compression of a network is: debts of one class that run round a cycle of banks are
 -- lowered together, until no cycle is left.
 use Rattle.std.specs.Prelude.{◌≡◌, ℕ, ◌+◌, ◌-◌, ◌*◌, ◌<◌, ◌≤◌, ◌==◌, ◌&&◌, nat_lt, max}
-use Rattle.std.specs.Prelude.{Bool, List, [], ◌∷◌, length, map, filter, sum, sum_by, slice_index, All}
+use Rattle.std.specs.Prelude.{Bool, true, List, [], ◌∷◌, length, map, filter, sum, sum_by, slice_index, All}
 use Rattle.clr_net.specs.declared.TheConstants.{MAX_CLASS}
 use Rattle.clr_net.specs.Amounts.{IsAtMost}
 use Rattle.clr_net.specs.Claims.{all_claims}
@@ -23,7 +23,7 @@ abbrev pub IsBalanceKept : Net → List ℕ → ℕ → ℕ → Type 0
 IsBalanceKept net C c i = class_due net C c i + class_owed net (all_claims net) c i
     ≡ class_due net (all_claims net) c i + class_owed net C c i
 
--- the debt x is of the class c and has a claim above 0
+-- whether the debt x is of the class c and has a claim above 0
 abbrev pub is_live : Net → List ℕ → ℕ → ℕ → Bool
 is_live net C c x = (class_of net x == c) && nat_lt 0 (slice_index C x)
 
@@ -53,11 +53,10 @@ pub record Compression (net : Net) (C R : List ℕ) (n : ℕ) : Type 0 where
       → rank_of net R c i ≡ rank_above net C (rank_of net R c) c i
   pub cancelled : n + sum C ≡ units_owed net
 
--- the debt x is of the class c and has a claim above 0
+-- x is a debt of the network, and passes that test
 pub record IsLive (net : Net) (C : List ℕ) (c x : ℕ) : Type 0 where
   pub debt : x < length net.debts
-  pub class : class_of net x ≡ c
-  pub claim : 0 < slice_index C x
+  pub live : is_live net C c x ≡ true
 
 -- debts that lead from the bank i to the bank j: each leaves by `from` the bank that the one
 -- before it came to by `to`

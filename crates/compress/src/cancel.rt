@@ -64,10 +64,7 @@ fn least_claim(debts: &[Step], place: usize, closing: DebtId, claims: &[u64]) ->
 {
     let mut least = claims[closing.0 as usize];
     for k in place..debts.len() {
-        let claim = claims[debts[k].debt.0 as usize];
-        if claim < least {
-            least = claim;
-        }
+        least = least.min(claims[debts[k].debt.0 as usize]);
     }
     least
 }

@@ -14,14 +14,14 @@
 #![tactic(auto)]
 
 mod cancel;
-mod claims;
 mod classes;
 mod compression;
 pub mod laws;
 mod mark;
+mod plain;
 mod search;
 mod step;
 mod walk;
 
-pub use claims::with_claims;
 pub use compression::{Compressed, compress};
+pub use plain::with_claims;

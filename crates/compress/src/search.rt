@@ -5,7 +5,7 @@ ghost use Rattle.compress.specs.Walk.{end_of as end_of_walk};
 ghost use Rattle.compress.specs.declared.mark.Mark.TheVariants.{Done};
 ghost use Rattle.compress.specs.Compression.{is_live as is_live_debt, rank_above};
 ghost use Rattle.std.specs.Bool.{OnTrue};
-ghost use Rattle.std.specs.Prelude.{◌≡◌, ◌≢◌, ◌<◌, ◌≤◌, ℕ, All, IfSome, MatchOption, length, max};
+ghost use Rattle.std.specs.Prelude.{◌≡◌, ◌≢◌, ◌<◌, ◌≤◌, ℕ, All, IfSome, MatchOption, length};
 ghost use Rattle.std.specs.Prelude.{slice_index};
 
 use crate::mark::Mark;
@@ -91,7 +91,7 @@ pub(crate) fn rank_here(
     for id in net.column(bank) {
         let debtor = debtor_of(net, *id);
         if is_live(net, class, *id, claims) {
-            most = greater(most, ranks[debtor.0 as usize] + 1);
+            most = (ranks[debtor.0 as usize] + 1).max(most);
         }
     }
     most
@@ -112,11 +112,4 @@ fn is_live(net: &Network, class: u8, id: DebtId, claims: &[u64]) -> bool
     ensures { result ≡ is_live_debt net.now claims.now class id.0 }
 {
     net.debt(id).class == class && claims[id.0 as usize] > 0
-}
-
-// The greater of two numbers.
-fn greater(a: u64, b: u64) -> u64
-    ensures { result ≡ max a b }
-{
-    if a < b { b } else { a }
 }

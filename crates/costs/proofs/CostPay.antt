@@ -15,6 +15,7 @@ pub cost_spend_mono : (net : Net) (j k : ℕ) → j ≤ k → k ≤ 1000
 cost_spend_mono net j k m l i r s h =
     omega (arith, kept_mono net j k i (cash_of net i + r) (cash_of net i + s) m l (omega arith))
 
+-- greater receipts give every bank no less to divide, at any part that is kept
 pub cost_spend_never_falls : (net : Net) (k : ℕ) → k ≤ 1000 → NeverFalls (cost_spend net k)
 cost_spend_never_falls net k l = cost_spend_mono net k k (omega arith) l
 
@@ -33,5 +34,6 @@ cost_pay_mono net j k P Q m l h =
 pub cost_spend_all : (net : Net) → cost_spend net 1000 ≡ spend net
 cost_spend_all net = λ at i r. ap (λ e. e - outside_of net i) (kept_all net i (cash_of net i + r)) at
 
+-- where default costs nothing, payments with costs are those without
 pub cost_pay_all : (net : Net) (P : List ℕ) → cost_pay net 1000 P ≡ pay net P
 cost_pay_all net P = ap (λ f. pay_by net f P) (cost_spend_all net) ∙ pay_by_spend net P

@@ -3,16 +3,26 @@ use Rattle.std.specs.Prelude.{◌≡◌, ℕ, ◌+◌, ◌-◌, ◌*◌, ◌<◌
 use Rattle.clr_net.specs.Net.{Net, all_cash}
 use Rattle.clear_core.specs.Buffers.{HasRoom}
 use Rattle.clear_core.specs.Clearing.{least}
+use Rattle.clear_core.specs.Sums.{HaveSums}
 use Rattle.cascade.specs.MoreCash.{IsOfOtherCash}
 use Rattle.descent.specs.Cashes.{with_cashes}
 use Rattle.descent.specs.declared.halves.Descent.{Descent}
 use Rattle.descent.specs.declared.halves.Step.{Step}
+use Rattle.descent.specs.declared.share.Share.{Share}
 
--- a step holds the least payments where each bank has the least cash that it has in a share
+-- a share is within another, and has a network
+pub record IsPartOf (part whole : Share) : Type 0 where
+  pub low : whole.low ≤ part.low
+  pub some : part.low < part.high
+  pub high : part.high ≤ whole.high
+
+-- a step holds the least payments where each bank has the least cash that it has in a share, with
+-- their sums
 pub record IsStepOf (net : Net) (size : ℕ) (floor : ℕ → ℕ → ℕ → ℕ) (s : Step) : Type 0 where
-  pub some : s.low < s.high
-  pub share : s.high ≤ size
-  pub paid : s.paid ≡ least (with_cashes net (floor s.low s.high))
+  pub some : s.share.low < s.share.high
+  pub share : s.share.high ≤ size
+  pub paid : s.payments.paid ≡ least (with_cashes net (floor s.share.low s.share.high))
+  pub sums : HaveSums net s.payments
 
 -- a descent through so many networks: its copy differs in cash alone, and each of its steps is one
 pub record IsDescentOf (net : Net) (size : ℕ) (floor : ℕ → ℕ → ℕ → ℕ) (d : Descent) : Type 0 where
@@ -20,6 +30,16 @@ pub record IsDescentOf (net : Net) (size : ℕ) (floor : ℕ → ℕ → ℕ →
   pub steps : All (IsStepOf net size floor) d.steps.items
   pub for_each_bank : length d.marks.items ≡ length net.banks
   pub room : HasRoom net d.scratch
+
+-- the same of a step and of a descent through networks of some kind, which tells of each x how many
+-- they are and what their least cash is
+abbrev pub IsStepBy : {F : Type 0} → (F → Net → ℕ) → (F → Net → ℕ → ℕ → ℕ → ℕ) → Net → F
+    → Step → Type 0
+IsStepBy size floors net x = IsStepOf net (size x net) (floors x net)
+
+abbrev pub IsDescentBy : {F : Type 0} → (F → Net → ℕ) → (F → Net → ℕ → ℕ → ℕ → ℕ) → Net → F
+    → Descent → Type 0
+IsDescentBy size floors net x = IsDescentOf net (size x net) (floors x net)
 
 -- the least cash in a share, which begins at a number, comes to at least two thirds of the cash that
 -- the network of this number has

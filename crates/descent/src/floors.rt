@@ -27,7 +27,7 @@ pub trait Floors {
     fn floor(&self, net: &Network, low: u32, high: u32, bank: BankId) -> u64
         requires network { IsNetwork net.now }
         requires of { of self.now net.now }
-        requires some { low < high }
+        requires not_empty { low < high }
         requires share { high ≤ size self.now net.now }
         requires bank { bank.0 < length net.now.banks }
         ensures floor { result ≡ floors self.now net.now low high bank.0 }

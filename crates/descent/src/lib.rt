@@ -9,6 +9,9 @@
 mod floors;
 mod halves;
 pub mod laws;
+mod laying;
+mod marks;
+mod share;
 mod table;
 
 pub use floors::Floors;

@@ -13,85 +13,86 @@ use cascade::{Health, Standing};
 use clr_net::{BankId, Mem, Network};
 use std::alloc::Global;
 
-// What the ruin of a bank does, where all banks stand so before and so after it. What others keep
-// less is the rest of the cash that was lost.
-pub(crate) fn compared(
-    alloc: Global,
-    net: &Network,
-    before: &[Standing],
-    after: &[Standing],
-    ruined: BankId,
-) -> Result<Impact, Mem>
-    requires ruined { ruined.0 < length net.now.banks }
-    requires before { before.now ≡ standings net.now (least net.now) }
-    requires after { after.now ≡ standings (hit net.now ruined.0) (least (hit net.now ruined.0)) }
-    ensures impact { IfOk result (IsImpactOf net.now ruined.0) }
-    ensures cash { IfOk result (λ m. m.own + m.others ≡ cash_of net.now ruined.0) }
-{
-    prove!(ruined.0 < net.banks());
-    let own = hurt_of(net, before, after, ruined, ruined).lost;
-    Ok(Impact {
-        own,
-        others: net.bank(ruined).cash - own,
-        falls: fallen(net, before, after, ruined),
-        hurts: hurts(alloc, net, before, after, ruined)?,
-    })
+// The ruin of a bank: how all banks stand under the least payments before it, and after it.
+#[derive(Drop)]
+pub(crate) struct Ruin<'a> {
+    pub(crate) net: &'a Network,
+    pub(crate) before: &'a [Standing],
+    pub(crate) after: &'a [Standing],
+    pub(crate) ruined: BankId,
+    ghost known: { ruined.0 < length net.now.banks },
+    ghost stood: { before.now ≡ standings net.now (least net.now) },
+    ghost stands: { after.now ≡ standings (hit net.now ruined.0) (least (hit net.now ruined.0)) },
 }
 
-// How many other banks fall.
-fn fallen(net: &Network, before: &[Standing], after: &[Standing], ruined: BankId) -> u32
-    requires ruined { ruined.0 < length net.now.banks }
-    requires before { before.now ≡ standings net.now (least net.now) }
-    requires after { after.now ≡ standings (hit net.now ruined.0) (least (hit net.now ruined.0)) }
-    ensures { result ≡ fallen_of net.now ruined.0 }
-{
-    let mut count = 0;
-    for number in 0..net.banks() {
-        count += u32::from(has_fallen(net, before, after, ruined, BankId(number)));
+impl<'a> Ruin<'a> {
+    // What it does. What others keep less is the rest of the cash that was lost.
+    pub(crate) fn impact(&self, alloc: Global) -> Result<Impact, Mem>
+        ensures impact { IfOk result (IsImpactOf self.now.net.now self.now.ruined.0) }
+        ensures cash { IfOk result (λ m.
+            m.own + m.others ≡ cash_of self.now.net.now self.now.ruined.0) }
+    {
+        prove!(self.ruined.0 < self.net.banks());
+        let own = self.hurt_of(self.ruined).lost;
+        Ok(Impact {
+            own,
+            others: self.net.bank(self.ruined).cash - own,
+            falls: self.fallen(),
+            hurts: self.hurts(alloc)?,
+        })
     }
-    count
-}
 
-// Whether a bank is another one, and falls.
-fn has_fallen(
-    net: &Network,
-    before: &[Standing],
-    after: &[Standing],
-    ruined: BankId,
-    bank: BankId,
-) -> bool
-    requires network { IsNetwork net.now }
-    requires ruined { ruined.0 < length net.now.banks }
-    requires bank { bank.0 < length net.now.banks }
-    requires before { before.now ≡ standings net.now (least net.now) }
-    requires after { after.now ≡ standings (hit net.now ruined.0) (least (hit net.now ruined.0)) }
-    ensures { result ≡ (not (bank.0 == ruined.0) && falls_with net.now ruined.0 bank.0) }
-{
-    let hurt = hurt_of(net, before, after, ruined, bank);
-    bank.0 != ruined.0 && hurt.falls
-}
+    // How many other banks fall.
+    fn fallen(&self) -> u32
+        ensures { result ≡ fallen_of self.now.net.now self.now.ruined.0 }
+    {
+        let mut count = 0;
+        for number in 0..self.net.banks() {
+            count += u32::from(self.has_fallen(BankId(number)));
+        }
+        count
+    }
 
-// Whom it hurts, in file order.
-fn hurts(
-    alloc: Global,
-    net: &Network,
-    before: &[Standing],
-    after: &[Standing],
-    ruined: BankId,
-) -> Result<Vec<Hurt>, Mem>
-    requires ruined { ruined.0 < length net.now.banks }
-    requires before { before.now ≡ standings net.now (least net.now) }
-    requires after { after.now ≡ standings (hit net.now ruined.0) (least (hit net.now ruined.0)) }
-    ensures { IfOk result (λ all. all.items ≡ hurt_by net.now ruined.0) }
-{
-    let mut all = Vec::new(alloc);
-    for number in 0..net.banks() {
-        let hurt = hurt_of(net, before, after, ruined, BankId(number));
-        if is_hurt(hurt) {
-            all.push(hurt)?;
+    // Whether a bank is another one, and falls.
+    fn has_fallen(&self, bank: BankId) -> bool
+        requires network { IsNetwork self.now.net.now }
+        requires bank { bank.0 < length self.now.net.now.banks }
+        ensures { result ≡ (not (bank.0 == self.now.ruined.0)
+            && falls_with self.now.net.now self.now.ruined.0 bank.0) }
+    {
+        let hurt = self.hurt_of(bank);
+        bank.0 != self.ruined.0 && hurt.falls
+    }
+
+    // Whom it hurts, in file order.
+    fn hurts(&self, alloc: Global) -> Result<Vec<Hurt>, Mem>
+        ensures { IfOk result (λ all. all.items ≡ hurt_by self.now.net.now self.now.ruined.0) }
+    {
+        let mut all = Vec::new(alloc);
+        for number in 0..self.net.banks() {
+            let hurt = self.hurt_of(BankId(number));
+            if is_hurt(hurt) {
+                all.push(hurt)?;
+            }
+        }
+        Ok(all)
+    }
+
+    // What it does to one bank.
+    fn hurt_of(&self, bank: BankId) -> Hurt
+        requires network { IsNetwork self.now.net.now }
+        requires bank { bank.0 < length self.now.net.now.banks }
+        ensures { result ≡ hurt_to self.now.net.now self.now.ruined.0 bank.0 }
+    {
+        let place = bank.0 as usize;
+        let was = self.before[place];
+        let is = self.after[place];
+        Hurt {
+            bank,
+            lost: kept(was) - kept(is),
+            falls: falls(was.health, is.health),
         }
     }
-    Ok(all)
 }
 
 // Whether a bank keeps less, or falls.
@@ -99,31 +100,6 @@ fn is_hurt(hurt: Hurt) -> bool
     ensures { result ≡ is_hurt_by hurt }
 {
     hurt.lost > 0 || hurt.falls
-}
-
-// What it does to one bank.
-fn hurt_of(
-    net: &Network,
-    before: &[Standing],
-    after: &[Standing],
-    ruined: BankId,
-    bank: BankId,
-) -> Hurt
-    requires network { IsNetwork net.now }
-    requires ruined { ruined.0 < length net.now.banks }
-    requires bank { bank.0 < length net.now.banks }
-    requires before { before.now ≡ standings net.now (least net.now) }
-    requires after { after.now ≡ standings (hit net.now ruined.0) (least (hit net.now ruined.0)) }
-    ensures { result ≡ hurt_to net.now ruined.0 bank.0 }
-{
-    let place = bank.0 as usize;
-    let was = before[place];
-    let is = after[place];
-    Hurt {
-        bank,
-        lost: kept(was) - kept(is),
-        falls: falls(was.health, is.health),
-    }
 }
 
 // Whether a bank was sound, and is no longer.

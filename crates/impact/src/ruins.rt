@@ -8,7 +8,7 @@ ghost use Rattle.impact.specs.Impact.{IsImpactOf};
 ghost use Rattle.impact.specs.Ruined.{IsDescentByRuins, between, least_left};
 ghost use Rattle.std.specs.Prelude.{◌≡◌, ◌+◌, ◌<◌, IfOk, length};
 
-use crate::compare::compared;
+use crate::compare::Ruin;
 use crate::hurt::Impact;
 use cascade::Standing;
 use clr_net::{BankId, Mem, Network};
@@ -42,26 +42,22 @@ pub fn impact_of(
 {
     prove!(bank.0 < net.banks());
     if net.bank(bank).cash == 0 {
-        return nothing_done(alloc, net, before, bank);
+        let ruin = Ruin {
+            net,
+            before,
+            after: before,
+            ruined: bank,
+        };
+        return ruin.impact(alloc);
     }
     let after = descent.standings_at(alloc, net, &Ruins, bank.0)?;
-    compared(alloc, net, before, after.as_slice(), bank)
-}
-
-// What the ruin of a bank without cash does: all banks stand as before.
-fn nothing_done(
-    alloc: Global,
-    net: &Network,
-    before: &[Standing],
-    bank: BankId,
-) -> Result<Impact, Mem>
-    requires bank { bank.0 < length net.now.banks }
-    requires none { cash_of net.now bank.0 ≡ 0 }
-    requires before { before.now ≡ standings net.now (least net.now) }
-    ensures impact { IfOk result (IsImpactOf net.now bank.0) }
-    ensures cash { IfOk result (λ m. m.own + m.others ≡ cash_of net.now bank.0) }
-{
-    compared(alloc, net, before, before, bank)
+    let ruin = Ruin {
+        net,
+        before,
+        after: after.as_slice(),
+        ruined: bank,
+    };
+    ruin.impact(alloc)
 }
 
 // The ruins of all banks of a network: where it is numbered as a bank, that bank has lost its cash.

@@ -1,1 +1,4 @@
-pub mod Facts
+pub mod AtMost
+pub mod ProcessFacts
+pub mod StandingFacts
+pub mod WorkFacts

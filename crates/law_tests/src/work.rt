@@ -69,7 +69,8 @@ pub fn awards_in_turn()
 
 // A claim that is met makes no difference to who is next.
 pub fn met_place_left_out()
-    ensures { next_of kind.Equal (1 ∷ 5 ∷ []) (1 ∷ 2 ∷ []) ≡ next_of kind.Equal (7 ∷ 5 ∷ []) (7 ∷ 2 ∷ []) }
+    ensures { next_of kind.Equal (1 ∷ 5 ∷ []) (1 ∷ 2 ∷ [])
+        ≡ next_of kind.Equal (7 ∷ 5 ∷ []) (7 ∷ 2 ∷ []) }
 {
     clr_net::laws::met_place_can_be_left_out();
 }

@@ -33,6 +33,7 @@ pub record IsGiven (net : Net) (name cash : List ℕ) (outside : Option (List �
   pub cash_is : number_up_to MAX_CASH cash ≡ Ok b.cash
   pub outside_is : outside_in outside ≡ Ok b.outside
 
+-- a record that passes the checks of a bank gives one whose name and cash are those of its fields
 pub new_bank-given : (net : Net) (name cash rule : List ℕ) (outside : Option (List ℕ)) (b : Bank)
     → new_bank net name cash rule outside ≡ Ok b → IsGiven net name cash outside b
 new_bank-given net name cash rule outside b h =

@@ -19,6 +19,7 @@ pub trimmed_start-stops : (field rest : List ℕ) (b : ℕ) → field ≡ b ∷ 
 unfolding trimmed_start
 trimmed_start-stops field rest b e other = ap trimmed_start e ∙ ap (λ t. cond t (trimmed_start rest) (b ∷ rest)) other ∙ sym e
 
+-- a field without a byte is trimmed already
 pub trimmed_start-empty : (field : List ℕ) → length field ≡ 0 → trimmed_start field ≡ field
 unfolding trimmed_start
 trimmed_start-empty field h = rw (nil_from_length field h) refl
@@ -29,12 +30,14 @@ pub trimmed_end-drops : (field rest : List ℕ) (b : ℕ) → field ≡ rest ++ 
 trimmed_end-drops field rest b e blank =
     ap reverse (trimmed_start-drops (reverse field) (reverse rest) b (ap reverse e ∙ reverse-append rest (b ∷ [])) blank)
 
+-- from the end: another byte there ends the trimming
 pub trimmed_end-stops : (field rest : List ℕ) (b : ℕ) → field ≡ rest ++ b ∷ [] → is_space_or_tab b ≡ false
     → reverse (trimmed_start (reverse field)) ≡ field
 trimmed_end-stops field rest b e other =
     ap reverse (trimmed_start-stops (reverse field) (reverse rest) b (ap reverse e ∙ reverse-append rest (b ∷ [])) other)
     ∙ reverse-reverse field
 
+-- from the end: a field without a byte is trimmed already
 pub trimmed_end-empty : (field : List ℕ) → length field ≡ 0 → reverse (trimmed_start (reverse field)) ≡ field
 unfolding trimmed_start
 trimmed_end-empty field h = rw (nil_from_length field h) refl

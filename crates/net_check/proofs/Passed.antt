@@ -17,20 +17,24 @@ use Rattle.net_check.specs.declared.fault.FileKind.{FileKind}
 use Rattle.net_check.specs.declared.fault.FaultKind.{FaultKind}
 use Rattle.net_check.specs.declared.fault.FaultKind.TheVariants as fault
 
+-- a test that did not end in its fault held, and what follows it gave the answer
 pub fault_unless-ok : {A E : Type 0} (test : Bool) (e : E) (rest : Result A E) (a : A) → fault_unless test e rest ≡ Ok a
     → (test ≡ true) × (rest ≡ Ok a)
 fault_unless-ok true e rest a h = (refl, h)
 fault_unless-ok false e rest a h = cc
 
+-- of two checks in a row that passed, the first gave something, and the second passed on it
 pub and_then-ok : {A B E : Type 0} (r : Result A E) (f : A → Result B E) (b : B) → and_then r f ≡ Ok b
     → (a : A) × (r ≡ Ok a) × (f a ≡ Ok b)
 and_then-ok (Ok a) f b h = (a, refl, h)
 and_then-ok (Err e) f b h = cc
 
+-- where a missing value would be a fault and there is none, the value is there
 pub ok_or-ok : {A E : Type 0} (o : Option A) (e : E) (a : A) → ok_or o e ≡ Ok a → o ≡ Some a
 ok_or-ok (Some x) e a h = cc
 ok_or-ok None e a h = cc
 
+-- a number that is read is within its limit
 pub number_up_to-ok : (limit : ℕ) (field : List ℕ) (n : ℕ) → number_up_to limit field ≡ Ok n → n ≤ limit
 number_up_to-ok limit field n h =
     let number = and_then-ok (ok_or (number_in field) fault.Number) (λ n. fault_unless (nat_le n limit) fault.Limit (Ok n)) n h in
@@ -38,6 +42,7 @@ number_up_to-ok limit field n h =
     let same : number.0 ≡ n = cc in
     subst (λ n. n ≤ limit) same (leb-true number.0 limit small.0)
 
+-- what is read as owed outside is within its limit
 pub outside_in-ok : (field : Option (List ℕ)) (n : ℕ) → outside_in field ≡ Ok n → n ≤ MAX_OUTSIDE
 outside_in-ok None n h = let none : 0 ≡ n = cc in omega arith
 outside_in-ok (Some field) n h = number_up_to-ok MAX_OUTSIDE field n h

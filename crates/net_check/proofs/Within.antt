@@ -1,11 +1,10 @@
 -- The limits by which files are read, beside one another and beside those of every network.
 use Rattle.std.proofs.Common.{◌≡◌, ◌≤◌, refl, arith}
 use Rattle.clr_net.specs.Net.{Net}
-use Rattle.clr_net.specs.Limits.{IsNetwork}
 use Rattle.clr_net.specs.declared.TheConstants.{MAX_BANKS, MAX_DEBTS, MAX_OWED}
 use Rattle.net_check.specs.Within.{most_banks, most_debts, most_owed, most_raises}
-use Rattle.net_check.specs.Within.{most_bytes, most_journal_bytes, IsWithin}
-use Rattle.net_check.specs.declared.TheConstants.{MAX_FILE_BYTES, MAX_JOURNAL_BYTES}
+use Rattle.net_check.specs.Within.{most_bytes, IsWithin}
+use Rattle.net_check.specs.declared.TheConstants.{MAX_FILE_BYTES}
 use Rattle.net_check.specs.declared.limits.Limits.{Limits}
 use Rattle.net_check.specs.declared.limits.Limits.TheVariants as limits
 
@@ -14,34 +13,25 @@ pub banks_allowed : (by : Limits) → most_banks by ≤ MAX_BANKS
 banks_allowed limits.Standard = omega arith
 banks_allowed limits.Wide = omega arith
 
+-- nor more debts
 pub debts_allowed : (by : Limits) → most_debts by ≤ MAX_DEBTS
 debts_allowed limits.Standard = omega arith
 debts_allowed limits.Wide = omega arith
 
+-- nor more units owed
 pub units_allowed : (by : Limits) → most_owed by ≤ MAX_OWED
 units_allowed limits.Standard = omega arith
 units_allowed limits.Wide = omega arith
 
+-- nor files of more bytes
 pub bytes_allowed : (by : Limits) → most_bytes by ≤ MAX_FILE_BYTES
 bytes_allowed limits.Standard = omega arith
 bytes_allowed limits.Wide = omega arith
-
-pub journal_bytes_allowed : (by : Limits) → most_journal_bytes by ≤ MAX_JOURNAL_BYTES
-journal_bytes_allowed limits.Standard = omega arith
-journal_bytes_allowed limits.Wide = omega arith
 
 -- a journal may have a raise for each unit that may be owed
 pub raises_allowed : (by : Limits) → most_raises by ≡ most_owed by
 raises_allowed limits.Standard = refl
 raises_allowed limits.Wide = refl
-
--- every network is within the wide limits
-pub network_is_wide : (net : Net) → IsNetwork net → IsWithin limits.Wide net
-network_is_wide net network = record {
-  banks = network.banks_in_limit;
-  debts = network.debts_in_limit;
-  owed = network.owed_in_limit;
-}
 
 -- what is within some limits is within the wide ones
 pub within_is_wide : (by : Limits) (net : Net) → IsWithin by net → IsWithin limits.Wide net

@@ -7,12 +7,14 @@ mod debt;
 mod fault;
 mod field;
 mod limits;
+mod plain;
 
 pub use bank::check_bank;
-pub use debt::{bank_of, check_debt, check_debt_within};
+pub use debt::{bank_of, check_debt_within};
 pub use fault::{Fault, FaultKind, FileKind, ReadNet};
 pub use field::{class, number, number_up_to, trimmed};
 pub use limits::Limits;
+pub use plain::check_debt;
 
 /// The most digits of a number in a file.
 pub const MAX_DIGITS: usize = 20;

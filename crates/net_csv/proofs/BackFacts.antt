@@ -27,6 +27,7 @@ with_banks banks = record { banks = banks; debts = [] }
 abbrev pub with_debts : Net → List Debt → Net
 with_debts net debts = record { banks = net.banks; debts = debts }
 
+-- the element after the first part of a list stands in the place that the part's length names
 pub at_end : {X : Type 0} (all done rest : List X) (x : X) → all ≡ done ++ x ∷ rest
     → slice_get all (length done) ≡ Some x
 at_end all [] rest x e = rw e refl
@@ -69,6 +70,7 @@ pub record IsBackName (net : Net) (i : ℕ) : Type 0 where
   pub kept : trimmed_field (name_of net i) ≡ name_of net i
   pub place : position (has_name (name_of net i)) net.banks ≡ Some i
 
+-- a bank's name is found at that bank again, and nothing is trimmed of it
 pub name_back : (net : Net) → IsNetwork net → KeepsNames net → (i : ℕ) → i < length net.banks → IsBackName net i
 name_back net network keeps i below =
     let z : Bank = bank [] 0 in

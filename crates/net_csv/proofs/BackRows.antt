@@ -37,6 +37,7 @@ record IsRuleWord (r : RuleKind) : Type 0 where
   short : length (rule_word r) ≤ 9
   back : rule_in (rule_word r) ≡ Some r
 
+-- each rule's word is such a word
 is_rule_word : (r : RuleKind) → IsRuleWord r
 unfolding trimmed_start
 is_rule_word kind.Order = record { kept = kept_word (codes "order") refl refl; short = omega arith; back = refl }
@@ -63,6 +64,7 @@ map_same : {X : Type 0} (f : X → X) (xs : List X) → AllByRecursion (λ x. f 
 map_same f [] all = refl
 map_same f (x ∷ xs) all = rw (all.0, map_same f xs all.1) refl
 
+-- fields that a file keeps make a record that it keeps, if it is not blank and is short
 pub kept_row : (first second : List ℕ) (others : Fields) → AreKeptFields (first ∷ second ∷ others) → is_blank (first ∷ second ∷ others) ≡ false
     → length (line (first ∷ second ∷ others)) ≤ 151 → IsKeptRow (first ∷ second ∷ others)
 kept_row first second others all full short = record {
@@ -86,6 +88,7 @@ records_printed header rows head all unmarked =
     ∙ ap (λ (t : List Fields). trimmed_fields header ∷ t)
     (map_same trimmed_fields rows (each_then IsKeptRow (λ r. trimmed_fields r ≡ r) (λ r k. k.trimmed) rows all))
 
+-- records of at most 151 bytes make a text of at most as many times 151 bytes
 pub kept_short : (rows : List Fields) → AreKeptRows rows → length (flat_map line rows) ≤ 151 * length rows
 kept_short [] all = omega arith
 kept_short (fields ∷ rest) all =
@@ -148,6 +151,7 @@ bank_read_back by version.Two net row b room new all = rw (
   le-leb b.outside MAX_OUTSIDE new.outside_in_limit,
 ) refl
 
+-- the record of a debt that may be added is kept, where both names are read back
 pub debt_row : (net : Net) (done : List Debt) (d : Debt) → IsNewDebt (with_debts net done) d
     → IsBackName net d.debtor.0 → IsBackName net d.creditor.0 → IsKeptRow (debt_fields net d)
 debt_row net done d new debtor creditor =

@@ -25,6 +25,7 @@ bank_from-name net (name ∷ cash ∷ rule ∷ outside ∷ []) b kept h =
     rw (new_bank-given net name cash rule (Some outside) b h).name_is (cc)
 bank_from-name net fields b kept h = cc
 
+-- all names are still trimmed with one bank more, whose name is
 KeepsNames-with_bank : (net : Net) (b : Bank) → KeepsNames net → trimmed_field b.name ≡ b.name → KeepsNames (with_bank net b)
 KeepsNames-with_bank net b keeps kept i l =
     let longer = length_push net.banks b in

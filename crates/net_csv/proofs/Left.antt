@@ -21,6 +21,7 @@ record Leaves (s : State) (xs : List ℕ) (p : Read) : Type 0 where
   no_more : length p.2 ≤ length xs
   fewer : ends_at_end s ≡ false → length p.2 < length xs
 
+-- where a record is found, the bytes after it are what is left, and fewer than before
 next_record-leaves : (s : State) (fields : List (List ℕ)) (field xs : List ℕ) (p : Read)
     → next_record default_config s fields field xs ≡ Some p → Leaves s xs p
 unfolding next_record
@@ -123,6 +124,7 @@ found_is_first old new found fields reading read first bends e =
       rw (reading.text_is, ← same) one.first,
     )
 
+-- a reader that finds no record has none left
 pub none_is_left : (old new : Reader (Bor (List ℕ))) (found : Bool) (fields : List (List ℕ)) → IsReading old
     → ReadRecord (λ text. Some text.now) old new found fields → found ≡ false → records_left old ≡ []
 none_is_left old new found fields reading read e =
@@ -141,6 +143,7 @@ length-records_from (suc n) s xs = by (next_record default_config s [] [] xs) (l
     by None more = omega arith
     by (Some p) more = let few = more p.1 p.2 in omega arith
 
+-- without the mark at its start a text is no longer than before
 length-strip_bom : (xs : List ℕ) → length (strip_bom xs) ≤ length xs
 unfolding strip_bom
 length-strip_bom (a ∷ b ∷ c ∷ rest) =

@@ -59,6 +59,7 @@ read_rows-keeps by P l each net (r ∷ rest) out trimmed has h =
     read_rows-keeps by P l each read.0 rest out trimmed.1
     (each net r read.0 trimmed.0 has read.1) read.2
 
+-- what each row keeps is kept by the whole file
 pub with_file-keeps : (by : Limits) (P : Net → Type 0) (l : Layout) → RowKeeps by P l
     → (bytes : List ℕ) (net out : Net) → P net → with_file by l bytes net ≡ Ok out → P out
 with_file-keeps by P l each bytes net out has h =
@@ -76,6 +77,7 @@ pub record AreRead (by : Limits) (banks debts : List ℕ) (net : Net) : Type 0 w
   pub read : with_banks_of by banks empty_net ≡ Ok some
   pub read_too : with_debts_of by debts some ≡ Ok net
 
+-- an accepted pair of files is read by way of the network of the banks file
 pub are_read : (by : Limits) (banks debts : List ℕ) (net : Net)
     → network_within by banks debts ≡ Ok net → AreRead by banks debts net
 are_read by banks debts net h =
@@ -115,6 +117,7 @@ record IsRead (by : Limits) (net : Net) : Type 0 where
   network : IsNetwork net
   within : IsWithin by net
 
+-- one row more leaves a network within its limits
 row_keeps_network : (by : Limits) (l : Layout) → RowKeeps by (IsRead by) l
 row_keeps_network by (layout.Banks v) net r next trimmed has h =
     let read = and_then-ok (bank_in_row by v net r) (λ b. Ok (with_bank net b)) next h in

@@ -18,6 +18,7 @@ use Rattle.net_check.specs.Field.{is_space_or_tab, trimmed_start, trimmed_field,
 use Rattle.net_check.specs.declared.TheConstants.{MAX_DIGITS}
 use Rattle.net_check.proofs.Fields.{trimmed_start-stops, trimmed_end-stops}
 
+-- no byte from 128 on calls for quotes
 high_byte : (b : ℕ) → 128 ≤ b → needs_byte default_writer b ≡ false
 high_byte b high = grind arith
 
@@ -30,6 +31,7 @@ plain_char : (c : ℕ) → may_stand_in_name c ≡ true → list_any (needs_byte
 unfolding encode
 plain_char c may = grind (arith, high_byte)
 
+-- no character that may stand in a name calls for quotes, nor do several
 plain_chars : (cs : List ℕ) → list_all may_stand_in_name cs ≡ true → list_any (needs_byte default_writer) (encodes cs) ≡ false
 plain_chars [] h = refl
 plain_chars (c ∷ cs) h =
@@ -57,6 +59,7 @@ name_is_short name h = grind arith
 plain_digit : (b : ℕ) → is_ascii_digit b ≡ true → (needs_byte default_writer b ≡ false) × (is_space_or_tab b ≡ false)
 plain_digit b h = (grind arith, grind arith)
 
+-- neither quotes nor trimming touch a field of digits
 plain_digits : (ds : List ℕ) → list_all is_ascii_digit ds ≡ true → IsPlain ds
 plain_digits ds h = record {
   unquoted = list_any_none (needs_byte default_writer) ds
@@ -92,9 +95,11 @@ number_after-push k (x ∷ xs) d = number_after-push (10 * k + (x - 48)) xs d
 abbrev Spells : ℕ → List ℕ → Type 0
 Spells n ds = (list_all is_ascii_digit ds ≡ true) × (number_after 0 ds ≡ n)
 
+-- the code of 0 and a number below 10 come to the code of a digit
 digit : (n : ℕ) → n < 10 → is_ascii_digit (48 + n) ≡ true
 digit n small = grind arith
 
+-- a number below 10 to the most digits that are read is spelled by its decimal digits
 decimal_spells : (n : ℕ) → n < 10 ^ MAX_DIGITS → Spells n (decimal n)
 unfolding number_after
 decimal_spells n small = decimal_by_steps_wide Spells

@@ -35,6 +35,7 @@ plain_words (x ∷ rest) h =
     (list_any (list_any (needs_byte default_writer)) rest) h in
     (record { unquoted = parts.0 }, plain_words rest parts.1)
 
+-- two fields or more of which none has a byte that calls for quotes are a record as printed
 pub word_row : (first second : List ℕ) (others : Fields) → list_any (list_any (needs_byte default_writer)) (first ∷ second ∷ others) ≡ false
     → IsRow (first ∷ second ∷ others)
 word_row first second others h =
@@ -47,6 +48,7 @@ joined-text x [] plain = sym (append-nil x)
 joined-text x (y ∷ ys) plain =
     rw plain.1.0.unquoted (ap (λ t. x ++ (44 ∷ t)) (joined-text y ys plain.1))
 
+-- a line of plain fields is what a writer of records makes of them
 line-row : (x y : List ℕ) (rest : Fields) → ArePlain (x ∷ y ∷ rest) → line (x ∷ y ∷ rest) ≡ row_text default_writer (x ∷ y ∷ rest)
 unfolding is_blank
 line-row x y rest plain = rw plain.0.unquoted (ap (λ t. t ++ 10 ∷ []) (joined-text x (y ∷ rest) plain))
@@ -61,6 +63,7 @@ read_line fields tail row =
 abbrev pub AreRows : List Fields → Type 0
 AreRows rows = AllByRecursion IsRow rows
 
+-- lines printed one after another are read as their records
 read_lines : (rows : List Fields) → AreRows rows → records_after st.StartRecord (Some (flat_map line rows)) ≡ rows
 unfolding next_record
 read_lines [] all = records-none st.StartRecord [] refl

@@ -51,24 +51,28 @@ header_row (layout.Banks version.Two) =
 header_row layout.Debts =
     word_row (codes "debtor") (codes "creditor") (codes "class" ∷ codes "claim" ∷ []) refl
 
+-- below a printed header stand the records that follow it
 header_back : (l : Layout) (below : List Fields)
     → below_header (file_of l) (header l) (trimmed_fields (header l) ∷ below) ≡ Ok below
 unfolding trimmed_start
 header_back (layout.Banks version.One) below = refl
 header_back l below = refl
 
+-- the header of a banks file tells its version
 version_back : (v : Version) (below : List Fields)
     → version_of (trimmed_fields (banks_header v) ∷ below) ≡ v
 unfolding trimmed_start
 version_back version.One below = refl
 version_back version.Two below = refl
 
+-- a printed file begins with no mark of its encoding
 unmarked : (l : Layout) (text : List ℕ)
     → strip_bom (line (header l) ++ text) ≡ line (header l) ++ text
 unfolding strip_bom
 unmarked (layout.Banks version.One) text = refl
 unmarked l text = refl
 
+-- a header with its line end has at most 40 bytes
 short_header : (l : Layout) → length (line (header l)) ≤ 40
 short_header (layout.Banks version.One) = omega arith
 short_header l = omega arith
@@ -129,6 +133,7 @@ module _ {X : Type 0} {by : Limits} {l : Layout} {fields_of : X → Fields}
       ∙ records_printed (header l) (map fields_of all) (header_row l) (all_kept all [] refl)
       (unmarked l (flat_map line (map fields_of all)))
 
+  -- reading a printed file adds all that it was printed of
   file_back : with_file by l (file_text l fields_of all) (so_far []) ≡ Ok (so_far all)
   file_back =
       file-below by l (file_text l fields_of all) (so_far [])
@@ -146,6 +151,7 @@ part_room : {X : Type 0} (all done rest : List X) (x : X) (most : ℕ) → all �
 part_room all done rest x most e few =
     omega (arith, ap length e, length-append done (x ∷ rest))
 
+-- the units owed up to a debt, with that debt, are within the limit of all units owed
 part_low : (net : Net) (done rest : List Debt) (d : Debt) (most : ℕ)
     → net.debts ≡ done ++ d ∷ rest → units_owed net ≤ most
     → units_owed (with_debts net done) + d.claim ≤ most
@@ -162,6 +168,7 @@ bank_bytes : (by : Limits) → 40 + 151 * most_banks by ≤ file_limit by file.B
 bank_bytes limits.Standard = omega arith
 bank_bytes limits.Wide = omega arith
 
+-- and so is the file of debts
 debt_bytes : (by : Limits) → 40 + 151 * most_debts by ≤ file_limit by file.Debts
 debt_bytes limits.Standard = omega arith
 debt_bytes limits.Wide = omega arith
@@ -247,6 +254,7 @@ no_debt_added by v net r next trimmed none h =
     let same : with_bank net read.0 ≡ next = cc in
     ap (λ (n : Net). n.debts) (sym same) ∙ none
 
+-- rows of debts add no bank
 no_bank_added : (by : Limits) (banks : List Bank)
     → RowKeeps by (λ net. net.banks ≡ banks) layout.Debts
 no_bank_added by banks net r next trimmed same h =

@@ -31,6 +31,7 @@ and_then-then : (a : Result Net Fault) (first both more : Net → Result Net Fau
 and_then-then (Ok x) first both more each = each x
 and_then-then (Err f) first both more each = refl
 
+-- rows read after others go on from the network that those gave
 read_rows-append : (by : Limits) (l : Layout) (net : Net) (xs ys : List (ℕ × Fields))
     → read_rows by l net (xs ++ ys)
     ≡ and_then (read_rows by l net xs) (λ next. read_rows by l next ys)
@@ -68,6 +69,7 @@ rows-next by l net row fields rest =
     ap (read_rows by l net) (rows_from-cons row fields rest)
     ∙ read_rows-append by l net (rows_from row (fields ∷ [])) (rows_from (row + 1) rest)
 
+-- where the first record passes, the others are read beside what it added
 pub rows-pass : (by : Limits) (l : Layout) (net next : Net) (row : ℕ) (fields : Fields)
     (rest : List Fields)
     → read_rows by l net (rows_from row (fields ∷ [])) ≡ Ok next
@@ -75,6 +77,7 @@ pub rows-pass : (by : Limits) (l : Layout) (net next : Net) (row : ℕ) (fields 
     ≡ read_rows by l next (rows_from (row + 1) rest)
 rows-pass by l net next row fields rest e = rw (rows-next by l net row fields rest, e) refl
 
+-- where the first record is at fault, its fault is the answer
 pub rows-stop : (by : Limits) (l : Layout) (net : Net) (row : ℕ) (fields : Fields)
     (rest : List Fields) (f : Fault)
     → read_rows by l net (rows_from row (fields ∷ [])) ≡ Err f

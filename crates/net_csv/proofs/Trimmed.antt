@@ -43,6 +43,7 @@ front-kept (b ∷ y) w e = ⊎_elim
     (λ (other : is_space_or_tab b ≡ false). trimmed_start-stops (b ∷ y) y b refl other)
     (cases_Bool (is_space_or_tab b))
 
+-- trimming a trimmed field changes nothing
 field-twice : (x : List ℕ) → trimmed_field (trimmed_field x) ≡ trimmed_field x
 field-twice x =
     let s = trimmed_start x in
@@ -54,6 +55,7 @@ field-twice x =
     ap (λ l. reverse (trimmed_start (reverse l))) (front-kept y (reverse split.0) whole)
     ∙ ap (λ l. reverse (trimmed_start l)) (reverse-reverse t) ∙ ap reverse (start-twice (reverse s))
 
+-- nor does trimming a record of trimmed fields
 fields-twice : (fields : Fields) → trimmed_fields (trimmed_fields fields) ≡ trimmed_fields fields
 fields-twice [] = refl
 fields-twice (x ∷ rest) = rw (field-twice x, fields-twice rest) refl
@@ -62,6 +64,7 @@ fields-twice (x ∷ rest) = rw (field-twice x, fields-twice rest) refl
 abbrev pub AreTrimmed : List (ℕ × Fields) → Type 0
 AreTrimmed rows = AllByRecursion (λ r. trimmed_fields r.1 ≡ r.1) rows
 
+-- each row that is numbered after trimming is trimmed
 rows_trimmed : (raw : List Fields) (row : ℕ) → AreTrimmed (rows_from row (map trimmed_fields raw))
 rows_trimmed [] row = tt
 rows_trimmed (fields ∷ rest) row =

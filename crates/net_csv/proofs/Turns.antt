@@ -13,9 +13,11 @@ use Rattle.csv.specs.declared.record.ByteRecordIter.{ByteRecordIter}
 abbrev pub turns : ByteRecordIter → Option (Bor (List ℕ)) → ByteRecordIter → Type 0
 turns a r b = (b.row ≡ a.row) × (option_map (λ s. s.now) r ≡ field_at (fields_of a.row.now) a.at) × IfSome r (λ _. b.at ≡ a.at + 1)
 
+-- the fields from the iterator's place on
 abbrev fields_left : ByteRecordIter → List (List ℕ)
 fields_left s = drop s.at (fields_of s.row.now)
 
+-- where there is no field at a place, none is left from there on
 none-left : (fields : List (List ℕ)) (i : ℕ) → None ≡ field_at fields i → length (drop i fields) ≡ 0
 unfolding field_at
 none-left [] zero e = refl
@@ -23,12 +25,14 @@ none-left [] (suc i) e = refl
 none-left (f ∷ fs) zero e = absurd (cc e)
 none-left (f ∷ fs) (suc i) e = none-left fs i e
 
+-- a field at a place is the first of those that are left from there on
 one-left : (fields : List (List ℕ)) (i : ℕ) (field : List ℕ) → Some field ≡ field_at fields i → drop i fields ≡ field ∷ drop (suc i) fields
 unfolding field_at
 one-left [] i field e = absurd (cc e)
 one-left (f ∷ fs) zero field e = let same : field ≡ f = cc in rw same refl
 one-left (f ∷ fs) (suc i) field e = one-left fs i field e
 
+-- the iterator yields the fields that are left, in their order
 pub fields_in_turn : (s : ByteRecordIter) → YieldsList turns (λ x. x.now) s (fields_left s)
 fields_in_turn s =
     YieldsList-from_shown turns (λ x. x.now) fields_left
@@ -53,6 +57,7 @@ abbrev pub HasFields : List (List ℕ) → ℕ → List (List ℕ) → Type 0
 HasFields fields k [] = Unit {0}
 HasFields fields k (w ∷ ws) = (field_at fields k ≡ Some w) × HasFields fields (suc k) ws
 
+-- what a record has from the second field on, the record without its first has from the start
 has_rest : (x : List ℕ) (fields ws : List (List ℕ)) (k : ℕ) → HasFields (x ∷ fields) (suc k) ws → HasFields fields k ws
 unfolding field_at
 has_rest x fields [] k h = tt

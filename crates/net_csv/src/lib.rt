@@ -6,10 +6,11 @@ mod debts;
 mod file;
 pub mod laws;
 mod layout;
-pub mod line;
+mod plain;
 mod print;
 mod read;
 pub mod records;
 
+pub use plain::read_network;
 pub use print::{print_banks, print_banks_2, print_debts};
-pub use read::{read_network, read_network_within};
+pub use read::read_network_within;

@@ -5,7 +5,7 @@ ghost use Rattle.net_csv.specs.Reading.{network_within};
 ghost use Rattle.std.specs.Prelude.{◌≡◌, ◌<◌, ◌++◌, ℕ, List, Ok, length, IfOk, OnOk};
 
 use crate::layout::Version;
-use crate::line::{Line, push_field, push_number};
+use clr_edge::line::{Line, push_field, push_number};
 use clr_net::{Bank, BankId, Debt, DebtId, Mem, Network, RuleKind};
 use std::alloc::Global;
 

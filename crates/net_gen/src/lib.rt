@@ -7,3 +7,9 @@
 mod making;
 
 pub use making::generate;
+
+/// The most banks that a network is made of.
+pub const MOST_BANKS: u32 = 1_000;
+
+/// The most tries at a debt.
+pub const MOST_TRIES: u32 = 20_000;

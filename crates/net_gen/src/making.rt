@@ -1,5 +1,7 @@
+ghost use Rattle.clr_net.specs.Limits.{IsNetwork};
 ghost use Rattle.clr_net.specs.Net.{units_owed};
 ghost use Rattle.clr_net.specs.declared.TheConstants.{MAX_CLAIM, MAX_CLASS, MAX_DEBTS, MAX_OWED};
+ghost use Rattle.net_gen.specs.declared.TheConstants.{MOST_BANKS, MOST_TRIES};
 ghost use Rattle.net_gen.specs.Generated.{after_tries, after_words, debt_from, generated, name_at};
 ghost use Rattle.net_gen.specs.Generated.{rule_numbered, tried};
 ghost use Rattle.std.specs.Prelude.{◌≡◌, ◌+◌, ◌*◌, ◌<◌, ◌≤◌, ℕ, [], IfOk, OnOk, length};
@@ -11,16 +13,17 @@ use std::alloc::Global;
 
 /// The network that a seed makes, of so many banks and from so many tries at a debt.
 ///
-/// `size` is 1 to 1,000 and `tries` at most 20,000. A try is dropped where it has a bank owe
+/// `size` is 1 to [`MOST_BANKS`] and `tries` at most [`MOST_TRIES`]. A try is dropped where it has a bank owe
 /// itself, or makes a debt of a debtor, creditor and class of which there is one. Cash is below
 /// 2,000 units, claims are 1 to 500, classes 1 to 3, and no bank owes anything outside. `Mem` for
 /// want of memory alone. Costs for each try a walk of the debtor's row or the creditor's column,
 /// whichever is shorter.
 pub fn generate(alloc: Global, seed: u64, size: u32, tries: u32) -> Result<Network, Mem>
     requires some_banks { 1 ≤ size }
-    requires few_banks { size ≤ 1000 }
-    requires few_tries { tries ≤ 20000 }
-    ensures { IfOk result (λ net. net ≡ generated seed size tries) }
+    requires few_banks { size ≤ MOST_BANKS }
+    requires few_tries { tries ≤ MOST_TRIES }
+    ensures network { IfOk result (λ net. net ≡ generated seed size tries) }
+    ensures lawful { IfOk result IsNetwork }
 {
     let mut net = Network::empty(alloc);
     fill(alloc, seed, size, tries, &mut net)?;
@@ -30,8 +33,8 @@ pub fn generate(alloc: Global, seed: u64, size: u32, tries: u32) -> Result<Netwo
 // Adds the banks and the debts to a network without any.
 fn fill(alloc: Global, seed: u64, size: u32, tries: u32, net: &mut Network) -> Result<(), Mem>
     requires some_banks { 1 ≤ size }
-    requires few_banks { size ≤ 1000 }
-    requires few_tries { tries ≤ 20000 }
+    requires few_banks { size ≤ MOST_BANKS }
+    requires few_tries { tries ≤ MOST_TRIES }
     requires empty { net.old ≡ record { banks = []; debts = [] } }
     ensures { OnOk result (net.new ≡ generated seed size tries) }
 {
@@ -48,7 +51,7 @@ fn make_banks(
     words: &mut Lcg64Xsh32,
     net: &mut Network,
 ) -> Result<(), Mem>
-    requires few_banks { size ≤ 1000 }
+    requires few_banks { size ≤ MOST_BANKS }
     requires words { words.old ≡ after_words seed 0 }
     requires empty { net.old ≡ record { banks = []; debts = [] } }
     ensures words { OnOk result (words.new ≡ after_words seed (2 * size)) }
@@ -72,7 +75,7 @@ fn make_banks(
 
 // The name of the bank of a number.
 fn name_of(alloc: Global, number: u32) -> Result<Name, Mem>
-    requires { number < 1000 }
+    requires { number < MOST_BANKS }
     ensures { IfOk result (λ name. name ≡ name_at number) }
 {
     let text = format!(in alloc; "N{number}")?;
@@ -106,8 +109,8 @@ fn make_debts(
     net: &mut Network,
 ) -> Result<(), Mem>
     requires some_banks { 1 ≤ size }
-    requires few_banks { size ≤ 1000 }
-    requires few_tries { tries ≤ 20000 }
+    requires few_banks { size ≤ MOST_BANKS }
+    requires few_tries { tries ≤ MOST_TRIES }
     requires words { words.old ≡ after_words seed (2 * size) }
     requires net { net.old ≡ after_tries seed size 0 }
     ensures { OnOk result (net.new ≡ after_tries seed size tries) }

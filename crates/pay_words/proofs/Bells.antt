@@ -32,10 +32,12 @@ pub sum_least : (f : View → ℕ) (views : List View) (id : ℕ) (v : View) →
 sum_least f views id v at = subst (λ (u : View). f u ≤ sum_by f views) (got views id v v at).1
     (get_or-le-sum_by f views id v (got views id v v at).0)
 
+-- where f gives 0 for each of the views, so is its sum over them
 sum_none : (f : View → ℕ) (views : List View) → ((j : ℕ) (u : View) → get_elem? views j ≡ some u → f u ≡ 0) → sum_by f views ≡ 0
 sum_none f [] h = refl
 sum_none f (x ∷ xs) h = omega (arith, sum_by-cons f x xs, h 0 x refl, sum_none f xs (λ j. h (suc j)))
 
+-- where f gives 0 for all other views, its sum over the views is what it gives for this one
 pub sum_alone : (f : View → ℕ) (views : List View) (id : ℕ) (v : View) → get_elem? views id ≡ some v → ((j : ℕ) (u : View) → j ≢ id → get_elem? views j ≡ some u → f u ≡ 0) → sum_by f views ≡ f v
 sum_alone f [] id v at h = absurd (some-ne-none v (sym at))
 sum_alone f (x ∷ xs) zero v at h = omega (arith, sum_by-cons f x xs, ap f (some-injective x v at), sum_none f xs (λ j u e. h (suc j) u (λ i. absurd (omega (arith, i))) e))
@@ -64,6 +66,7 @@ sum_low n m f h = omega (
   ap (λ l. l * m) (length-range_with_len 0 n),
 )
 
+-- one mark more makes the marked numbers at most one more
 pub marks_grow_by_one : (n : ℕ) (marks : ℕ → Bool) (x : ℕ) → x < n → how_many n (changed x true marks) ≤ how_many n marks + 1
 marks_grow_by_one n marks x lt =
     let f : ℕ → ℕ = λ y. if marks y then 1 else 0 in

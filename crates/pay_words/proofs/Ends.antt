@@ -10,7 +10,7 @@ use Rattle.clear_core.specs.Clearing.{least}
 use Rattle.clear_core.specs.History.{IsHistory, ordered, replayed}
 use Rattle.clear_core.proofs.Ordered.{ordered_again, ordered_stands, ordered_is_traced}
 use Rattle.clear_core.specs.declared.event.Raise.{Raise}
-use Rattle.pay_words.specs.declared.deed.Deed.{Deed}
+use Rattle.pay_words.specs.declared.origin.Origin.{Origin}
 use Rattle.pay_words.specs.declared.payment.Payment.{Payment}
 use Rattle.pay_words.specs.declared.view.Shown.{Shown}
 use Rattle.pay_words.specs.declared.view.View.{View}
@@ -19,7 +19,7 @@ use Rattle.pay_words.specs.Ends.{payments_of, values, Ends}
 use Rattle.pay_words.specs.Words.{unpaid, payment_of}
 use Rattle.pay_words.specs.Traces.{Traces, AreLawfulTraces, ending, raises_of, last_payment, start_of, paid_in}
 use Rattle.pay_words.specs.Views.{tabled, HoldsAll, holds, a_raise}
-use Rattle.pay_words.specs.BoardRule.{Ledger, Suits, taken_of, made_of, own_raises}
+use Rattle.pay_words.specs.BoardRule.{BoardHistory, Suits, taken_of, made_of, own_raises}
 use Rattle.pay_words.proofs.Tables.{tabled_at, tabled_agree, length-tabled}
 use Rattle.pay_words.proofs.Traces.{under_own_ending}
 use Rattle.pay_words.proofs.Lawful.{paid_in_below}
@@ -35,45 +35,56 @@ use mathlib.Core.List.{map-map}
 -- raises that are lawful by debt, whatever their order
 module _ (net : Net) (raises : List Raise) (known : All (λ r. r.debt.0 < length net.debts) raises)
     (h : AreLawfulTraces net (λ x. raises_of x raises)) where
+  -- the raises of each debt
   abbrev t : Traces
   t x = raises_of x raises
 
+  -- what each debt ended with
   abbrev payments : List Payment
   payments = start_of net raises
 
+  -- the values of the payments are what the traces have paid
   values_are : values payments ≡ paid_in net t
   values_are = map-map (λ (p : Payment). p.value) (λ (x : ℕ). last_payment x raises) (debt_numbers net)
 
+  -- no stamp of the raises is above the sum of the values
   pub low_stamps : All (λ r. r.stamp ≤ sum (values payments)) raises
   low_stamps k d lt =
       let l = known k d lt in
       omega (arith, under_own_ending raises k d lt (h.rise _ l), h.low _ l, ap sum values_are)
 
+  -- no value is above the least clearing payment
   pub values_below : IsAtMost (values payments) (least net)
   values_below x = omega (arith, paid_in_below net t h x, ap (λ (ns : List ℕ). slice_index ns x) values_are)
 
+  -- nor is any stamp of the payments above the sum of the values
   payment_low : All (λ p. p.stamp ≤ sum (values payments)) payments
   payment_low k d lt =
       let l : k < length net.debts = omega (arith, lt, length-tabled (length net.debts) (λ x. last_payment x raises)) in
       omega (arith, ap (λ (p : Payment). p.stamp) (tabled_at (length net.debts) (λ x. last_payment x raises) k d l), h.low k l, ap sum values_are)
 
+  -- the payments are what the raises leave, once they are in order
   start_same : payments ≡ start_of net (ordered raises)
   start_same = tabled_agree unpaid (length net.debts) (λ x. last_payment x raises) (λ x. last_payment x (ordered raises)) (λ x lt. ap ending (sym (same_of x raises (h.rise x lt))))
 
+  -- the raises are a lawful history
   history : IsHistory net raises
   history = history_of net raises h known
 
+  -- the payments and the raises in order may open another board
   pub belongs : Belongs net payments (ordered raises)
   belongs = record { in_order = ordered_again raises; stands = ordered_stands net raises history; traced = ordered_is_traced net raises history; start_is = start_same; stamps_low = payment_low }
 
+  -- the raises in order replay to the values
   pub replays : replayed net (ordered raises) ≡ values payments
   replays = replayed_is net (ordered raises) ∙ ap values (sym start_same)
 
+  -- and so no stamp of the raises in order is above the sum of the values
   pub low_in_order : All (λ r. r.stamp ≤ sum (values payments)) (ordered raises)
   low_in_order = all_ordered (λ r. r.stamp ≤ sum (values payments)) raises low_stamps
 
 -- a seat that holds no bank of a debtor has made no raise
-made_none : (d : Deed) (k : Ledger) (roll count id j : ℕ) (v u : View) → Suits d k roll count id v → v.shown.master ≡ true → ((x : ℕ) → x < length d.net.debts → holds v.shown (debtor_of d.net x) ≡ true)
+made_none : (d : Origin) (k : BoardHistory) (roll count id j : ℕ) (v u : View) → Suits d k roll count id v → v.shown.master ≡ true → ((x : ℕ) → x < length d.net.debts → holds v.shown (debtor_of d.net x) ≡ true)
     → j ≢ id → (u.live ≡ true → Suits d k roll count j u) → made_of u ≡ 0
 made_none d k roll count id j v u f chief all apart fits = cond_both u.live (length u.shown.raises) 0 (λ n. n ≡ 0)
     (λ on.
@@ -89,16 +100,17 @@ made_none d k roll count id j v u f chief all apart fits = cond_both u.live (len
     (λ _. refl)
 
 -- what the last state says, of the words
-pub record Closed (d : Deed) (s : Shown) (words : List ℕ) : Type 0 where
+pub record Closed (d : Origin) (s : Shown) (words : List ℕ) : Type 0 where
   pub size : length words ≡ 1 + length d.net.debts + length d.net.banks
   pub payments : (x : ℕ) → x < length d.net.debts → payment_of (slice_index words (x + 1)) ≡ record { value = slice_index s.paid x; stamp = slice_index s.paid_stamps x }
   pub ends : Ends d.net d.past s (payments_of s)
 
-pub closes : (d : Deed) (id : ℕ) (v : View) (ws : List ℕ) (xs : List (Unit {0})) → v.live ≡ true → v.shown.master ≡ true → HoldsAll v.shown → Final (Seen (rule d) id v) ws xs → Closed d v.shown ws
+-- the words of a board whose master holds all banks are what the board closes with
+pub closes : (d : Origin) (id : ℕ) (v : View) (ws : List ℕ) (xs : List (Unit {0})) → v.live ≡ true → v.shown.master ≡ true → HoldsAll v.shown → Final (Seen (rule d) id v) ws xs → Closed d v.shown ws
 closes d id v ws xs on chief all final =
     let s = final.0 in
     let h = final.1.0 in
-    let k = h.ledger in
+    let k = h.history in
     let f = h.fits id v final.1.1 on in
     let net = d.net in
     let raises : List Raise = d.past ++ v.shown.raises in
@@ -137,7 +149,7 @@ closes d id v ws xs on chief all final =
     }
 
 -- the payments in the list that the words are copied to
-pub copied : (d : Deed) (s : Shown) (words : List ℕ) (into : List Payment) → s.net ≡ d.net → Closed d s words → length into ≡ length d.net.debts
+pub copied : (d : Origin) (s : Shown) (words : List ℕ) (into : List Payment) → s.net ≡ d.net → Closed d s words → length into ≡ length d.net.debts
     → ((k : ℕ) → k < length into → get_or into k unpaid ≡ payment_of (slice_index words (k + 1))) → Ends d.net d.past s into
 copied d s words into e h size each =
     let over : length s.net.debts ≡ length d.net.debts = ap (λ (n : Net). length n.debts) e in

@@ -44,6 +44,7 @@ lawful_agree net t u h same = record {
     all : total net u ≡ total net t
     all = ap sum (tabled_agree 0 (length net.debts) (λ y. (ending (u y)).value) (λ y. (ending (t y)).value) (λ y l. ap (λ (rs : List Raise). (ending rs).value) (same y l)))
 
+-- where the raises of a debt rise, so they do without the first raise of all
 rise_tail : (x : ℕ) (a : Raise) (rs : List Raise) → Rise (raises_of x (a ∷ rs)) → Rise (raises_of x rs)
 rise_tail x a rs = cond_both (a.debt.0 == x) (a ∷ raises_of x rs) (raises_of x rs)
     (λ l. Rise l → Rise (raises_of x rs)) (λ _. rise_rest a (raises_of x rs)) (λ _ h. h)
@@ -103,6 +104,7 @@ module _ (net : Net) (rs : List Raise) (h : AreLawfulTraces net (λ x. raises_of
           (subst (λ (d : DebtId). Contains (raises_of d.0 rs) b) (sym same) (at j b f).0) lt;
     }
 
+-- a replay keeps how many debts there are
 length-replayed : (P : List ℕ) (rs : List Raise) → length (replayed_from P rs) ≡ length P
 unfolding replayed_from
 length-replayed P [] = refl
@@ -123,6 +125,7 @@ replayed_at P (r ∷ rs) x stamp lt =
       replayed_at (set P r.debt.0 r.to) rs x stamp,
     )
 
+-- what raises replay to are the values of what they leave
 pub replayed_is : (net : Net) (rs : List Raise) → replayed net rs ≡ map (λ p. p.value) (start_of net rs)
 replayed_is net rs =
     let n = length net.debts in

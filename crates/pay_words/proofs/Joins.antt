@@ -16,13 +16,13 @@ use Rattle.clr_net.specs.Amounts.{IsAtMost}
 use Rattle.clr_net.specs.Net.{Net, debtor_of, creditor_of, units_owed}
 use Rattle.clear_core.specs.Clearing.{part, receipts, least}
 use Rattle.clear_core.specs.declared.event.Raise.{Raise}
-use Rattle.pay_words.specs.declared.deed.Deed.{Deed}
+use Rattle.pay_words.specs.declared.origin.Origin.{Origin}
 use Rattle.pay_words.specs.declared.payment.Payment.{Payment}
 use Rattle.pay_words.specs.declared.view.Shown.{Shown}
 use Rattle.pay_words.specs.declared.view.View.{View}
 use Rattle.pay_words.specs.Views.{IsSound, OwesNoRing, is_marked, holds, rejoined, rejoined_over}
 use Rattle.pay_words.specs.Traces.{Traces, Stood, ending, raises_of}
-use Rattle.pay_words.specs.BoardRule.{Ledger, Leads, Suits, Sits, Tower, HasBells, IsRung, taken_of, made_of, both_of, nobody, own_raises}
+use Rattle.pay_words.specs.BoardRule.{BoardHistory, Leads, Suits, Sits, BellLedger, HasBells, IsRung, taken_of, made_of, both_of, nobody, own_raises}
 use Rattle.pay_words.proofs.Traces.{raises_of-append, raises_of-none}
 use Rattle.pay_words.proofs.Marks.{either_marked, marked, chosen_second, chosen_first, chosen_each, chosen_most, receipts_agree}
 use Rattle.pay_words.proofs.Views.{rule, sits_set, its_raises}
@@ -32,15 +32,19 @@ use Rattle.std.proofs.lemmas.List.Elements.{All-nil, All-append}
 use Rattle.pay_words.proofs.Lengths.{over_rejoined}
 
 module _ (net : Net) (s t : Shown) where
+  -- what the two seats show together
   abbrev both : Shown
   both = rejoined_over net s t
 
+  -- the master holds what it held before
   pub held_first : (b : ℕ) → b < length net.banks → holds s b ≡ true → holds both b ≡ true
   held_first b lt e = marked (length net.banks) (λ c. holds s c || holds t c) b lt (or_left (holds s b) (holds t b) e)
 
+  -- and what the seat held that came back
   pub held_second : (b : ℕ) → b < length net.banks → holds t b ≡ true → holds both b ≡ true
   held_second b lt e = marked (length net.banks) (λ c. holds s c || holds t c) b lt (or_right (holds s b) (holds t b) e)
 
+  -- what it holds and that seat did not hold, it held before
   first_holds : (b : ℕ) → holds both b ≡ true → holds t b ≡ false → holds s b ≡ true
   first_holds = either_marked (length net.banks) s.banks t.banks
 
@@ -92,19 +96,23 @@ sound_both s t e f g =
       f,
     )
 
-module _ (past : List Raise) (k : Ledger) (roll count id other : ℕ) (v w : View) (chief : v.shown.master ≡ true)
+module _ (past : List Raise) (k : BoardHistory) (roll count id other : ℕ) (v w : View) (chief : v.shown.master ≡ true)
     (plain : w.shown.master ≡ false)
     (f : Suits (its past v) k roll count id v) (g : Suits (its past v) k roll count other w) where
-  abbrev d : Deed
+  -- the origin of the board
+  abbrev d : Origin
   d = its past v
 
+  -- what the master shows
   abbrev s : Shown
   s = v.shown
 
+  -- what the seat shows
   abbrev t : Shown
   t = w.shown
 
-  abbrev next : Ledger
+  -- the history with the seat's banks and raises handed to the master
+  abbrev next : BoardHistory
   next = record k { owner = λ b. if holds t b then id else k.owner b; base = k.base ++ t.raises }
 
   -- its raises are of its own debts
@@ -166,18 +174,23 @@ module _ (past : List Raise) (t : Traces) (words : List ℕ) (views : List View)
     → slice_index w.shown.paid x ≡ (ending (t x)).value)
     (calm : (x : ℕ) → x < length v.shown.net.debts → holds w.shown (debtor_of v.shown.net x) ≡ true
     → is_marked w.shown.owes_ring x ≡ false) where
+  -- the network
   abbrev net : Net
   net = v.shown.net
 
+  -- the debts whose debtor comes back
   abbrev back : ℕ → Bool
   back x = holds w.shown (debtor_of net x)
 
-  abbrev lower : Tower
-  lower = h.tower
+  -- the levels before
+  abbrev lower : BellLedger
+  lower = h.ledger
 
-  abbrev higher : Tower
+  -- the levels after: that of a debt that comes back is what is paid on it
+  abbrev higher : BellLedger
   higher = record lower { level = λ x. if back x then (ending (t x)).value else lower.level x }
 
+  -- the master with the seat has what the ledger knows of the bells of both
   both_has : HasBells (its past v) lower v → HasBells (its past v) lower w → HasBells (its past v) higher (both_of v w)
   both_has f g = record {
     seen = λ x lt m. by_creditor net v.shown w.shown x lt (λ a _ _. a ≡ lower.seen x) (λ out. f.seen x lt (own _ m out)) (g.seen x lt);
@@ -192,10 +205,11 @@ module _ (past : List Raise) (t : Traces) (words : List ℕ) (views : List View)
       own : (b : ℕ) → holds (both_of v w).shown b ≡ true → holds w.shown b ≡ false → holds v.shown b ≡ true
       own = first_holds net v.shown w.shown
 
+  -- the rule of the bells holds once a seat is taken back
   rung_join : get_elem? views id ≡ some v → v.live ≡ true → get_elem? views other ≡ some w → w.live ≡ true → other ≢ id
       → IsRung (its past v) t words (set (set views id (both_of v w)) other nobody)
   rung_join at on was also apart = record {
-    tower = higher;
+    ledger = higher;
     bells = h.bells;
     answered = h.answered;
     lifted = λ x lt. grind (arith, h.answered x lt, h.lifted x lt, (h.has other w was also).owed x lt, calm x lt);
@@ -231,22 +245,23 @@ pub record MayTakeBack (v w : View) : Type 0 where
   pub plain : w.shown.master ≡ false
   pub calm : OwesNoRing w.shown
 
-pub joins : (d : Deed) (id : ℕ) (v : View) (other : ℕ) (w : View) → MayTakeBack v w → Joins (rule d) id v other w (both_of v w) nobody
+-- a seat may be taken back: the rule of the board holds after it
+pub joins : (d : Origin) (id : ℕ) (v : View) (other : ℕ) (w : View) → MayTakeBack v w → Joins (rule d) id v other w (both_of v w) nobody
 joins d id v other w may s h at apart there =
     let joined : View = both_of v w in
     let one : List View = set s.views id joined in
     let two : List View = set one other nobody in
     at_its (Keeps s.words s.words s.views two) d v (h.fits id v at may.live).net_is (λ h.
-    let k = h.ledger in
+    let k = h.history in
     let f = h.fits id v at may.live in
     let was : get_elem? s.views other ≡ some w = sym (set_else s.views id other joined apart) ∙ there in
     let g = h.fits other w was may.also_live in
-    let l : Ledger = record k { owner = λ b. if holds w.shown b then id else k.owner b; base = k.base ++ w.shown.raises } in
+    let l : BoardHistory = record k { owner = λ b. if holds w.shown b then id else k.owner b; base = k.base ++ w.shown.raises } in
     let fits : ℕ → View → Type 0 = λ j u. Suits (its d.past v) l (slice_index s.words 0) (length s.views) j u in
     let seat : get_elem? two id ≡ some joined =
     set_else one other id nobody (λ e. apart (sym e)) ∙ set_here s.views id joined (got s.views id v v at).0 in
     record {
-      ledger = l;
+      history = l;
       network = h.network;
       size = h.size;
       stands = h.stands;

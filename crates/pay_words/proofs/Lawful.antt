@@ -30,12 +30,15 @@ pub sum-least_le : (net : Net) → sum (least net) ≤ units_owed net
 sum-least_le net = omega (arith, ap sum (least_clears net), sum-pay_le net (least net))
 
 module _ (net : Net) (t : Traces) (h : AreLawfulTraces net t) where
+  -- what the traces have paid on a debt is the value of its last raise
   pub paid_in_at : (x : ℕ) → x < length net.debts → slice_index (paid_in net t) x ≡ (ending (t x)).value
   paid_in_at x lt = tabled_at (length net.debts) (λ y. (ending (t y)).value) x 0 lt
 
+  -- no payment of lawful traces is above the least clearing payment
   pub paid_in_below : IsAtMost (paid_in net t) (least net)
   paid_in_below x = grind (arith, paid_in_at x, h.most x, get_or_past (paid_in net t) x 0, length-tabled (length net.debts) (λ y. (ending (t y)).value))
 
+  -- lawful traces pay in all no more than is owed
   pub total_le : total net t ≤ units_owed net
   total_le = omega (arith, sum-le (paid_in net t) (least net) paid_in_below, sum-least_le net)
 
@@ -44,29 +47,36 @@ module _ (net : Net) (t : Traces) (h : AreLawfulTraces net t) where
   value_fits x lt network = omega (arith, h.most x lt, least_in_limit net x network)
 
   module _ (x : ℕ) (lt : x < length net.debts) (r : Raise) (is : r.debt.0 ≡ x) where
+    -- the raises with one more on the debt x
     abbrev more : Traces
     more = pushed t x r
 
+    -- the debt ends with what this raise left
     pub ending_here : (y : ℕ) → y ≡ x → ending (more y) ≡ left_by r
     ending_here y e = ap ending (changed_here x (t x ++ r ∷ []) t y e) ∙ ending_push unpaid (t x) r
 
+    -- each other debt ends as before
     pub ending_else : (y : ℕ) → y ≢ x → ending (more y) ≡ ending (t y)
     ending_else y ne = ap ending (changed_else x (t x ++ r ∷ []) t y ne)
 
     module _ (up : (ending (t x)).value < r.to) where
+      -- no debt ends with less
       pub ending_rises : (y : ℕ) → (ending (t y)).value ≤ (ending (more y)).value
       ending_rises = changed_each (λ y rs. (ending (t y)).value ≤ (ending rs).value) x (t x ++ r ∷ []) t
           (omega (arith, up, ap (λ (q : Payment). q.value) (ending_push unpaid (t x) r))) (λ y _. le_refl _)
 
+      -- more is paid in all
       pub total_rises : total net t < total net more
       total_rises = sum_less (paid_in net t) (paid_in net more) x (omega (arith, length-tabled (length net.debts) (λ y. (ending (t y)).value)))
           (tabled_most (length net.debts) (λ y. (ending (t y)).value) (λ y. (ending (more y)).value) (λ y _. ending_rises y))
           (omega (arith, paid_in_at x lt, tabled_at (length net.debts) (λ z. (ending (more z)).value) x 0 lt, up, ap (λ (q : Payment). q.value) (ending_here x refl)))
 
+      -- no bank's part is less by what was paid
       within_more : (stamp y : ℕ) → part net y (paid_to net t stamp y) ≤ part net y (paid_to net more stamp y)
       within_more stamp y = part_mono net y _ _
           (sum_by-le-sum_by (λ z. raised_before stamp (t z) z) (λ z. raised_before stamp (more z) z) (column net (debtor_of net y)) (before_pushed t x r stamp))
 
+      -- one more raise within the debtor's part, with a later stamp, keeps all of them lawful
       pub lawful_push : (ending (t x)).stamp < r.stamp → r.to ≤ part net x (paid_to net t r.stamp x) → r.to ≤ slice_index (least net) x → r.stamp ≤ total net t + 1 → AreLawfulTraces net more
       lawful_push late within below low = record {
         rise = changed_each (λ y rs. y < length net.debts → Rise rs) x (t x ++ r ∷ []) t

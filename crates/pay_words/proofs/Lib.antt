@@ -11,7 +11,7 @@ pub mod Marks
 pub mod Splits
 pub mod Joins
 pub mod Rings
-pub mod Purses
+pub mod SeatMemories
 pub mod Seats
 pub mod Pasts
 pub mod Openings

@@ -13,14 +13,14 @@ use Rattle.atomic_table.specs.Table.{Me, Allows, step}
 use Rattle.clr_net.specs.Net.{debtor_of, creditor_of}
 use Rattle.clear_core.specs.Clearing.{least}
 use Rattle.clear_core.proofs.Pay.{part_mono, receipts_mono}
-use Rattle.pay_words.specs.declared.deed.Deed.{Deed}
+use Rattle.pay_words.specs.declared.origin.Origin.{Origin}
 use Rattle.pay_words.specs.declared.payment.Payment.{Payment}
 use Rattle.pay_words.specs.declared.view.Shown.{Shown}
 use Rattle.pay_words.specs.declared.view.View.{View}
 use Rattle.pay_words.specs.Words.{payment_of}
 use Rattle.pay_words.specs.Views.{IsSound, holds, looked}
 use Rattle.pay_words.specs.Traces.{Stood, ending, total}
-use Rattle.pay_words.specs.BoardRule.{Ledger, Suits, MeetsRule, LookTells, Looks, showing}
+use Rattle.pay_words.specs.BoardRule.{BoardHistory, Suits, MeetsRule, LookTells, Looks, showing}
 use Rattle.pay_words.proofs.Tables.{after_set, set_above, set_below}
 use Rattle.pay_words.proofs.Traces.{ending_stood, stood_under}
 use Rattle.pay_words.proofs.Lawful.{total_le}
@@ -36,10 +36,12 @@ sound_look s x p h up below low =
     (part_mono s.net y _ _ (receipts_mono s.net s.sights (set s.sights x p.value) (debtor_of s.net y) (set_above s.sights x p.value up))) in
     assumption (within, set_below s.sights (least s.net) x p.value h.sights_below below, over_looked s x p h.over)
 
-module _ (past : List Raise) (k : Ledger) (roll count id : ℕ) (v : View) (x : ℕ) where
+module _ (past : List Raise) (k : BoardHistory) (roll count id : ℕ) (v : View) (x : ℕ) where
+  -- what the look finds
   abbrev found : Payment
   found = ending (k.trace x)
 
+  -- the view suits the rule after a look at a payment that stood
   looked_suits : x < length v.shown.net.debts → found.stamp ≤ total v.shown.net k.trace
       → IsSound (looked v.shown x found) → Suits (its past v) k roll count id v
       → Suits (its past v) k roll count id (showing v (looked v.shown x found))
@@ -56,12 +58,13 @@ module _ (past : List Raise) (k : Ledger) (roll count id : ℕ) (v : View) (x : 
       let most : clock ≤ total v.shown.net k.trace = omega (arith, f.clock_low, low) in
       assumption (stood, seen, stamps, past, most, f)
 
-pub looks : (d : Deed) (slots id : ℕ) (me : Me (Unit {0}) View) (x : ℕ) → me.0.shown.net ≡ d.net → me.0.live ≡ true
+-- a look keeps the rule, and finds what its clauses say
+pub looks : (d : Origin) (slots id : ℕ) (me : Me (Unit {0}) View) (x : ℕ) → me.0.shown.net ≡ d.net → me.0.live ≡ true
     → x < length me.0.shown.net.debts → holds me.0.shown (creditor_of me.0.shown.net x) ≡ true
     → Allows (rule d) slots id me (x + 1) (λ n. n) (Looks (step slots (x + 1) 0 0 none) me)
 looks d slots id me x over on lt to_me = allowed d slots id me (x + 1) (λ n. n)
     (Looks (step slots (x + 1) 0 0 none) me) (λ n. showing me.0 (looked me.0.shown x (payment_of n))) over (λ s h at.
-    let k = h.ledger in
+    let k = h.history in
     let v = me.0 in
     let net = v.shown.net in
     let n : ℕ = slice_index s.words (x + 1) in

@@ -11,17 +11,18 @@ use Rattle.clr_net.specs.Amounts.{IsAtMost}
 use Rattle.clr_net.specs.Limits.{IsNetwork}
 use Rattle.clr_net.specs.Net.{Net, debtor_of, debt_numbers}
 use Rattle.clear_core.specs.Clearing.{least}
-use Rattle.pay_words.specs.declared.deed.Deed.{Deed}
+use Rattle.pay_words.specs.declared.payment.TheConstants.{STAMP}
+use Rattle.pay_words.specs.declared.origin.Origin.{Origin}
 use Rattle.pay_words.specs.declared.payment.Payment.{Payment}
 use Rattle.pay_words.specs.declared.view.View.{View}
 use Rattle.pay_words.specs.Words.{word_of}
 use Rattle.pay_words.specs.Belongs.{Belongs}
 use Rattle.pay_words.specs.Traces.{Traces, AreLawfulTraces, ending, raises_of, total}
 use Rattle.pay_words.specs.Views.{IsSound, greatest, opening}
-use Rattle.pay_words.specs.BoardRule.{Ledger, Suits, MeetsRule, Tower, HasBells, taken_of, made_of, bell, opening_view}
+use Rattle.pay_words.specs.BoardRule.{BoardHistory, Suits, MeetsRule, BellLedger, HasBells, taken_of, made_of, bell, opening_view}
 use Rattle.pay_words.proofs.Traces.{ending_stood, under_own_ending}
 use Rattle.pay_words.proofs.Lawful.{paid_in_below, total_le, value_fits}
-use Rattle.pay_words.specs.Seats.{IsInMemory, purse}
+use Rattle.pay_words.specs.Seats.{IsInMemory, seat_memory}
 use Rattle.pay_words.proofs.Tables.{tabled_at}
 use Rattle.std.proofs.Common.{inl}
 use Rattle.std.proofs.lemmas.List.Sums.{sum_by-cons}
@@ -31,19 +32,23 @@ use Rattle.pay_words.proofs.Pasts.{traces, past_known, past_lawful, start_over, 
 use Rattle.std.proofs.lemmas.List.Elements.{All-nil}
 use Rattle.pay_words.proofs.Lengths.{over_opening}
 
+-- the greatest with one number more
 pub greatest_more : (ns : List ℕ) (n : ℕ) → greatest (ns ++ n ∷ []) ≡ max n (greatest ns)
 greatest_more [] n = refl
 greatest_more (m ∷ ns) n = omega (arith, ap (max m) (greatest_more ns n))
 
+-- each number is at most the greatest
 pub greatest_above : (ns : List ℕ) (x : ℕ) → slice_index ns x ≤ greatest ns
 greatest_above [] x = zero-le
 greatest_above (n ∷ ns) zero = omega arith
 greatest_above (n ∷ ns) (suc x) = let rest = greatest_above ns x in omega arith
 
+-- a bound of each number is one of the greatest
 pub greatest_most : (ns : List ℕ) (k : ℕ) → ((x : ℕ) → x < length ns → slice_index ns x ≤ k) → greatest ns ≤ k
 greatest_most [] k h = zero-le
 greatest_most (n ∷ ns) k h = let rest = greatest_most ns k (λ x lt. h (suc x) (omega (arith, lt))) in let first : n ≤ k = h 0 (omega arith) in omega arith
 
+-- behind a first word each word stands one place on
 next_at : (w : ℕ) (ws : List ℕ) (x : ℕ) → slice_index (w ∷ ws) (x + 1) ≡ slice_index ws x
 next_at w ws x = let e : x + 1 ≡ suc x = omega arith in ap (λ (n : ℕ). slice_index (w ∷ ws) n) e
 
@@ -51,38 +56,49 @@ next_at w ws x = let e : x + 1 ≡ suc x = omega arith in ap (λ (n : ℕ). slic
 abbrev pub opening_words : Net → List Payment → List ℕ
 opening_words net start = 1 ∷ (map word_of start ++ replicate (length net.banks) 1)
 
-module _ (d : Deed) (start : List Payment) (network : IsNetwork d.net) (h : Belongs d.net start d.past) where
+module _ (d : Origin) (start : List Payment) (network : IsNetwork d.net) (h : Belongs d.net start d.past) where
+  -- the network
   abbrev net : Net
   net = d.net
 
+  -- the raises of each debt in the past
   abbrev t : Traces
   t = traces net start d.past h
 
+  -- how many debts there are
   abbrev n : ℕ
   n = length net.debts
 
+  -- what the master shows at first
   abbrev first_view : View
   first_view = record { live = true; rolled = 1; shown = opening net start }
 
+  -- a list made of the payments has a place for each debt
   over : (f : Payment → ℕ) → length (map f start) ≡ n
   over = over_first net start d.past h
 
+  -- each value is that of the last raise of its debt
   value_at : (x : ℕ) → x < n → slice_index (map (λ p. p.value) start) x ≡ (ending (t x)).value
   value_at = at_first net start d.past h (λ p. p.value)
 
+  -- and so is each stamp
   stamp_at : (x : ℕ) → x < n → slice_index (map (λ p. p.stamp) start) x ≡ (ending (t x)).stamp
   stamp_at = at_first net start d.past h (λ p. p.stamp)
 
+  -- the traces of the past are lawful
   lawful : AreLawfulTraces net t
   lawful = past_lawful net start d.past h
 
+  -- no value is above the least clearing payment
   values_below : IsAtMost (map (λ p. p.value) start) (least net)
   values_below = rw (values_paid net start d.past h) (paid_in_below net t lawful)
 
+  -- no stamp is above what is paid in all
   clock_low : greatest (map (λ p. p.stamp) start) ≤ total net t
   clock_low = greatest_most (map (λ p. p.stamp) start) (total net t)
       (λ x lt. let l : x < n = omega (arith, lt, over (λ p. p.stamp)) in omega (arith, stamp_at x l, start_low net start d.past h x l))
 
+  -- what the first master shows is sound
   pub sound_opening : IsSound (opening net start)
   sound_opening = record {
     network = network;
@@ -94,10 +110,12 @@ module _ (d : Deed) (start : List Payment) (network : IsNetwork d.net) (h : Belo
     clock_below = le_trans clock_low (total_le net t lawful);
   }
 
-  abbrev ledger : Ledger
-  ledger = record { owner = λ _. 0; chief = 0; base = d.past; trace = t }
+  -- the history of a board at its opening
+  abbrev history : BoardHistory
+  history = record { owner = λ _. 0; chief = 0; base = d.past; trace = t }
 
-  first : Suits d ledger 1 1 0 first_view
+  -- its view suits the rule
+  first : Suits d history 1 1 0 first_view
   first = record {
     net_is = refl;
     sound = sound_opening;
@@ -118,9 +136,10 @@ module _ (d : Deed) (start : List Payment) (network : IsNetwork d.net) (h : Belo
     leads = λ _. (refl, sym (append-nil d.past), refl, le_refl 1, le_refl 1);
   }
 
+  -- the rule holds of the words and the one view of a new board
   pub opens : MeetsRule d (opening_words net start) (first_view ∷ [])
   opens = record {
-    ledger = ledger;
+    history = history;
     network = network;
     size = omega (arith, length-append (map word_of start) bells, over word_of, length-replicate {A = ℕ} (length net.banks) 1);
     stands = λ x lt. next_at 1 (map word_of start ++ bells) x
@@ -129,9 +148,9 @@ module _ (d : Deed) (start : List Payment) (network : IsNetwork d.net) (h : Belo
     known = past_known net start d.past h;
     held = λ b lt. (_, refl, refl, get_or-replicate (length net.banks) b true false lt);
     led = (_, refl, refl, refl);
-    fits = each_longer (Suits d ledger 1 1) [] first_view (λ j u e _. absurd (some-ne-none u (sym e))) first;
+    fits = each_longer (Suits d history 1 1) [] first_view (λ j u e _. absurd (some-ne-none u (sym e))) first;
     rung = record {
-      tower = tower;
+      ledger = ledger;
       bells = λ b lt. le_of_eq (bell_up b lt);
       answered = λ x lt. inl refl;
       lifted = λ x lt. inl (le_refl _);
@@ -141,7 +160,7 @@ module _ (d : Deed) (start : List Payment) (network : IsNetwork d.net) (h : Belo
           let up = sum_low (length net.banks) 1 (bell net (opening_words net start)) (λ b lt. le_of_eq (bell_up b lt)) in
           let owed = sum_low n 0 (λ _. 0) (λ _ _. le_refl 0) in
           omega (arith, up, owed, sum_by-cons taken_of first_view [], sum_by-cons made_of first_view []);
-      has = each_longer (λ _. HasBells d tower) [] first_view (λ j u e _. absurd (some-ne-none u (sym e))) (record {
+      has = each_longer (λ _. HasBells d ledger) [] first_view (λ j u e _. absurd (some-ne-none u (sym e))) (record {
         seen = λ x lt _. value_at x lt;
         pend = λ x lt _. get_or-replicate n x false false lt;
         owed = λ x lt _. get_or-replicate n x false false lt;
@@ -154,8 +173,8 @@ module _ (d : Deed) (start : List Payment) (network : IsNetwork d.net) (h : Belo
       bells : List ℕ
       bells = replicate (length net.banks) 1
 
-      tower : Tower
-      tower = record { seen = λ x. (ending (t x)).value; pend = λ _. false; owed = λ _. false; level = λ x. (ending (t x)).value; fresh = λ _. true }
+      ledger : BellLedger
+      ledger = record { seen = λ x. (ending (t x)).value; pend = λ _. false; owed = λ _. false; level = λ x. (ending (t x)).value; fresh = λ _. true }
 
       bell_up : (b : ℕ) → b < length net.banks → bell net (opening_words net start) b ≡ 1
       bell_up b lt =
@@ -164,6 +183,7 @@ module _ (d : Deed) (start : List Payment) (network : IsNetwork d.net) (h : Belo
           ∙ next_at 1 (map word_of start ++ replicate (length net.banks) 1) (length (map word_of start) + b)
           ∙ get_or-append-add (map word_of start) (replicate (length net.banks) 1) b 0 ∙ get_or-replicate (length net.banks) b 1 0 lt
 
+  -- it does with the payments that the past left
   pub opens_past : MeetsRule d (opening_words net start) (opening_view d ∷ [])
   opens_past = subst (λ (ps : List Payment). MeetsRule d (opening_words net start) (record { live = true; rolled = 1; shown = opening net ps } ∷ [])) h.start_is opens
 
@@ -180,16 +200,16 @@ module _ (d : Deed) (start : List Payment) (network : IsNetwork d.net) (h : Belo
       rw e.0 (omega (arith, value_fits net t lawful k e.1 network, start_low net start d.past h k e.1, total_le net t lawful, network.owed_in_limit))
 
   -- each of the values fits in four bytes
-  pub start_values_fit : (k : ℕ) (p : Payment) → k < length start → (get_or start k p).value < 4294967296
+  pub start_values_fit : (k : ℕ) (p : Payment) → k < length start → (get_or start k p).value < STAMP
   start_values_fit k p lt = let e = start_ending k p lt in rw e.0 (omega (arith, value_fits net t lawful k e.1 network))
 
   -- what the master has in memory at first
   pub kept_opening : (clock workers : ℕ) (debtors : List ℕ) → debtors ≡ map (debtor_of net) (debt_numbers net) → clock ≡ greatest (map (λ p. p.stamp) start) → 0 < workers
-      → IsInMemory (opening_view d) (purse [] (replicate workers (map (λ p. p.value) start)) debtors workers 0) clock 0
+      → IsInMemory (opening_view d) (seat_memory [] (replicate workers (map (λ p. p.value) start)) debtors workers 0) clock 0
   kept_opening clock workers debtors e f some' =
       let values : List ℕ = map (λ p. p.value) start in
       subst (λ (ps : List Payment). IsInMemory (record { live = true; rolled = 1; shown = opening net ps })
-      (purse [] (replicate workers values) debtors workers 0) clock 0) h.start_is
+      (seat_memory [] (replicate workers values) debtors workers 0) clock 0) h.start_is
       (at_master first_view _ _ _ refl refl sound_opening f refl some' (record {
         lists = length-replicate workers values;
         debtors = e;

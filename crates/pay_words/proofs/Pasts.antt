@@ -33,6 +33,7 @@ use Rattle.clear_core.proofs.Lawful.{stands_in_range}
 abbrev pub Differ : Raise → Raise → Type 0
 Differ a b = (a.stamp ≢ b.stamp) ⊎ (a.debt ≢ b.debt)
 
+-- raises that are traced differ in stamp or debt
 pub traced_differ : (net : Net) (rs : List Raise) → IsTraced net rs → AllPairs Differ rs
 traced_differ net rs h i j d lt l = h.differ i j _ _ lt (slice_get-get_or rs i d (omega arith)) (slice_get-get_or rs j d l)
 
@@ -74,6 +75,7 @@ pub before_of : (stamp x : ℕ) (rs : List Raise) → raised_before stamp (raise
 before_of stamp x [] = refl
 before_of stamp x (a ∷ rs) = grind (arith, nat_tests, before_of stamp x rs)
 
+-- a bound of all amounts is one of what was raised before a stamp
 before_most : (stamp x k : ℕ) (rs : List Raise) → All (λ r. r.to ≤ k) rs → raised_before stamp rs x ≤ k
 before_most stamp x k [] h = zero-le
 before_most stamp x k (a ∷ rs) h =
@@ -82,25 +84,31 @@ before_most stamp x k (a ∷ rs) h =
     cond_both (nat_lt a.stamp stamp && (a.debt.0 == x)) a.to 0 (λ n. max n (raised_before stamp rs x) ≤ k) (λ _. omega arith)
     (λ _. omega arith)
 
+-- what was paid on a debt before a stamp is at most what its own raises paid before it
 paid_before_at : (net : Net) (stamp : ℕ) (rs : List Raise) (y : ℕ) → slice_index (paid_before net stamp rs) y ≤ raised_before stamp (raises_of y rs) y
 paid_before_at net stamp rs y = dite (dec_lt y (length net.debts))
     (λ lt. omega (arith, tabled_at (length net.debts) (raised_before stamp rs) y 0 lt, before_of stamp y rs))
     (λ ge. let far : length (paid_before net stamp rs) ≤ y = omega (arith, length-tabled (length net.debts) (raised_before stamp rs)) in omega (arith, get_or_past (paid_before net stamp rs) y 0 far))
 
 module _ (net : Net) (start : List Payment) (past : List Raise) (h : Belongs net start past) where
+  -- the raises of each debt in the past
   abbrev pub traces : Traces
   traces x = raises_of x past
 
+  -- each raise of the past is of a known debt
   pub past_known : All (λ r. r.debt.0 < length net.debts) past
   past_known = stands_in_range net past h.stands
 
+  -- of each debt stamps and amounts rise, from above nothing
   past_rise : (x : ℕ) → Rise (traces x) × All (λ r. (0 ≤ r.stamp) × (slice_index (zeros net) x < r.to)) (traces x)
   past_rise x = stands_rise net 0 (zeros net) past (length-replicate (length net.debts) 0) h.stands past_known
       (traced_differ net past h.traced) x
 
+  -- each payment is that of the last raise of its debt
   pub start_at : (x : ℕ) → x < length net.debts → get_or start x unpaid ≡ ending (traces x)
   start_at x lt = ap (λ (ps : List Payment). get_or ps x unpaid) h.start_is ∙ tabled_at (length net.debts) (λ y. last_payment y past) x unpaid lt
 
+  -- there is a payment for each debt
   pub start_over : length start ≡ length net.debts
   start_over = ap length h.start_is ∙ length-tabled (length net.debts) (λ y. last_payment y past)
 
@@ -108,9 +116,11 @@ module _ (net : Net) (start : List Payment) (past : List Raise) (h : Belongs net
   pub at_first : (f : Payment → ℕ) (x : ℕ) → x < length net.debts → slice_index (map f start) x ≡ f (ending (traces x))
   at_first f x lt = get_or-map f start x unpaid 0 (omega (arith, lt, start_over)) ∙ ap f (start_at x lt)
 
+  -- a list made of the payments has a place for each debt
   pub over_first : (f : Payment → ℕ) → length (map f start) ≡ length net.debts
   over_first f = length-map start f ∙ start_over
 
+  -- no last raise is above the least clearing payment
   past_most : (x : ℕ) → x < length net.debts → (ending (traces x)).value ≤ slice_index (least net) x
   past_most x lt = ending_each (λ p. p.value ≤ slice_index (least net) x) unpaid (traces x) zero-le (λ k d l.
       let o = in_raises_of x past k d l in
@@ -118,6 +128,7 @@ module _ (net : Net) (start : List Payment) (past : List Raise) (h : Belongs net
       (λ k d l. traced_le_least net past h.traced k _ (slice_get-get_or past k d l)) o.0 in
       omega (arith, below, ap (slice_index (least net)) o.1))
 
+  -- each raise is within what its debtor's rule gives from raises of smaller stamp
   past_within : (x : ℕ) → x < length net.debts → All (λ r. r.to ≤ part net x (paid_to net traces r.stamp x)) (traces x)
   past_within x lt k d l =
       let r = get_or (traces x) k d in
@@ -132,11 +143,13 @@ module _ (net : Net) (start : List Payment) (past : List Raise) (h : Belongs net
   pub values_paid : map (λ p. p.value) start ≡ paid_in net traces
   values_paid = ap (map (λ p. p.value)) h.start_is ∙ map-map (λ (p : Payment). p.value) (λ (y : ℕ). last_payment y past) (debt_numbers net)
 
+  -- no last stamp is above what is paid in all
   pub start_low : (x : ℕ) → x < length net.debts → (ending (traces x)).stamp ≤ total net traces
   start_low x lt =
       let low = h.stamps_low x unpaid (omega (arith, lt, start_over)) in
       omega (arith, low, ap sum values_paid, ap (λ (p : Payment). p.stamp) (start_at x lt))
 
+  -- so the traces of a past are lawful
   pub past_lawful : AreLawfulTraces net traces
   past_lawful = record {
     rise = λ x lt. (past_rise x).0;

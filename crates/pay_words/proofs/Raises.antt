@@ -15,14 +15,15 @@ use Rattle.atomic_table.specs.Table.{Me, Allows, step}
 use Rattle.clr_net.specs.Net.{Net, debtor_of, units_owed}
 use Rattle.clear_core.specs.Clearing.{part, receipts, least}
 use Rattle.clear_core.specs.declared.event.Raise.{Raise}
-use Rattle.pay_words.specs.declared.deed.Deed.{Deed}
+use Rattle.pay_words.specs.declared.payment.TheConstants.{STAMP}
+use Rattle.pay_words.specs.declared.origin.Origin.{Origin}
 use Rattle.pay_words.specs.declared.payment.Payment.{Payment}
 use Rattle.pay_words.specs.declared.view.Shown.{Shown}
 use Rattle.pay_words.specs.declared.view.View.{View}
 use Rattle.pay_words.specs.Words.{word_of, payment_of}
-use Rattle.pay_words.specs.Views.{IsSound, holds, raised, a_raise}
+use Rattle.pay_words.specs.Views.{IsSound, MayRaise, holds, raised, a_raise}
 use Rattle.pay_words.specs.Traces.{AreLawfulTraces, ending, raises_of, total}
-use Rattle.pay_words.specs.BoardRule.{Ledger, Suits, Raises, showing}
+use Rattle.pay_words.specs.BoardRule.{BoardHistory, Suits, Raises, showing}
 use Rattle.pay_words.proofs.Tables.{after_set, set_below, changed_else, changed_each}
 use Rattle.pay_words.proofs.Traces.{pushed, stood_pushed, raises_of-push, raises_of-push_else}
 use Rattle.pay_words.proofs.Lawful.{total_le, ending_here, ending_else, ending_rises, total_rises, lawful_push, seen_before}
@@ -40,15 +41,18 @@ sound_raise s x to h within below low = assumption (
   over_raised s x to h.over,
 )
 
-module _ (past : List Raise) (k : Ledger) (roll count : ℕ) (v : View) (x to : ℕ) (lt : x < length v.shown.net.debts)
+module _ (past : List Raise) (k : BoardHistory) (roll count : ℕ) (v : View) (x to : ℕ) (lt : x < length v.shown.net.debts)
     (h : AreLawfulTraces v.shown.net k.trace) (up : (ending (k.trace x)).value < to) where
+  -- the network
   abbrev net : Net
   net = v.shown.net
 
+  -- the raise
   abbrev r : Raise
   r = a_raise (v.shown.clock + 1) x to
 
-  abbrev next : Ledger
+  -- the history with this raise
+  abbrev next : BoardHistory
   next = record k { trace = pushed k.trace x r }
 
   -- another seat's view suits still
@@ -102,21 +106,14 @@ module _ (past : List Raise) (k : Ledger) (roll count : ℕ) (v : View) (x to : 
     leads = λ e. absurd (true≢false (sym e ∙ plain));
   }
 
--- what a seat must show to raise the debt x
-pub record MayRaise (net : Net) (s : Shown) (x to : ℕ) : Type 0 where
-  pub debt : x < length net.debts
-  pub not_the_master : s.master ≡ false
-  pub debtor : holds s (debtor_of net x) ≡ true
-  pub more : slice_index s.paid x < to
-  pub within : to ≤ part net x (receipts net s.sights (debtor_of net x))
-
-pub raises : (d : Deed) (slots id : ℕ) (me : Me (Unit {0}) View) (x to word : ℕ) → me.0.shown.net ≡ d.net
-    → word ≡ (me.0.shown.clock + 1) * 4294967296 + to → me.0.live ≡ true → to < 4294967296
+-- the store of a raise that a seat may make, as the rule of the board knows it
+pub raises : (d : Origin) (slots id : ℕ) (me : Me (Unit {0}) View) (x to word : ℕ) → me.0.shown.net ≡ d.net
+    → word ≡ (me.0.shown.clock + 1) * STAMP + to → me.0.live ≡ true → to < STAMP
     → MayRaise me.0.shown.net me.0.shown x to
     → Allows (rule d) slots id me (x + 1) (λ _. word) (λ _. Raises (step slots (x + 1) word 0 none) me word)
 raises d slots id me x to word over is on fits may = allowed d slots id me (x + 1) (λ _. word)
     (λ _. Raises (step slots (x + 1) word 0 none) me word) (λ _. showing me.0 (raised me.0.shown x to)) over (λ s h at.
-    let k = h.ledger in
+    let k = h.history in
     let v = me.0 in
     let net = v.shown.net in
     let lt = may.debt in

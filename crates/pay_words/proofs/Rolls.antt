@@ -2,16 +2,17 @@
 use Rattle.std.proofs.Common.{◌≡◌, ℕ, ◌+◌, ◌<◌, ◌≤◌, length, set, true, refl, sym, ◌∙◌, arith, length-set, get_or-set_same, get_or-set_other}
 use mathlib.Core.Option.{none}
 use Rattle.atomic_table.specs.Table.{Me, Allows, keeps, step}
-use Rattle.pay_words.specs.declared.deed.Deed.{Deed}
+use Rattle.pay_words.specs.declared.origin.Origin.{Origin}
 use Rattle.pay_words.specs.declared.view.View.{View}
 use Rattle.pay_words.specs.BoardRule.{Leads, Rolls}
 use Rattle.pay_words.proofs.Views.{rule, kept_again}
 use Rattle.pay_words.proofs.Rung.{rung_same}
 
-pub rolls : (d : Deed) (slots id : ℕ) (me : Me (Unit {0}) View) (n : ℕ) → me.0.live ≡ true → me.0.shown.master ≡ true → me.0.shown.seats + 1 ≤ n
+-- the master may leave in the roll word any number above that of its seats
+pub rolls : (d : Origin) (slots id : ℕ) (me : Me (Unit {0}) View) (n : ℕ) → me.0.live ≡ true → me.0.shown.master ≡ true → me.0.shown.seats + 1 ≤ n
     → Allows (rule d) slots id me 0 (λ _. n) (λ _. Rolls (step slots 0 n 0 none) me n)
 rolls d slots id me n on chief room s h sized at small =
-    let k = h.ledger in
+    let k = h.history in
     let v = me.0 in
     let f = h.fits id v at on in
     let w : View = record v { rolled = n } in

@@ -14,12 +14,12 @@ use Rattle.atomic_table.specs.Table.{Splits}
 use Rattle.atomic_table.proofs.Lists.{at_longer, at_last}
 use Rattle.clr_net.specs.Net.{Net, debtor_of}
 use Rattle.clear_core.specs.declared.event.Raise.{Raise}
-use Rattle.pay_words.specs.declared.deed.Deed.{Deed}
+use Rattle.pay_words.specs.declared.origin.Origin.{Origin}
 use Rattle.pay_words.specs.declared.view.Shown.{Shown}
 use Rattle.pay_words.specs.declared.view.View.{View}
 use Rattle.pay_words.specs.Views.{IsSound, HoldsAllOf, holds, is_of_worker, handed, without}
 use Rattle.pay_words.specs.Traces.{raises_of}
-use Rattle.pay_words.specs.BoardRule.{Ledger, Leads, Suits, Sits, Tower, HasBells, taken_of, made_of, own_raises, rest_of, part_of}
+use Rattle.pay_words.specs.BoardRule.{BoardHistory, Leads, Suits, Sits, BellLedger, HasBells, taken_of, made_of, own_raises, rest_of, part_of}
 use Rattle.pay_words.proofs.Marks.{marked_if, marked}
 use Rattle.pay_words.proofs.Views.{rule, sits_set}
 use Rattle.pay_words.proofs.Bells.{sum_views}
@@ -28,15 +28,19 @@ use Rattle.std.proofs.lemmas.List.Elements.{All-nil}
 use Rattle.pay_words.specs.Ends.{AreAfter}
 
 module _ (workers i : ℕ) (s : Shown) where
+  -- whether a bank is handed out
   abbrev pub goes : ℕ → Bool
   goes b = holds (handed workers i s) b
 
+  -- a bank that goes is one of the worker
   pub goes_if : (b : ℕ) → goes b ≡ true → (b < length s.net.banks) × (is_of_worker workers i b ≡ true)
   goes_if b e = marked_if (length s.net.banks) (is_of_worker workers i) b e
 
+  -- it was held by the master
   pub goes_from : HoldsAllOf workers i s → (b : ℕ) → goes b ≡ true → holds s b ≡ true
   goes_from all b e = let g = goes_if b e in all b g.0 g.1
 
+  -- a bank that stays was held, and does not go
   pub stays_if : (b : ℕ) → holds (without workers i s) b ≡ true → (holds s b ≡ true) × (goes b ≡ false)
   stays_if b e = grind (
     arith,
@@ -45,6 +49,7 @@ module _ (workers i : ℕ) (s : Shown) where
     tabled_at (length s.net.banks) (is_of_worker workers i) b false,
   )
 
+  -- and the other way round
   pub stays : (b : ℕ) → b < length s.net.banks → holds s b ≡ true → goes b ≡ false → holds (without workers i s) b ≡ true
   stays b lt h e = marked (length s.net.banks) (λ c. holds s c && not (is_of_worker workers i c)) b lt
       (grind (arith, h, e, tabled_at (length s.net.banks) (is_of_worker workers i) b false lt))
@@ -52,16 +57,19 @@ module _ (workers i : ℕ) (s : Shown) where
 -- a seat that shows what v shows, of some of its banks
 module _ (v : View) (m : Bool) (banks : List Bool) (raises : List Raise) (seats taken : ℕ) (acts : List Act)
     (its_own : (b : ℕ) → is_marked banks b ≡ true → holds v.shown b ≡ true) where
+  -- what such a seat shows
   abbrev fewer : View
   fewer = showing v (record v.shown { master = m; banks = banks; raises = raises; seats = seats; taken = taken; acts = acts })
 
+  -- what a seat shows is sound with fewer banks
   pub sound_fewer : length banks ≡ length v.shown.net.banks → IsSound v.shown → IsSound fewer.shown
   sound_fewer size h =
       let within = λ (x : ℕ) (lt : x < length v.shown.net.debts)
       (e : is_marked banks (debtor_of v.shown.net x) ≡ true). h.pays_within x lt (its_own _ e) in
       assumption (size, within, h)
 
-  fewer_suits : (d : Deed) (k : Ledger) (owner : ℕ → ℕ) (roll count now id j : ℕ) → v.shown.master ≡ true
+  -- and its view suits the rule, where each bank that it keeps is its own
+  fewer_suits : (d : Origin) (k : BoardHistory) (owner : ℕ → ℕ) (roll count now id j : ℕ) → v.shown.master ≡ true
       → length banks ≡ length v.shown.net.banks → Suits d k roll count id v
       → ((b : ℕ) → is_marked banks b ≡ true → owner b ≡ j) → own_raises m raises ≡ [] → AreAfter d.past raises
       → Leads d (record k { owner = owner }) roll now j fewer → Suits d (record k { owner = owner }) roll now j fewer
@@ -76,7 +84,8 @@ module _ (v : View) (m : Bool) (banks : List Bool) (raises : List Raise) (seats 
       (own_raises m raises) = rw none (All-nil _) in
       assumption (mine, pays, told, stamps, only, late, leads, sound_fewer size f.sound, f)
 
-  fewer_has : (d : Deed) (w : Tower) → HasBells d w v → HasBells d w fewer
+  -- it has what the ledger knows of the bells of these banks
+  fewer_has : (d : Origin) (w : BellLedger) → HasBells d w v → HasBells d w fewer
   fewer_has d w g = record {
     seen = λ x lt e. g.seen x lt (its_own _ e);
     pend = λ x lt e. g.pend x lt (its_own _ e);
@@ -85,8 +94,8 @@ module _ (v : View) (m : Bool) (banks : List Bool) (raises : List Raise) (seats 
     fresh = λ b lt e. g.fresh b lt (its_own b e);
   }
 
--- another seat suits a ledger in which its banks have the owners that they had, however many seats there are
-other_owner : (d : Deed) (k : Ledger) (roll count : ℕ) (owner : ℕ → ℕ) (id j : ℕ) (v u : View)
+-- another seat suits a history in which its banks have the owners that they had, however many seats there are
+other_owner : (d : Origin) (k : BoardHistory) (roll count : ℕ) (owner : ℕ → ℕ) (id j : ℕ) (v u : View)
     → Suits d k roll count id v → v.shown.master ≡ true → j ≢ id → Suits d k roll count j u
     → ((b : ℕ) → holds u.shown b ≡ true → owner b ≡ k.owner b) → Suits d (record k { owner = owner }) roll (count + 1) j u
 other_owner d k roll count owner id j v u f chief apart g same =
@@ -94,6 +103,7 @@ other_owner d k roll count owner id j v u f chief apart g same =
     let leads : Leads d (record k { owner = owner }) roll (count + 1) j u = λ e. absurd (apart ((g.leads e).0 ∙ sym (f.leads chief).0)) in
     assumption (mine, leads, g)
 
+-- a view that sits in a list of views sits in a longer one
 sits_longer : (l m : List View) (j : ℕ) (P : View → Type 0) → Sits l j P → Sits (l ++ m) j P
 sits_longer l m j P t = (t.0, at_longer l m j t.0 t.1, t.2, t.3)
 
@@ -104,9 +114,10 @@ pub record MayHand (workers i : ℕ) (v : View) : Type 0 where
   pub all : HoldsAllOf workers i v.shown
   pub room : v.shown.seats + 2 ≤ v.rolled
 
-pub splits : (d : Deed) (id : ℕ) (v : View) (workers i : ℕ) → MayHand workers i v → Splits (rule d) id v (rest_of workers i v) (part_of workers i v)
+-- a master may hand out the banks of a worker: the rule of the board holds after it
+pub splits : (d : Origin) (id : ℕ) (v : View) (workers i : ℕ) → MayHand workers i v → Splits (rule d) id v (rest_of workers i v) (part_of workers i v)
 splits d id v workers i may s h at =
-    let k = h.ledger in
+    let k = h.history in
     let f = h.fits id v at may.live in
     let l = f.leads may.chief in
     let count : ℕ = length s.views in
@@ -118,9 +129,9 @@ splits d id v workers i may s h at =
     let stay : (b : ℕ) → holds left.shown b ≡ true → (holds v.shown b ≡ true) × (goes b ≡ false) = stays_if workers i v.shown in
     let owner : ℕ → ℕ = λ b. if goes b then count else k.owner b in
     let fits : ℕ → View → Type 0 = λ j u. Suits d (record k { owner = owner }) (slice_index s.words 0) (count + 1) j u in
-    let bells : ℕ → View → Type 0 = λ _. HasBells d h.rung.tower in
+    let bells : ℕ → View → Type 0 = λ _. HasBells d h.rung.ledger in
     record {
-      ledger = record k { owner = owner };
+      history = record k { owner = owner };
       network = h.network;
       size = h.size;
       stands = h.stands;
@@ -142,7 +153,7 @@ splits d id v workers i may s h at =
           (rw (length-set s.views id left) (fewer_suits v _ _ _ _ _ _ its d k owner _ _ _ id count may.chief (length-tabled _ _) f
           (λ b e. cond-true (goes b) count (k.owner b) e) refl (All-nil _) (λ e. absurd (true≢false (sym e))))));
       rung = record {
-        tower = h.rung.tower;
+        ledger = h.rung.ledger;
         bells = h.rung.bells;
         answered = h.rung.answered;
         lifted = h.rung.lifted;

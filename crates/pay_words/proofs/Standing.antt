@@ -5,22 +5,23 @@ use mathlib.Core.List.{map-map}
 use Rattle.clr_net.specs.Amounts.{IsAtMost}
 use Rattle.clr_net.specs.Net.{debt_numbers}
 use Rattle.clear_core.specs.Clearing.{least}
-use Rattle.pay_words.specs.declared.deed.Deed.{Deed}
+use Rattle.pay_words.specs.declared.origin.Origin.{Origin}
 use Rattle.pay_words.specs.declared.payment.Payment.{Payment}
 use Rattle.pay_words.specs.declared.view.View.{View}
 use Rattle.pay_words.specs.Ends.{values}
 use Rattle.pay_words.specs.BoardRule.{MeetsRule}
 use Rattle.pay_words.specs.Standing.{StaysBelowLeast, KeepsStampsLow, payments_in}
 use Rattle.pay_words.specs.Traces.{Traces, ending, paid_in}
-use Rattle.pay_words.specs.Views.{Panel}
+use Rattle.pay_words.specs.Views.{BoardView}
 use Rattle.pay_words.specs.Words.{payment_of, unpaid}
 use Rattle.pay_words.proofs.Tables.{tabled_at, tabled_agree, length-tabled}
 use Rattle.pay_words.proofs.Traces.{read_back}
 use Rattle.pay_words.proofs.Lawful.{value_fits, paid_in_below}
 
-module _ (d : Deed) (words : List ℕ) (views : List View) (h : MeetsRule d words views) where
+module _ (d : Origin) (words : List ℕ) (views : List View) (h : MeetsRule d words views) where
+  -- the raises of each debt
   abbrev trace : Traces
-  trace = h.ledger.trace
+  trace = h.history.trace
 
   -- the word of a debt holds what the debt's last raise left
   pub stands : (x : ℕ) → x < length d.net.debts → payment_of (slice_index words (x + 1)) ≡ ending (trace x)
@@ -49,9 +50,9 @@ module _ (d : Deed) (words : List ℕ) (views : List View) (h : MeetsRule d word
       )
 
 -- at no moment is a payment word above the least clearing payments
-pub stays_below_least : (board : Panel) → StaysBelowLeast board
+pub stays_below_least : (board : BoardView) → StaysBelowLeast board
 stays_below_least board words may = below (record { net = board.net; past = board.past }) words may.0 may.1
 
 -- nor a stamp above what is paid in all
-pub keeps_stamps_low : (board : Panel) → KeepsStampsLow board
+pub keeps_stamps_low : (board : BoardView) → KeepsStampsLow board
 keeps_stamps_low board words may = low (record { net = board.net; past = board.past }) words may.0 may.1

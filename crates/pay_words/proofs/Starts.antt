@@ -18,6 +18,7 @@ use Rattle.pay_words.proofs.Traces.{left_by, ending_push, raises_of-push, raises
 start_at : (net : Net) (rs : List Raise) (x : ℕ) → x < length net.debts → Rattle.std.proofs.Common.get_or (start_of net rs) x unpaid ≡ last_payment x rs
 start_at net rs x lt = tabled_at (length net.debts) (λ y. last_payment y rs) x unpaid lt
 
+-- raises leave a payment on each debt
 start_over : (net : Net) (rs : List Raise) → length (start_of net rs) ≡ length net.debts
 start_over net rs = length-tabled (length net.debts) (λ y. last_payment y rs)
 

@@ -11,12 +11,15 @@ use Rattle.clr_net.proofs.Lists.{sum-le, sum_raised}
 use Rattle.pay_words.specs.Views.{tabled}
 use Rattle.std.proofs.lemmas.Bool.{cond-true, cond-false, ne_eqb}
 
+-- a table of f has what f gives in each place
 pub tabled_at : {A : Type 0} (n : ℕ) (f : ℕ → A) (x : ℕ) (d : A) → x < n → get_or (tabled n f) x d ≡ f x
 tabled_at n f x d lt = get_or-map-range_with_len f 0 n x x d lt (omega arith)
 
+-- and n places
 pub length-tabled : {A : Type 0} (n : ℕ) (f : ℕ → A) → length (tabled n f) ≡ n
 length-tabled n f = length-map-range_with_len f 0 n
 
+-- functions that agree below n have the same table
 pub tabled_agree : {A : Type 0} (d : A) (n : ℕ) (f g : ℕ → A) → ((x : ℕ) → x < n → f x ≡ g x) → tabled n f ≡ tabled n g
 tabled_agree d n f g h = ext_get_or d (tabled n f) (tabled n g) (length-tabled n f ∙ sym (length-tabled n g))
     (λ x lt. let l : x < n = omega (arith, lt, length-tabled n f) in tabled_at n f x d l ∙ h x l ∙ sym (tabled_at n g x d l))
@@ -50,9 +53,11 @@ after_set F P x n here other y = dite (dec_lt x (length P))
 abbrev pub changed : {A : Type 0} → ℕ → A → (ℕ → A) → ℕ → A
 changed x a f y = if y == x then a else f y
 
+-- a changed function gives the new value at its place
 pub changed_here : {A : Type 0} (x : ℕ) (a : A) (f : ℕ → A) (y : ℕ) → y ≡ x → changed x a f y ≡ a
 changed_here x a f y e = cond-true (y == x) a (f y) (eq-eqb y x e)
 
+-- and at any other what it gave
 pub changed_else : {A : Type 0} (x : ℕ) (a : A) (f : ℕ → A) (y : ℕ) → y ≢ x → changed x a f y ≡ f y
 changed_else x a f y ne = cond-false (y == x) a (f y) (ne_eqb y x ne)
 
@@ -61,9 +66,11 @@ pub changed_each : {A : Type 0} (F : ℕ → A → Type 0) (x : ℕ) (a : A) (f 
     → (y : ℕ) → F y (changed x a f y)
 changed_each F x a f here other y = cond_both (y == x) a (f y) (F y) (λ e. rw (eqb-true y x e) here) (λ e. other y (eqb-false y x e))
 
+-- a list with a place raised is no less than the list
 pub set_above : (P : List ℕ) (x n : ℕ) → slice_index P x ≤ n → IsAtMost P (set P x n)
 set_above P x n h = after_set (λ y m. slice_index P y ≤ m) P x n h (λ y. le_refl _)
 
+-- a list with a place set within a bound stays within it
 pub set_below : (P Q : List ℕ) (x n : ℕ) → IsAtMost P Q → n ≤ slice_index Q x → IsAtMost (set P x n) Q
 set_below P Q x n h le = after_set (λ y m. m ≤ slice_index Q y) P x n le h
 

@@ -9,7 +9,7 @@ use Rattle.clr_net.specs.Limits.{IsNetwork}
 use Rattle.clr_net.specs.Net.{Net, empty_net, debtor_of, creditor_of}
 use Rattle.clear_core.specs.Clearing.{least}
 use Rattle.clear_core.specs.declared.event.Raise.{Raise}
-use Rattle.pay_words.specs.declared.deed.Deed.{Deed}
+use Rattle.pay_words.specs.declared.origin.Origin.{Origin}
 use Rattle.pay_words.specs.declared.payment.Payment.{Payment}
 use Rattle.pay_words.specs.declared.view.Shown.{Shown}
 use Rattle.pay_words.specs.declared.view.View.{View}
@@ -22,7 +22,7 @@ use Rattle.pay_words.specs.Views.{handed, without, rejoined}
 
 -- what no single seat knows: which seat holds each bank, which one is the master, the raises of the
 -- past and of the master, and those of each debt
-pub record Ledger : Type 0 where
+pub record BoardHistory : Type 0 where
   pub owner : ℕ → ℕ
   pub chief : ℕ
   pub base : List Raise
@@ -34,13 +34,13 @@ own_raises true rs = []
 own_raises false rs = rs
 
 -- the master alone hands out seats, and the number of each is below the roll word
-abbrev pub Leads : Deed → Ledger → ℕ → ℕ → ℕ → View → Type 0
+abbrev pub Leads : Origin → BoardHistory → ℕ → ℕ → ℕ → View → Type 0
 Leads d k roll count id v = v.shown.master ≡ true → (id ≡ k.chief)
     × (k.base ≡ d.past ++ v.shown.raises) × (v.rolled ≡ roll) × (count ≤ v.shown.seats + 1)
     × (v.shown.seats + 1 ≤ v.rolled)
 
 -- what the rule says of the view of the live seat `id`, one of `count`
-pub record Suits (d : Deed) (k : Ledger) (roll count id : ℕ) (v : View) : Type 0 where
+pub record Suits (d : Origin) (k : BoardHistory) (roll count id : ℕ) (v : View) : Type 0 where
   pub net_is : v.shown.net ≡ d.net
   pub sound : IsSound v.shown
   -- each bank that it holds is its own
@@ -76,7 +76,7 @@ Sits views id what = (v : View) × (get_elem? views id ≡ some v) × (v.live �
 -- what no single seat knows of the bells: of each debt what its creditor last saw, whether it is
 -- pending there, whether it owes a ring and the greatest floor of any seat, and of each bank
 -- whether its bell was never taken
-pub record Tower : Type 0 where
+pub record BellLedger : Type 0 where
   pub seen : ℕ → ℕ
   pub pend : ℕ → Bool
   pub owed : ℕ → Bool
@@ -84,7 +84,7 @@ pub record Tower : Type 0 where
   pub fresh : ℕ → Bool
 
 -- what the view of a live seat has of that
-pub record HasBells (d : Deed) (w : Tower) (v : View) : Type 0 where
+pub record HasBells (d : Origin) (w : BellLedger) (v : View) : Type 0 where
   pub seen : (x : ℕ) → x < length d.net.debts → holds v.shown (creditor_of d.net x) ≡ true
       → slice_index v.shown.sights x ≡ w.seen x
   pub pend : (x : ℕ) → x < length d.net.debts → holds v.shown (creditor_of d.net x) ≡ true
@@ -101,7 +101,7 @@ bell net words b = slice_index words (length net.debts + 1 + b)
 
 -- the creditor of the debt x is called to look at it: its bell is up, or it took the bell and has
 -- not looked since
-abbrev pub IsCalled : Net → List ℕ → Tower → ℕ → Type 0
+abbrev pub IsCalled : Net → List ℕ → BellLedger → ℕ → Type 0
 IsCalled net words w x = (bell net words (creditor_of net x) ≡ 1) ⊎ (w.pend x ≡ true)
 
 -- how many of n numbers are marked
@@ -119,48 +119,48 @@ abbrev pub made_of : View → ℕ
 made_of v = if v.live then length v.shown.raises else 0
 
 -- the rule of the bells
-pub record IsRung (d : Deed) (t : Traces) (words : List ℕ) (views : List View) : Type 0 where
-  pub tower : Tower
+pub record IsRung (d : Origin) (t : Traces) (words : List ℕ) (views : List View) : Type 0 where
+  pub ledger : BellLedger
   pub bells : (b : ℕ) → b < length d.net.banks → bell d.net words b ≤ 1
   -- what is paid on a debt is what its creditor last saw, or the creditor is called, or the debt
   -- owes it a ring
   pub answered : (x : ℕ) → x < length d.net.debts
-      → (tower.seen x ≡ (ending (t x)).value)
-      ⊎ (IsCalled d.net words tower x ⊎ (tower.owed x ≡ true))
+      → (ledger.seen x ≡ (ending (t x)).value)
+      ⊎ (IsCalled d.net words ledger x ⊎ (ledger.owed x ≡ true))
   -- the creditor has seen at least every floor, or it is called; no floor is above what is paid
   pub lifted : (x : ℕ) → x < length d.net.debts
-      → (tower.level x ≤ tower.seen x) ⊎ IsCalled d.net words tower x
-  pub levels : (x : ℕ) → x < length d.net.debts → tower.level x ≤ (ending (t x)).value
+      → (ledger.level x ≤ ledger.seen x) ⊎ IsCalled d.net words ledger x
+  pub levels : (x : ℕ) → x < length d.net.debts → ledger.level x ≤ (ending (t x)).value
   -- a bell that was never taken is up, and no debt to its bank is pending
-  pub fresh : (b : ℕ) → b < length d.net.banks → tower.fresh b ≡ true
+  pub fresh : (b : ℕ) → b < length d.net.banks → ledger.fresh b ≡ true
       → (bell d.net words b ≡ 1)
-      × ((x : ℕ) → x < length d.net.debts → creditor_of d.net x ≡ b → tower.pend x ≡ false)
+      × ((x : ℕ) → x < length d.net.debts → creditor_of d.net x ≡ b → ledger.pend x ≡ false)
   -- bells that were taken, are up or are owed are no more than banks and raises
-  pub few : sum_by taken_of views + bells_up d.net words + how_many (length d.net.debts) tower.owed
+  pub few : sum_by taken_of views + bells_up d.net words + how_many (length d.net.debts) ledger.owed
       ≤ length d.net.banks + sum_by made_of views
-  pub has : (id : ℕ) (v : View) → get_elem? views id ≡ some v → v.live ≡ true → HasBells d tower v
+  pub has : (id : ℕ) (v : View) → get_elem? views id ≡ some v → v.live ≡ true → HasBells d ledger v
 
-pub record MeetsRule (d : Deed) (words : List ℕ) (views : List View) : Type 0 where
-  pub ledger : Ledger
+pub record MeetsRule (d : Origin) (words : List ℕ) (views : List View) : Type 0 where
+  pub history : BoardHistory
   pub network : IsNetwork d.net
   pub size : length words ≡ 1 + length d.net.debts + length d.net.banks
   -- each payment word is that of the debt's last raise, and all raises are lawful
   pub stands : (x : ℕ) → x < length d.net.debts
-      → slice_index words (x + 1) ≡ word_of (ending (ledger.trace x))
-  pub lawful : AreLawfulTraces d.net ledger.trace
-  pub known : All (λ r. r.debt.0 < length d.net.debts) ledger.base
+      → slice_index words (x + 1) ≡ word_of (ending (history.trace x))
+  pub lawful : AreLawfulTraces d.net history.trace
+  pub known : All (λ r. r.debt.0 < length d.net.debts) history.base
   -- each bank is held by the one seat that owns it, and there is a master
   pub held : (b : ℕ) → b < length d.net.banks
-      → Sits views (ledger.owner b) (λ v. holds v.shown b ≡ true)
-  pub led : Sits views ledger.chief (λ v. v.shown.master ≡ true)
+      → Sits views (history.owner b) (λ v. holds v.shown b ≡ true)
+  pub led : Sits views history.chief (λ v. v.shown.master ≡ true)
   pub fits : (id : ℕ) (v : View) → get_elem? views id ≡ some v → v.live ≡ true
-      → Suits d ledger (slice_index words 0) (length views) id v
+      → Suits d history (slice_index words 0) (length views) id v
   -- and the bells are kept
-  pub rung : IsRung d ledger.trace words views
+  pub rung : IsRung d history.trace words views
 
 -- the first seat is the master. What it shows of each debt is the payment of the debt's last raise
 -- in the past
-abbrev pub opening_view : Deed → View
+abbrev pub opening_view : Origin → View
 opening_view d = record { live = true; rolled = 1; shown = opening d.net (start_of d.net d.past) }
 
 -- a view that shows something else

@@ -8,15 +8,15 @@ use Rattle.pay_words.specs.Views.{IsSound, is_marked, is_of_worker}
 
 -- What a seat has in memory of the values that are paid: the seat of a worker a list of its own,
 -- and the master a list for each worker, and the debtor of each debt
-pub record Purse : Type 0 where
+pub record SeatMemory : Type 0 where
   pub own : List ℕ
   pub lists : List (List ℕ)
   pub debtors : List ℕ
   pub workers : ℕ
   pub worker : ℕ
 
-abbrev pub purse : List ℕ → List (List ℕ) → List ℕ → ℕ → ℕ → Purse
-purse own lists debtors workers worker = record {
+abbrev pub seat_memory : List ℕ → List (List ℕ) → List ℕ → ℕ → ℕ → SeatMemory
+seat_memory own lists debtors workers worker = record {
   own = own;
   lists = lists;
   debtors
@@ -26,7 +26,7 @@ purse own lists debtors workers worker = record {
 }
 
 -- the master's list for the worker of the bank b
-abbrev pub list_for : Purse → ℕ → List ℕ
+abbrev pub list_for : SeatMemory → ℕ → List ℕ
 list_for p b = slice_index_or p.lists (b % p.workers) []
 
 -- the list has what is paid on the debt x
@@ -35,7 +35,7 @@ Tells list paid x = (x < length list) × (slice_index list x ≡ slice_index pai
 
 -- The seat of a worker, which holds these banks and shows what is paid: it holds banks of its
 -- worker alone, and its own list has what they pay
-pub record HasOwn (net : Net) (banks : List Bool) (paid : List ℕ) (p : Purse) : Type 0 where
+pub record HasOwn (net : Net) (banks : List Bool) (paid : List ℕ) (p : SeatMemory) : Type 0 where
   pub no_lists : p.lists ≡ []
   pub worker : p.worker < p.workers
   pub its_banks : (b : ℕ) → b < length net.banks
@@ -44,14 +44,14 @@ pub record HasOwn (net : Net) (banks : List Bool) (paid : List ℕ) (p : Purse) 
       → Tells p.own paid x
 
 -- the master: the list of each worker has what the banks of the worker pay that it holds
-pub record HasAll (net : Net) (banks : List Bool) (paid : List ℕ) (p : Purse) : Type 0 where
+pub record HasAll (net : Net) (banks : List Bool) (paid : List ℕ) (p : SeatMemory) : Type 0 where
   pub lists : length p.lists ≡ p.workers
   pub debtors : p.debtors ≡ map (debtor_of net) (debt_numbers net)
   pub tells : (x : ℕ) → x < length net.debts → is_marked banks (debtor_of net x) ≡ true
       → Tells (list_for p (debtor_of net x)) paid x
 
 -- what a seat has in memory, beside its view
-pub record IsInMemory (v : View) (p : Purse) (clock seats : ℕ) : Type 0 where
+pub record IsInMemory (v : View) (p : SeatMemory) (clock seats : ℕ) : Type 0 where
   pub live : v.live ≡ true
   pub sound : IsSound v.shown
   pub clock_is : clock ≡ v.shown.clock

@@ -20,18 +20,18 @@ pub record Place : Type 0 where
   pub workers : ℕ
 
 -- a board: at which table, its network, and the raises that were made before it
-pub record Panel : Type 0 where
+pub record BoardView : Type 0 where
   pub table : Place
   pub net : Net
   pub past : List Raise
 
 -- a seat: at which table, and what it shows
-pub record Chair : Type 0 where
+pub record SeatView : Type 0 where
   pub table : Place
   pub shows : Shown
 
 -- the seat is one of this board
-abbrev pub IsAt : Panel → Chair → Type 0
+abbrev pub IsAt : BoardView → SeatView → Type 0
 IsAt board seat = (seat.table ≡ board.table) × (seat.shows.net ≡ board.net)
 
 -- the list of what f gives for each number below n
@@ -140,6 +140,16 @@ looked s x p = record s {
   pending = slice_set s.pending x false;
   acts = s.acts ++ look_at x p ∷ [];
 }
+
+-- the seat of a worker may raise the debt x to so much: it holds the debtor, pays less on the debt,
+-- and pays no more by it than the debtor's rule gives from its cash and from what the seat last saw,
+-- less what the debtor owes outside
+pub record MayRaise (net : Net) (s : Shown) (x to : ℕ) : Type 0 where
+  pub debt : x < length net.debts
+  pub not_the_master : s.master ≡ false
+  pub debtor : holds s (debtor_of net x) ≡ true
+  pub more : slice_index s.paid x < to
+  pub within : to ≤ part net x (receipts net s.sights (debtor_of net x))
 
 -- a raise of the debt x, stamped with the clock plus one
 abbrev pub raised : Shown → ℕ → ℕ → Shown

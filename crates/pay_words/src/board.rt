@@ -1,17 +1,19 @@
-ghost use Rattle.clear_core.specs.Clearing.{least, part, receipts};
+ghost use Rattle.clear_core.specs.Clearing.{least};
 ghost use Rattle.clear_core.specs.History.{ordered};
 ghost use Rattle.clr_net.specs.Net.{creditor_of, debtor_of};
 ghost use Rattle.pay_words.specs.Belongs.{Belongs};
 ghost use Rattle.pay_words.specs.Ends.{Ends};
 ghost use Rattle.pay_words.specs.BoardRule.{TakeTells, after_take};
+ghost use Rattle.pay_words.specs.declared.TheConstants.{MAX_SEATS};
 ghost use Rattle.pay_words.specs.Views.{HasSeenAll, HasSeenFloor, HoldsAll, HoldsAllOf, IsAt};
-ghost use Rattle.pay_words.specs.Views.{IsCalm, OwesNoRing, OwesRing, handed, holds, is_marked};
+ghost use Rattle.pay_words.specs.Views.{IsCalm, MayRaise, OwesNoRing, OwesRing, handed, holds};
+ghost use Rattle.pay_words.specs.Views.{is_marked};
 ghost use Rattle.pay_words.specs.Views.{looked, opening, raised, rejoined, rung, took, without};
 ghost use Rattle.std.specs.Prelude.{◌≡◌, ◌+◌, ◌<◌, ◌≤◌, ◌++◌, IfOk, OnErr, OnOk, if◌then◌else◌};
 ghost use Rattle.std.specs.Prelude.{false, length, slice_index, true};
 
-use crate::deed::{Deed, Founding, deed_of};
 use crate::opening::{debtors_of, greatest_stamp, opening_words};
+use crate::origin::{Founding, Origin, origin_of};
 use crate::paid::Paid;
 use crate::payment::Payment;
 use crate::record::Record;
@@ -32,7 +34,7 @@ use std::mem;
 /// place, which has its number of workers.
 #[derive(Drop)]
 pub struct Board {
-    table: Table<(), View, Seat<(), Deed>, Clearing, Global>,
+    table: Table<(), View, Seat<(), Origin>, Clearing, Global>,
     debts: usize,
     past: usize,
     workers: u32,
@@ -40,10 +42,10 @@ pub struct Board {
 
 impl Model for Board {
     ghost use Rattle.pay_words.specs.Seats.{IsLaidOut};
-    ghost use Rattle.pay_words.specs.Views.{Panel};
+    ghost use Rattle.pay_words.specs.Views.{BoardView};
     ghost use Rattle.std.specs.Prelude.{◌≡◌, length};
 
-    ghost Value = { Panel };
+    ghost Value = { BoardView };
 
     ghost view = { λ b. record {
       table = record { id = b.table.shared.table_id; workers = b.workers };
@@ -78,8 +80,8 @@ impl Board {
         Board::found::<Brand>(alloc, net, workers, start, past)
     }
 
-    // The deed of the new board is a member of a type, so that it can be chosen where the board is
-    // made.
+    // The origin of the new board is a member of a type, so that it can be chosen where the board
+    // is made.
     fn found<C: Founding>(
         alloc: Global,
         net: &Network,
@@ -89,7 +91,7 @@ impl Board {
     ) -> Result<(Board, PaySeat), Mem>
         requires workers { 1 ≤ workers }
         requires belongs { Belongs net.now start.now past.now }
-        requires deed { C.deed ≡ record { net = net.now; past = past.now } }
+        requires origin { C.origin ≡ record { net = net.now; past = past.now } }
         ensures board { IfOk result (λ r. (r.0.net ≡ net.now) × (r.0.past ≡ past.now)
             × (r.0.table.workers ≡ workers)) }
         ensures master { IfOk result (λ r. (r.1.table ≡ r.0.table)
@@ -98,8 +100,8 @@ impl Board {
         let words = opening_words(alloc, start, net.banks() as usize)?;
         let lists = Paid::of_each(alloc, start, workers)?;
         let debtors = debtors_of(alloc, net)?;
-        let deed = deed_of::<C>(alloc)?;
-        let (table, seat) = Table::of_words(alloc, words.as_slice(), &deed)?;
+        let origin = origin_of::<C>(alloc)?;
+        let (table, seat) = Table::of_words(alloc, words.as_slice(), &origin)?;
         let board = Board {
             table,
             debts: start.len(),
@@ -149,12 +151,7 @@ impl Board {
     /// and answers the stamp of the raise. Takes no memory.
     pub fn raise(&self, seat: &mut PaySeat, debt: DebtId, to: u64) -> u64
         requires seat { IsAt self.now seat.old }
-        requires not_the_master { seat.old.shows.master ≡ false }
-        requires debt { debt.0 < length self.now.net.debts }
-        requires debtor { holds seat.old.shows (debtor_of self.now.net debt.0) ≡ true }
-        requires more { slice_index seat.old.shows.paid debt.0 < to }
-        requires within { to ≤ part self.now.net debt.0
-            (receipts self.now.net seat.old.shows.sights (debtor_of self.now.net debt.0)) }
+        requires may_raise { MayRaise self.now.net seat.old.shows debt.0 to }
         ensures stamp { result ≡ seat.old.shows.clock + 1 }
         ensures table { seat.new.table ≡ seat.old.table }
         ensures raised { seat.new.shows ≡ raised seat.old.shows debt.0 to }
@@ -197,30 +194,14 @@ impl Board {
             → HoldsAll seat.old.shows → OwesNoRing seat.old.shows
             → HasSeenAll seat.old.shows bank.0 }
     {
-        if !self.glance(seat, bank) {
+        if self.read_bell(seat, bank) == 0 {
             return false;
         }
         self.lower(seat, bank) != 0
     }
 
-    /// Whether the bell of a bank of the seat is up, by one atomic load. It takes nothing: whatever
-    /// the answer, the seat shows what it showed. Takes no memory.
-    pub fn glance(&self, seat: &mut PaySeat, bank: BankId) -> bool
-        requires seat { IsAt self.now seat.old }
-        requires held { holds seat.old.shows bank.0 ≡ true }
-        ensures table { seat.new.table ≡ seat.old.table }
-        ensures same { seat.new.shows ≡ seat.old.shows }
-        ensures up_if_fresh { is_marked seat.old.shows.fresh bank.0 ≡ true → result ≡ true }
-        ensures seen_floor { result ≡ false → IsCalm seat.old.shows bank.0
-            → HasSeenFloor seat.old.shows bank.0 }
-        ensures seen_all { result ≡ false → IsCalm seat.old.shows bank.0
-            → HoldsAll seat.old.shows → OwesNoRing seat.old.shows
-            → HasSeenAll seat.old.shows bank.0 }
-    {
-        self.read_bell(seat, bank) != 0
-    }
-
-    // What stands at the bell of a bank of the seat, by one atomic load.
+    // What stands at the bell of a bank of the seat, by one atomic load. It takes nothing: whatever
+    // the answer, the seat shows what it showed.
     fn read_bell(&self, seat: &mut PaySeat, bank: BankId) -> u64
         requires seat { IsAt self.now seat.old }
         requires held { holds seat.old.shows bank.0 ≡ true }
@@ -262,7 +243,7 @@ impl Board {
         requires is_the_master { master.old.shows.master ≡ true }
         requires worker { worker < self.now.table.workers }
         requires banks { HoldsAllOf self.now.table.workers worker master.old.shows }
-        requires seats { master.old.shows.seats < 4294967295 }
+        requires seats { master.old.shows.seats < MAX_SEATS }
         ensures table { master.new.table ≡ master.old.table }
         ensures rest { OnOk result (master.new.shows
             ≡ without self.now.table.workers worker master.old.shows) }
@@ -284,7 +265,7 @@ impl Board {
         requires is_the_master { master.old.shows.master ≡ true }
         requires worker { worker < self.now.table.workers }
         requires banks { HoldsAllOf self.now.table.workers worker master.old.shows }
-        requires seats { master.old.shows.seats < 4294967295 }
+        requires seats { master.old.shows.seats < MAX_SEATS }
         requires chosen { (C.workers ≡ self.now.table.workers) × (C.worker ≡ worker) }
         ensures table { master.new.table ≡ master.old.table }
         ensures rest { OnOk result (master.new.shows

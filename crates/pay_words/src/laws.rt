@@ -9,7 +9,7 @@ ghost use Rattle.pay_words.specs.Ends.{HaveLowStamps, payments_of, values};
 ghost use Rattle.pay_words.specs.Events.{AreOfEvents, IsOfEvents};
 ghost use Rattle.pay_words.specs.Standing.{KeepsStampsLow, MayStand, StaysBelowLeast, payments_in};
 ghost use Rattle.pay_words.specs.Traces.{start_of};
-ghost use Rattle.pay_words.specs.Views.{HoldsAll, HoldsAllOf, IsOver, Panel, handed, holds};
+ghost use Rattle.pay_words.specs.Views.{BoardView, HoldsAll, HoldsAllOf, IsOver, handed, holds};
 ghost use Rattle.pay_words.specs.Views.{is_marked};
 ghost use Rattle.pay_words.specs.Views.{is_of_worker, rejoined, rung, took, without};
 ghost use Rattle.pay_words.specs.Words.{unpaid};
@@ -69,8 +69,8 @@ pub fn empty_past_belongs()
 /// the sum of what is paid: so it is between any two atomic steps, whichever seats have come back.
 #[tactic(auto, using(crate::proofs::Standing::stays_below_least, crate::proofs::Standing::keeps_stamps_low))]
 pub fn no_word_is_above_the_least()
-    ensures values { (board : Panel) → StaysBelowLeast board }
-    ensures stamps { (board : Panel) → KeepsStampsLow board }
+    ensures values { (board : BoardView) → StaysBelowLeast board }
+    ensures stamps { (board : BoardView) → KeepsStampsLow board }
 {}
 
 /// A journal that stands is that of a list of legal events of the process, from which nothing is paid
@@ -82,7 +82,7 @@ pub fn standing_journal_is_of_legal_events()
 /// At each moment between two atomic steps the payment words of a board are the state of the process
 /// after a list of legal events: whatever the seats did, and in whatever order.
 pub fn words_of_a_board_are_a_state_of_the_process()
-    ensures { (board : Panel) (words : List ℕ) → MayStand board words
+    ensures { (board : BoardView) (words : List ℕ) → MayStand board words
         → AreOfEvents board.net (values (payments_in board.net words)) }
 {}
 
@@ -206,6 +206,6 @@ pub fn taken_bell_calls()
         → is_marked (took s b).pending x ≡ (is_marked s.pending x || (creditor_of s.net x == b)) }
     ensures its_bank { (s : Shown) (b : ℕ) → b < length s.fresh
         → is_marked (took s b).fresh b ≡ false }
-    ensures others { (s : Shown) (b c : ℕ) → c ≢ b
+    ensures other_banks { (s : Shown) (b c : ℕ) → c ≢ b
         → is_marked (took s b).fresh c ≡ is_marked s.fresh c }
 {}

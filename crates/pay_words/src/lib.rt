@@ -15,25 +15,31 @@
 //!
 //! Contracts and proofs call what they see by these words:
 //!
-//! - `Place`: a table of words; `Panel`: a board; `Chair`: a seat, and what it shows (`Shown`).
+//! - `Place`: a table of words; `BoardView`: a board; `SeatView`: a seat, with what it shows
+//!   (`Shown`).
 //! - `View`: what the rule of the table knows of a seat: what it shows, and whether it lives still.
-//! - `Deed`: what a board is made for, its network and its past; a `Founding` has a deed.
+//! - `Origin`: what a board is made for, its network and its past; a `Founding` has an origin.
 //! - `Chosen`: a worker whose banks go to a new seat.
-//! - `Ledger`: what no single seat knows of banks and raises; `Tower`: the same of bells.
-//! - `Purse`: the lists of payments that a seat has in memory.
+//! - `BoardHistory`: what no single seat knows of banks and raises.
+//! - `BellLedger`: what no single seat knows of bells.
+//! - `SeatMemory`: the lists of payments that a seat has in memory.
 //! - `Sealed`: a record of a board.
 #![tactic(auto)]
 
 mod board;
-mod deed;
 pub mod laws;
 mod opening;
+mod origin;
 mod paid;
 mod payment;
 mod record;
 mod rule;
 mod seat;
 mod view;
+
+/// The most seats that a master hands out: the greatest number of 32 bits. A run hands out one to each
+/// worker in each round, which is fewer; and the number that stands in the roll word fits there.
+pub const MAX_SEATS: u64 = 4294967295;
 
 pub use board::Board;
 pub use payment::Payment;

@@ -1,7 +1,8 @@
 ghost use Rattle.pay_words.specs.Words.{payment_of, word_of};
 ghost use Rattle.std.specs.Prelude.{◌≡◌, ◌<◌, ◌^◌};
 
-// What a stamp counts for in a payment word: every value is below it.
+// What a stamp counts for in a payment word. A word has 64 bits, of which the value takes the lower
+// half: so this is two to the power of 32, and every value is below it.
 const STAMP: u64 = 4294967296;
 
 /// What has been paid on a debt so far, in units, and the stamp of the debt's last raise, or 0

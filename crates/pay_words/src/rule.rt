@@ -1,5 +1,5 @@
 //! The rule of a board, and what each of its atomic steps tells.
-use crate::deed::Deed;
+use crate::origin::Origin;
 use crate::view::View;
 use atomic_table::{Join, Play, Seat, Split, TableRule};
 use std::marker::{Brand, PhantomData};
@@ -7,12 +7,12 @@ use std::marker::{Brand, PhantomData};
 /// What holds of the words and of all seats between any two steps.
 pub struct Clearing;
 
-impl TableRule<(), View, Seat<(), Deed>> for Clearing {
+impl TableRule<(), View, Seat<(), Origin>> for Clearing {
     ghost use Rattle.pay_words.specs.BoardRule.{MeetsRule, opening_view};
 
-    ghost holds = { λ deed s. MeetsRule deed.me.0 s.words s.views };
+    ghost holds = { λ origin s. MeetsRule origin.me.0 s.words s.views };
 
-    ghost first = { λ deed. opening_view deed.me.0 };
+    ghost first = { λ origin. opening_view origin.me.0 };
 }
 
 /// A load of a payment word.

@@ -1,8 +1,9 @@
 ghost use Rattle.clear_core.specs.Clearing.{least};
 ghost use Rattle.clr_net.specs.Amounts.{IsAtMost};
 ghost use Rattle.clr_net.specs.Net.{debtor_of};
+ghost use Rattle.clr_net.specs.declared.TheConstants.{MAX_OWED};
 ghost use Rattle.pay_words.specs.Views.{IsOver, PaysWithin, holds};
-ghost use Rattle.std.specs.Prelude.{◌≡◌, ◌<◌, length, slice_index, true};
+ghost use Rattle.std.specs.Prelude.{◌≡◌, ◌<◌, ◌≤◌, length, slice_index, true};
 
 use crate::paid::Paid;
 use crate::view::View;
@@ -30,10 +31,10 @@ pub struct PaySeat {
 
 impl Model for PaySeat {
     ghost use Rattle.std.specs.Prelude.{◌≡◌, []};
-    ghost use Rattle.pay_words.specs.Seats.{IsInMemory, purse};
-    ghost use Rattle.pay_words.specs.Views.{Chair};
+    ghost use Rattle.pay_words.specs.Seats.{IsInMemory, seat_memory};
+    ghost use Rattle.pay_words.specs.Views.{SeatView};
 
-    ghost Value = { Chair };
+    ghost Value = { SeatView };
 
     ghost view = { λ s. record {
       table = record { id = s.seat.table_id; workers = s.workers };
@@ -41,13 +42,14 @@ impl Model for PaySeat {
     } };
 
     ghost invariant = { λ s. (s.seat.me.1 ≡ []) × IsInMemory s.seat.me.0
-        (purse s.own s.lists.items s.debtors.items s.workers s.worker) s.clock s.seats };
+        (seat_memory s.own s.lists.items s.debtors.items s.workers s.worker) s.clock s.seats };
 }
 
 impl PaySeat {
     /// The clock: no stamp that the seat saw or gave is greater. Takes no memory.
     pub fn clock(&self) -> u64
         ensures clock { result ≡ self.now.shows.clock }
+        ensures in_limit { result ≤ MAX_OWED }
         ensures over { IsOver self.now.shows }
         ensures pays_within { PaysWithin self.now.shows }
         ensures sights_below_least { IsAtMost self.now.shows.sights (least self.now.shows.net) }
@@ -63,10 +65,17 @@ impl PaySeat {
         requires debtor { holds self.now.shows (debtor_of self.now.shows.net debt.0) ≡ true }
         ensures { result ≡ slice_index self.now.shows.paid debt.0 }
     {
-        if self.lists.is_empty() {
-            return self.own.at(debt.0);
+        if self.is_the_master() {
+            let worker = self.debtors[debt.0 as usize] % self.workers;
+            return self.lists[worker as usize].at(debt.0);
         }
-        let worker = self.debtors[debt.0 as usize] % self.workers;
-        self.lists[worker as usize].at(debt.0)
+        self.own.at(debt.0)
+    }
+
+    // Whether it is the master, which alone has lists: one for each worker, and there is a worker.
+    fn is_the_master(&self) -> bool
+        ensures { result ≡ self.now.shows.master }
+    {
+        !self.lists.is_empty()
     }
 }

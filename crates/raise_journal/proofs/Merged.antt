@@ -18,6 +18,7 @@ turn_at (r ∷ []) h k d l = absurd (omega arith)
 turn_at (r ∷ q ∷ rs) h zero d l = h.0
 turn_at (r ∷ q ∷ rs) h (suc k) d l = turn_at (q ∷ rs) h.1 k d (omega arith)
 
+-- the raise in a place may precede the next one
 next_at : (rs : List Raise) → InTurn rs → (k : ℕ) (d : Raise) → k + 1 < length rs → may_precede (get_or rs k d) (get_or rs (k + 1) d) ≡ true
 next_at rs h k d l = rw add-one (turn_at rs h k d (omega arith))
 
@@ -28,6 +29,7 @@ turn_front [] ys h = tt
 turn_front (x ∷ []) ys h = (tt, tt)
 turn_front (x ∷ q ∷ xs) ys h = (h.0, turn_front (q ∷ xs) ys h.1)
 
+-- what follows a place is in turn too
 turn_back : (xs ys : List Raise) → InTurn (xs ++ ys) → InTurn ys
 unfolding InTurn
 turn_back [] ys h = h
@@ -58,9 +60,11 @@ grown_ordered old new rs h = ap ordered h.is ∙ ordered_moved old rs h.added h.
 pub grown_none : (old : List Raise) → HasGrownBy old old []
 grown_none old = record { added = []; is = sym (append-nil old); moved = IsPermutation-refl [] }
 
+-- a journal grows by what is added at its end
 pub grown_at_end : (old rs : List Raise) → HasGrownBy old (old ++ rs) rs
 grown_at_end old rs = record { added = rs; is = refl; moved = IsPermutation-refl rs }
 
+-- and by more and more raises
 pub grown_then : (old mid new rs more : List Raise) → HasGrownBy old mid rs → HasGrownBy mid new more → HasGrownBy old new (rs ++ more)
 grown_then old mid new rs more h g = record {
   added = h.added ++ g.added;
@@ -84,6 +88,7 @@ grown_merged old mid new rs more h g =
 turn_in_order : (rs : List Raise) → InTurn rs → AreInOrder rs
 turn_in_order rs h = sym (only_order rs rs (IsPermutation-refl rs) (next_at rs h))
 
+-- raises that are in order are in turn
 in_order_turn : (rs : List Raise) → AreInOrder rs → InTurn rs
 in_order_turn rs h = subst InTurn h (in_turn rs)
 
@@ -137,9 +142,11 @@ no_raise = record { stamp = 0; debt = record { 0 = 0 }; to = 0 }
 abbrev pub IsPlaced : List Raise → ℕ → Raise → Type 0
 IsPlaced all kept y = (k : ℕ) → kept ≡ k + 1 → may_precede (get_or all k no_raise) y ≡ true
 
+-- where none stays, any raise may be placed
 pub placed_first : (all : List Raise) (kept : ℕ) (y : Raise) → kept ≤ 0 → IsPlaced all kept y
 placed_first all kept y none k e = absurd (omega arith)
 
+-- where the last that stays may precede it, it may
 pub placed_after : (all : List Raise) (kept : ℕ) (y : Raise) → may_precede (get_or all (kept - 1) no_raise) y ≡ true → IsPlaced all kept y
 placed_after all kept y h k e = let same : kept - 1 ≡ k = omega arith in rw same at h
 
@@ -147,9 +154,11 @@ placed_after all kept y h k e = let same : kept - 1 ≡ k = omega arith in rw sa
 pub stands_before : (x y : Raise) (b : Bool) → b ≡ not (may_precede x y) → b ≡ false → may_precede x y ≡ true
 stands_before x y b e f = not-false (may_precede x y) (sym e ∙ f)
 
+-- a raise that may not stand behind another may precede it
 pub stands_behind : (x y : Raise) (b : Bool) → b ≡ not (may_precede x y) → b ≡ true → may_precede y x ≡ true
 stands_behind x y b e t = follows x y (not-true (may_precede x y) (sym e ∙ t))
 
+-- so the old raises that stay and this one are in turn
 placed_joins : (all ms : List Raise) (kept : ℕ) (y : Raise) → kept ≤ length all → IsPlaced all kept y
     → InTurn (take kept all) → InTurn (y ∷ ms) → InTurn (take kept all ++ y ∷ ms)
 placed_joins all ms zero y l p h g = g
@@ -192,6 +201,7 @@ merging_old first all rs kept left k m j h e f g t =
           (part_old (take k all) (take m rs) (drop (j + 1) all) x y t parted);
     }
 
+-- a new raise is written behind the old ones that are left
 pub merging_new : (first all rs : List Raise) (kept left m j : ℕ) → IsMerging first all rs kept left → left ≡ m + 1 → j ≡ kept + m
     → IsPlaced all kept (get_or rs m no_raise) → IsMerging first (set all j (get_or rs m no_raise)) rs kept m
 merging_new first all rs kept left m j h f g p =

@@ -17,6 +17,7 @@ use Rattle.clr_net.proofs.OfKind.{new_kind}
 kind-passes : (net : Net) (a b c k : ℕ) (d : Debt) → slice_get net.debts k ≡ Some d → IsOfKind net k a b c → is_debt_of a b c d ≡ true
 kind-passes net a b c k d at kind = grind (arith, nat_tests, at, kind)
 
+-- a debt that passes is of the kind
 pub passes-kind : (net : Net) (a b c k : ℕ) (d : Debt) → slice_get net.debts k ≡ Some d → is_debt_of a b c d ≡ true → IsOfKind net k a b c
 passes-kind net a b c k d at h = grind (arith, nat_tests, at, h)
 

@@ -37,6 +37,7 @@ closing-none : (net : Net) (fields : Fields) → is_closing fields ≡ true → 
 closing-none net (word ∷ number ∷ []) e = refl
 closing-none net _ e = cc
 
+-- read as a raise it would be a fault
 closing-fault : (by : Limits) (net : Net) (raises row : ℕ) (fields : Fields)
     → is_closing fields ≡ true
     → raise_in_row by net raises (row, fields) ≡ Err (closed_early_at by raises row)
@@ -55,6 +56,7 @@ raise-then : (r : Result Raise Fault) (f : Raise → Result (List Raise) Fault)
 raise-then (Ok x) f g h e = e x
 raise-then (Err k) f g h e = refl
 
+-- a record that does not close is read, and then the others
 pub raises-next : (by : Limits) (net : Net) (done : List Raise) (row : ℕ) (fields : Fields)
     (rest : List Fields) (next : Result (List Raise) Fault) → is_closing fields ≡ false
     → added by net done row fields ≡ next
@@ -77,6 +79,7 @@ unfolding read_raises
 raises-closed by net done row fields rest closing blank =
     rw (closing-full fields closing, closing, none_left (row + 1) rest, blank) refl
 
+-- the fault where records follow it that are not blank
 pub raises-closed_early : (by : Limits) (net : Net) (done : List Raise) (row : ℕ)
     (fields : Fields) (rest : List Fields) → is_closing fields ≡ true
     → list_all is_blank rest ≡ false
@@ -101,6 +104,7 @@ pub raises-below : (by : Limits) (net : Net) (bytes : List ℕ) (left below : Li
     → raises_in_file by net bytes ≡ read_raises by net [] (rows_from 1 below)
 raises-below by net bytes left below all e = rw (← all, e) refl
 
+-- a file within its size means what its records mean
 pub journal-sized : (by : Limits) (net : Net) (bytes : List ℕ) (r : Result (List Raise) Fault)
     → length bytes ≤ most_journal_bytes by → raises_in_file by net bytes ≡ r
     → journal_within by net bytes ≡ r

@@ -1,4 +1,4 @@
-//! Journals of raises: gathered, printed, read, and replayed on a network.
+//! Journals of raises: gathered, printed, written, read, and replayed on a network.
 //!
 //! A [`Verdict`] says whether a journal is a lawful and complete history of payments, whoever made
 //! it. What is lawful and leaves every bank quiet pays the least clearing payments.
@@ -7,15 +7,19 @@
 mod dividing;
 mod gathering;
 pub mod laws;
+mod plain;
 mod printing;
+mod putting;
 mod reading;
 mod replaying;
 mod verdict;
 
 pub use gathering::{gather, in_order, merge_in};
-pub use printing::{journal_head, print_journal, print_raises};
-pub use reading::{read_journal, read_journal_within};
-pub use replaying::{replay, replay_with};
+pub use plain::{print_journal, read_journal, replay};
+pub use printing::{journal_head, print_raises};
+pub use putting::put_raises;
+pub use reading::read_journal_within;
+pub use replaying::replay_with;
 pub use verdict::Verdict;
 
 /// The most raises that are printed into a room at once.

@@ -10,7 +10,7 @@ ghost use Rattle.net_check.specs.declared.fault.FileKind.TheVariants as file;
 ghost use Rattle.net_check.specs.declared.limits.Limits.TheVariants as limits;
 ghost use Rattle.net_csv.specs.Left.{IsReading, records_left, trimmed_left};
 ghost use Rattle.net_csv.specs.Reading.{is_blank as are_blank, rows_from, trimmed_fields};
-ghost use Rattle.raise_journal.specs.ReadJournal.{added, closed_early_at, journal_of};
+ghost use Rattle.raise_journal.specs.ReadJournal.{added, closed_early_at};
 ghost use Rattle.raise_journal.specs.ReadJournal.{journal_within, is_closing as are_closing};
 ghost use Rattle.raise_journal.specs.ReadJournal.{raise_from, raise_in_row, raises_in_file};
 ghost use Rattle.raise_journal.specs.ReadJournal.{read_raises};
@@ -31,8 +31,8 @@ use net_check::{
 use net_csv::records::{fault, field, is_blank, read_header, read_next, reader_of};
 use std::alloc::Global;
 
-/// Reads a journal of raises on the debts of a network by the standard limits: amounts in units,
-/// and each debt by the names of its banks and its class.
+/// Reads a journal of raises on the debts of a network by these limits, on the size of the file and
+/// the raises: amounts in units, and each debt by the names of its banks and its class.
 ///
 /// `Refused` names the first fault of the file, in the order of its records: a file too long, a
 /// header that is another, a record of another number of fields, a raise too many, or a field that
@@ -40,19 +40,6 @@ use std::alloc::Global;
 /// The last record that is not blank may be the word `rounds` and a number, and carries no raise
 /// then. Costs one pass over the file, and for each raise a walk of its debtor's row or of its
 /// creditor's column, whichever is shorter.
-pub fn read_journal(alloc: Global, net: &Network, bytes: &[u8]) -> Result<Journal, ReadNet>
-    ensures journal { IfOk result (λ journal. journal_of net.now bytes.now ≡ Ok journal.raises) }
-    ensures refused { (f : Fault) → IsErrOf result (ReadNet.Refused f)
-        → journal_of net.now bytes.now ≡ Err f }
-    ensures size { file_limit limits.Standard file.Journal < length bytes.now
-        → IsErrOf result (ReadNet.Refused (fault_at file.Journal 0 kind.FileSize)) }
-    ensures debts { IfOk result
-        (λ journal. All (λ r. r.debt.0 < length net.now.debts) journal.raises) }
-{
-    read_journal_within(alloc, Limits::Standard, net, bytes)
-}
-
-/// The same by these limits, on the size of the file and the raises.
 pub fn read_journal_within(
     alloc: Global,
     by: Limits,

@@ -25,9 +25,11 @@ module _ (net : Net) (i : ℕ) (network : IsNetwork net) (bank : i < length net.
   abbrev more : Net
   more = added net i 1
 
+  -- the banks of the network
   abbrev banks : List Bank
   banks = cash_at net.banks i (cash_of net i + 1)
 
+  -- the least payments without the unit
   abbrev P : List ℕ
   P = least net
 

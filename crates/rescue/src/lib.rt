@@ -11,11 +11,14 @@
 
 mod adding;
 mod banks;
+mod before;
 pub mod laws;
+mod range;
 mod saved;
 mod search;
 
 pub use adding::added;
 pub use banks::banks_in_default;
+pub use before::Before;
 pub use saved::{Saving, saving_of};
 pub use search::{Rescued, Search, rescue};

@@ -1,6 +1,7 @@
 ghost use Rattle.cascade.specs.MoreCash.{NobodyLoses};
 ghost use Rattle.cascade.specs.Standings.{is_sound, standings};
 ghost use Rattle.clear_core.specs.Clearing.{least as least_of};
+ghost use Rattle.clear_core.specs.Sums.{HaveSums};
 ghost use Rattle.clr_net.specs.Limits.{IsNetwork};
 ghost use Rattle.clr_net.specs.Net.{cash_of};
 ghost use Rattle.clr_net.specs.declared.TheConstants.{MAX_BANKS, MAX_CASH};
@@ -10,8 +11,9 @@ ghost use Rattle.rescue.specs.Searching.{IsSearchAt, IsSearchOf};
 ghost use Rattle.std.specs.Prelude.{◌≡◌, ◌&&◌, ◌+◌, ◌<◌, ◌≤◌, IfOk, count_by, length, not};
 
 use crate::banks::{BankTest, passing};
+use crate::before::Before;
 use crate::search::{Found, Search};
-use cascade::{Health, Standing, defaults};
+use cascade::{Health, Standing, defaults_by};
 use clr_net::{BankId, Mem, Network};
 use std::alloc::Global;
 
@@ -31,62 +33,52 @@ pub struct Saving {
 /// The least sum that saves a bank, as [`rescue`](crate::rescue) finds it, and how all banks
 /// stand once it is given.
 ///
-/// `least` are the least payments that clear the network as it is, a place for each debt, in file
-/// order, in units, and `before` is how each bank stands under them, in file order. `Mem` for want
-/// of memory alone, after which the search serves as before.
+/// `Mem` for want of memory alone, after which the search serves as before.
 ///
 /// Costs what [`rescue`](crate::rescue) does, but for the copy of the network, and a walk over the
 /// debts.
 pub fn saving_of(
     alloc: Global,
-    net: &Network,
     search: &mut Search,
-    least: &[u64],
-    before: &[Standing],
+    before: &Before<'_>,
     bank: BankId,
 ) -> Result<Saving, Mem>
-    requires bank { bank.0 < length net.now.banks }
-    requires search { IsSearchOf net.now search.old }
-    requires least { least.now ≡ least_of net.now }
-    requires before { before.now ≡ standings net.now (least_of net.now) }
-    ensures search { IsSearchOf net.now search.new }
-    ensures saving { IfOk result (IsSavingOf net.now bank.0) }
-    ensures nobody_loses { NobodyLoses net.now (rescued net.now bank.0) }
+    requires bank { bank.0 < length before.now.net.now.banks }
+    requires search { IsSearchOf before.now.net.now search.old }
+    ensures search { IsSearchOf before.now.net.now search.new }
+    ensures saving { IfOk result (IsSavingOf before.now.net.now bank.0) }
+    ensures nobody_loses { NobodyLoses before.now.net.now (rescued before.now.net.now bank.0) }
 {
-    prove!(bank.0 < net.banks());
-    let saving = saving_at(alloc, net, search, least, before, bank);
-    search.more.set_cash(bank, net.bank(bank).cash);
+    prove!(bank.0 < before.net.banks());
+    let saving = saving_at(alloc, search, before, bank);
+    search.more.set_cash(bank, before.net.bank(bank).cash);
     saving
 }
 
 // The same, after which the bank may still have another cash.
 fn saving_at(
     alloc: Global,
-    net: &Network,
     search: &mut Search,
-    least: &[u64],
-    before: &[Standing],
+    before: &Before<'_>,
     bank: BankId,
 ) -> Result<Saving, Mem>
-    requires network { IsNetwork net.now }
-    requires bank { bank.0 < length net.now.banks }
-    requires search { IsSearchOf net.now search.old }
-    requires least { least.now ≡ least_of net.now }
-    requires before { before.now ≡ standings net.now (least_of net.now) }
-    ensures search { IsSearchAt net.now bank.0 search.new }
-    ensures saving { IfOk result (IsSavingOf net.now bank.0) }
+    requires network { IsNetwork before.now.net.now }
+    requires bank { bank.0 < length before.now.net.now.banks }
+    requires search { IsSearchOf before.now.net.now search.old }
+    ensures search { IsSearchAt before.now.net.now bank.0 search.new }
+    ensures saving { IfOk result (IsSavingOf before.now.net.now bank.0) }
 {
-    let found = search.found(alloc, net, bank, least)?;
-    let after = standings_saved(alloc, net, search, bank, &found)?;
+    let found = search.found(alloc, before.net, bank, before.least)?;
+    let after = standings_saved(alloc, before.net, search, bank, &found)?;
     let saved = SavedWith {
-        before,
+        before: before.standings,
         after: after.as_slice(),
         bank,
     };
     Ok(Saving {
         added: found.sum.added,
         short: found.sum.short,
-        saves: passing(alloc, net, &saved)?,
+        saves: passing(alloc, before.net, &saved)?,
         still_short: in_default(after.as_slice()),
     })
 }
@@ -104,8 +96,9 @@ fn standings_saved(
     requires search { IsSearchAt net.now bank.0 search.old }
     requires added { found.now.sum.added ≡ rescue_of net.now bank.0 }
     requires fits { cash_of net.now bank.0 + found.now.sum.added ≤ MAX_CASH }
-    requires paid { found.now.paid
+    requires paid { found.now.payments.paid
         ≡ least_of (added_net net.now bank.0 found.now.sum.added) }
+    requires sums { HaveSums net.now found.now.payments }
     ensures search { IsSearchAt net.now bank.0 search.new }
     ensures all { IfOk result (λ all. all.items
         ≡ standings (rescued net.now bank.0) (least_of (rescued net.now bank.0))) }
@@ -113,7 +106,7 @@ fn standings_saved(
     search
         .more
         .set_cash(bank, net.bank(bank).cash + found.sum.added);
-    defaults(alloc, &search.more, found.paid.as_slice())
+    defaults_by(alloc, &search.more, &found.payments)
 }
 
 // Whether a bank is saved with this one, where all banks stand so before and after.

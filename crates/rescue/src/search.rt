@@ -1,15 +1,17 @@
 ghost use Rattle.cascade.specs.Standings.{due as due_of};
 ghost use Rattle.clear_core.specs.Clearing.{Clears, estate, least as least_of, receipts};
+ghost use Rattle.clear_core.specs.Sums.{HaveSums};
 ghost use Rattle.clr_net.specs.Limits.{IsNetwork};
 ghost use Rattle.clr_net.specs.Net.{cash_of};
 ghost use Rattle.clr_net.specs.declared.TheConstants.{MAX_CASH};
 ghost use Rattle.rescue.specs.Rescue.{IsRescue, added as added_net};
 ghost use Rattle.rescue.specs.Rescue.{rescue as rescue_of, short_of};
 ghost use Rattle.rescue.specs.Searching.{AreLeastWithLess, IsRangeOf, IsSearchAt, IsSearchOf};
-ghost use Rattle.std.specs.Prelude.{◌≡◌, ◌==◌, ◌+◌, ◌-◌, ◌<◌, ◌≤◌, IfOk, false, if◌then◌else◌, length, slice_index_or, true};
+ghost use Rattle.std.specs.Prelude.{◌≡◌, ◌+◌, ◌-◌, ◌<◌, ◌≤◌, IfOk, false, length, slice_index_or, true};
 
+use crate::range::{Range, if_any};
 use cascade::due;
-use clear_core::{Scratch, estate_of, receipts_of};
+use clear_core::{Payments, Scratch, estate_of, receipts_of};
 use clear_least::least_again;
 use clr_net::{Amounts, BankId, Mem, Network};
 use std::alloc::Global;
@@ -62,21 +64,7 @@ pub struct Search {
 #[derive(Drop)]
 pub(crate) struct Found {
     pub sum: Rescued,
-    pub paid: Amounts,
-}
-
-// How far a search has come: no sum below `low` saves the bank, and `high` does.
-#[derive(Drop)]
-struct Range {
-    low: u64,
-    high: u64,
-    // The least payments with one unit less than `low`, and what the bank lacks then.
-    less: Amounts,
-    short: u64,
-    // The least payments with `high`.
-    enough: Amounts,
-    // How far above `low` the next sum is, if that is not the middle.
-    reach: u64,
+    pub payments: Payments,
 }
 
 impl Search {
@@ -111,7 +99,8 @@ impl Search {
             found.sum.short ≡ short_of net.now bank.0 found.sum.added) }
         ensures lacking { IfOk result (λ found. 0 < found.sum.added → 0 < found.sum.short) }
         ensures paid { IfOk result (λ found.
-            found.paid ≡ least_of (added_net net.now bank.0 found.sum.added)) }
+            found.payments.paid ≡ least_of (added_net net.now bank.0 found.sum.added)) }
+        ensures sums { IfOk result (λ found. HaveSums net.now found.payments) }
     {
         prove!(bank.0 < net.banks());
         let mut range = self.begun(alloc, net, bank, least)?;
@@ -124,7 +113,7 @@ impl Search {
         };
         Ok(Found {
             sum,
-            paid: range.enough,
+            payments: range.enough,
         })
     }
 
@@ -145,12 +134,13 @@ impl Search {
         ensures range { IfOk result (IsRangeOf net.now bank.0) }
     {
         let high = due(net, bank).saturating_sub(net.bank(bank).cash);
-        let enough = self.paid_with(alloc, net, bank, high, least)?;
-        let receipts = received(&self.more, bank, enough.as_slice());
+        let from = Payments::of(alloc, net, Amounts::copy_of(alloc, least)?)?;
+        let enough = self.paid_with(alloc, net, bank, high, &from)?;
+        let receipts = received(&self.more, bank, enough.paid.as_slice());
         let low = high.saturating_sub(receipts);
         let one_less = low.saturating_sub(1);
-        let less = self.paid_with(alloc, net, bank, one_less, least)?;
-        let short = if_any(low, lacks(&self.more, bank, less.as_slice()));
+        let less = self.paid_with(alloc, net, bank, one_less, &from)?;
+        let short = if_any(low, lacks(&self.more, bank, less.paid.as_slice()));
         Ok(Range {
             low,
             high,
@@ -179,17 +169,17 @@ impl Search {
         ensures smaller { IfOk result (λ left. left.high + range.low < range.high + left.low) }
     {
         let mut left = range;
-        let sum = tried(left.low, left.high, left.reach);
-        let paid = self.paid_with(alloc, net, bank, sum, left.less.as_slice())?;
-        let lacking = lacks(&self.more, bank, paid.as_slice());
+        let sum = left.tried();
+        let payments = self.paid_with(alloc, net, bank, sum, &left.less)?;
+        let lacking = lacks(&self.more, bank, payments.paid.as_slice());
         if lacking == 0 {
             left.high = sum;
-            left.enough = paid;
+            left.enough = payments;
             return Ok(left);
         }
         left.reach = (sum - left.low).saturating_mul(2).saturating_add(1);
         left.low = sum + 1;
-        left.less = paid;
+        left.less = payments;
         left.short = lacking;
         Ok(left)
     }
@@ -202,28 +192,30 @@ impl Search {
         net: &Network,
         bank: BankId,
         sum: u64,
-        from: &[u64],
-    ) -> Result<Amounts, Mem>
+        from: &Payments,
+    ) -> Result<Payments, Mem>
         requires network { IsNetwork net.now }
         requires bank { bank.0 < length net.now.banks }
         requires search { IsSearchAt net.now bank.0 self.old }
         requires sum { sum ≤ due_of net.now bank.0 - cash_of net.now bank.0 }
-        requires from { AreLeastWithLess (added_net net.now bank.0 sum) bank.0 from.now }
+        requires from { AreLeastWithLess (added_net net.now bank.0 sum) bank.0 from.now.paid }
+        requires sums { HaveSums net.now from.now }
         ensures search { IsSearchAt net.now bank.0 self.new }
         ensures more { self.new.more ≡ added_net net.now bank.0 sum }
-        ensures paid { IfOk result (λ paid. paid ≡ least_of (added_net net.now bank.0 sum)) }
+        ensures paid { IfOk result (λ all. all.paid ≡ least_of (added_net net.now bank.0 sum)) }
+        ensures sums { IfOk result (HaveSums net.now) }
     {
         self.more.set_cash(bank, net.bank(bank).cash + sum);
         prove!(bank.0 < self.more.banks());
-        let mut paid = Amounts::copy_of(alloc, from)?;
+        let mut payments = from.copy(alloc)?;
         mark(self.marks.as_mut_slice(), bank);
         least_again(
             &self.more,
-            paid.as_mut_slice(),
+            &mut payments,
             self.marks.as_mut_slice(),
             &mut self.scratch,
         );
-        Ok(paid)
+        Ok(payments)
     }
 }
 
@@ -233,22 +225,6 @@ fn mark(marks: &mut [bool], bank: BankId)
     ensures { slice_index_or marks.new bank.0 false ≡ true }
 {
     marks[bank.0 as usize] = true;
-}
-
-// The sum that is tried: so much above the least that may do, and the middle at most.
-fn tried(low: u64, high: u64, reach: u64) -> u64
-    requires { low < high }
-    ensures from { low ≤ result }
-    ensures below { result < high }
-{
-    low + reach.min((high - low) / 2)
-}
-
-// Something that counts where a sum is above 0 alone.
-fn if_any(sum: u64, units: u64) -> u64
-    ensures { result ≡ (if sum == 0 then 0 else units) }
-{
-    if sum == 0 { 0 } else { units }
 }
 
 // What a bank receives under payments that clear.

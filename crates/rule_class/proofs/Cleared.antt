@@ -4,6 +4,7 @@ use Rattle.std.proofs.lemmas.Grind.{common_steps}
 use Rattle.std.proofs.lemmas.Bool.{cases_eq}
 use Rattle.rule_class.specs.Sharing.{cleared_class}
 
+-- in each place stands 0 if it is of the class, and else what stood there
 cleared_at : (c : ℕ) (had classes : List ℕ) (k : ℕ) → length had ≡ length classes → k < length classes
     → get_or (cleared_class c had classes) k 0 ≡ cond (get_or classes k 0 == c) 0 (get_or had k 0)
 cleared_at c [] classes k e l = absurd (omega arith)
@@ -19,6 +20,7 @@ pub record IsClearedTo (c : ℕ) (had classes : List ℕ) (i : ℕ) (now : List 
 
 module _ (c : ℕ) (had classes : List ℕ) (i : ℕ) (now : List ℕ) (e : length had ≡ length classes) (l : i < length classes)
     (h : IsClearedTo c had classes i now) where
+  -- a place of the class is set to 0
   pub cleared_here : get_or classes i 0 ≡ c → IsClearedTo c had classes (i + 1) (set now i 0)
   cleared_here same = record {
     as_many = grind (arith, common_steps, h.as_many);
@@ -33,6 +35,7 @@ module _ (c : ℕ) (had classes : List ℕ) (i : ℕ) (now : List ℕ) (e : leng
       zero_here : get_or (cleared_class c had classes) i 0 ≡ 0
       zero_here = cleared_at c had classes i e l ∙ ap (λ b. cond b 0 (get_or had i 0)) (eq-eqb (get_or classes i 0) c same)
 
+  -- a place of another class stays
   pub cleared_not_here : (get_or classes i 0 ≡ c → ⊥) → IsClearedTo c had classes (i + 1) now
   cleared_not_here other = record {
     as_many = h.as_many;

@@ -76,11 +76,13 @@ record IsReady (claims classes : List ℕ) (c e : ℕ) (awards : List ℕ) : Typ
   pub all_met : 0 < e → (k : ℕ) → get_or awards k 0 ≡ get_or claims k 0
 
 module _ (choice : List ℕ → List ℕ → Option ℕ) (lawful : IsUnitChoice choice) (claims classes : List ℕ) where
+  -- an estate that is enough meets each claim
   award_full : (mine : List ℕ) (e : ℕ) → sum mine ≤ e → award choice mine e ≡ mine
   award_full mine e l =
       let w : IsWithin mine (award choice mine e) = award_within choice lawful mine e in
       same_from_sum (award choice mine e) mine w.as_many w.within (omega (arith, sum_award choice lawful mine e))
 
+  -- after the turn of a class the list is ready for the next one
   ready_next : (c e : ℕ) (had now : List ℕ) → 0 < c → IsReady claims classes c e had → IsWithin claims now
       → IsClassSet c classes (award choice (class_claims c claims classes) (min (sum (class_claims c claims classes)) e)) had now
       → IsReady claims classes (c + 1) (e - min (sum (class_claims c claims classes)) e) now
@@ -100,6 +102,7 @@ module _ (choice : List ℕ → List ℕ → Option ℕ) (lawful : IsUnitChoice 
       given : ℕ
       given = min (sum mine) e
 
+  -- with the last class done the list is the shares
   in_place_done : (c n e : ℕ) (had : List ℕ) → 0 < c → ((k : ℕ) → get_or classes k 0 < c + n) → IsReady claims classes c e had
       → IsDone claims classes c had (share_by_from choice claims classes c n e) (in_place_from choice claims classes c n e had)
   unfolding share_by_from in_place_from

@@ -47,12 +47,15 @@ pub record IsFilledBelow (claims classes : List ℕ) (estate c left : ℕ) (into
 
 module _ (claims classes : List ℕ) (estate c left : ℕ) (into now : List ℕ) (small : c < 10)
     (before : IsFilledBelow claims classes estate c left into) (turn : IsClassSet c classes (fill (class_claims c claims classes) left) into now) where
+  -- the claims of the class c
   abbrev mine : List ℕ
   mine = class_claims c claims classes
 
+  -- the shares of the later classes
   abbrev later : List ℕ
   later = share_by_from (next_of kind.Order) claims classes (c + 1) (10 - (c + 1)) (left - sum mine)
 
+  -- in a place of this class or a later one the share is that of its class
   share_at : (k : ℕ) → c ≤ get_or classes k 0
       → get_or (share kind.Order claims classes estate) k 0 ≡ get_or (fill mine left) k 0 + get_or later k 0
   share_at k l =
@@ -77,6 +80,7 @@ module _ (claims classes : List ℕ) (estate c left : ℕ) (into now : List ℕ)
     rest = λ k l. omega (arith, share_at k (omega arith), get_or-fill mine left k, class_claims_other c claims classes k (omega arith));
   }
 
+-- with the last class filled the list is the division by order
 pub filled_all : (claims classes : List ℕ) (estate c left : ℕ) (into : List ℕ) → AreUpTo c classes
     → IsFilledBelow claims classes estate (c + 1) left into → into ≡ share kind.Order claims classes estate
 filled_all claims classes estate c left into upto filled =
@@ -91,12 +95,15 @@ pub record IsFilling (c : ℕ) (claims classes : List ℕ) (e : ℕ) (had : List
 
 module _ (c : ℕ) (claims classes : List ℕ) (e : ℕ) (had : List ℕ) (i left : ℕ) (now : List ℕ) (in_range : i < length claims)
     (as_many : length had ≡ length claims) (h : IsFilling c claims classes e had i left now) where
+  -- the claims of the class c
   abbrev own : List ℕ
   own = class_claims c claims classes
 
+  -- the place i takes its claim more
   taken_more : sum (take (i + 1) own) ≡ sum (take i own) + get_or own i 0
   taken_more = sum_by_more (λ n. n) own i 0 (omega (arith, length-class_claims c claims classes))
 
+  -- a debt of the class takes what is left, up to its claim
   pub filling_takes : (award : ℕ) → 0 < c → get_or classes i 0 ≡ c → award ≡ min left (get_or claims i 0)
       → IsFilling c claims classes e had (i + 1) (left - award) (set now i award)
   filling_takes award positive same a =
@@ -107,6 +114,7 @@ module _ (c : ℕ) (claims classes : List ℕ) (e : ℕ) (had : List ℕ) (i lef
             (omega (arith, a, claim, h.left_is, get_or-fill own e i));
       }
 
+  -- a debt of another class takes nothing
   pub filling_skips : get_or classes i 0 ≢ c → IsFilling c claims classes e had (i + 1) left now
   filling_skips other = record {
     left_is = omega (arith, h.left_is, taken_more, class_claims_other c claims classes i other);

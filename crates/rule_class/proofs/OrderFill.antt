@@ -10,6 +10,7 @@ use Rattle.clr_net.proofs.LeftOut.{next_of_part}
 use Rattle.rule_unit.specs.Units.{one_more, awards_after}
 use Rattle.rule_class.specs.ByOrder.{fill}
 
+-- nothing fills up no debt
 fill_nothing : (claims : List ℕ) → fill claims 0 ≡ replicate (length claims) 0
 fill_nothing [] = refl
 fill_nothing (c ∷ claims) =
@@ -43,6 +44,7 @@ next_after claims awards c = next_of_part kind.Order (λ j. suc j) (c ∷ claims
     other zero l u = absurd (true≢false (sym u ∙ le-ltb c c (omega arith)))
     other (suc j) l u = (j, omega arith, u, refl)
 
+-- a unit to a later debt leaves the first
 more_after : (r : Option ℕ) (c : ℕ) (awards : List ℕ) → one_more (option_map (λ j. suc j) r) (c ∷ awards) ≡ c ∷ one_more r awards
 more_after None c awards = refl
 more_after (Some j) c awards = refl
@@ -76,6 +78,7 @@ award_fills claims zero = sym (fill_nothing claims)
 award_fills claims (suc e) =
     ap (λ awards. one_more (next_of kind.Order claims awards) awards) (award_fills claims e) ∙ fill_more claims e
 
+-- there is an amount for each claim
 pub length-fill : (claims : List ℕ) (e : ℕ) → length (fill claims e) ≡ length claims
 length-fill [] e = refl
 length-fill (c ∷ claims) e = ap suc (length-fill claims (e - c))

@@ -27,9 +27,11 @@ cleared_within c claims awards classes p w = record {
 }
 
 module _ (choice : List ℕ → List ℕ → Option ℕ) (lawful : IsUnitChoice choice) (claims classes : List ℕ) (c : ℕ) (positive : 0 < c) where
+  -- the claims of the class
   abbrev mine : List ℕ
   mine = class_claims c claims classes
 
+  -- with its places at 0 none of its units is given yet
   turn_starts : (had : List ℕ) → IsClassSet c classes (award choice mine 0) had (cleared_class c had classes)
   unfolding awards_after
   turn_starts had = record {
@@ -53,6 +55,7 @@ module _ (choice : List ℕ → List ℕ → Option ℕ) (lawful : IsUnitChoice 
         (cases_eq (get_or classes k 0) c);
   }
 
+  -- the next unit goes to the place that is next for the class
   turn_goes_on : (had own now : List ℕ) (r : Option ℕ) → length had ≡ length claims → choice mine own ≡ r → IsWithin mine own
       → IsClassSet c classes own had now → IsClassSet c classes (one_more r own) had (one_more r now)
   turn_goes_on had own now None l e w t = t

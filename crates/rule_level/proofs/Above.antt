@@ -45,12 +45,15 @@ given_before_left rule t c a d b some e all l =
     (ap (λ x. goes_before rule c (x - 1) d (at_level rule t d)) e ∙ last_before_next rule t c d (omega (arith, e)) (omega arith))
 
 module _ (rule : RuleKind) (t m : ℕ) (claims : List ℕ) (limit : (k : ℕ) → get_or claims k 0 ≤ MAX_CLAIM) where
+  -- the awards at the level, with m units of the next
   abbrev above : List ℕ
   above = awards_above rule t m claims
 
+  -- what a place gets at the level
   abbrev low : ℕ → ℕ
   low k = at_level rule t (get_or claims k 0)
 
+  -- and at the next
   abbrev high : ℕ → ℕ
   high k = at_level rule (t + 1) (get_or claims k 0)
 
@@ -58,6 +61,7 @@ module _ (rule : RuleKind) (t m : ℕ) (claims : List ℕ) (limit : (k : ℕ) �
   abbrev taken : ℕ → ℕ
   taken k = sum (take k (map (step_at rule t) claims))
 
+  -- there are as many steps as awards
   same_length : length (level_awards rule t claims) ≡ length (fill (map (step_at rule t) claims) m)
   same_length = omega (
     arith,
@@ -66,6 +70,7 @@ module _ (rule : RuleKind) (t m : ℕ) (claims : List ℕ) (limit : (k : ℕ) �
     length-fill (map (step_at rule t) claims) m,
   )
 
+  -- a place has what it gets at the level, and of the next what is left for it
   pub above_at : (k : ℕ) → get_or above k 0 ≡ low k + min (high k - low k) (m - taken k)
   above_at k = omega (
     arith,
@@ -75,6 +80,7 @@ module _ (rule : RuleKind) (t m : ℕ) (claims : List ℕ) (limit : (k : ℕ) �
     steps_at rule t claims k,
   )
 
+  -- no place has more than its claim
   above_within : IsWithin claims above
   above_within = record {
     as_many = length-place_sums (level_awards rule t claims) (fill (map (step_at rule t) claims) m) ∙ length-map claims (at_level rule t);
@@ -85,10 +91,12 @@ module _ (rule : RuleKind) (t m : ℕ) (claims : List ℕ) (limit : (k : ℕ) �
   abbrev IsBefore : ℕ → ℕ → Type 0
   IsBefore i j = goes_before rule (get_or claims i 0) (get_or above i 0 - 1) (get_or claims j 0) (get_or above j 0) ≡ true
 
+  -- two units that tie, the later of which was not given first
   abbrev IsTied : ℕ → ℕ → Type 0
   IsTied i j =
       (goes_before rule (get_or claims j 0) (get_or above j 0) (get_or claims i 0) (get_or above i 0 - 1) ≡ false) × (i ≤ j)
 
+  -- of two such places the one goes before the other or ties with it
   given_or_tied : (i j : ℕ) → 0 < get_or above i 0 → get_or above j 0 < get_or claims j 0 → IsBefore i j ⊎ IsTied i j
   given_or_tied i j s l =
       let ci = get_or claims i 0 in
@@ -122,6 +130,7 @@ module _ (rule : RuleKind) (t m : ℕ) (claims : List ℕ) (limit : (k : ℕ) �
       (λ (not : ai ≤ low i). inl (given_before_left rule t ci ai cj aj s (omega (arith, at_i)) (omega (arith, at_j)) l))
       (cases_lt (low i) ai)
 
+  -- so these awards are given in turn
   above_in_turn : IsInTurn rule claims above
   above_in_turn = record {
     none_before = λ i j s l. ⊎_elim
@@ -135,6 +144,7 @@ module _ (rule : RuleKind) (t m : ℕ) (claims : List ℕ) (limit : (k : ℕ) �
         (given_or_tied i j s l);
   }
 
+  -- they come to the awards at the level and m more
   sum_above : m ≤ sum (map (step_at rule t) claims) → sum above ≡ sum (level_awards rule t claims) + m
   sum_above l = omega (
     arith,

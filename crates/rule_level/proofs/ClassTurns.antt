@@ -16,6 +16,7 @@ use Rattle.rule_level.specs.Levels.{level_awards, awards_above}
 use Rattle.rule_level.proofs.Above.{award_by_level}
 use Rattle.rule_unit.specs.declared.TheConstants.{MAX_CLAIM}
 
+-- no amount is above the sum of all
 at_most_sum : (xs : List ℕ) (k : ℕ) → get_or xs k 0 ≤ sum xs
 at_most_sum [] k = zero-le
 at_most_sum (x ∷ xs) zero = omega (arith, sum-cons x xs)
@@ -23,6 +24,7 @@ at_most_sum (x ∷ xs) (suc k) = omega (arith, sum-cons x xs, at_most_sum xs k)
 
 module _ (kind : RuleKind) (claims classes : List ℕ) (c : ℕ) (positive : 0 < c) (had : List ℕ) (w : IsWithin claims had)
     (left : ℕ) (met : 0 < left → had ≡ claims) where
+  -- the claims of the class
   abbrev mine : List ℕ
   mine = class_claims c claims classes
 
@@ -30,6 +32,7 @@ module _ (kind : RuleKind) (claims classes : List ℕ) (c : ℕ) (positive : 0 <
   abbrev turned : ℕ → List ℕ
   turned d = awards_after (next_of kind) claims (cleared_class c had classes) d
 
+  -- debts set to the award of d units are those after d turns
   set_is_turned : (own now : List ℕ) (d : ℕ) → d ≤ left → own ≡ award (next_of kind) mine d → IsClassSet c classes own had now
       → now ≡ turned d
   set_is_turned own now d l e s =

@@ -71,12 +71,14 @@ module _ (claims classes : List ℕ) (c : ℕ) (had now : List ℕ) (debt many :
 -- where all debts were gone over the claims of the class are gathered, each within the limit
 module _ (claims classes : List ℕ) (c : ℕ) (had now : List ℕ) (debt many : ℕ)
     (gathered : IsGathered claims classes c had now debt many) where
+  -- what is gathered then adds up as the claims of the class do
   pub gathered_all : length claims ≤ debt → AddUpAlike (take many now) (class_claims c claims classes)
   gathered_all past f zero =
       let mine = class_claims c claims classes in
       gathered.alike f zero
       ∙ ap (λ xs. sum (map f xs)) (take_all debt mine (omega (arith, length-class_claims c claims classes)))
 
+  -- each claim that is gathered is within the limit
   pub gathered_within : many ≤ length now → All (λ claim. claim ≤ MAX_CLAIM) (take many now)
   gathered_within l = All-from_get_or (λ claim. claim ≤ MAX_CLAIM) (take many now) 0 (λ k m.
       let here : k < many = omega (arith, length-take-le many now l) in

@@ -87,6 +87,7 @@ module _ (rule : RuleKind) (claims awards : List ℕ) (w : IsWithin claims award
           o)
           (cases_order i j)
 
+  -- the next unit stays at or below awards that are given in turn
   one_more_at_most : (now : List ℕ) (r : Option ℕ) → IsAtMost now awards → sum now < sum awards
       → IsNextSoFar rule claims now (length claims) r → IsAtMost (one_more r now) awards
   one_more_at_most now None h s f = h
@@ -94,6 +95,7 @@ module _ (rule : RuleKind) (claims awards : List ℕ) (w : IsWithin claims award
       let given = next_is_given now j h s f in
       λ k. grind (arith, common_steps, h k, given)
 
+  -- so does the award of at most their sum
   award_at_most : (e : ℕ) → e ≤ sum awards → IsAtMost (award rule claims e) awards
   unfolding awards_after
   award_at_most zero l = λ k. omega (arith, zeros_at (length claims) k)
@@ -102,6 +104,7 @@ module _ (rule : RuleKind) (claims awards : List ℕ) (w : IsWithin claims award
       one_more_at_most now (next_of rule claims now) (award_at_most e (omega arith))
       (omega (arith, sum_award rule claims e, sum-le awards claims w.within)) (next_of_best rule claims now)
 
+  -- and the award of their sum is they themselves
   pub award_in_turn : awards ≡ award rule claims (sum awards)
   award_in_turn =
       let all = award rule claims (sum awards) in

@@ -18,6 +18,7 @@ cross_below t n c u d v p a b =
     let high : v * (n * u) ≤ v * (t * c) = mul-le-mul_left v a in
     lt_of_mul-lt-mul_left t (omega (arith, low, high))
 
+-- then the first ratio is above the second
 cross_above : (t n c u d v : ℕ) → 0 < v → n * u < t * c → t * d ≤ n * v → d * u < c * v
 cross_above t n c u d v p a b =
     let low : u * (t * d) ≤ u * (n * v) = mul-le-mul_left u b in
@@ -28,20 +29,24 @@ cross_above t n c u d v p a b =
 pub within_quotient : (k x n : ℕ) → 0 < n → k ≤ x / n → n * k ≤ x
 within_quotient k x n p l = omega (arith, mul-le-mul_left n l)
 
+-- a number is below the next multiple of what it is divided by
 pub past_quotient : (x n m : ℕ) → 0 < n → x / n ≤ m → x < n * (m + 1)
 past_quotient x n m p l = omega (arith, lt-mul-div-succ x p, mul-le-mul_left n l)
 
 module _ (t c k d m : ℕ) where
+  -- of quotients rounded down: jefferson's ratios
   rounded_down : (n : ℕ) → 0 < n → k + 1 ≤ t * c / n → t * d / n ≤ m → d * (k + 1) < c * (m + 1)
   rounded_down n p g l =
       cross_below t n c (k + 1) d (m + 1) (omega arith) (within_quotient (k + 1) (t * c) n p g) (past_quotient (t * d) n m p l)
 
+  -- rounded to the nearest: webster's
   rounded_to_nearest : (n : ℕ) → 0 < n → k + 1 ≤ (2 * t * c + n) / (2 * n) → (2 * t * d + n) / (2 * n) ≤ m → d * (2 * k + 1) < c * (2 * m + 1)
   rounded_to_nearest n p g l =
       cross_below (2 * t) n c (2 * k + 1) d (2 * m + 1) (omega arith)
       (omega (arith, within_quotient (k + 1) (2 * t * c + n) (2 * n) (omega arith) g))
       (omega (arith, past_quotient (2 * t * d + n) (2 * n) m (omega arith) l))
 
+  -- rounded up: adams's
   rounded_up : (n : ℕ) → 0 < n → 0 < d → k + 1 ≤ (t * c + (n - 1)) / n → (t * d + (n - 1)) / n ≤ m → d * k < c * m
   rounded_up n p q g l =
       let high : n * k < t * c = omega (arith, within_quotient (k + 1) (t * c + (n - 1)) n p g) in
@@ -79,6 +84,7 @@ pub record IsLevel (kind : RuleKind) (t c : ℕ) : Type 0 where
   pub rises : at_level kind t c ≤ at_level kind (t + 1) c
   pub more : c ≤ MAX_CLAIM → at_level kind (t + 1) c ≤ at_level kind t c + 1
 
+-- the awards at a level by each rule are such
 pub is_level : (kind : RuleKind) (t c : ℕ) → IsLevel kind t c
 is_level kind.Order t c = record { within = omega arith; rises = omega arith; more = λ l. omega arith }
 is_level kind.Equal t c = record { within = omega arith; rises = omega arith; more = λ l. omega arith }
@@ -87,6 +93,7 @@ is_level kind.Jefferson t c = record { within = omega arith; rises = omega arith
 is_level kind.Webster t c = record { within = omega arith; rises = omega arith; more = λ l. omega arith }
 is_level kind.Adams t c = record { within = omega arith; rises = omega arith; more = λ l. omega arith }
 
+-- a claim of 0 gets nothing
 pub at_level_of_none : (kind : RuleKind) (t : ℕ) → at_level kind t 0 ≡ 0
 at_level_of_none kind t = omega (arith, (is_level kind t 0).within)
 
@@ -96,10 +103,12 @@ get_or-map_zero f none [] k = sym none
 get_or-map_zero f none (x ∷ xs) zero = refl
 get_or-map_zero f none (x ∷ xs) (suc k) = get_or-map_zero f none xs k
 
+-- in each place stands what its claim gets
 pub level_awards_at : (kind : RuleKind) (t : ℕ) (claims : List ℕ) (k : ℕ)
     → get_or (level_awards kind t claims) k 0 ≡ at_level kind t (get_or claims k 0)
 level_awards_at kind t = get_or-map_zero (at_level kind t) (at_level_of_none kind t)
 
+-- and no more than the claim
 pub level_awards_within : (kind : RuleKind) (t : ℕ) (claims : List ℕ) → IsWithin claims (level_awards kind t claims)
 level_awards_within kind t claims = record {
   as_many = length-map claims (at_level kind t);

@@ -14,6 +14,7 @@ use Rattle.rule_level.proofs.Steps.{sum_next_level}
 abbrev pub IsNarrow : ℕ → ℕ → Type 0
 IsNarrow look m = m * 2 ^ (look / 9) ≤ MAX_LEVEL
 
+-- at first all levels are left
 pub narrow_start : (m : ℕ) → m ≤ MAX_LEVEL → IsNarrow 0 m
 narrow_start m le = omega (arith, le)
 

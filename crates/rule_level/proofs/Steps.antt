@@ -5,12 +5,15 @@ use Rattle.clr_net.proofs.Lists.{sum-cons, sum-le}
 use Rattle.rule_level.specs.Levels.{at_level, level_awards, step_at}
 use Rattle.rule_level.proofs.Levels.{at_level_of_none, get_or-map_zero, is_level, level_awards_at}
 
+-- no claim gets less at the next level
 pub level_rises : (rule : RuleKind) (t c : ℕ) → at_level rule t c ≤ at_level rule (t + 1) c
 level_rises rule t c = (is_level rule t c).rises
 
+-- a claim of 0 gets nothing there
 pub step_of_none : (rule : RuleKind) (t : ℕ) → step_at rule t 0 ≡ 0
 step_of_none rule t = omega (arith, at_level_of_none rule t, at_level_of_none rule (t + 1))
 
+-- in each place stands the step of its claim
 pub steps_at : (rule : RuleKind) (t : ℕ) (claims : List ℕ) (k : ℕ)
     → get_or (map (step_at rule t) claims) k 0 ≡ step_at rule t (get_or claims k 0)
 steps_at rule t = get_or-map_zero (step_at rule t) (step_of_none rule t)

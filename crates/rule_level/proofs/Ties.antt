@@ -32,11 +32,13 @@ apart_above n s g c u d v p small past given = ⊎_elim
     (cases_lt (d * u) (c * v))
 
 module _ (t c k d m n : ℕ) (p : 0 < n) where
+  -- by quotients rounded down
   tied_down : 0 < d → c * d ≤ n → t * c / n ≤ k → m + 1 ≤ (t + 1) * d / n → c * (m + 1) ≤ d * (k + 1)
   tied_down q small l g =
       apart_below n t 1 c (k + 1) d (m + 1) q (omega (arith, small)) (past_quotient (t * c) n k p l)
       (within_quotient (m + 1) ((t + 1) * d) n p g)
 
+  -- by quotients rounded to the nearest
   tied_to_nearest : 0 < d → 2 * (c * d) ≤ n → (2 * t * c + n) / (2 * n) ≤ k → m + 1 ≤ (2 * (t + 1) * d + n) / (2 * n)
       → c * (2 * m + 1) ≤ d * (2 * k + 1)
   tied_to_nearest q small l g =
@@ -44,6 +46,7 @@ module _ (t c k d m n : ℕ) (p : 0 < n) where
       (omega (arith, past_quotient (2 * t * c + n) (2 * n) k (omega arith) l))
       (omega (arith, within_quotient (m + 1) (2 * (t + 1) * d + n) (2 * n) (omega arith) g))
 
+  -- by quotients rounded up
   tied_up : 0 < c → c * d ≤ n → (t * c + (n - 1)) / n ≤ k → m + 1 ≤ ((t + 1) * d + (n - 1)) / n → c * m ≤ d * k
   tied_up q small l g =
       apart_above n t 1 c k d m q (omega (arith, small))
@@ -56,6 +59,7 @@ small_product c d l m =
     let product : c * d ≤ c * MAX_CLAIM = mul-le-mul_left c m in
     omega (arith, product, l)
 
+-- two claims that get a unit at the next level tie there
 pub next_level_tied : (rule : RuleKind) (t c d : ℕ) → c ≤ MAX_CLAIM → d ≤ MAX_CLAIM
     → at_level rule t c < at_level rule (t + 1) c → at_level rule t d < at_level rule (t + 1) d
     → goes_before rule c (at_level rule t c) d (at_level rule t d) ≡ false

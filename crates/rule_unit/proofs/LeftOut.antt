@@ -8,6 +8,7 @@ use Rattle.std.proofs.lemmas.List.Edits.{get_or-remove_below, get_or-remove_abov
 use Rattle.rule_unit.specs.Awards.{IsWithin}
 use Rattle.rule_unit.specs.Choice.{place_without, IsUnitChoice, AgreeWhereUnmet}
 
+-- without the place i a list reads as before, one further from i on
 at_removed : (xs : List ℕ) (i k : ℕ) → i < length xs → get_or (remove xs i) k 0 ≡ get_or xs (place_without i k) 0
 at_removed xs i k l = ⊎_elim
     (λ (h : k < i). get_or-remove_below xs i 0 k h l ∙ sym (ap (λ b. get_or xs (cond b k (k + 1)) 0) (lt-ltb k i h)))
@@ -28,6 +29,7 @@ some_met claims awards (suc n) = ⊎_elim
     (cases_lt (get_or awards n 0) (get_or claims n 0)))
     (some_met claims awards n)
 
+-- awards within the claims are so without one place of both
 within_removed : (claims awards : List ℕ) (i : ℕ) → i < length claims → IsWithin claims awards
     → IsWithin (remove claims i) (remove awards i)
 within_removed claims awards i l w = record {
@@ -37,6 +39,7 @@ within_removed claims awards i l w = record {
 
 module _ (claims awards other_claims other_awards : List ℕ) (i : ℕ) (l : i < length claims) (w : IsWithin claims awards)
     (v : IsWithin other_claims other_awards) (agree : AgreeWhereUnmet claims awards other_claims other_awards) where
+  -- pairs that agree where unmet do so without one place of each
   agree_removed : AgreeWhereUnmet (remove claims i) (remove awards i) (remove other_claims i) (remove other_awards i)
   agree_removed = record {
     as_many = omega (arith, length-remove claims i l, length-remove other_claims i (omega (arith, agree.as_many)), agree.as_many);
@@ -62,6 +65,7 @@ module _ (claims awards other_claims other_awards : List ℕ) (i : ℕ) (l : i <
           × (get_or (remove awards i) k 0 ≡ get_or (remove other_awards i) k 0)
       moved k same = (at_claims k ∙ same.0 ∙ sym (at_other_claims k), at_awards k ∙ same.1 ∙ sym (at_other_awards k))
 
+  -- a place that is met in one pair is met in the other
   other_met : get_or awards i 0 ≡ get_or claims i 0 → get_or other_awards i 0 ≡ get_or other_claims i 0
   other_met met = ⊎_elim
       (λ (u : get_or other_awards i 0 < get_or other_claims i 0).
@@ -70,6 +74,7 @@ module _ (claims awards other_claims other_awards : List ℕ) (i : ℕ) (l : i <
       (cases_lt (get_or other_awards i 0) (get_or other_claims i 0))
 
 module _ (choice : List ℕ → List ℕ → Option ℕ) (laws : IsUnitChoice choice) where
+  -- where each place is unmet the pairs are the same, and so is the choice
   all_unmet : (claims awards other_claims other_awards : List ℕ) → ((k : ℕ) → k < length claims → get_or awards k 0 < get_or claims k 0)
       → IsWithin claims awards → IsWithin other_claims other_awards
       → AgreeWhereUnmet claims awards other_claims other_awards → choice claims awards ≡ choice other_claims other_awards
@@ -79,6 +84,7 @@ module _ (choice : List ℕ → List ℕ → Option ℕ) (laws : IsUnitChoice ch
       (λ k l. (agree.where_unmet k (unmet k (omega (arith, w.as_many)))).1) in
       cc
 
+  -- by how many places there are: met ones are left out one by one
   choice_agree_by : (n : ℕ) (claims awards other_claims other_awards : List ℕ) → length claims ≡ n
       → IsWithin claims awards → IsWithin other_claims other_awards
       → AgreeWhereUnmet claims awards other_claims other_awards → choice claims awards ≡ choice other_claims other_awards
@@ -99,6 +105,7 @@ module _ (choice : List ℕ → List ℕ → Option ℕ) (laws : IsUnitChoice ch
       all_unmet claims awards other_claims other_awards unmet w v agree)
       (some_met claims awards (length claims))
 
+  -- pairs that agree where unmet have the same choice
   pub choice_agree : (claims awards other_claims other_awards : List ℕ) → IsWithin claims awards → IsWithin other_claims other_awards
       → AgreeWhereUnmet claims awards other_claims other_awards → choice claims awards ≡ choice other_claims other_awards
   choice_agree claims awards other_claims other_awards w v agree =

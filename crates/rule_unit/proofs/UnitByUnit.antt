@@ -15,6 +15,7 @@ pub raised_within : (claims awards : List ℕ) (j : ℕ) → get_or awards j 0 <
 raised_within claims awards j m w =
     record { as_many = grind (arith, common_steps, w.as_many); within = λ k. grind (arith, common_steps, w.within k) }
 
+-- no award falls by it
 one_more_rises : (awards : List ℕ) (r : Option ℕ) → IsAtMost awards (one_more r awards)
 one_more_rises awards None k = omega arith
 one_more_rises awards (Some j) k = grind (arith, common_steps)
@@ -23,6 +24,7 @@ one_more_rises awards (Some j) k = grind (arith, common_steps)
 pub zeros_within : (claims : List ℕ) → IsWithin claims (replicate (length claims) 0)
 zeros_within claims = record { as_many = length-replicate (length claims) 0; within = λ k. omega (arith, zeros_at (length claims) k) }
 
+-- so the awards come to 0
 pub sum_zeros : (claims : List ℕ) → sum (replicate (length claims) 0) ≡ 0
 sum_zeros claims = omega (arith, sum_by-replicate (λ n. n) (length claims) 0)
 
@@ -63,12 +65,14 @@ module _ (choice : List ℕ → List ℕ → Option ℕ) where
   awards_after_chosen claims start awards d debt e s =
       ap (λ r. one_more r awards) (sym s) ∙ ap (λ xs. one_more (choice claims xs) xs) e ∙ sym (awards_after_one_more claims start d)
 
+  -- where none is chosen further units change nothing
   pub awards_after_stopped : (claims start awards : List ℕ) (d n : ℕ) → awards ≡ awards_after choice claims start d
       → choice claims awards ≡ None → d ≤ n → awards ≡ awards_after choice claims start n
   awards_after_stopped claims start awards d n e s l =
       sym (awards_after_none claims awards (n - d) s) ∙ ap (λ xs. awards_after choice claims xs (n - d)) e
       ∙ sym (awards_after_again claims start d (n - d)) ∙ ap (awards_after choice claims start) (omega arith)
 
+  -- no award falls as more units follow
   awards_rise_by : (claims awards : List ℕ) (d e : ℕ)
       → IsAtMost (awards_after choice claims awards d) (awards_after choice claims awards (d + e))
   unfolding awards_after
@@ -85,11 +89,13 @@ module _ (choice : List ℕ → List ℕ → Option ℕ) where
       (awards_rise_by claims awards d (e - d))
 
 module _ (choice : List ℕ → List ℕ → Option ℕ) (lawful : IsUnitChoice choice) where
+  -- each is still within its claim
   one_more_within : (claims awards : List ℕ) (r : Option ℕ) → choice claims awards ≡ r → IsWithin claims awards
       → IsWithin claims (one_more r awards)
   one_more_within claims awards None e w = w
   one_more_within claims awards (Some j) e w = raised_within claims awards j (lawful.unmet claims awards j w e).1 w
 
+  -- and they come to one unit more, up to all that is claimed
   one_more_sum : (claims awards : List ℕ) (n : ℕ) (r : Option ℕ) → choice claims awards ≡ r → IsWithin claims awards
       → sum awards ≡ min n (sum claims) → sum (one_more r awards) ≡ min (suc n) (sum claims)
   one_more_sum claims awards n None e w s =
@@ -125,5 +131,6 @@ module _ (choice : List ℕ → List ℕ → Option ℕ) (lawful : IsUnitChoice 
   pub sum_award : (claims : List ℕ) (e : ℕ) → sum (award choice claims e) ≡ min e (sum claims)
   sum_award claims e = omega (arith, sum_zeros claims, sum_awards claims (replicate (length claims) 0) e (zeros_within claims))
 
+  -- each award is within its claim
   pub award_within : (claims : List ℕ) (e : ℕ) → IsWithin claims (award choice claims e)
   award_within claims e = awards_within claims (replicate (length claims) 0) e (zeros_within claims)

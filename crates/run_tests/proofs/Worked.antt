@@ -24,6 +24,7 @@ pub first_of_ring : (seen : List ℕ) → slice_index seen 1 ≡ 0 → part ring
 unfolding awards_after share_by_from
 first_of_ring seen e = let r : receipts ring seen 0 ≡ 0 = omega (arith, e) in ap (part ring 0) r
 
+-- B pays 1 on the ring once it has seen 1
 pub second_of_ring : (seen : List ℕ) → slice_index seen 0 ≡ 1 → part ring 1 (receipts ring seen 1) ≡ 1
 unfolding awards_after share_by_from
 second_of_ring seen e = let r : receipts ring seen 1 ≡ 1 = omega (arith, e) in ap (part ring 1) r

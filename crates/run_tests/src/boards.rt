@@ -40,15 +40,14 @@ fn unpaid(alloc: Global, debts: usize) -> Result<Vec<Payment>, Mem>
 }
 
 // The state of a run on such a board before its first round.
-pub(crate) fn new_state<R: Threads + Sync, G: Gate + Sync>(
-    run: &Run<'_, R, G>,
-) -> Result<RunState, Mem>
-    ensures offices { IfOk result (λ s. AreOffices run.now.net.now run.now.plan.workers
-        run.now.plan.workers s.offices.items) }
+pub(crate) fn new_state<G: Gate>(run: &Run<'_, G>) -> Result<RunState, Mem>
+    ensures offices { IfOk result (λ s. AreOffices run.now.net.now run.now.engine.now.plan.workers
+        run.now.engine.now.plan.workers s.offices.items) }
     ensures called { IfOk result (λ s. (b : ℕ) → b < MAX_BANKS → is_in s.called b ≡ true) }
 {
-    let offices = offices_of(run.alloc, run.net, run.plan.workers)?;
-    RunState::of(run.alloc, &[], offices)
+    let alloc = run.engine.alloc;
+    let offices = offices_of(alloc, run.net, run.engine.plan.workers)?;
+    RunState::of(alloc, &[], offices)
 }
 
 // The rounds, the visits and the raises of a run that is driven on such a board.

@@ -3,7 +3,7 @@ ghost use Rattle.settle.specs.Drives.{IsPlan};
 use crate::boards::driven_by_hand;
 use crate::gates::Numbers;
 use crate::nets::{Sample, net_of};
-use clr_net::Mem;
+use clr_net::{Mem, Network};
 use settle::{Plan, settle};
 use std::alloc::Global;
 use std::test::Fail;
@@ -60,6 +60,21 @@ const COUNTED: [Counted; 11] = [
     ),
 ];
 
+// The rounds, visits, raises and seats of a run on a network.
+fn run_of<R: Threads + Sync>(
+    rt: &R,
+    alloc: Global,
+    net: &Network,
+    plan: Plan,
+    gate: &Numbers,
+) -> Result<[u64; 4], Mem>
+    requires { IsPlan plan }
+{
+    let told = settle(rt, alloc, net, plan, gate)?;
+    let sealed = &told.sealed;
+    Ok([told.rounds, told.visits, sealed.made(), sealed.seats()])
+}
+
 // What a run on a network comes to in such numbers.
 fn counted<R: Threads + Sync>(
     rt: &R,
@@ -71,12 +86,8 @@ fn counted<R: Threads + Sync>(
 {
     let net = net_of(alloc, sample)?;
     let gate = Numbers::new(alloc)?;
-    let told = settle(rt, alloc, &net, plan, &gate)?;
-    let sealed = &told.sealed;
-    Ok((
-        [told.rounds, told.visits, sealed.made(), sealed.seats()],
-        gate.counts(),
-    ))
+    let told = run_of(rt, alloc, &net, plan, &gate)?;
+    Ok((told, gate.counts()))
 }
 
 // The same of a run that is driven on a board made by hand, but for the seats.

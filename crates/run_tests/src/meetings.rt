@@ -5,7 +5,7 @@ use crate::gates::{LONG, SHORT, new_meeting};
 use crate::nets::{Sample, net_of};
 use clr_edge::Gate;
 use clr_net::{Mem, Network};
-use settle::{Plan, offices_of, settle, settle_alone};
+use settle::{Engine, Plan, offices_of, settle, settle_alone};
 use std::alloc::Global;
 use std::process::Abort;
 use std::sync::atomic::Ordering;
@@ -43,7 +43,8 @@ fn run_by<R: Threads + Sync, G: Gate + Sync>(
         }
         Run::Alone => {
             let mut offices = offices_of(alloc, net, plan.workers)?;
-            settle_alone(rt, alloc, net.copy(alloc)?, plan, gate, &mut offices)?;
+            let engine = Engine { alloc, plan, gate };
+            settle_alone(&engine, net.copy(alloc)?, &mut offices)?;
         }
         Run::Driven => {
             driven_by_hand(rt, alloc, net, plan, gate)?;

@@ -12,7 +12,7 @@ use clr_edge::{Gate, OpenGate};
 use clr_net::{Amounts, BankId, Mem, Network};
 use net_samples::{add_bank, add_debt, chain, ring, woven};
 use raise_journal::{Verdict, replay};
-use settle::{Plan, Settled, settle, settle_from, settle_owned};
+use settle::{Engine, Plan, Settled, settle, settle_from, settle_owned};
 use std::alloc::Global;
 use std::sync::atomic::Ordering;
 use std::test::Fail;
@@ -300,7 +300,12 @@ fn run_again<R: Threads + Sync, G: Gate + Sync>(
     requires { (1 ≤ workers) × (workers ≤ 64) }
 {
     let poorer = chain(alloc)?;
-    let before = settle_owned(rt, alloc, poorer, ALONE, &OpenGate)?;
+    let engine = Engine {
+        alloc,
+        plan: ALONE,
+        gate: &OpenGate,
+    };
+    let before = settle_owned(rt, &engine, poorer, &[])?;
     run_richer(rt, alloc, workers, before.sealed.journal(), gate)
 }
 

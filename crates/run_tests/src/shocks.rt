@@ -6,10 +6,9 @@ use clear_least::central;
 use clr_edge::OpenGate;
 use clr_net::{BankId, Mem, Network};
 use net_samples::woven;
-use settle::{Plan, offices_of, settle_alone};
+use settle::{Engine, Plan, offices_of, settle_alone};
 use std::alloc::Global;
 use std::test::Fail;
-use std::thread::Threads;
 
 // The cash of one of twelve banks in a turn: 0, 5, .. 55. In each turn that of each bank is another
 // than before, of some it is more, and of one it is nothing.
@@ -33,22 +32,21 @@ fn give_cash(net: &mut Network, turn: u32)
 }
 
 // Whether so many workers pay the least in each of three turns, at the same offices.
-fn offices_pay<R: Threads + Sync>(
-    rt: &R,
-    alloc: Global,
-    first: &Network,
-    workers: u32,
-) -> Result<bool, Mem>
+fn offices_pay(alloc: Global, first: &Network, workers: u32) -> Result<bool, Mem>
     requires { (1 ≤ workers) × (workers ≤ 64) }
 {
-    let plan = Plan { workers, sweeps: 2 };
+    let engine = Engine {
+        alloc,
+        plan: Plan { workers, sweeps: 2 },
+        gate: &OpenGate,
+    };
     let mut offices = offices_of(alloc, first, workers)?;
     let mut all = true;
     for turn in 1..4 {
         let mut net = first.copy(alloc)?;
         give_cash(&mut net, turn);
         let wanted = central(alloc, &net)?;
-        let settled = settle_alone(rt, alloc, net, plan, &OpenGate, &mut offices)?;
+        let settled = settle_alone(&engine, net, &mut offices)?;
         all = settled.paid.as_slice() == wanted.as_slice() && all;
     }
     Ok(all)
@@ -58,7 +56,7 @@ fn offices_pay<R: Threads + Sync>(
 fn offices_pay_the_least_on_a_network_of_other_cash(rt: HostRuntime) -> Result<(), Fail> {
     let first = woven(rt.alloc(), 12)?;
     for workers in [1, 2, 5, 12] {
-        let all = offices_pay(&rt, rt.alloc(), &first, workers)?;
+        let all = offices_pay(rt.alloc(), &first, workers)?;
         assert!(rt; all);
     }
     Ok(())

@@ -1,10 +1,10 @@
-ghost use Rattle.clear_core.specs.Clearing.{part, receipts};
-ghost use Rattle.clr_net.specs.Net.{creditor_of, debtor_of};
+ghost use Rattle.clr_net.specs.Net.{creditor_of};
 ghost use Rattle.clr_net.specs.Samples.{chain as chain_net, ring as ring_net};
-ghost use Rattle.pay_words.specs.Views.{HoldsAll, HoldsAllOf, IsAt, OwesNoRing, handed, holds, looked};
+ghost use Rattle.pay_words.specs.Views.{HoldsAll, HoldsAllOf, IsAt, MayRaise, OwesNoRing, handed};
+ghost use Rattle.pay_words.specs.Views.{holds, looked};
 ghost use Rattle.pay_words.specs.Traces.{start_of};
 ghost use Rattle.pay_words.specs.Views.{opening, raised, rejoined};
-ghost use Rattle.std.specs.Prelude.{◌≡◌, ◌<◌, ◌≤◌, [], IfOk, false, length, slice_index, true};
+ghost use Rattle.std.specs.Prelude.{◌≡◌, ◌<◌, [], IfOk, false, length, slice_index, true};
 
 use crate::boards::{UNPAID, new_board};
 use clear_core::Journal;
@@ -63,12 +63,8 @@ fn raise_beside_look<R: Threads + Sync>(
     a: DebtId,
     to: u64,
 ) -> (u64, Payment)
-    requires one { IsAt board.now one.old × (one.old.shows.master ≡ false)
-        × (a.0 < length board.now.net.debts)
-        × (holds one.old.shows (debtor_of board.now.net a.0) ≡ true) }
-    requires more { slice_index one.old.shows.paid a.0 < to }
-    requires within { to ≤ part board.now.net a.0 (receipts board.now.net one.old.shows.sights
-        (debtor_of board.now.net a.0)) }
+    requires one { IsAt board.now one.old }
+    requires may_raise { MayRaise board.now.net one.old.shows a.0 to }
     requires two { IsAt board.now two.old × (two.old.shows.master ≡ false)
         × (a.0 < length board.now.net.debts)
         × (holds two.old.shows (creditor_of board.now.net a.0) ≡ true) }
@@ -79,11 +75,7 @@ fn raise_beside_look<R: Threads + Sync>(
     join_mut(
         rt,
         &mut || -> u64
-            requires { IsAt board.now one.now × (one.now.shows.master ≡ false)
-                × (a.0 < length board.now.net.debts)
-                × (holds one.now.shows (debtor_of board.now.net a.0) ≡ true)
-                × (slice_index one.now.shows.paid a.0 < to) × (to ≤ part board.now.net a.0
-                (receipts board.now.net one.now.shows.sights (debtor_of board.now.net a.0))) }
+            requires { IsAt board.now one.now × MayRaise board.now.net one.now.shows a.0 to }
             ensures { (one.exit.now.table ≡ one.entry.now.table)
                 × (one.exit.now.shows ≡ raised one.entry.now.shows a.0 to) }
         { board.raise(one, a, to) },

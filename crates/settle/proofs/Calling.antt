@@ -8,17 +8,17 @@ use Rattle.clear_core.specs.declared.event.Raise.{Raise}
 use Rattle.pay_words.specs.declared.view.Shown.{Shown}
 use Rattle.bank_worker.specs.BankSets.{is_in}
 use Rattle.bank_worker.specs.Called.{AreCreditorsIn, StayIn}
-use Rattle.bank_worker.specs.Views.{Crew}
+use Rattle.bank_worker.specs.Views.{WorkerView}
 use Rattle.settle.specs.Calls.{HaveCalledFrom, OthersAreAtRest}
-use Rattle.settle.specs.Rounds.{crew_at}
+use Rattle.settle.specs.Rounds.{worker_at}
 
 -- the raises of one worker more
-pub called_from : (net : Net) (old new : List ℕ) (ws : List Crew) (n : ℕ) (rs : List Raise) → HaveCalledFrom (n + 1) net old ws → StayIn old new
-    → rs ≡ (crew_at ws n).seat.shows.raises → AreCreditorsIn net new rs → HaveCalledFrom n net new ws
+pub called_from : (net : Net) (old new : List ℕ) (ws : List WorkerView) (n : ℕ) (rs : List Raise) → HaveCalledFrom (n + 1) net old ws → StayIn old new
+    → rs ≡ (worker_at ws n).seat.shows.raises → AreCreditorsIn net new rs → HaveCalledFrom n net new ws
 called_from net old new ws n rs h stay e own i le li = ⊎_elim
     (λ (l : i < n + 1).
     let same : n ≡ i = omega (arith, le, l) in
-    subst (AreCreditorsIn net new) (e ∙ ap (λ k. (crew_at ws k).seat.shows.raises) same) own)
+    subst (AreCreditorsIn net new) (e ∙ ap (λ k. (worker_at ws k).seat.shows.raises) same) own)
     (λ (l : n + 1 ≤ i). λ x lx r. stay (creditor_of net x) (h i l li x lx r))
     (cases_lt i (n + 1))
 

@@ -16,3 +16,6 @@ pub mod OtherCash
 pub mod Calling
 pub mod InTurn
 pub mod Made
+pub mod Waiting
+pub mod UnderWay
+pub mod Closed

@@ -9,57 +9,58 @@ use Rattle.clear_core.specs.declared.event.Raise.{Raise}
 use Rattle.pay_words.specs.declared.view.Shown.{Shown}
 use Rattle.pay_words.specs.Traces.{start_of}
 use Rattle.pay_words.specs.Views.{opening}
-use Rattle.bank_worker.specs.Views.{Crew}
-use Rattle.settle.specs.Between.{IsRoundByVisits, crews, raises_of_all}
+use Rattle.bank_worker.specs.Views.{WorkerView}
+use Rattle.settle.specs.Between.{IsRoundByVisits, opened_workers, raises_of_all}
 use Rattle.settle.specs.Drives.{AreRoundsFrom}
-use Rattle.settle.specs.Made.{AreMadeByBells, IsAllByBells, IsJournalByBells, Shift, raises_in, shifts, workers_of, workers_of_run}
-use Rattle.settle.specs.Rounds.{crew_at}
+use Rattle.settle.specs.Made.{AreMadeByBells, IsAllByBells, IsJournalByBells, WorkerRound, raises_in, worker_rounds, workers_of, workers_of_run}
+use Rattle.settle.specs.Rounds.{worker_at}
 use Rattle.settle.specs.Runs.{IsSettled}
 use Rattle.settle.specs.declared.plan.Plan.{Plan}
 use Rattle.settle.specs.declared.runs.Settled.{Settled}
-use Rattle.settle.proofs.Handed.{crew_there, length-crews}
+use Rattle.settle.proofs.Handed.{length-opened_workers, opened_worker_at}
 
-abbrev visits_in : List Shift → ℕ
+-- the visits of some workers' rounds
+abbrev visits_in : List WorkerRound → ℕ
 visits_in xs = sum_by (λ w. w.new.visits) xs
 
 -- these are the workers of one round, as they ended
-record AreOf (ws : List Crew) (xs : List Shift) : Type 0 where
+record AreOf (ws : List WorkerView) (xs : List WorkerRound) : Type 0 where
   by_bells : All IsAllByBells xs
   raises : raises_in xs ≡ raises_of_all ws
   visits : visits_in xs ≡ sum_by (λ w. w.visits) ws
   as_many : length xs ≡ length ws
 
 -- so they are where each of them did nothing but visits by bells
-shifts_made : (os ws : List Crew) → length ws ≡ length os
-    → ((i : ℕ) → i < length os → IsAllByBells (record { old = crew_at os i; new = crew_at ws i })) → AreOf ws (shifts os ws)
-shifts_made [] [] l h = record { by_bells = λ k d lt. absurd (omega (arith, lt)); raises = refl; visits = refl; as_many = refl }
-shifts_made [] (w ∷ ws) l h = absurd (omega (arith, l))
-shifts_made (o ∷ os) [] l h = absurd (omega (arith, l))
-shifts_made (o ∷ os) (w ∷ ws) l h =
-    let own : Shift = record { old = o; new = w } in
-    let rest = shifts os ws in
-    let a = shifts_made os ws (omega (arith, l)) (λ i lt. h (suc i) (omega (arith, lt))) in
-    let each : sum_by (λ (k : Crew). k.visits) (w ∷ ws) ≡ 0 + w.visits + sum_by (λ (k : Crew). k.visits) ws = sum_by-append (λ (k : Crew). k.visits) (w ∷ []) ws in
+worker_rounds_made : (os ws : List WorkerView) → length ws ≡ length os
+    → ((i : ℕ) → i < length os → IsAllByBells (record { old = worker_at os i; new = worker_at ws i })) → AreOf ws (worker_rounds os ws)
+worker_rounds_made [] [] l h = record { by_bells = λ k d lt. absurd (omega (arith, lt)); raises = refl; visits = refl; as_many = refl }
+worker_rounds_made [] (w ∷ ws) l h = absurd (omega (arith, l))
+worker_rounds_made (o ∷ os) [] l h = absurd (omega (arith, l))
+worker_rounds_made (o ∷ os) (w ∷ ws) l h =
+    let own : WorkerRound = record { old = o; new = w } in
+    let rest = worker_rounds os ws in
+    let a = worker_rounds_made os ws (omega (arith, l)) (λ i lt. h (suc i) (omega (arith, lt))) in
+    let each : sum_by (λ (k : WorkerView). k.visits) (w ∷ ws) ≡ 0 + w.visits + sum_by (λ (k : WorkerView). k.visits) ws = sum_by-append (λ (k : WorkerView). k.visits) (w ∷ []) ws in
     record {
       by_bells = All-push IsAllByBells rest own a.by_bells (h 0 (omega arith));
       raises = simp (flat_map-append, a.raises, append-nil);
-      visits = sum_by_push (λ (x : Shift). x.new.visits) rest own ∙ omega (arith, a.visits, each);
+      visits = sum_by_push (λ (x : WorkerRound). x.new.visits) rest own ∙ omega (arith, a.visits, each);
       as_many = omega (arith, length-append rest (own ∷ []), a.as_many);
     }
 
 -- the workers of a round, which were handed their seats as it began
 made_in_round : (net : Net) (plan : Plan) (units visits : ℕ) (s t : Shown) (r : IsRoundByVisits net plan units visits s t)
-    → AreOf r.workers (shifts (crews plan.workers r.table s plan.workers) r.workers)
+    → AreOf r.workers (worker_rounds (opened_workers plan.workers r.table s plan.workers) r.workers)
 made_in_round net plan units visits s t r =
     let w = plan.workers in
-    let os = crews w r.table s w in
-    shifts_made os r.workers r.rounded.as_many (λ i lt.
+    let os = opened_workers w r.table s w in
+    worker_rounds_made os r.workers r.rounded.as_many (λ i lt.
     let m = r.rounded.each i lt in
-    let is = crew_there w r.table s w i (omega (arith, lt, length-crews w r.table s w)) in
+    let is = opened_worker_at w r.table s w i (omega (arith, lt, length-opened_workers w r.table s w)) in
     record {
-      no_visit = ap (λ (c : Crew). c.visits) is;
-      no_act = ap (λ (c : Crew). c.seat.shows.acts) is;
-      no_raise = ap (λ (c : Crew). c.seat.shows.raises) is;
+      no_visit = ap (λ (c : WorkerView). c.visits) is;
+      no_act = ap (λ (c : WorkerView). c.seat.shows.acts) is;
+      no_raise = ap (λ (c : WorkerView). c.seat.shows.raises) is;
       units = m.units;
       by_visits = m.rounded.gone.by_visits;
     })
@@ -78,17 +79,18 @@ rounds_made net plan s t [] is = (
 rounds_made net plan s t (n ∷ ns) (m, visits, before, r) =
     let w = plan.workers in
     let xs = workers_of net plan s m ns before in
-    let ys = shifts (crews w r.by_visits.table m w) r.by_visits.workers in
+    let ys = worker_rounds (opened_workers w r.by_visits.table m w) r.by_visits.workers in
     let a = rounds_made net plan s m ns before in
     let b = made_in_round net plan n visits m t r.by_visits in (
       record {
         by_bells = All-append IsAllByBells xs ys a.0.by_bells b.by_bells;
         raises = simp (r.by_visits.raises, a.0.raises, flat_map-append, b.raises, append_assoc);
-        visits = omega (arith, r.visits_are, r.by_visits.visits_are, a.0.visits, b.visits, sum_by-append (λ (x : Shift). x.new.visits) xs ys);
+        visits = omega (arith, r.visits_are, r.by_visits.visits_are, a.0.visits, b.visits, sum_by-append (λ (x : WorkerRound). x.new.visits) xs ys);
       },
-      omega (arith, length-append xs ys, a.1, b.as_many, r.by_visits.rounded.as_many, length-crews w r.by_visits.table m w),
+      omega (arith, length-append xs ys, a.1, b.as_many, r.by_visits.rounded.as_many, length-opened_workers w r.by_visits.table m w),
     )
 
+-- the raises of all rounds were made in visits by bells
 pub made_in_rounds : (net : Net) (plan : Plan) (s t : Shown) (ns : List ℕ) (rounds : AreRoundsFrom net plan s ns t)
     → AreMadeByBells (workers_of net plan s t ns rounds) s t
 made_in_rounds net plan s t ns rounds = (rounds_made net plan s t ns rounds).0

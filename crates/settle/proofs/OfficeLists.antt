@@ -6,10 +6,10 @@ use Rattle.std.proofs.Math.Seq.{get_or-append_seam}
 use Rattle.std.proofs.lemmas.Bool.{cases_lt}
 use Rattle.clr_net.specs.Net.{Net}
 use Rattle.pay_words.specs.declared.view.Shown.{Shown}
-use Rattle.pay_words.specs.Views.{Panel, holds, is_marked, is_of_worker}
+use Rattle.pay_words.specs.Views.{BoardView, holds, is_marked, is_of_worker}
 use Rattle.pay_words.proofs.Tables.{tabled_at}
 use Rattle.bank_worker.specs.Offices.{IsOfficeFor, OfficeView}
-use Rattle.bank_worker.specs.Views.{Crew, banks_held}
+use Rattle.bank_worker.specs.Views.{WorkerView, banks_held}
 use Rattle.bank_worker.proofs.Rooms.{banks_of_seat}
 use Rattle.settle.specs.Between.{IsOfBoard}
 use Rattle.settle.specs.Offices.{AreOffices, Serves, no_office, office_at}
@@ -47,13 +47,14 @@ pub serves_seat : (net : Net) (s : Shown) (workers i : ℕ) (o : OfficeView) →
     → ((b : ℕ) → b < length net.banks → holds s b ≡ is_of_worker workers i b) → Serves net workers i o → IsOfficeFor s.net (banks_held s) o
 serves_seat net s workers i o here held serves = rw (← banks_of_seat net s workers i here held, ← here) serves.office
 
+-- and an office that is for the seat of a worker serves it
 pub seat_serves : (net : Net) (s : Shown) (workers i : ℕ) (o : OfficeView) → net ≡ s.net
     → ((b : ℕ) → b < length net.banks → holds s b ≡ is_of_worker workers i b) → IsOfficeFor s.net (banks_held s) o → o.worker ≡ i
     → Serves net workers i o
 seat_serves net s workers i o here held office worker = record { office = rw (banks_of_seat net s workers i here held, here) office; worker = worker }
 
 -- a worker of the board holds its banks
-pub held_by : (board : Panel) (i : ℕ) (w : Crew) → IsOfBoard board i w → (b : ℕ) → b < length board.net.banks
+pub held_by : (board : BoardView) (i : ℕ) (w : WorkerView) → IsOfBoard board i w → (b : ℕ) → b < length board.net.banks
     → holds w.seat.shows b ≡ is_of_worker board.table.workers i b
 held_by board i w own b lt =
     ap (λ bs. is_marked bs b) own.banks ∙ tabled_at (length board.net.banks) (is_of_worker board.table.workers i) b false lt

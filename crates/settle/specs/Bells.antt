@@ -9,7 +9,7 @@ use Rattle.pay_words.specs.Ends.{values}
 use Rattle.pay_words.specs.Standing.{payments_in}
 use Rattle.pay_words.specs.declared.view.Shown.{Shown}
 use Rattle.pay_words.specs.declared.view.View.{View}
-use Rattle.pay_words.specs.Views.{HoldsAll, OwesNoRing, Panel, is_marked}
+use Rattle.pay_words.specs.Views.{BoardView, HoldsAll, OwesNoRing, is_marked}
 
 -- all banks are held, no ring is owed, nothing is pending, and each bank is fresh or pays its
 -- division at what was last seen: what a round leaves, and an opened board
@@ -23,7 +23,7 @@ pub record IsIdle (net : Net) (s : Shown) : Type 0 where
 
 -- at some moment between two atomic steps these are the words of the board, as its rule allows; one
 -- of its seats shows s then, and each bell is down
-pub record AreAllDown (board : Panel) (words : List ℕ) (s : Shown) : Type 0 where
+pub record AreAllDown (board : BoardView) (words : List ℕ) (s : Shown) : Type 0 where
   pub views : List View
   pub rule : MeetsRule (record { net = board.net; past = board.past }) words views
   pub id : ℕ

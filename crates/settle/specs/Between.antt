@@ -7,12 +7,13 @@ use Rattle.clr_net.specs.Limits.{IsNetwork}
 use Rattle.clr_net.specs.Net.{Net, debtor_of, creditor_of}
 use Rattle.bank_desk.specs.Desks.{desk_of}
 use Rattle.pay_words.specs.declared.view.Shown.{Shown}
-use Rattle.pay_words.specs.Views.{Panel, IsAt, IsOver, HoldsAll, OwesNoRing, handed, holds, is_of_worker, without, is_marked, tabled}
+use Rattle.pay_words.specs.Views.{BoardView, IsAt, IsOver, HoldsAll, OwesNoRing, handed, holds, is_of_worker, without, is_marked, tabled}
 use Rattle.clear_core.specs.declared.event.Raise.{Raise}
-use Rattle.raise_journal.specs.Gathered.{HasGrownBy}
+use Rattle.clear_core.specs.History.{Kept}
+use Rattle.raise_journal.specs.Gathered.{HasGrownBy, raises_of_all as all_of}
 use Rattle.settle.specs.declared.plan.Plan.{Plan}
-use Rattle.settle.specs.Rounds.{AreRounded, crew_at}
-use Rattle.bank_worker.specs.Views.{Crew, Divides, desks_held}
+use Rattle.settle.specs.Rounds.{AreRounded, worker_at}
+use Rattle.bank_worker.specs.Views.{Divides, WorkerView, desks_held}
 use Rattle.bank_worker.specs.Grows.{MAX_VISITS, SeatGrows}
 
 -- between two rounds the master holds all banks, and nothing is pending or owes a ring; each bank
@@ -35,12 +36,12 @@ without_first workers zero s = s
 without_first workers (suc n) s = without workers n (without_first workers n s)
 
 -- how many raises a worker made
-abbrev pub raises_by : Crew → ℕ
+abbrev pub raises_by : WorkerView → ℕ
 raises_by w = length w.seat.shows.raises
 
 -- the worker i as a round begins
-abbrev pub crew_of : ℕ → Place → Shown → ℕ → Crew
-crew_of workers table s i = record {
+abbrev pub opened_worker : ℕ → Place → Shown → ℕ → WorkerView
+opened_worker workers table s i = record {
   seat = record { table = table; shows = handed workers i s };
   desks = desks_held (handed workers i s);
   worker = i;
@@ -49,11 +50,11 @@ crew_of workers table s i = record {
 }
 
 -- the first n of them
-abbrev pub crews : ℕ → Place → Shown → ℕ → List Crew
-crews workers table s n = tabled n (crew_of workers table s)
+abbrev pub opened_workers : ℕ → Place → Shown → ℕ → List WorkerView
+opened_workers workers table s n = tabled n (opened_worker workers table s)
 
 -- the worker i of the board, whose seat may be taken back
-pub record IsOfBoard (board : Panel) (i : ℕ) (w : Crew) : Type 0 where
+pub record IsOfBoard (board : BoardView) (i : ℕ) (w : WorkerView) : Type 0 where
   pub at : IsAt board w.seat
   pub worker : w.worker ≡ i
   pub not_the_master : w.seat.shows.master ≡ false
@@ -64,15 +65,15 @@ pub record IsOfBoard (board : Panel) (i : ℕ) (w : Crew) : Type 0 where
   pub few_visits : w.visits ≤ MAX_VISITS
 
 -- so is each of these, in the order of their numbers
-abbrev pub AreOfBoard : Panel → List Crew → Type 0
-AreOfBoard board ws = (i : ℕ) → i < length ws → IsOfBoard board i (crew_at ws i)
+abbrev pub AreOfBoard : BoardView → List WorkerView → Type 0
+AreOfBoard board ws = (i : ℕ) → i < length ws → IsOfBoard board i (worker_at ws i)
 
 -- what the worker of the bank b shows
-abbrev pub shown_by : ℕ → List Crew → ℕ → Shown
-shown_by workers ws b = (crew_at ws (b % workers)).seat.shows
+abbrev pub shown_by : ℕ → List WorkerView → ℕ → Shown
+shown_by workers ws b = (worker_at ws (b % workers)).seat.shows
 
 -- the master that showed s, once the seats of the workers from n on were taken back
-pub record IsBack (workers : ℕ) (net : Net) (s : Shown) (ws : List Crew) (t : Shown) (n : ℕ)
+pub record IsBack (workers : ℕ) (net : Net) (s : Shown) (ws : List WorkerView) (t : Shown) (n : ℕ)
     : Type 0 where
   pub net_is : t.net ≡ net
   pub master : t.master ≡ s.master
@@ -98,7 +99,7 @@ pub record IsBack (workers : ℕ) (net : Net) (s : Shown) (ws : List Crew) (t : 
       → is_marked t.fresh b ≡ is_marked (shown_by workers ws b).fresh b
 
 -- the raises of some workers, those of the last worker first
-abbrev pub raises_of_all : List Crew → List Raise
+abbrev pub raises_of_all : List WorkerView → List Raise
 raises_of_all [] = []
 raises_of_all (w ∷ ws) = raises_of_all ws ++ w.seat.shows.raises
 
@@ -107,8 +108,9 @@ raises_of_all (w ∷ ws) = raises_of_all ws ++ w.seat.shows.raises
 -- all visits that are counted they made, and of each bank the master shows what its worker left
 pub record IsRoundByVisits (net : Net) (plan : Plan) (units visits : ℕ) (s t : Shown) : Type 0 where
   pub table : Place
-  pub workers : List Crew
-  pub rounded : AreRounded plan.sweeps units (crews plan.workers table s plan.workers) workers
+  pub workers : List WorkerView
+  pub rounded : AreRounded plan.sweeps units
+      (opened_workers plan.workers table s plan.workers) workers
   pub raises : t.raises ≡ s.raises ++ raises_of_all workers
   pub visits_are : visits ≡ sum_by (λ w. w.visits) workers
   pub back : IsBack plan.workers net (without_first plan.workers plan.workers s) workers t 0
@@ -129,6 +131,11 @@ pub record IsRoundOf (net : Net) (plan : Plan) (units visits : ℕ) (s t : Shown
   pub sights_low : IsAtMost t.sights (least net)
   pub by_visits : IsRoundByVisits net plan units visits s t
 
--- what was added to the one list, in some order, is what was added to the other
-abbrev pub HaveGrownAlike : List Raise → List Raise → List Raise → List Raise → Type 0
-HaveGrownAlike old new from to = (rs : List Raise) × HasGrownBy old new rs × (to ≡ from ++ rs)
+-- the raises of a journal, and after them those that wait, worker by worker
+abbrev pub noted_in : List Raise → List Kept → List Raise
+noted_in journal waiting = journal ++ all_of waiting
+
+-- what was added to the one list is what was added to the other, and what waited; in some order
+abbrev pub HaveGrownAlike : List Raise → List Kept → List Raise → List Raise → List Raise → Type 0
+HaveGrownAlike old waiting new from to = (rs : List Raise) × HasGrownBy old new (all_of waiting ++ rs)
+    × (to ≡ from ++ rs)

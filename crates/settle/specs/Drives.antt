@@ -5,7 +5,7 @@ use Rattle.clr_net.specs.Net.{Net}
 use Rattle.clear_core.specs.Clearing.{Clears, least}
 use Rattle.clear_core.specs.History.{ordered, replayed}
 use Rattle.clear_core.specs.declared.event.Raise.{Raise}
-use Rattle.pay_words.specs.Views.{Panel}
+use Rattle.pay_words.specs.Views.{BoardView}
 use Rattle.pay_words.specs.declared.view.Shown.{Shown}
 use Rattle.settle.specs.Bells.{IsIdle}
 use Rattle.settle.specs.Between.{IsRoundOf}
@@ -20,10 +20,8 @@ pub record IsPlan (plan : Plan) : Type 0 where
   pub some_sweeps : 1 ≤ plan.sweeps
   pub few_sweeps : plan.sweeps ≤ 1000
 
--- a run on a board: it is of the board's network and of as many workers, and its plan is within the
--- limits
-pub record IsRunOn (board : Panel) (net : Net) (plan : Plan) : Type 0 where
-  pub limits : IsPlan plan
+-- a run on a board: it is of the board's network and of as many workers
+pub record IsRunOn (board : BoardView) (net : Net) (plan : Plan) : Type 0 where
   pub workers_are : plan.workers ≡ board.table.workers
   pub net_is : net ≡ board.net
 

@@ -8,3 +8,4 @@ pub mod ByHand
 pub mod Calls
 pub mod Asks
 pub mod Made
+pub mod Openings

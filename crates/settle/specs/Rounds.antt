@@ -1,26 +1,26 @@
 -- What a round of all workers asks and does.
 use Rattle.std.specs.Prelude.{◌≡◌, ℕ, ◌+◌, ◌*◌, ◌^◌, ◌<◌, ◌≤◌, All, List, [], length, sum_by, slice_index_or}
 use Rattle.clr_net.specs.declared.TheConstants.{MAX_OWED}
-use Rattle.pay_words.specs.Views.{Panel, Place, IsAt, OwesNoRing, opening}
-use Rattle.bank_worker.specs.Views.{Crew, paid_by_all}
+use Rattle.pay_words.specs.Views.{BoardView, Place, IsAt, OwesNoRing, opening}
+use Rattle.bank_worker.specs.Views.{WorkerView, paid_by_all}
 use Rattle.bank_worker.specs.Grows.{IsRounded, MAX_VISITS, VisitsByBells}
-use Rattle.bank_worker.specs.Visits.{IsAllCalm, IsSameCrew, MayRest}
+use Rattle.bank_worker.specs.Visits.{IsAllCalm, IsSameWorker, MayRest}
 
 -- the worker may make a round on the board
-pub record IsReady (board : Panel) (w : Crew) : Type 0 where
+pub record IsReady (board : BoardView) (w : WorkerView) : Type 0 where
   pub at : IsAt board w.seat
   pub visits : w.visits ≤ 2 ^ 62
   pub no_rings : OwesNoRing w.seat.shows
   pub calm : IsAllCalm w.seat.shows
   pub rest : MayRest w.seat.shows w.desks
 
-abbrev pub AreReady : Panel → List Crew → Type 0
+abbrev pub AreReady : BoardView → List WorkerView → Type 0
 AreReady board ws = All (IsReady board) ws
 
 -- a worker that made a round
-pub record MadeRound (sweeps : ℕ) (old new : Crew) : Type 0 where
+pub record MadeRound (sweeps : ℕ) (old new : WorkerView) : Type 0 where
   pub units : ℕ
-  pub same : IsSameCrew old new
+  pub same : IsSameWorker old new
   pub visits : VisitsByBells sweeps old new
   pub rounded : IsRounded units old new
 
@@ -40,8 +40,8 @@ no_place = record {
 }
 
 -- the worker of no board
-abbrev pub no_crew : Crew
-no_crew = record {
+abbrev pub no_worker : WorkerView
+no_worker = record {
   seat = record {
     table = no_place;
     shows = opening (record { banks = []; debts = [] }) [];
@@ -52,16 +52,16 @@ no_crew = record {
   journal = [];
 }
 
-abbrev pub crew_at : List Crew → ℕ → Crew
-crew_at ws i = slice_index_or ws i no_crew
+abbrev pub worker_at : List WorkerView → ℕ → WorkerView
+worker_at ws i = slice_index_or ws i no_worker
 
 -- what the banks of a worker pay, in all
-abbrev pub paid_by_crew : Crew → ℕ
-paid_by_crew w = paid_by_all w.seat.shows w.desks
+abbrev pub paid_by_worker : WorkerView → ℕ
+paid_by_worker w = paid_by_all w.seat.shows w.desks
 
 -- each worker made a round, and together they raised n units
-pub record AreRounded (sweeps n : ℕ) (olds news : List Crew) : Type 0 where
+pub record AreRounded (sweeps n : ℕ) (olds news : List WorkerView) : Type 0 where
   pub as_many : length news ≡ length olds
-  pub each : (i : ℕ) → i < length olds → MadeRound sweeps (crew_at olds i) (crew_at news i)
-  pub rose : sum_by paid_by_crew news ≡ sum_by paid_by_crew olds + n
+  pub each : (i : ℕ) → i < length olds → MadeRound sweeps (worker_at olds i) (worker_at news i)
+  pub rose : sum_by paid_by_worker news ≡ sum_by paid_by_worker olds + n
   pub few : n ≤ length olds * (MAX_VISITS * MAX_OWED)

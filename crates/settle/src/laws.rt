@@ -1,13 +1,13 @@
 //! The laws of rounds, for any plain data. A law has nothing to run; its `ensures` is proved.
-ghost use Rattle.bank_worker.specs.Views.{Crew};
+ghost use Rattle.bank_worker.specs.Views.{WorkerView};
 ghost use Rattle.clear_core.specs.declared.event.Raise.{Raise};
 ghost use Rattle.clr_net.specs.Limits.{IsNetwork};
 ghost use Rattle.clr_net.specs.Net.{Net};
 ghost use Rattle.pay_words.specs.Traces.{start_of};
-ghost use Rattle.pay_words.specs.Views.{Panel, opening};
+ghost use Rattle.pay_words.specs.Views.{BoardView, opening};
 ghost use Rattle.pay_words.specs.declared.view.Shown.{Shown};
 ghost use Rattle.settle.specs.Bells.{AreAllDown, IsIdle, NobodyCanPayMore};
-ghost use Rattle.settle.specs.Between.{IsBetween, IsRoundOf, crews};
+ghost use Rattle.settle.specs.Between.{IsBetween, IsRoundOf, opened_workers};
 ghost use Rattle.settle.specs.ByHand.{after_round};
 ghost use Rattle.settle.specs.Drives.{AreRoundsFrom, IsPlan};
 ghost use Rattle.settle.specs.Made.{AreMadeByBells, IsJournalByBells, workers_of, workers_of_run};
@@ -27,9 +27,10 @@ pub fn opened_boards_stand_between_rounds()
 /// found want of memory, and all seats were taken back, the last worker's first: whoever makes the
 /// calls.
 pub fn boards_stand_between_rounds_after_each()
-    ensures { (board : Panel) (net : Net) (plan : Plan) (units : ℕ) (s : Shown) (ws : List Crew)
-        → net ≡ board.net → plan.workers ≡ board.table.workers → IsPlan plan → IsBetween net s
-        → AreRounded plan.sweeps units (crews plan.workers board.table s plan.workers) ws
+    ensures { (board : BoardView) (net : Net) (plan : Plan) (units : ℕ) (s : Shown)
+        (ws : List WorkerView) → net ≡ board.net → plan.workers ≡ board.table.workers
+        → IsPlan plan → IsBetween net s
+        → AreRounded plan.sweeps units (opened_workers plan.workers board.table s plan.workers) ws
         → IsBetween net (after_round plan.workers ws s) }
 {}
 
@@ -55,13 +56,13 @@ pub fn raises_of_a_run_are_made_in_visits_by_bells()
 /// holds all banks is idle, nobody can pay more: the payments are the least that clear. So it is
 /// whoever made the rounds, and whether anyone looks at the bells.
 pub fn nobody_can_pay_more_once_all_bells_are_down()
-    ensures { (board : Panel) (words : List ℕ) (s : Shown) → AreAllDown board words s
+    ensures { (board : BoardView) (words : List ℕ) (s : Shown) → AreAllDown board words s
         → IsIdle board.net s → NobodyCanPayMore board.net words s }
 {}
 
 /// So it is once a round in which no visit found want of memory was joined.
 pub fn nobody_can_pay_more_once_a_round_ends_with_all_bells_down()
-    ensures { (board : Panel) (plan : Plan) (units visits : ℕ) (s t : Shown) (words : List ℕ)
+    ensures { (board : BoardView) (plan : Plan) (units visits : ℕ) (s t : Shown) (words : List ℕ)
         → IsPlan plan → IsRoundOf board.net plan units visits s t → AreAllDown board words t
         → NobodyCanPayMore board.net words t }
 {}
@@ -69,11 +70,11 @@ pub fn nobody_can_pay_more_once_a_round_ends_with_all_bells_down()
 /// So it is in a run, before its first round and after each. The next round, if there is one, raises
 /// nothing then, and is the last.
 pub fn a_run_ends_with_the_next_round_once_all_bells_are_down()
-    ensures nobody { (board : Panel) (plan : Plan) (ns : List ℕ) (s : Shown) (words : List ℕ)
+    ensures nobody { (board : BoardView) (plan : Plan) (ns : List ℕ) (s : Shown) (words : List ℕ)
         → IsPlan plan
         → AreRoundsFrom board.net plan (opening board.net (start_of board.net board.past)) ns s
         → AreAllDown board words s → NobodyCanPayMore board.net words s }
-    ensures last { (board : Panel) (plan : Plan) (ns : List ℕ) (s t : Shown) (words : List ℕ)
+    ensures last { (board : BoardView) (plan : Plan) (ns : List ℕ) (s t : Shown) (words : List ℕ)
         (units visits : ℕ) → IsPlan plan
         → AreRoundsFrom board.net plan (opening board.net (start_of board.net board.past)) ns s
         → AreAllDown board words s → IsRoundOf board.net plan units visits s t → units ≡ 0 }

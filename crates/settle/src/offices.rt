@@ -8,8 +8,8 @@ use clr_net::{MAX_BANKS, Mem, Network};
 use std::alloc::Global;
 use std::thread::{Threads, map_indices};
 
-// An office costs a walk over all debts. Walks over fewer are not shared out among threads.
-const MANY_DEBTS: u32 = 100_000;
+/// An office costs a walk over all debts. Walks over fewer are not shared out among threads.
+pub(crate) const MANY_DEBTS: u32 = 100_000;
 
 /// The offices of all workers, the last worker's first. `Mem` is want of memory.
 pub fn offices_of(alloc: Global, net: &Network, workers: u32) -> Result<Vec<Office>, Mem>

@@ -1,36 +1,35 @@
-ghost use Rattle.settle.specs.Drives.{IsRunOn};
+ghost use Rattle.settle.specs.Drives.{IsPlan, IsRunOn};
 
 use crate::plan::Plan;
 use clr_edge::Gate;
 use clr_net::Network;
 use pay_words::Board;
 use std::alloc::Global;
-use std::thread::Threads;
 
-/// What all rounds of a run have alike: its threads, its memory, its network and plan, the board of
-/// them, and the gate that is passed before each visit.
+/// What clears networks by workers: its memory, its workers and sweeps, and the gate that is passed
+/// before each visit.
 #[derive(Drop)]
-pub struct Run<'a, R: Threads + Sync, G: Gate + Sync> {
-    pub rt: &'a R,
+pub struct Engine<'a, G: Gate> {
     pub alloc: Global,
-    pub net: &'a Network,
     pub plan: Plan,
-    pub board: &'a Board,
     pub gate: &'a G,
-    ghost on_board: { IsRunOn board.now net.now plan },
+    ghost limits: { IsPlan plan },
 }
 
-/// How the workers of a round go: beside one another, by threads, or one after another in the
+/// What all rounds of a run have alike: the engine that makes them, its network, and the board of
+/// them.
+#[derive(Drop)]
+pub struct Run<'a, G: Gate> {
+    pub engine: &'a Engine<'a, G>,
+    pub net: &'a Network,
+    pub board: &'a Board,
+    ghost on_board: { IsRunOn board.now net.now engine.now.plan },
+}
+
+/// How the workers of a round went: beside one another, by threads, or one after another in the
 /// calling thread.
 #[derive(Clone, Copy)]
 pub enum Way {
     Beside,
     InTurn,
-}
-
-/// Whether a run may start threads, or is to stay in the calling thread.
-#[derive(Clone, Copy)]
-pub(crate) enum Threading {
-    Threads,
-    Caller,
 }

@@ -1,84 +1,80 @@
 ghost use Rattle.clr_net.specs.Limits.{IsNetwork};
 ghost use Rattle.pay_words.specs.Views.{IsAt};
-ghost use Rattle.settle.specs.Asks.{IsReady};
-ghost use Rattle.settle.specs.Bells.{IsIdle};
-ghost use Rattle.settle.specs.Between.{AreOfBoard, HaveGrownAlike, IsBack, IsBetween, IsRoundOf};
-ghost use Rattle.settle.specs.Between.{crews, raises_of_all, without_first};
-ghost use Rattle.raise_journal.specs.Gathered.{HasMerged};
+ghost use Rattle.settle.specs.Asks.{IsReady, IsRoundOn};
+ghost use Rattle.settle.specs.Between.{AreOfBoard, HaveGrownAlike, IsBack, IsBetween};
+ghost use Rattle.settle.specs.Between.{noted_in, opened_workers, raises_of_all, without_first};
 ghost use Rattle.settle.specs.Calls.{HaveCalledFrom, OthersAreAtRest};
 ghost use Rattle.settle.specs.Offices.{AreOffices};
 ghost use Rattle.std.specs.Prelude.{◌≡◌, ◌+◌, ◌++◌, ◌<◌, ◌≤◌, [], IfOk, OnOk};
 ghost use Rattle.std.specs.Prelude.{length, sum_by, true, vec_len};
 
+use crate::noting::note;
 use crate::run::{Run, Way};
 use crate::state::RunState;
-use crate::work::work_all;
-use bank_worker::{Office, Visit, Worker};
-use clear_core::Journal;
+use crate::work::{work_beside, work_in_turn};
+use bank_worker::{Office, Worker};
 use clr_edge::Gate;
 use clr_net::{BankId, Mem, Network};
 use pay_words::{Board, PaySeat};
-use raise_journal::merge_in;
-use std::alloc::Global;
-use std::mem;
 use std::thread::Threads;
 
-// Of so many workers the raises are merged.
-const FEW_WORKERS: usize = 8;
-
-// So many raises are not copied where they need not be. The room of fewer stays with their worker.
-const MANY_RAISES: usize = 1_000;
+// After a round of fewer visits threads would cost more than they save.
+const MANY_VISITS: u64 = 512;
 
 // Hands a seat to each worker, from the first one on, which takes it to its office.
-fn open_workers<R: Threads + Sync, G: Gate + Sync>(
-    run: &Run<'_, R, G>,
+fn open_workers<G: Gate>(
+    run: &Run<'_, G>,
     master: &mut PaySeat,
     offices: &mut Vec<Office>,
 ) -> Result<Vec<Worker>, Mem>
-    requires offices { AreOffices run.now.net.now run.now.plan.workers run.now.plan.workers
-        offices.old.items }
+    requires offices { AreOffices run.now.net.now run.now.engine.now.plan.workers
+        run.now.engine.now.plan.workers offices.old.items }
     requires table { master.old.table ≡ run.now.board.now.table }
     requires between { IsBetween run.now.net.now master.old.shows }
-    requires seats { master.old.shows.seats + run.now.plan.workers < 4294967295 }
+    requires seats { master.old.shows.seats + run.now.engine.now.plan.workers < 4294967295 }
     ensures table { master.new.table ≡ master.old.table }
     ensures net { master.new.shows.net ≡ master.old.shows.net }
-    ensures rest { OnOk result (master.new.shows
-        ≡ without_first run.now.plan.workers run.now.plan.workers master.old.shows) }
-    ensures crews { IfOk result (λ ws. ws.items ≡ crews run.now.plan.workers
-        run.now.board.now.table master.old.shows run.now.plan.workers) }
+    ensures rest { OnOk result (master.new.shows ≡ without_first run.now.engine.now.plan.workers
+        run.now.engine.now.plan.workers master.old.shows) }
+    ensures opened { IfOk result (λ ws. ws.items ≡ opened_workers run.now.engine.now.plan.workers
+        run.now.board.now.table master.old.shows run.now.engine.now.plan.workers) }
     ensures offices { OnOk result (offices.new.items ≡ []) }
 {
-    let workers = run.plan.workers;
-    let mut crew = Vec::with_capacity(run.alloc, workers as usize)?;
+    let alloc = run.engine.alloc;
+    let workers = run.engine.plan.workers;
+    let mut opened = Vec::with_capacity(alloc, workers as usize)?;
     for number in 0..workers {
-        let seat = run.board.hand(run.alloc, master, number)?;
+        let seat = run.board.hand(alloc, master, number)?;
         let Some(office) = offices.pop() else {
             unreachable!()
         };
-        crew.push(Worker::with(run.alloc, office, seat))?;
+        opened.push(Worker::with(alloc, office, seat))?;
     }
-    Ok(crew)
+    Ok(opened)
 }
 
-// Takes the seats of the workers back, from the last one on, merges their journals into what was
-// added since the round began, calls the creditors of their raises, and keeps their offices. Answers
-// how many visits they made.
-fn close_workers<R: Threads + Sync, G: Gate + Sync>(
-    run: &Run<'_, R, G>,
+// Takes the seats of the workers back, from the last one on, notes their raises, calls the creditors
+// of these, and keeps their offices. No raise of an earlier round waits. Answers how many visits
+// they made.
+fn close_workers<G: Gate>(
+    run: &Run<'_, G>,
     master: &mut PaySeat,
     mut workers: Vec<Worker>,
     state: &mut RunState,
+    way: Way,
 ) -> Result<u64, Mem>
     requires offices { state.old.offices.items ≡ [] }
+    requires none_waits { state.old.waiting.items ≡ [] }
     requires workers { vec_len workers ≡ run.now.board.now.table.workers }
     requires network { IsNetwork run.now.board.now.net }
     requires master { IsAt run.now.board.now master.old × (master.old.shows.master ≡ true) }
-    requires crew { AreOfBoard run.now.board.now workers.items }
+    requires of_board { AreOfBoard run.now.board.now workers.items }
     ensures table { master.new.table ≡ master.old.table }
     ensures net { master.new.shows.net ≡ master.old.shows.net }
     ensures back { OnOk result (IsBack run.now.board.now.table.workers run.now.board.now.net
         master.old.shows workers.items master.new.shows 0) }
-    ensures noted { OnOk result (HaveGrownAlike state.old.journal.raises state.new.journal.raises
+    ensures noted { OnOk result (HaveGrownAlike state.old.journal.raises []
+        (noted_in state.new.journal.raises state.new.waiting.items)
         master.old.shows.raises master.new.shows.raises) }
     ensures visits { IfOk result (λ n. master.new.shows.taken ≡ master.old.shows.taken + n) }
     ensures sum { IfOk result (λ n. n ≡ sum_by (λ w. w.visits) workers.items) }
@@ -97,35 +93,19 @@ fn close_workers<R: Threads + Sync, G: Gate + Sync>(
         worker.call_creditors(0, &mut state.called);
         let (seat, made, mut office) = worker.leave();
         run.board.take_back(master, seat);
-        let left = add_raises(run.alloc, &mut state.journal, from, made, count)?;
+        let left = note(
+            run.engine.alloc,
+            &mut state.journal,
+            &mut state.waiting,
+            from,
+            made,
+            count,
+            way,
+        )?;
         office.keep(left);
         state.offices.push(office)?;
     }
     Ok(visits)
-}
-
-// Adds the raises of one of so many workers to those of its round, which stand from this place on.
-// They are merged where the workers are few. Among many each run would move most of the others, and
-// the sort at the end is quicker. Where there is no raise yet a long journal is taken as it is.
-// Answers a journal whose room is free.
-fn add_raises(
-    alloc: Global,
-    journal: &mut Journal,
-    from: usize,
-    made: Journal,
-    workers: usize,
-) -> Result<Journal, Mem>
-    requires { from ≤ length journal.old.raises }
-    ensures { OnOk result (HasMerged journal.old.raises journal.new.raises from made.raises) }
-{
-    let before = journal.as_slice().len();
-    if before == 0 && made.as_slice().len() >= MANY_RAISES {
-        return Ok(mem::replace(journal, made));
-    }
-    let place = if workers <= FEW_WORKERS { from } else { before };
-    let raises = made.as_slice();
-    merge_in(alloc, journal, place, raises)?;
-    Ok(made)
 }
 
 /// Whether two workers have a bell up, by one look at each bell. No clause can say it: any thread
@@ -150,44 +130,71 @@ pub fn calls_two_workers(net: &Network, board: &Board, workers: u32) -> bool
     false
 }
 
-/// A round of all workers, beside one another or one after another: hands a seat to each worker,
-/// lets each make its round at its office, takes the seats back, and adds all raises to the
-/// journal, merged by stamp. Answers by how many units payments rose, and how many visits there
-/// were.
+/// A round of all workers: hands a seat to each worker, lets each make its round at its office, takes
+/// the seats back, and notes all raises. Those that waited are added to the journal meanwhile, merged
+/// by stamp. Answers by how many units payments rose, and how many visits there were.
 ///
-/// Workers that go one after another look at the bells of those banks alone that are called. A bank
-/// that is not called has seen what is paid to it, and pays its division, before the round and
-/// after it.
+/// Where threads pay, after a round of so many visits, if there was one, the workers go beside one
+/// another; else as in [`round_in_turn`].
 ///
 /// After Ok the master may begin another round. While all bells are down then, nobody can pay more
 /// ([`laws`](crate::laws)). After `Mem`, which is want of memory, the master may hold fewer banks,
 /// and the caller drops the board.
 pub fn round<R: Threads + Sync, G: Gate + Sync>(
-    run: &Run<'_, R, G>,
+    rt: &R,
+    run: &Run<'_, G>,
     master: &mut PaySeat,
     state: &mut RunState,
-    way: Way,
+    last: Option<u64>,
 ) -> Result<(u64, u64), Mem>
-    requires ready { IsReady run.now.board.now run.now.net.now run.now.plan master.old state.old }
+    requires ready { IsReady run.now.board.now run.now.net.now run.now.engine.now.plan
+        master.old state.old }
     requires called { OthersAreAtRest run.now.net.now state.old.called master.old.shows }
-    requires seats { master.old.shows.seats + run.now.plan.workers < 4294967295 }
+    requires seats { master.old.shows.seats + run.now.engine.now.plan.workers < 4294967295 }
     ensures table { master.new.table ≡ master.old.table }
     ensures net { master.new.shows.net ≡ master.old.shows.net }
-    ensures idle { OnOk result (IsIdle run.now.net.now master.new.shows) }
-    ensures ready { OnOk result
-        (IsReady run.now.board.now run.now.net.now run.now.plan master.new state.new) }
-    ensures called { OnOk result
-        (OthersAreAtRest run.now.net.now state.new.called master.new.shows) }
-    ensures round { IfOk result (λ r.
-        IsRoundOf run.now.net.now run.now.plan r.0 r.1 master.old.shows master.new.shows) }
-    ensures noted { OnOk result (HaveGrownAlike state.old.journal.raises state.new.journal.raises
-        master.old.shows.raises master.new.shows.raises) }
+    ensures round { IfOk result (λ r. IsRoundOn run.now.board.now run.now.net.now
+        run.now.engine.now.plan r.0 r.1 master.old state.old master.new state.new) }
 {
+    if !threads_pay(run, last) {
+        return round_in_turn(run, master, state);
+    }
     let mut workers = open_workers(run, master, &mut state.offices)?;
-    let Visit::Raised(units) = work_all(run, &mut workers, &mut state.called, way) else {
-        return Err(Mem);
-    };
-    let visits = close_workers(run, master, workers, state)?;
+    let units = work_beside(rt, run, &mut workers, state)?;
+    let visits = close_workers(run, master, workers, state, Way::Beside)?;
     let _clock = master.clock();
     Ok((units, visits))
+}
+
+/// A round as [`round`] makes it, of workers that go one after another in the calling thread. They
+/// look at the bells of those banks alone that are called. A bank that is not called has seen what is
+/// paid to it, and pays its division, before the round and after it.
+pub fn round_in_turn<G: Gate>(
+    run: &Run<'_, G>,
+    master: &mut PaySeat,
+    state: &mut RunState,
+) -> Result<(u64, u64), Mem>
+    requires ready { IsReady run.now.board.now run.now.net.now run.now.engine.now.plan
+        master.old state.old }
+    requires called { OthersAreAtRest run.now.net.now state.old.called master.old.shows }
+    requires seats { master.old.shows.seats + run.now.engine.now.plan.workers < 4294967295 }
+    ensures table { master.new.table ≡ master.old.table }
+    ensures net { master.new.shows.net ≡ master.old.shows.net }
+    ensures round { IfOk result (λ r. IsRoundOn run.now.board.now run.now.net.now
+        run.now.engine.now.plan r.0 r.1 master.old state.old master.new state.new) }
+{
+    let mut workers = open_workers(run, master, &mut state.offices)?;
+    let units = work_in_turn(run, &mut workers, state)?;
+    let visits = close_workers(run, master, workers, state, Way::InTurn)?;
+    let _clock = master.clock();
+    Ok((units, visits))
+}
+
+// Whether threads pay for the next round, after one of so many visits, if there was one.
+fn threads_pay<G: Gate>(run: &Run<'_, G>, last: Option<u64>) -> bool {
+    let workers = run.engine.plan.workers;
+    match last {
+        None => workers > 1,
+        Some(visits) => visits >= MANY_VISITS && calls_two_workers(run.net, run.board, workers),
+    }
 }

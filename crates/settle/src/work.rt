@@ -1,109 +1,142 @@
-ghost use Rattle.bank_worker.specs.Grows.{MAX_VISITS};
-ghost use Rattle.bank_worker.specs.Visits.{WhenRaised};
-ghost use Rattle.clr_net.specs.declared.TheConstants.{MAX_OWED};
+//! The work of a round, by threads or without them.
+ghost use Rattle.raise_journal.specs.Gathered.{HasGrownBy, raises_of_all};
 ghost use Rattle.settle.specs.Calls.{AllCalledOrAtRest, AreApart};
 ghost use Rattle.settle.specs.Rounds.{AreReady, AreRounded};
-ghost use Rattle.std.specs.Prelude.{◌≡◌, ◌+◌, ◌*◌, ◌++◌, ◌^◌, ◌<◌, ◌≤◌, ℕ, length};
+ghost use Rattle.std.specs.Prelude.{◌≡◌, ◌≤◌, [], IfOk, OnOk, length};
 ghost use Rattle.std.specs.Thread.{IsSync};
 
-use crate::run::{Run, Way};
+use crate::noting::add_waiting;
+use crate::run::Run;
+use crate::state::RunState;
 use bank_worker::{BankSet, Visit, Worker};
+use clear_core::Journal;
 use clr_edge::Gate;
-use pay_words::Board;
+use clr_net::Mem;
 use std::thread::{Threads, join_mut};
 
-// A round of each of these workers: beside one another, over all their banks, or one after another,
-// over those that are called. No bank need be called any more once they went beside one another.
-pub(crate) fn work_all<R: Threads + Sync, G: Gate + Sync>(
-    run: &Run<'_, R, G>,
+// A round of each of these workers, beside one another, over all their banks. No bank need be called
+// any more then. The raises that wait are added to the journal beside the workers.
+pub(crate) fn work_beside<R: Threads + Sync, G: Gate + Sync>(
+    rt: &R,
+    run: &Run<'_, G>,
     workers: &mut [Worker],
-    called: &mut BankSet,
-    way: Way,
-) -> Visit
-    requires some { length workers.old ≡ run.now.plan.workers }
+    state: &mut RunState,
+) -> Result<u64, Mem>
+    requires some { length workers.old ≡ run.now.engine.now.plan.workers }
     requires ready { AreReady run.now.board.now workers.old }
-    requires called { AllCalledOrAtRest called.old workers.old }
-    requires apart { AreApart workers.old }
-    ensures rounded { WhenRaised result
-        (λ n. AreRounded run.now.plan.sweeps n workers.old workers.new) }
+    ensures rounded { IfOk result (λ n.
+        AreRounded run.now.engine.now.plan.sweeps n workers.old workers.new) }
+    ensures grown { OnOk result (HasGrownBy state.old.journal.raises state.new.journal.raises
+        (raises_of_all state.old.waiting.items)) }
+    ensures none_waits { OnOk result (state.new.waiting.items ≡ []) }
+    ensures offices { state.new.offices ≡ state.old.offices }
 {
-    let sweeps = run.plan.sweeps;
-    match way {
-        Way::Beside => {
-            *called = BankSet::none();
-            work(run.rt, run.board, sweeps, run.gate, workers)
-        }
-        Way::InTurn => in_turn(run.board, sweeps, run.gate, workers, called),
+    state.called = BankSet::none();
+    if state.waiting.is_empty() {
+        return work(rt, run, workers);
     }
+    work_and_add(rt, run, workers, &mut state.journal, &mut state.waiting)
 }
 
-// A round of each of these workers, one after another, over those of their banks that are called.
-fn in_turn<G: Gate>(
-    board: &Board,
-    sweeps: u32,
-    gate: &G,
+// A round of each of these workers, beside one another, while this thread adds the raises that wait
+// to the journal.
+fn work_and_add<R: Threads + Sync, G: Gate + Sync>(
+    rt: &R,
+    run: &Run<'_, G>,
     workers: &mut [Worker],
-    called: &mut BankSet,
-) -> Visit
-    requires sweeps { (1 ≤ sweeps) × (sweeps ≤ 1000) }
-    requires few { length workers.old ≤ 64 }
-    requires ready { AreReady board.now workers.old }
-    requires called { AllCalledOrAtRest called.old workers.old }
-    requires apart { AreApart workers.old }
-    ensures rounded { WhenRaised result (λ n. AreRounded sweeps n workers.old workers.new) }
+    journal: &mut Journal,
+    waiting: &mut Vec<Journal>,
+) -> Result<u64, Mem>
+    requires some { length workers.old ≡ run.now.engine.now.plan.workers }
+    requires ready { AreReady run.now.board.now workers.old }
+    ensures rounded { IfOk result (λ n.
+        AreRounded run.now.engine.now.plan.sweeps n workers.old workers.new) }
+    ensures grown { OnOk result (HasGrownBy journal.old.raises journal.new.raises
+        (raises_of_all waiting.old.items)) }
+    ensures none_waits { OnOk result (waiting.new.items ≡ []) }
 {
+    let alloc = run.engine.alloc;
+    let mut round = || -> Result<u64, Mem>
+        requires { IsSync R.row × IsSync G.row
+            × (length workers.now ≡ run.now.engine.now.plan.workers)
+            × AreReady run.now.board.now workers.now }
+        ensures { IfOk result (λ n. AreRounded run.entry.now.engine.now.plan.sweeps n
+            workers.entry.now workers.exit.now) }
+    { work(rt, run, workers) };
+    let mut add = || -> Result<(), Mem>
+        ensures grown { OnOk result (HasGrownBy journal.entry.now.raises journal.exit.now.raises
+            (raises_of_all waiting.entry.now.items)) }
+        ensures none_waits { OnOk result (waiting.exit.now.items ≡ []) }
+    { add_waiting(alloc, journal, waiting) };
+    let (units, added) = join_mut(rt, &mut round, &mut add);
+    added?;
+    units
+}
+
+// A round of each of these workers, one after another, over those of their banks that are called. The
+// raises that wait are added to the journal before.
+pub(crate) fn work_in_turn<G: Gate>(
+    run: &Run<'_, G>,
+    workers: &mut [Worker],
+    state: &mut RunState,
+) -> Result<u64, Mem>
+    requires some { length workers.old ≡ run.now.engine.now.plan.workers }
+    requires ready { AreReady run.now.board.now workers.old }
+    requires called { AllCalledOrAtRest state.old.called workers.old }
+    requires apart { AreApart workers.old }
+    ensures rounded { IfOk result (λ n.
+        AreRounded run.now.engine.now.plan.sweeps n workers.old workers.new) }
+    ensures grown { OnOk result (HasGrownBy state.old.journal.raises state.new.journal.raises
+        (raises_of_all state.old.waiting.items)) }
+    ensures none_waits { OnOk result (state.new.waiting.items ≡ []) }
+    ensures offices { state.new.offices ≡ state.old.offices }
+{
+    let by = run.engine;
+    add_waiting(by.alloc, &mut state.journal, &mut state.waiting)?;
+    let called = &mut state.called;
     let mut units = 0;
     for worker in workers.iter_mut() {
-        match worker.round_called(board, sweeps, gate, called) {
+        match worker.round_called(run.board, by.plan.sweeps, by.gate, called) {
             Visit::Raised(more) => units += more,
-            Visit::Mem => return Visit::Mem,
+            Visit::Mem => return Err(Mem),
         }
     }
-    Visit::Raised(units)
+    Ok(units)
 }
 
 // A round of each of these workers, down to one: each half of the list has a thread of its own.
 #[cycle(halves)]
 fn work<R: Threads + Sync, G: Gate + Sync>(
     rt: &R,
-    board: &Board,
-    sweeps: u32,
-    gate: &G,
+    run: &Run<'_, G>,
     workers: &mut [Worker],
-) -> Visit
-    requires sweeps { (1 ≤ sweeps) × (sweeps ≤ 1000) }
+) -> Result<u64, Mem>
     requires some { (1 ≤ length workers.old) × (length workers.old ≤ 64) }
-    requires ready { AreReady board.now workers.old }
-    ensures rounded { WhenRaised result (λ n. AreRounded sweeps n workers.old workers.new) }
+    requires ready { AreReady run.now.board.now workers.old }
+    ensures rounded { IfOk result (λ n.
+        AreRounded run.now.engine.now.plan.sweeps n workers.old workers.new) }
 {
     if workers.len() == 1 {
         let worker = &mut workers[0];
-        return worker.round(board, sweeps, gate);
+        return match worker.round(run.board, run.engine.plan.sweeps, run.engine.gate) {
+            Visit::Raised(units) => Ok(units),
+            Visit::Mem => Err(Mem),
+        };
     }
     let (front, back) = workers.split_at_mut(workers.len() / 2);
-    let mut low = || -> Visit
-        requires { IsSync R.row × IsSync G.row × (1 ≤ sweeps) × (sweeps ≤ 1000)
-            × (1 ≤ length front.now) × (length front.now ≤ 64) × AreReady board.now front.now }
-        ensures { WhenRaised result (λ n. AreRounded sweeps n front.entry.now front.exit.now) }
-    { work(rt, board, sweeps, gate, front) };
-    let mut high = || -> Visit
-        requires { IsSync R.row × IsSync G.row × (1 ≤ sweeps) × (sweeps ≤ 1000)
-            × (1 ≤ length back.now) × (length back.now ≤ 64) × AreReady board.now back.now }
-        ensures { WhenRaised result (λ n. AreRounded sweeps n back.entry.now back.exit.now) }
-    { work(rt, board, sweeps, gate, back) };
+    let mut low = || -> Result<u64, Mem>
+        requires { IsSync R.row × IsSync G.row
+            × (1 ≤ length front.now) × (length front.now ≤ 64) × AreReady run.now.board.now front.now }
+        ensures { IfOk result (λ n. AreRounded run.entry.now.engine.now.plan.sweeps n
+            front.entry.now front.exit.now) }
+    { work(rt, run, front) };
+    let mut high = || -> Result<u64, Mem>
+        requires { IsSync R.row × IsSync G.row
+            × (1 ≤ length back.now) × (length back.now ≤ 64) × AreReady run.now.board.now back.now }
+        ensures { IfOk result (λ n. AreRounded run.entry.now.engine.now.plan.sweeps n
+            back.entry.now back.exit.now) }
+    { work(rt, run, back) };
     let (a, b) = join_mut(rt, &mut low, &mut high);
-    added(a, b)
-}
-
-// The units of two visits, or want of memory where one of them met it.
-fn added(a: Visit, b: Visit) -> Visit
-    requires { WhenRaised a (λ n. n ≤ 64 * (MAX_VISITS * MAX_OWED))
-        × WhenRaised b (λ n. n ≤ 64 * (MAX_VISITS * MAX_OWED)) }
-    ensures { WhenRaised result (λ n. (k : ℕ) × (m : ℕ)
-        × (a ≡ Visit.Raised k) × (b ≡ Visit.Raised m) × (n ≡ k + m)) }
-{
-    match (a, b) {
-        (Visit::Raised(k), Visit::Raised(m)) => Visit::Raised(k + m),
-        _ => Visit::Mem,
-    }
+    let units = a? + b?;
+    Ok(units)
 }

@@ -20,6 +20,7 @@ pub order_pushed : {P : Type 0} (is_piece : ℕ → P → Type 0) (low place : �
 order_pushed is_piece low place pieces all p at so_far is grown =
     subst (AreInOrder is_piece low) (sym grown) (order_joined is_piece low place pieces (p ∷ []) at so_far (is, tt))
 
+-- with one piece at the end there is one more
 pub length_pushed : {P : Type 0} (pieces all : List P) (p : P) → all ≡ pieces ++ p ∷ [] → length all ≡ length pieces + 1
 length_pushed pieces all p grown = ap length grown ∙ length-append pieces (p ∷ [])
 

@@ -1,6 +1,5 @@
 -- Lists that are changed place by place.
-use Rattle.std.proofs.Common.{◌≡◌, ℕ, suc, ◌<◌, List, [], ◌∷◌, ◌++◌, length, get_or, take, sym, ◌∙◌, arith}
-use Rattle.std.proofs.lemmas.List.{take-append-le, take_all}
+use Rattle.std.proofs.Common.{◌≡◌, ℕ, suc, ◌<◌, List, [], ◌∷◌, length, get_or, sym, ◌∙◌, arith}
 use Rattle.stress.specs.declared.tally.Falls.{Falls}
 
 -- what stands past the ends
@@ -22,7 +21,3 @@ paired h z nil cons (v ∷ now) (x ∷ xs) (y ∷ ys) a b each =
     let rest : now ≡ z xs ys = paired h z nil cons now xs ys (omega arith) (omega arith)
     (λ k d l. each (suc k) d (omega arith)) in
     (λ at. each 0 x (omega arith) at ∷ rest at) ∙ sym (cons x y xs ys)
-
--- a list of the same length, written back in place of another
-pub written_back : {X : Type 0} (n : ℕ) (xs ys : List X) → length xs ≡ n → take n (xs ++ ys) ≡ xs
-written_back n xs ys e = take-append-le n xs ys (omega arith) ∙ take_all n xs (omega arith)

@@ -73,9 +73,11 @@ module _ (net now : Net) (cut k : ℕ) (losses items : List Loss) (d : Loss)
     (so_far : now ≡ after_shock cut (take k losses) net) (same : items ≡ losses)
     (in_items : k < length items)
     (known : All (λ l. l.bank.0 < length net.banks) losses) where
+  -- the loss in this place
   abbrev l : Loss
   l = get_or items k d
 
+  -- the bank that it is of is known
   next_known : l.bank.0 < length net.banks
   next_known = All-same (λ l. l.bank.0 < length net.banks) items losses same known k d in_items
 

@@ -33,6 +33,7 @@ pub scenarios-next : (net : Net) (before : List Scenario) (values rest : Items) 
 unfolding read_all
 scenarios-next net before values rest value is = ap (read_all net before) is
 
+-- with no value left the scenarios are those so far
 pub scenarios-end : (net : Net) (before : List Scenario) (values : Items) → values ≡ no_items
     → read_all net before values ≡ Ok before
 unfolding read_all

@@ -1,16 +1,17 @@
 //! The least cut of all cash that breaks each bank.
 ghost use Rattle.cascade.specs.Standings.{bank_numbers, health_of};
 ghost use Rattle.clear_core.specs.Clearing.{Clears};
+ghost use Rattle.clear_core.specs.Sums.{HaveSums};
 ghost use Rattle.std.specs.Prelude.{◌≡◌, ◌+◌, ◌<◌, ◌≤◌, ◌==◌, ℕ, IfOk, length, if◌then◌else◌, map};
 ghost use Rattle.std.specs.Prelude.{slice_index_or};
-ghost use Rattle.stress.specs.Breaking.{breaking as breaking_of, breaking_within as within};
+ghost use Rattle.stress.specs.Breaking.{breaking_within as within};
 ghost use Rattle.stress.specs.Breaking.{joined as joined_of, noted as noted_of};
 ghost use Rattle.stress.specs.declared.TheConstants.{MAX_CUT};
 
 use crate::MAX_CUT;
 use crate::shock::cut_cash;
 use cascade::{Health, due, worth};
-use clear_core::{Scratch, estate_of};
+use clear_core::{Payments, Scratch};
 use clear_least::least_again;
 use clr_net::{BankId, Mem, Network};
 use std::alloc::Global;
@@ -24,25 +25,17 @@ pub struct Broken {
     pub health: Health,
 }
 
-/// The least cut of all cash that breaks each bank, and how the bank stands at it, in file order.
+/// The least cut of all cash that breaks each bank, and how the bank stands at it, in file order, by
+/// the cuts from `low` up to below `high` alone: `low` of a bank that smaller cuts break too, and
+/// `high`, and sound, of one that none of these breaks.
 ///
 /// A bank is broken where it does not pay all that it owes, under the least payments that clear
-/// (Eisenberg and Noe 2001) once each bank has lost the cut. `Mem` for want of memory alone.
+/// (Eisenberg and Noe 2001) once each bank has lost the cut. Shares of the cuts may be gone through
+/// side by side, and put together by [`joined`]. `Mem` for want of memory alone.
 ///
 /// Goes down from the greatest cut, on one copy of the network. A smaller cut lowers no payment, so
 /// each clearing goes on from the payments of the one before; and it breaks no bank that was sound,
 /// so only the others pay anew and are looked at.
-pub fn breaking(alloc: Global, net: &Network) -> Result<Vec<Broken>, Mem>
-    ensures { IfOk result (λ all. all.items ≡ map (breaking_of net.now) (bank_numbers net.now)) }
-{
-    breaking_within(alloc, net, 0, MAX_CUT as u32 + 1)
-}
-
-/// What [`breaking`] tells, by the cuts from `low` up to below `high` alone: `low` of a bank that
-/// smaller cuts break too, and `high`, and sound, of one that none of these breaks.
-///
-/// So shares of the cuts may be gone through side by side, and put together by [`joined`]. `Mem` for
-/// want of memory alone.
 pub fn breaking_within(
     alloc: Global,
     net: &Network,
@@ -51,7 +44,8 @@ pub fn breaking_within(
 ) -> Result<Vec<Broken>, Mem>
     requires range { low ≤ high }
     requires high { high ≤ MAX_CUT + 1 }
-    ensures { IfOk result (λ all. all.items ≡ map (within low high net.now) (bank_numbers net.now)) }
+    ensures { IfOk result (λ all.
+        all.items ≡ map (within low high net.now) (bank_numbers net.now)) }
 {
     let none = Broken {
         cut: high,
@@ -60,20 +54,15 @@ pub fn breaking_within(
     let banks = net.banks() as usize;
     let mut all = vec![in alloc; none; banks]?;
     let mut marks = vec![in alloc; true; banks]?;
-    let mut paid = vec![in alloc; 0; net.debts() as usize]?;
+    let mut payments = Payments::none(alloc, net)?;
     let mut scratch = Scratch::of(alloc, net)?;
     let mut left = net.copy(alloc)?;
     for step in 0..high - low {
         let cut = high - step - 1;
         cut_cash(net, cut, &mut left);
         mark_broken(all.as_slice(), cut + 1, marks.as_mut_slice());
-        least_again(
-            &left,
-            paid.as_mut_slice(),
-            marks.as_mut_slice(),
-            &mut scratch,
-        );
-        note(&left, paid.as_slice(), cut, all.as_mut_slice());
+        least_again(&left, &mut payments, marks.as_mut_slice(), &mut scratch);
+        note(&left, &payments, cut, all.as_mut_slice());
     }
     Ok(all)
 }
@@ -110,30 +99,32 @@ fn mark_broken(all: &[Broken], last: u32, marks: &mut [bool])
 
 // Notes which of the banks that the last cut broke are broken by this one too, which is one less,
 // and how they stand.
-fn note(left: &Network, paid: &[u64], cut: u32, all: &mut [Broken])
-    requires clears { Clears left.now paid.now }
+fn note(left: &Network, payments: &Payments, cut: u32, all: &mut [Broken])
+    requires clears { Clears left.now payments.now.paid }
+    requires sums { HaveSums left.now payments.now }
     requires banks { length all.old ≡ length left.now.banks }
     requires cut { cut ≤ MAX_CUT }
     ensures { (i : ℕ) (none : Broken) → i < length all.old → slice_index_or all.new i none
-        ≡ noted_of left.now paid.now cut i (slice_index_or all.old i none) }
+        ≡ noted_of left.now payments.now.paid cut i (slice_index_or all.old i none) }
 {
     for number in 0..left.banks() {
         let place = number as usize;
-        all[place] = noted(left, paid, cut, BankId(number), all[place]);
+        all[place] = noted(left, payments, cut, BankId(number), all[place]);
     }
 }
 
 // What is known of a bank after one cut more.
-fn noted(left: &Network, paid: &[u64], cut: u32, bank: BankId, known: Broken) -> Broken
-    requires clears { Clears left.now paid.now }
+fn noted(left: &Network, payments: &Payments, cut: u32, bank: BankId, known: Broken) -> Broken
+    requires clears { Clears left.now payments.now.paid }
+    requires sums { HaveSums left.now payments.now }
     requires bank { bank.0 < length left.now.banks }
     requires cut { cut ≤ MAX_CUT }
-    ensures { result ≡ noted_of left.now paid.now cut bank.0 known }
+    ensures { result ≡ noted_of left.now payments.now.paid cut bank.0 known }
 {
     if known.cut != cut + 1 {
         return known;
     }
-    let health = health_under(left, paid, bank);
+    let health = health_under(left, payments, bank);
     if health == Health::Sound {
         return known;
     }
@@ -141,14 +132,16 @@ fn noted(left: &Network, paid: &[u64], cut: u32, bank: BankId, known: Broken) ->
 }
 
 // How a bank stands under payments that clear.
-fn health_under(net: &Network, paid: &[u64], bank: BankId) -> Health
-    requires clears { Clears net.now paid.now }
+fn health_under(net: &Network, payments: &Payments, bank: BankId) -> Health
+    requires clears { Clears net.now payments.now.paid }
+    requires sums { HaveSums net.now payments.now }
     requires bank { bank.0 < length net.now.banks }
-    ensures { result ≡ health_of net.now paid.now bank.0 }
+    ensures { result ≡ health_of net.now payments.now.paid bank.0 }
 {
     prove!(bank.0 < net.banks());
     let due = due(net, bank);
-    if due <= estate_of(net, bank, paid) {
+    let estate = net.bank(bank).cash + payments.sums[bank.0 as usize].received;
+    if due <= estate {
         Health::Sound
     } else if worth(net, bank) < due {
         Health::Fundamental

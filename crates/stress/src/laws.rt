@@ -64,8 +64,9 @@ pub fn scenario_adds_up()
 
 /// One scenario more counts by how the banks stand in it.
 pub fn one_scenario_more_counts_once()
-    ensures { (net : Net) (past : List Scenario) (s : Scenario) → tally net (past ++ s ∷ [])
-        ≡ added (tally net past) (tally_of_one (standings (shocked net s) (least (shocked net s)))) }
+    ensures { (net : Net) (past : List Scenario) (s : Scenario) → let left = shocked net s in
+        tally net (past ++ s ∷ [])
+        ≡ added (tally net past) (tally_of_one (standings left (least left))) }
 {}
 
 /// Shares of the scenarios, counted apart, add up.

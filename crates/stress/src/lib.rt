@@ -12,6 +12,7 @@
 mod broken;
 mod document;
 pub mod laws;
+mod plain;
 mod read;
 mod scenario;
 mod shape;
@@ -19,10 +20,11 @@ mod shock;
 mod sums;
 mod tally;
 
-pub use broken::{Broken, breaking, breaking_within, joined};
+pub use broken::{Broken, breaking_within, joined};
+pub use plain::{breaking, shocked};
 pub use read::read_scenarios;
 pub use scenario::{Loss, Losses, Scenario};
-pub use shock::{shock_again, shocked};
+pub use shock::shock_again;
 pub use sums::{Outcome, outcome_of};
 pub use tally::{Falls, Tally};
 

@@ -37,7 +37,7 @@ pub fn read_scenarios(alloc: Global, net: &Network, bytes: &[u8]) -> Result<Vec<
         → IsErrOf result (ReadNet.Refused (fault_at file.Scenarios 0 kind.FileSize)) }
     ensures lawful { IfOk result (λ all. All (IsScenarioOf net.now) all.items) }
     ensures in_limit { IfOk result (λ all. All HasLossesInLimit all.items) }
-    ensures few { IfOk result (λ all. length all.items ≤ MAX_SCENARIOS) }
+    ensures scenarios_in_limit { IfOk result (λ all. length all.items ≤ MAX_SCENARIOS) }
 {
     if bytes.len() as u64 > MAX_SCENARIOS_BYTES {
         return Err(ReadNet::Refused(fault(0, FaultKind::FileSize)));

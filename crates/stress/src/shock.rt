@@ -1,33 +1,20 @@
 ghost use Rattle.cascade.specs.MoreCash.{IsOfOtherCash};
 ghost use Rattle.clr_net.specs.Limits.{IsNetwork};
 ghost use Rattle.clr_net.specs.declared.TheConstants.{MAX_CASH};
-ghost use Rattle.std.specs.Prelude.{◌≡◌, ◌≤◌, ◌-◌, [], IfOk};
-ghost use Rattle.stress.specs.Shocks.{IsScenarioOf, KeepsAllButCash};
+ghost use Rattle.std.specs.Prelude.{◌≡◌, ◌≤◌, ◌-◌, []};
+ghost use Rattle.stress.specs.Shocks.{IsScenarioOf};
 ghost use Rattle.stress.specs.Shocks.{after_cut as cash_after_cut, after_shock, shocked as shocked_net};
 ghost use Rattle.stress.specs.declared.TheConstants.{MAX_CUT};
 
 use crate::scenario::Scenario;
-use clr_net::{BankId, Mem, Network};
-use std::alloc::Global;
-
-/// The network that a scenario leaves: each bank keeps `cash - cash * cut / 1000`, with the
-/// quotient rounded down, less its loss, and not less than nothing.
-///
-/// All else is as before. Such shocks to what banks have from outside are those of Glasserman and
-/// Young (2015). `Mem` for want of memory alone. Costs a copy of the network, and a step for each
-/// bank and each loss.
-pub fn shocked(alloc: Global, net: &Network, scenario: &Scenario) -> Result<Network, Mem>
-    requires { IsScenarioOf net.now scenario.now }
-    ensures left { IfOk result (λ left. left ≡ shocked_net net.now scenario.now) }
-    ensures kept { IfOk result (λ left. KeepsAllButCash net.now left) }
-{
-    let mut left = net.copy(alloc)?;
-    shock_again(net, scenario, &mut left);
-    Ok(left)
-}
+use clr_net::{BankId, Network};
 
 /// Makes a copy of a network, whatever cash its banks have by now, the network that a scenario
-/// leaves of the first, as [`shocked`] does. Takes no memory.
+/// leaves of the first: each bank keeps `cash - cash * cut / 1000`, with the quotient rounded down,
+/// less its loss, and not less than nothing.
+///
+/// All else is as before. Such shocks to what banks have from outside are those of Glasserman and
+/// Young (2015). Takes no memory. Costs a step for each bank and each loss.
 pub fn shock_again(net: &Network, scenario: &Scenario, left: &mut Network)
     requires scenario { IsScenarioOf net.now scenario.now }
     requires alike { IsOfOtherCash net.now left.old }

@@ -51,6 +51,7 @@ one_each : (net : Net) (last : List ℕ) (i : ℕ) → last ≡ replicate (lengt
 one_each net last i ones l = ap (λ (f : List ℕ). get_or f i 0) ones
     ∙ get_or-replicate (length net.banks) i 1 0 l
 
+-- so at first what is known of all banks is current
 pub all_current : (net : Net) (s : ℕ → ℕ → ℕ) (last P Q : List ℕ) → IsNetwork net
     → last ≡ replicate (length net.banks) 1 → AreCurrent net s last P Q
 all_current net s last P Q network ones x l e =

@@ -107,9 +107,11 @@ pub greatest_rounds : (net : Net) → IsGreatest net (greatest net)
 unfolding pay
 greatest_rounds net = greatest_by_is net (spend net) (spend_mono net)
 
+-- the greatest payments clear
 pub greatest_clears : (net : Net) → Clears net (greatest net)
 greatest_clears net = (greatest_rounds net).clears
 
+-- and no other list is the greatest
 pub greatest_only : (net : Net) (P : List ℕ) → IsGreatest net P → P ≡ greatest net
 unfolding pay
 greatest_only net = greatest_by_only net (spend net) (spend_mono net)

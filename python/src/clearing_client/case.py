@@ -10,14 +10,20 @@ import os
 import pathlib
 import stat
 import tempfile
-from decimal import Context, Decimal, Inexact, InvalidOperation, localcontext
+from decimal import Decimal, InvalidOperation, localcontext
 from typing import IO, Any, Dict, Iterable, List, Mapping, NamedTuple, Optional, Tuple, Union
 
 from . import description as described
-from .description import LABEL_COLUMNS, NAME, ImportLine, ImportSummary, Origin
+from .decimals import exact
+from .description import (
+    LABEL_COLUMNS, NAME, Document, ImportLine, ImportSummary, Origin, object_in, objects_in, text_in,
+    text_or_none,
+)
 from .errors import CaseError, UnreadableError
+from .fields import long_fields
+from .inputs import File, ScenariosLike, third_of
 from .limits import MOST, STANDARD, WIDE
-from .network import File, Network, ScenariosLike, third_of
+from .network import Network
 
 __all__ = ["Case", "ImportLine", "ImportSummary", "Label", "Origin", "Source"]
 
@@ -29,7 +35,6 @@ SHEETS = "sources"
 """The folder of a case with copies of the sheets that it was made of."""
 MOST_OF_A_SHEET = 400_000_000
 """No sheet that is read is longer."""
-MOST_DIGITS = 100
 
 
 class Label(NamedTuple):
@@ -89,7 +94,7 @@ class Case:
         keep: Optional[int] = None,
         labels: Union[Mapping[str, Label], Iterable[Label]] = (),
         scenarios: Union[ScenariosLike, bytes, None] = None,
-        contributors: Iterable[Mapping[str, Any]] = (),
+        contributors: Iterable[Mapping[str, object]] = (),
         sources: Iterable[Source] = (),
         summary: Optional[ImportSummary] = None,
         origin: Optional[Origin] = None,
@@ -109,7 +114,7 @@ class Case:
         self.summary, self.origin = summary, origin
         self.version, self.created = version, created
         self.notes: Tuple[str, ...] = ()
-        self.others: Dict[str, Any] = {}
+        self.others: Document = {}
         """What others have put into the description, which is kept as it is."""
         self.folder: Optional[pathlib.Path] = None
         self.sheet_names: Tuple[str, ...] = ()
@@ -150,8 +155,7 @@ class Case:
 
     def amount(self, units: int) -> Decimal:
         """What some units are worth in the currency, exactly. Fails where it has more digits than are kept."""
-        exact = Context(prec=MOST_DIGITS, traps=[Inexact, InvalidOperation])
-        with localcontext(exact):
+        with localcontext(exact()):
             return units * self.unit
 
     def label(self, bank: str) -> Label:
@@ -172,7 +176,7 @@ class Case:
         document = None if data is None else described.parse(data, os.fspath(folder))
         case = cls._of_document(document or {})
         case.folder, case.is_described = place, document is not None
-        places = {one.get("path"): at for at, one in enumerate((document or {}).get("resources", ()))}
+        places = {one.get("path"): at for at, one in enumerate(objects_in(document or {}, "resources"))}
         names = sheets_in(place)
         case.sheet_names = tuple(sorted(names, key=lambda name: places.get(f"{SHEETS}/{name}", len(places))))
         for what, name in FILES.items():
@@ -183,40 +187,42 @@ class Case:
         labels = content_in(place, FILES["labels"], WIDE_BYTES)
         case.labels = {} if labels is None else labels_in(labels, case.paths["labels"])
         case.scenarios = content_in(place, FILES["scenarios"], MOST.bytes["scenarios"] + 1)
-        case.notes = () if document is None else tuple(case._told(document, place))
+        case.notes = () if document is None else tuple(case._notes_on(document, place))
         return case
 
     @classmethod
     def of_files(cls, banks: File, debts: File, **more: Any) -> "Case":
-        """A case of the two files alone. They are read when the network is asked for."""
+        """A case of the two files alone. They are read when the network is asked for. The others are the words of
+        `Case`, which no type of Python 3.9 can repeat."""
         case = cls(None, **more)
         case.paths = {"banks": os.fspath(banks), "debts": os.fspath(debts)}
         return case
 
     @classmethod
-    def _of_document(cls, document: Mapping[str, Any]) -> "Case":
-        ours = document.get("clearing", {})
+    def _of_document(cls, document: Mapping[str, object]) -> "Case":
+        ours = object_in(document, "clearing")
+        keep = ours.get("keep")
         case = cls(
-            title=document.get("title", ""),
-            description=document.get("description", ""),
-            as_of=ours.get("asOf"),
-            test=ours.get("test"),
-            currency=ours.get("currency"),
-            unit=ours.get("unit", "1"),
+            title=text_in(document, "title"),
+            description=text_in(document, "description"),
+            as_of=text_or_none(ours, "asOf"),
+            test=text_or_none(ours, "test"),
+            currency=text_or_none(ours, "currency"),
+            unit=text_in(ours, "unit") or "1",
             # What says that the standard ones were enough asks for nothing.
             limits=WIDE if ours.get("limits") == WIDE else None,
-            keep=ours.get("keep"),
-            contributors=document.get("contributors", ()),
-            sources=map(source_of, document.get("sources", ())),
-            summary=described.import_of(ours["import"]) if "import" in ours else None,
-            origin=described.origin_of(ours["from"]) if "from" in ours else None,
-            version=document.get("version"),
-            created=document.get("created"),
+            keep=keep if isinstance(keep, int) else None,
+            contributors=objects_in(document, "contributors"),
+            sources=map(source_of, objects_in(document, "sources")),
+            summary=described.import_of(object_in(ours, "import")) if "import" in ours else None,
+            origin=described.origin_of(object_in(ours, "from")) if "from" in ours else None,
+            version=text_or_none(document, "version"),
+            created=text_or_none(document, "created"),
         )
         case.others = dict(document)
         return case
 
-    def _told(self, document: Mapping[str, Any], place: pathlib.Path) -> List[str]:
+    def _notes_on(self, document: Mapping[str, object], place: pathlib.Path) -> List[str]:
         """What is to be told of a folder with a description: files that are others than was said, and keys that nobody
         knows."""
         notes = []
@@ -233,11 +239,10 @@ class Case:
 
     # Writing
 
-    def document(self, files: Optional[Mapping[str, bytes]] = None) -> Dict[str, Any]:
+    def document(self, files: Optional[Mapping[str, bytes]] = None) -> Document:
         """The description of the case with some files, as it is written: the keys of the standard, and ours under
         `clearing`."""
-        ours: Dict[str, Any] = {**self.others.get("clearing", {})}
-        values = {
+        values: Document = {
             "asOf": self.as_of.isoformat() if self.as_of else None,
             "test": self.test,
             "currency": self.currency,
@@ -247,8 +252,9 @@ class Case:
             "import": self.summary.as_json() if self.summary else None,
             "from": self.origin.as_json() if self.origin else None,
         }
-        ours = {**{key: value for key, value in ours.items() if key not in values}, **without_none(values)}
-        made = {
+        before = object_in(self.others, "clearing")
+        ours = {**{key: value for key, value in before.items() if key not in values}, **without_none(values)}
+        whole: Document = {
             "$schema": described.PROFILE,
             "name": self.others.get("name") or described.name_of(self.title),
             "title": self.title or None,
@@ -260,40 +266,41 @@ class Case:
             "resources": self._resources(files or {}),
             "clearing": ours,
         }
-        return {**{key: value for key, value in self.others.items() if key not in made}, **without_none(made)}
+        return {**{key: value for key, value in self.others.items() if key not in whole}, **without_none(whole)}
 
-    def _resources(self, files: Mapping[str, bytes]) -> List[Dict[str, Any]]:
+    def _resources(self, files: Mapping[str, bytes]) -> List[Document]:
         """The files as resources; what others have said of them is kept."""
-        before = {one.get("path"): one for one in self.others.get("resources", ())}
-        made = [{**before.get(path, {}), **described.resource_of(path, data)} for path, data in files.items()]
-        kept = [one for one in self.others.get("resources", ()) if one.get("path") is None]
-        return [*made, *kept] or [{"name": "banks", "path": "banks.csv"}]
+        resources = objects_in(self.others, "resources")
+        before = {one.get("path"): one for one in resources}
+        anew = [{**before.get(path, {}), **described.resource_of(path, data)} for path, data in files.items()]
+        others = [one for one in resources if one.get("path") is None]
+        return [*anew, *others] or [{"name": "banks", "path": "banks.csv"}]
 
     def sheets(self) -> Dict[str, bytes]:
         """The copies of sheets in the folder that the case was read from, by their names. They are read when they are
         asked for; one that is not there any more cannot be read."""
-        found: Dict[str, bytes] = {}
+        sheets: Dict[str, bytes] = {}
         for name in self.sheet_names:
             place = self.folder or pathlib.Path()
             data = content_in(place, f"{SHEETS}/{name}", MOST_OF_A_SHEET)
             if data is None or len(data) > MOST_OF_A_SHEET:
                 why = "it is not there any more" if data is None else f"it is longer than {MOST_OF_A_SHEET:,} bytes"
                 raise UnreadableError(os.fspath(place / SHEETS / name), why)
-            found[name] = data
-        return found
+            sheets[name] = data
+        return sheets
 
     def files(self, sources: Optional[Mapping[str, bytes]] = None) -> Dict[str, bytes]:
         """The files of the case by their paths in its folder, with the description last. `sources` are copies of sheets
         by their names, which stand in `sources/`: those of the folder that it was read from where they are not said."""
         banks, debts = self.network._banks, self.network._debts
-        made = {"banks.csv": banks, "debts.csv": debts}
+        files = {"banks.csv": banks, "debts.csv": debts}
         if self.scenarios is not None:
-            made["scenarios.toml"] = self.scenarios
+            files["scenarios.toml"] = self.scenarios
         if self.labels:
-            made["labels.csv"] = labels_text(self.labels.values()).encode()
+            files["labels.csv"] = labels_text(self.labels.values()).encode()
         copies = self.sheets() if sources is None else sources
-        made.update({f"{SHEETS}/{name}": data for name, data in copies.items()})
-        return {**made, NAME: self.description_of(made).encode()}
+        files.update({f"{SHEETS}/{name}": data for name, data in copies.items()})
+        return {**files, NAME: self.description_of(files).encode()}
 
     def description_of(self, files: Mapping[str, bytes]) -> str:
         """The description of the case with some files, by their paths in its folder. Fails with `CaseError` where it
@@ -418,14 +425,14 @@ def hash_in(place: pathlib.Path, path: str) -> str:
     if file is None:
         return ""
     left = MOST_OF_A_SHEET if path.startswith(f"{SHEETS}/") else WIDE_BYTES
-    found = hashlib.sha256()
+    digest = hashlib.sha256()
     with file:
         while block := file.read(1 << 20):
             left -= len(block)
             if left < 0:
                 return ""
-            found.update(block)
-    return f"sha256:{found.hexdigest()}"
+            digest.update(block)
+    return f"sha256:{digest.hexdigest()}"
 
 
 def sheets_in(place: pathlib.Path) -> Tuple[str, ...]:
@@ -451,20 +458,21 @@ def sheets_in(place: pathlib.Path) -> Tuple[str, ...]:
 def labels_in(data: bytes, name: str) -> Dict[str, Label]:
     """The labels of a file `bank,short,full,group,country`, by the names of the banks."""
     try:
-        rows = list(csv.reader(io.StringIO(data.decode("utf-8-sig"), newline=""), strict=True))
+        with long_fields(len(data)):
+            rows = list(csv.reader(io.StringIO(data.decode("utf-8-sig"), newline=""), strict=True))
     except (ValueError, csv.Error) as fault:
         raise CaseError(name, "", f"it is not CSV in UTF-8: {fault}") from fault
     rows = [[field.strip(" \t") for field in row] for row in rows if row]
     if not rows or tuple(rows[0]) != LABEL_COLUMNS:
         raise CaseError(name, "", f"the first row is not {','.join(LABEL_COLUMNS)}")
-    found: Dict[str, Label] = {}
+    labels: Dict[str, Label] = {}
     for at, row in enumerate(rows[1:], 1):
         if len(row) != len(LABEL_COLUMNS):
             raise CaseError(name, f"row {at}", f"{len(row)} fields in place of {len(LABEL_COLUMNS)}")
-        if row[0] in found:
+        if row[0] in labels:
             raise CaseError(name, f"row {at}", f"{row[0][:80]!r} has a label already")
-        found[row[0]] = Label(*row)
-    return found
+        labels[row[0]] = Label(*row)
+    return labels
 
 
 def labels_text(labels: Iterable[Label]) -> str:
@@ -477,9 +485,9 @@ def labels_text(labels: Iterable[Label]) -> str:
 # Small parts
 
 
-def source_of(found: Mapping[str, Any]) -> Source:
+def source_of(part: Mapping[str, object]) -> Source:
     """A source from what stands in a description that meets the schema."""
-    return Source(found.get("title", ""), found.get("path", ""), found.get("hash", ""))
+    return Source(text_in(part, "title"), text_in(part, "path"), text_in(part, "hash"))
 
 
 def exact_unit(unit: Union[Decimal, int, str]) -> Decimal:
@@ -502,11 +510,11 @@ def scenarios_bytes(scenarios: Union[ScenariosLike, bytes, None]) -> Optional[by
     return third_of(scenarios)[0][-1]
 
 
-def without_none(values: Mapping[str, Any]) -> Dict[str, Any]:
+def without_none(values: Mapping[str, object]) -> Document:
     """What is there."""
     return {key: value for key, value in values.items() if value is not None}
 
 
-def without_empty(values: Mapping[str, Any]) -> Dict[str, Any]:
+def without_empty(values: Mapping[str, object]) -> Document:
     """What is there and not empty."""
     return {key: value for key, value in values.items() if value not in (None, "")}

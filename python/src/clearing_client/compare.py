@@ -2,10 +2,11 @@
 from __future__ import annotations
 
 from dataclasses import dataclass
-from decimal import Decimal
+from decimal import Decimal, localcontext
 from typing import Dict, List, NamedTuple, Optional, Union
 
 from .case import Case
+from .decimals import exact
 from .errors import CaseError
 from .network import Network
 from .table import Table
@@ -34,7 +35,8 @@ class Difference(NamedTuple):
         """How much more of `paid`, `kept` or `owed` there is in the second case; less is below 0. A bank that is not
         there has 0."""
         before, after = getattr(self, f"{what}_before"), getattr(self, f"{what}_after")
-        return (after or Decimal(0)) - (before or Decimal(0))
+        with localcontext(exact()):
+            return (after or Decimal(0)) - (before or Decimal(0))
 
 
 class Holding(NamedTuple):
@@ -60,7 +62,8 @@ class Comparison:
 
     def total(self, what: str) -> Decimal:
         """How much more of `paid`, `kept` or `owed` there is in all."""
-        return sum((bank.more(what) for bank in self.banks), Decimal(0))
+        with localcontext(exact()):
+            return sum((bank.more(what) for bank in self.banks), Decimal(0))
 
 
 def compare(before: Union[Case, Network], after: Union[Case, Network]) -> Comparison:
@@ -88,11 +91,11 @@ def as_case(one: Union[Case, Network]) -> Case:
 def holdings_of(case: Case) -> Dict[str, Holding]:
     """How the banks of a case stand."""
     outside = {bank.name: bank.outside for bank in case.network.banks}
-    found = {}
+    holdings = {}
     for bank in case.network.defaults().standings:
         paid, owed = bank.paid + bank.outside_paid, bank.owed + outside[bank.bank]
-        found[bank.bank] = Holding(bank.state, case.amount(paid), case.amount(bank.equity), case.amount(owed))
-    return found
+        holdings[bank.bank] = Holding(bank.state, case.amount(paid), case.amount(bank.equity), case.amount(owed))
+    return holdings
 
 
 def difference_of(bank: str, one: Optional[Holding], other: Optional[Holding]) -> Difference:

@@ -12,9 +12,10 @@ import json
 import os
 import re
 import time
-from typing import Any, Dict, List, Mapping, NamedTuple, Optional, Tuple
+from typing import Dict, List, Mapping, NamedTuple, Optional, Tuple
 
 from .errors import CaseError
+from .fields import long_fields
 from .format import MAX_CASH, MAX_CLAIM, MAX_OUTSIDE, RULES
 from .schema import faults_of
 
@@ -30,6 +31,41 @@ STEPS = ("read", "leftOut", "summed", "rounded", "converted")
 LABEL_COLUMNS = ("bank", "short", "full", "group", "country")
 
 
+Document = Dict[str, object]
+"""An object of JSON. What is read of a document that meets the schema has the types that this says; what is not there
+is empty."""
+
+
+def text_in(part: Mapping[str, object], key: str) -> str:
+    """A text of a document."""
+    value = part.get(key)
+    return value if isinstance(value, str) else ""
+
+
+def text_or_none(part: Mapping[str, object], key: str) -> Optional[str]:
+    """A text of a document, None where it is not there."""
+    value = part.get(key)
+    return value if isinstance(value, str) else None
+
+
+def texts_in(part: Mapping[str, object], key: str) -> Tuple[str, ...]:
+    """A list of texts of a document."""
+    value = part.get(key)
+    return tuple(value) if isinstance(value, (list, tuple)) else ()
+
+
+def object_in(part: Mapping[str, object], key: str) -> Document:
+    """An object of a document."""
+    value = part.get(key)
+    return value if isinstance(value, dict) else {}
+
+
+def objects_in(part: Mapping[str, object], key: str) -> List[Document]:
+    """A list of objects of a document."""
+    value = part.get(key)
+    return list(value) if isinstance(value, (list, tuple)) else []
+
+
 @dataclasses.dataclass(frozen=True)
 class ImportLine:
     """What an import read, left out, summed, rounded or converted: what it is, how many, their sum in the currency of
@@ -40,7 +76,7 @@ class ImportLine:
     sum: Optional[str] = None
     where: str = ""
 
-    def as_json(self) -> Dict[str, Any]:
+    def as_json(self) -> Document:
         """The line without what is not known."""
         return {key: value for key, value in dataclasses.asdict(self).items() if value not in (None, "")}
 
@@ -56,11 +92,11 @@ class ImportSummary(NamedTuple):
     rounded: Tuple[ImportLine, ...] = ()
     converted: Tuple[ImportLine, ...] = ()
 
-    def as_json(self) -> Dict[str, Any]:
+    def as_json(self) -> Document:
         """The summary as it stands in the description."""
         steps = (self.read, self.left_out, self.summed, self.rounded, self.converted)
-        told = {key: [line.as_json() for line in lines] for key, lines in zip(STEPS, steps)}
-        return {"command": list(self.command), **told}
+        lines_of = {key: [line.as_json() for line in lines] for key, lines in zip(STEPS, steps)}
+        return {"command": list(self.command), **lines_of}
 
 
 class Origin(NamedTuple):
@@ -71,38 +107,41 @@ class Origin(NamedTuple):
     hashes: Mapping[str, str] = {}
     changes: Tuple[str, ...] = ()
 
-    def as_json(self) -> Dict[str, Any]:
+    def as_json(self) -> Document:
         """The origin as it stands in the description."""
         return {"title": self.title, "hashes": dict(self.hashes), "changes": list(self.changes)}
 
 
-def import_of(found: Mapping[str, Any]) -> ImportSummary:
+def import_of(part: Mapping[str, object]) -> ImportSummary:
     """The summary of an import from what stands in a description that meets the schema."""
-    steps = [tuple(map(import_line_of, found.get(step, ()))) for step in STEPS]
-    return ImportSummary(tuple(found.get("command", ())), *steps)
+    steps = [tuple(map(import_line_of, objects_in(part, step))) for step in STEPS]
+    return ImportSummary(texts_in(part, "command"), *steps)
 
 
-def import_line_of(found: Mapping[str, Any]) -> ImportLine:
+def import_line_of(part: Mapping[str, object]) -> ImportLine:
     """A line of an import from what stands in a description that meets the schema."""
-    return ImportLine(found["what"], found.get("count"), found.get("sum"), found.get("where", ""))
+    count = part.get("count")
+    number = count if isinstance(count, int) else None
+    return ImportLine(text_in(part, "what"), number, text_or_none(part, "sum"), text_in(part, "where"))
 
 
-def origin_of(found: Mapping[str, Any]) -> Origin:
+def origin_of(part: Mapping[str, object]) -> Origin:
     """The origin from what stands in a description that meets the schema."""
-    return Origin(found.get("title", ""), dict(found.get("hashes", {})), tuple(found.get("changes", ())))
+    hashes = {name: str(digest) for name, digest in object_in(part, "hashes").items()}
+    return Origin(text_in(part, "title"), hashes, texts_in(part, "changes"))
 
 
 # Reading
 
 
-def schema() -> Dict[str, Any]:
+def schema() -> Document:
     """The JSON schema of a description, as it is published with the package."""
     text = importlib.resources.files(__package__).joinpath("case.schema.json").read_text(encoding="utf-8")
-    found: Dict[str, Any] = json.loads(text)
-    return found
+    schema: Document = json.loads(text)
+    return schema
 
 
-def parse(data: bytes, folder: str) -> Dict[str, Any]:
+def parse(data: bytes, folder: str) -> Document:
     """The description of a case in a folder from the bytes of its file. Fails with `CaseError` where it does not meet
     the schema."""
     if len(data) > MOST_BYTES:
@@ -112,19 +151,20 @@ def parse(data: bytes, folder: str) -> Dict[str, Any]:
         document = json.loads(data.decode("utf-8-sig"), object_pairs_hook=without_twins, parse_constant=no_number)
     except ValueError as fault:
         raise CaseError(folder, "", f"{NAME} is not JSON in UTF-8: {fault}") from fault
-    check(document, folder)
-    found: Dict[str, Any] = document
-    return found
+    return check(document, folder)
 
 
-def check(document: Any, folder: str) -> None:
-    """Fails with `CaseError` where a description does not meet the schema: its first fault, with the key."""
+def check(document: object, folder: str) -> Document:
+    """A description that meets the schema. Fails with `CaseError` where one does not: its first fault, with the key."""
     for fault in faults_of(document, schema()):
         raise CaseError(folder, fault.key, fault.what)
-    as_of = document.get("clearing", {}).get("asOf")
+    if not isinstance(document, dict):
+        raise CaseError(folder, "", f"{NAME} is no object")
+    as_of = object_in(document, "clearing").get("asOf")
     if as_of is not None:
-        date_of(as_of, folder)
+        date_of(str(as_of), folder)
     paths_of(document, folder)
+    return document
 
 
 def check_depth(data: bytes, folder: str) -> None:
@@ -140,14 +180,14 @@ def check_depth(data: bytes, folder: str) -> None:
             raise CaseError(folder, "", f"{NAME} nests deeper than {MOST_DEEP}")
 
 
-def without_twins(pairs: List[Tuple[str, Any]]) -> Dict[str, Any]:
+def without_twins(pairs: List[Tuple[str, object]]) -> Document:
     """An object none of whose keys stands twice."""
-    found: Dict[str, Any] = {}
+    values: Document = {}
     for key, value in pairs:
-        if key in found:
+        if key in values:
             raise ValueError(f"the key {key[:80]!r} stands twice")
-        found[key] = value
-    return found
+        values[key] = value
+    return values
 
 
 def no_number(word: str) -> None:
@@ -163,20 +203,20 @@ def date_of(text: str, folder: str = "") -> datetime.date:
         raise CaseError(folder, "clearing.asOf", f"{text[:80]!r} is no date YYYY-MM-DD: {fault}") from fault
 
 
-def paths_of(document: Mapping[str, Any], folder: str) -> Dict[str, Dict[str, Any]]:
+def paths_of(document: Mapping[str, object], folder: str) -> Dict[str, Document]:
     """The resources of a description by their paths. Fails at a path that leads out of the folder, and at two of one
     path."""
-    found: Dict[str, Dict[str, Any]] = {}
-    for place, resource in enumerate(document.get("resources", ())):
+    resources: Dict[str, Document] = {}
+    for place, resource in enumerate(objects_in(document, "resources")):
         path = resource.get("path")
-        if path is None:
+        if not isinstance(path, str):
             continue
         if not is_inside(path):
             raise CaseError(folder, f"resources[{place}].path", f"{path[:80]!r} is not a path below the folder")
-        if path in found:
+        if path in resources:
             raise CaseError(folder, f"resources[{place}].path", f"{path[:80]!r} is described twice")
-        found[path] = resource
-    return found
+        resources[path] = resource
+    return resources
 
 
 def is_inside(path: str) -> bool:
@@ -187,25 +227,25 @@ def is_inside(path: str) -> bool:
     return is_plain and "\\" not in path and ":" not in parts[0] and not any(ord(letter) < 32 for letter in path)
 
 
-def unknown_keys(document: Mapping[str, Any]) -> List[str]:
+def unknown_keys(document: Mapping[str, object]) -> List[str]:
     """The keys under `clearing` that are none of ours."""
-    ours = document.get("clearing", {})
-    found = [f"clearing.{key}" for key in ours if key not in OURS]
+    ours = object_in(document, "clearing")
+    unknown = [f"clearing.{key}" for key in ours if key not in OURS]
     inner = {"import": ("command", *STEPS), "from": ("title", "hashes", "changes")}
     for name, keys in inner.items():
-        found += [f"clearing.{name}.{key}" for key in ours.get(name, {}) if key not in keys]
-    return found
+        unknown += [f"clearing.{name}.{key}" for key in object_in(ours, name) if key not in keys]
+    return unknown
 
 
 # Writing
 
 
-def text_of(document: Mapping[str, Any]) -> str:
+def text_of(document: Mapping[str, object]) -> str:
     """A description as a file: keys in a fixed order, two spaces, a line end."""
     ordered = {key: document[key] for key in KEYS if key in document}
     ordered.update({key: value for key, value in document.items() if key not in ordered})
     ours = document.get("clearing")
-    if ours is not None:
+    if isinstance(ours, dict):
         known = {key: ours[key] for key in OURS if key in ours}
         ordered["clearing"] = {**known, **{key: ours[key] for key in ours if key not in OURS}}
     return json.dumps(ordered, ensure_ascii=False, indent=2) + "\n"
@@ -216,11 +256,24 @@ def hash_of(data: bytes) -> str:
     return f"sha256:{hashlib.sha256(data).hexdigest()}"
 
 
+MOMENT = "SOURCE_DATE_EPOCH"
+"""The environment variable that says the moment in place of the clock, so that what is made can be made again."""
+
+
+def seconds() -> int:
+    """This moment in seconds since 1970, or that of the environment variable where it has something in it. Fails where
+    that is no number of seconds."""
+    epoch = os.environ.get(MOMENT)
+    if not epoch:
+        return int(time.time())
+    if not (epoch.isascii() and epoch.isdigit() and len(epoch) <= 11):
+        raise CaseError("", MOMENT, f"{epoch[:80]!r} is not a number of whole seconds since 1970")
+    return int(epoch)
+
+
 def now() -> str:
-    """This moment in UTC, or that of SOURCE_DATE_EPOCH where it is set, so that builds can be repeated."""
-    epoch = os.environ.get("SOURCE_DATE_EPOCH", "")
-    seconds = int(epoch) if epoch.isascii() and epoch.isdigit() else int(time.time())
-    return datetime.datetime.fromtimestamp(seconds, datetime.timezone.utc).strftime("%Y-%m-%dT%H:%M:%SZ")
+    """This moment in UTC."""
+    return datetime.datetime.fromtimestamp(seconds(), datetime.timezone.utc).strftime("%Y-%m-%dT%H:%M:%SZ")
 
 
 def name_of(title: str) -> str:
@@ -237,46 +290,47 @@ MEDIA = {
 }
 
 
-def resource_of(path: str, data: bytes) -> Dict[str, Any]:
+def resource_of(path: str, data: bytes) -> Document:
     """A file of a case as a resource of its description."""
     name, _, ending = path.rpartition("/")[2].rpartition(".")
-    made: Dict[str, Any] = {"name": name if "/" not in path else re.sub(r"[\s/]+", "-", path), "path": path}
+    resource: Document = {"name": name if "/" not in path else re.sub(r"[\s/]+", "-", path), "path": path}
     if ending == "csv":
-        made["type"] = "table"
-    made["format"] = ending
+        resource["type"] = "table"
+    resource["format"] = ending
     if ending in MEDIA:
-        made["mediatype"] = MEDIA[ending]
+        resource["mediatype"] = MEDIA[ending]
     if ending in ("csv", "toml", "json"):
-        made["encoding"] = "utf-8"
-    made.update(bytes=len(data), hash=hash_of(data))
+        resource["encoding"] = "utf-8"
+    resource.update(bytes=len(data), hash=hash_of(data))
     table = table_schema(path, data)
     if table:
-        made["schema"] = table
-    return made
+        resource["schema"] = table
+    return resource
 
 
-def table_schema(path: str, data: bytes) -> Optional[Dict[str, Any]]:
+def table_schema(path: str, data: bytes) -> Optional[Document]:
     """The table schema of one of the files by its header, or nothing where it has none of the headers."""
     header = header_of(data)
     fields = FIELDS.get(path)
     if fields is None or not header or any(column not in fields for column in header) or len(set(header)) < len(header):
         return None
-    made: Dict[str, Any] = {"fields": [field_of(column, fields[column]) for column in header]}
+    schema_of_table: Document = {"fields": [field_of(column, fields[column]) for column in header]}
     if path == "banks.csv":
-        made["primaryKey"] = ["name"]
+        schema_of_table["primaryKey"] = ["name"]
     if path == "labels.csv":
-        made["primaryKey"] = ["bank"]
+        schema_of_table["primaryKey"] = ["bank"]
     keys = [column for column in ("debtor", "creditor", "bank") if column in header]
     if keys:
         banks = {"resource": "banks", "fields": ["name"]}
-        made["foreignKeys"] = [{"fields": [key], "reference": banks} for key in keys]
-    return made
+        schema_of_table["foreignKeys"] = [{"fields": [key], "reference": banks} for key in keys]
+    return schema_of_table
 
 
 def header_of(data: bytes) -> List[str]:
     """The first record of a file, without blanks at the ends of its fields."""
     text = data[:4096].decode("utf-8-sig", "replace").replace("\r", "\n")
-    return [field.strip(" \t") for field in next(iter(csv.reader(io.StringIO(text))), [])]
+    with long_fields(len(text)):
+        return [field.strip(" \t") for field in next(iter(csv.reader(io.StringIO(text))), [])]
 
 
 NAME_RULES = {"required": True, "minLength": 1, "maxLength": 64}
@@ -290,7 +344,7 @@ RANGES = {"cash": (0, MAX_CASH), "outside": (0, MAX_OUTSIDE), "class": (1, 9), "
 """The least and the most that a number of the files may be, by both limits."""
 
 
-def field_of(column: str, kind: str) -> Dict[str, Any]:
+def field_of(column: str, kind: str) -> Document:
     """A column as a field of a table schema."""
     if kind == "text":
         return {"name": column, "type": "string"}

@@ -2,7 +2,6 @@
 dates."""
 from __future__ import annotations
 
-import os
 from collections import Counter
 from concurrent.futures import ThreadPoolExecutor
 from dataclasses import dataclass
@@ -13,6 +12,7 @@ from .case import Case
 from .compare import as_case
 from .errors import CaseError
 from .network import Network
+from .program import processors
 from .steady import Place, unsteady
 from .table import Table
 
@@ -48,8 +48,8 @@ class Share(NamedTuple):
 
     def sentence(self, called: str = "") -> str:
         """The share in words, with what the bank is called in place of its name."""
-        told = f"{called or self.bank} defaults in {self.defaults:,} of {self.networks:,} networks"
-        return told + (f"; one unit decides in {self.unsteady:,}" if self.unsteady else "")
+        sentence = f"{called or self.bank} defaults in {self.defaults:,} of {self.networks:,} networks"
+        return sentence + (f"; one unit decides in {self.unsteady:,}" if self.unsteady else "")
 
 
 class Answer(NamedTuple):
@@ -82,10 +82,10 @@ def of_defaults(case: Case, keep: Optional[int]) -> Answer:
 
 def of_costs(case: Case, keep: Optional[int]) -> Answer:
     """What each bank pays, keeps and wastes where default costs."""
-    kept = keep if keep is not None else case.keep
-    if kept is None:
+    per_mille = keep if keep is not None else case.keep
+    if per_mille is None:
         raise CaseError("", "clearing.keep", "it says what default keeps for the task costs; say it")
-    standings = case.network.costs(kept).standings
+    standings = case.network.costs(per_mille).standings
     numbers = {one.bank: {"kept": case.amount(one.equity), "lost": case.amount(one.lost)} for one in standings}
     return Answer(numbers, {one.bank: one.state for one in standings})
 
@@ -110,10 +110,10 @@ def of_impact(case: Case, keep: Optional[int]) -> Answer:
 
 def of_rescues(case: Case, keep: Optional[int]) -> Answer:
     """The least cash that saves each bank, 0 where it is sound, and how many others that saves."""
-    found = {one.name: {"added": Decimal(0), "also_saved": Decimal(0)} for one in case.network.banks}
+    numbers = {one.name: {"added": Decimal(0), "also_saved": Decimal(0)} for one in case.network.banks}
     for one in case.network.rescues().banks:
-        found[one.bank] = {"added": case.amount(one.added), "also_saved": Decimal(one.also_saved)}
-    return Answer(found, {})
+        numbers[one.bank] = {"added": case.amount(one.added), "also_saved": Decimal(one.also_saved)}
+    return Answer(numbers, {})
 
 
 TASKS: Dict[str, Callable[[Case, Optional[int]], Answer]] = {
@@ -138,18 +138,18 @@ def ensemble(
     >>> [int(one.median) for one in done.spreads if (one.bank, one.number) == ("A", "paid")]
     [9]
     """
-    asked = [tasks] if isinstance(tasks, str) else list(tasks)
-    given = [as_case(one) for one in cases]
-    for task in asked:
+    task_names = [tasks] if isinstance(tasks, str) else list(tasks)
+    cases_given = [as_case(one) for one in cases]
+    for task in task_names:
         if task not in TASKS:
             raise ValueError(f"{task!r} is not one of {', '.join(TASKS)}")
-    if not given:
+    if not cases_given:
         raise ValueError("there is no network")
     spreads: List[Spread] = []
     shares: List[Share] = []
-    with ThreadPoolExecutor(os.cpu_count() or 1) as pool:
-        for task in asked:
-            answers = list(pool.map(lambda case: TASKS[task](case, keep), given))
+    with ThreadPoolExecutor(processors()) as pool:
+        for task in task_names:
+            answers = list(pool.map(lambda case: TASKS[task](case, keep), cases_given))
             spreads += spreads_of(task, [answer.numbers for answer in answers])
             shares += shares_of(task, answers)
     return Ensemble(Table.of(Spread, spreads), Table.of(Share, shares))
@@ -157,12 +157,12 @@ def ensemble(
 
 def spreads_of(task: str, answers: Sequence[Numbers]) -> List[Spread]:
     """How the numbers of each bank are spread, in the order in which the banks come."""
-    found: Dict[Tuple[str, str], List[Decimal]] = {}
+    by_bank: Dict[Tuple[str, str], List[Decimal]] = {}
     for numbers in answers:
         for bank, by_number in numbers.items():
             for number, value in by_number.items():
-                found.setdefault((bank, number), []).append(value)
-    return [Spread(task, bank, number, len(values), *five_of(values)) for (bank, number), values in found.items()]
+                by_bank.setdefault((bank, number), []).append(value)
+    return [Spread(task, bank, number, len(values), *five_of(values)) for (bank, number), values in by_bank.items()]
 
 
 def five_of(values: Sequence[Decimal]) -> Tuple[Decimal, Decimal, Decimal, Decimal, Decimal]:
@@ -174,13 +174,13 @@ def five_of(values: Sequence[Decimal]) -> Tuple[Decimal, Decimal, Decimal, Decim
 
 def shares_of(task: str, answers: Sequence[Answer]) -> List[Share]:
     """In how many networks each bank defaults, those that default most first."""
-    found: Dict[str, List[str]] = {}
+    by_bank: Dict[str, List[str]] = {}
     for answer in answers:
         for bank, state in answer.states.items():
-            found.setdefault(bank, []).append(state)
+            by_bank.setdefault(bank, []).append(state)
     undecided = Counter(bank for answer in answers for bank in answer.unsteady)
     shares = []
-    for bank, states in found.items():
+    for bank, states in by_bank.items():
         fallen = len(states) - states.count("sound")
         shares.append(Share(task, bank, fallen, states.count("fundamental"), len(states), undecided[bank]))
     return sorted(shares, key=lambda share: -share.defaults)

@@ -2,7 +2,8 @@
 from __future__ import annotations
 
 import importlib
-from typing import Any, Dict, Optional, Sequence, Tuple, Type
+from types import ModuleType
+from typing import Dict, Optional, Sequence, Tuple, Type
 
 from .format import KINDS as KINDS
 
@@ -12,12 +13,12 @@ class ClearingError(Exception):
 
     status: Optional[int] = None
 
-    def __reduce__(self) -> Any:
+    def __reduce__(self) -> Tuple[object, ...]:
         """How an exception goes from one process to another, as `multiprocessing` sends it."""
         return rebuilt, (type(self), self.args, dict(vars(self)))
 
 
-def rebuilt(kind: Type[ClearingError], words: Tuple[Any, ...], state: Dict[str, Any]) -> ClearingError:
+def rebuilt(kind: Type[ClearingError], words: Tuple[object, ...], state: Dict[str, object]) -> ClearingError:
     """An exception of a kind, from its words and what it carries."""
     fault = kind.__new__(kind)
     fault.args = words
@@ -155,7 +156,7 @@ class MissingPackageError(ClearingError, ImportError):
         super().__init__(f"{call} wants {name}: Debian's package python3-{name}, or `pip install {name}`")
 
 
-def package(name: str, call: str) -> Any:
+def package(name: str, call: str) -> ModuleType:
     """A package that is used where it is there, for a call that wants it."""
     try:
         return importlib.import_module(name)

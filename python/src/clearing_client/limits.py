@@ -3,6 +3,7 @@ limit takes it from here."""
 from __future__ import annotations
 
 import itertools
+import os
 from typing import Dict, List, Mapping, NamedTuple, Optional
 
 STANDARD, WIDE = "standard", "wide"
@@ -53,6 +54,15 @@ def beyond(banks: bytes, debts: bytes) -> Optional[str]:
         if has_more(data, most):
             return f"more than {most:,} {file}"
     return f"claims of more than {limits.owed:,} units" if owed_in(debts) > limits.owed else None
+
+
+def long_file(**names: str) -> Optional[str]:
+    """The file that is longer than the standard limits have it, in words, without reading it; or nothing."""
+    for file, name in names.items():
+        most = LIMITS[STANDARD].bytes[file]
+        if os.path.getsize(name) > most:
+            return f"a {file} file of more than {most:,} bytes"
+    return None
 
 
 def of_counts(banks: int, debts: int, owed: int) -> str:

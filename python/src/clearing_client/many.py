@@ -9,28 +9,19 @@ from __future__ import annotations
 import contextlib
 import functools
 import multiprocessing
-import os
 import signal
 from collections import deque
-from concurrent.futures import Executor, ProcessPoolExecutor
-from typing import Any, Callable, Deque, Iterable, Iterator, List, NamedTuple, Optional, Tuple, TypeVar, Union
+from concurrent.futures import Executor, Future, ProcessPoolExecutor
+from typing import Callable, Deque, Iterable, Iterator, List, NamedTuple, Optional, Tuple, TypeVar, Union
 
 from . import tabular
 from .errors import RefusedError, TextError
 from .format import MAX_SCENARIOS
-from .network import (
-    LARGEST_SCENARIOS,
-    Limits,
-    Network,
-    ScenariosLike,
-    as_scenarios,
-    as_third,
-    effort,
-    is_file,
-    read_file,
-)
+from .inputs import FILE, LARGEST_SCENARIOS, ScenariosLike, as_scenarios, as_third, effort, read_file
+from .network import Limits, Network
+from .program import processors
 from .records import BankCounts, ScenarioSums
-from .results import Outcome, Outcomes
+from .results import AnyTable, Outcome, Outcomes
 from .scenarios import Scenarios
 from .table import Table
 from .texts import outcomes_in
@@ -123,8 +114,11 @@ def runs_of(
 ) -> Iterator[Tuple[Network, Part]]:
     """The runs, each a network and so many of the scenarios at most, or a file of them as it is. The scenarios are
     read at once."""
-    is_named = is_file(scenarios)
-    known: Union[Scenarios, bytes] = read_file(scenarios, LARGEST_SCENARIOS) if is_named else as_scenarios(scenarios)
+    known: Union[Scenarios, bytes]
+    if isinstance(scenarios, FILE):
+        known = read_file(scenarios, LARGEST_SCENARIOS)
+    else:
+        known = as_scenarios(scenarios)
     return ((net, part) for net in networks for part in parts_of(known, most(net)))
 
 
@@ -155,10 +149,9 @@ def in_turn(
 ) -> Iterator[Tuple[Network, Part, P]]:
     """What the work makes of each task by the limits of its network, in order. Besides those at work as many may wait
     to be taken. Here is told what a network takes by itself, and not by those that work."""
-    at_a_time = jobs or getattr(executor, "_max_workers", None) or os.cpu_count() or 1
-    own = None if executor is not None else own_pool(at_a_time)
-    pool: Any = executor if own is None else own
-    begun: Deque[Tuple[Network, Part, Any]] = deque()
+    at_a_time = jobs or getattr(executor, "_max_workers", None) or processors()
+    pool: Executor = own_pool(at_a_time) if executor is None else executor
+    begun: "Deque[Tuple[Network, Part, Future[P]]]" = deque()
     try:
         for net, part in tasks:
             begun.append((net, part, pool.submit(work, net, part, net._by(limits))))
@@ -169,11 +162,11 @@ def in_turn(
     finally:
         for _, _, left in begun:
             left.cancel()
-        if own is not None:
-            own.shutdown(wait=True)
+        if executor is None:
+            pool.shutdown(wait=True)
 
 
-def taken(begun: Deque[Tuple[Network, Part, Any]]) -> Tuple[Network, Part, Any]:
+def taken(begun: "Deque[Tuple[Network, Part, Future[P]]]") -> Tuple[Network, Part, P]:
     """The first of those that have begun, with what it made."""
     net, part, run = begun.popleft()
     return net, part, run.result()
@@ -195,7 +188,7 @@ def outcomes_of(done: Iterator[Tuple[Network, Part, List[Outcome]]], limits: Lim
     """The outcomes of the runs, each with its network."""
     for net, _, outcomes in done:
         for outcome in outcomes:
-            yield outcome.told("", net, limits or net.limits)
+            yield outcome.with_source("", net, limits or net.limits)
 
 
 def summed_up(done: Iterator[Tuple[Network, Part, Sums]], limits: Limits) -> Iterator[Outcomes]:
@@ -213,10 +206,10 @@ def together(parts: List[Sums], net: Network, by: str) -> Outcomes:
     counts = [list(map(sum, zip(*(part.banks.column(word) for part in parts)))) for word in ("defaults", "fundamental")]
     scenarios = Table.of(ScenarioSums, [one for part in parts for one in part.scenarios])
     banks = Table(BankCounts, [parts[0].banks.column("bank"), *counts])
-    return Outcomes(scenarios, banks).told(text_of_table(scenarios) + "\n" + text_of_table(banks), net, by)
+    return Outcomes(scenarios, banks).with_source(text_of_table(scenarios) + "\n" + text_of_table(banks), net, by)
 
 
-def text_of_table(table: Table[Any]) -> str:
+def text_of_table(table: AnyTable) -> str:
     """A table as the program prints tables."""
     return tabular.csv_of({name: list(map(str, table.column(name))) for name in table.columns}).decode()
 
@@ -248,7 +241,7 @@ def stressed(
     run = net._stream("stress", *words, third=third, known=known, timeout=timeout, limits=by)
     with counted_on(part), run as stream:
         for outcome in outcomes_in(stream, part.before):
-            net._asked.check(outcome)
+            net._request.check(outcome)
             outcomes.append(outcome)
     if known is not None and [one.name for one in outcomes] != [one.name for one in known]:
         raise TextError(0, "the program printed an answer on other scenarios than it was asked about")

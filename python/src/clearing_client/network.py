@@ -6,14 +6,18 @@ import os
 import sys
 import warnings
 from functools import cached_property
-from typing import IO, Any, Dict, Iterable, Iterator, List, Mapping, Optional, Sequence, Tuple, Type, TypeVar, Union
+from typing import IO, TYPE_CHECKING, Dict, Iterator, List, Mapping, Optional, Tuple, Type, TypeVar, Union, cast
 
 from . import limits as sizes
 from . import tabular
-from .errors import LimitsWarning, RefusedError, TableError, TextError, UnreadableError
-from .asked import Asked, record_at
+from .errors import LimitsWarning, TableError, TextError
+from .inputs import (
+    FILE, File, JournalLike, ScenariosLike, Third, effort, journal_bytes, line_of, raise_of, read_file, third_of,
+    with_record,
+)
 from .program import Done, fault_of, handed_over, run, started
-from .records import Bank, Debt, Raise
+from .records import Bank, Debt
+from .request import Request
 from .results import (
     Bounds,
     Breaking,
@@ -34,21 +38,18 @@ from .results import (
     Verdict,
     graph_of,
 )
-from .scenarios import Scenario, Scenarios
-from .sheets import made_of
-from .table import Table, words_of
+from .sheets import SummaryLine, made_of
+from .table import Table
 from .texts import parse
 
-T = TypeVar("T", bound=Result)
-File = Union[str, "os.PathLike[str]"]
-ScenariosLike = Union[Scenarios, Iterable[Union[Scenario, Mapping[str, Any]]], File]
-Third = Tuple[str, bytes]  # a file's option, and its bytes
-JournalLike = Union[Journal, Table[Raise], Iterable[Raise], File]
-Limits = Optional[str]
+if TYPE_CHECKING:
+    from networkx import MultiDiGraph
+    from numpy import int64
+    from numpy.typing import NDArray
+    from pandas import DataFrame
 
-LARGEST, LARGEST_SCENARIOS = sizes.MOST.bytes["banks"], sizes.MOST.bytes["scenarios"]
-"""How many bytes a banks or debts file may have, and a scenarios file; one more is handed over, for the program to
-refuse."""
+T = TypeVar("T", bound=Result)
+Limits = Optional[str]
 
 
 class Network:
@@ -83,54 +84,62 @@ class Network:
     """
 
     def __init__(
-        self, banks: Any, debts: Any = None, *, rule: str = "webster", class_: int = 1, limits: Optional[str] = None
+        self,
+        banks: object,
+        debts: object = None,
+        *,
+        rule: str = "webster",
+        class_: int = 1,
+        limits: Optional[str] = None,
     ) -> None:
         if debts is None:
             if not tabular.is_graph(banks):
                 raise TypeError("a network is of banks and debts, or of one networkx graph")
-            banks, debts = tabular.tables_of_graph(banks)
-        self._banks = read_file(banks) if is_file(banks) else tabular.banks_csv(banks, rule)
-        self._debts = read_file(debts) if is_file(debts) else tabular.debts_csv(debts, class_)
+            banks, debts = tabular.tables_of_graph(cast(tabular.Graph, banks))
+        self._banks = read_file(banks) if isinstance(banks, FILE) else tabular.banks_csv(banks, rule)
+        self._debts = read_file(debts) if isinstance(debts, FILE) else tabular.debts_csv(debts, class_)
         self._said_limits = limits
 
     # Of sheets, as the tools read them
 
-    summary: Tuple[Tuple[str, Optional[int], Any, str], ...] = ()
+    summary: Tuple[SummaryLine, ...] = ()
     """What was done to the sheet that a network is of: records of what it is, a count, an amount and a detail."""
     _said_limits: Optional[str] = None
     _is_told = False
 
     @classmethod
-    def from_matrix(cls, matrix: Any, **options: Any) -> "Network":
+    def from_matrix(cls, matrix: object, **options: object) -> "Network":
         """The network of a matrix of liabilities: a file of comma-separated records, a workbook (.xlsx, .ods) or a
-        DataFrame with the names as its index. The options are the words of `tools/from_matrix.py` with `_` for `-`,
+        DataFrame with the names as its index. The options are the words of `clearing-from-matrix` with `_` for `-`,
         such as `table`, `sheet`, `cash`, `outside`, `no_outside`, `unit`, `round`, `drop`, `groups`. Raises
         `SheetError` with every fault found."""
         return cls._of_sheet("matrix", matrix, options)[0]
 
     @classmethod
-    def from_list(cls, exposures: Any, **options: Any) -> "Network":
+    def from_list(cls, exposures: object, **options: object) -> "Network":
         """The network of a list of exposures and a `table` of banks. The options are the words of
-        `tools/from_list.py`, such as `debtor`, `creditor`, `amount`, `sum`, `where={"date": "2025-12-31"}`,
+        `clearing-from-list`, such as `debtor`, `creditor`, `amount`, `sum`, `where={"date": "2025-12-31"}`,
         `rate={"currency": "rates.csv"}`, `duplicates`."""
         return cls._of_sheet("list", exposures, options)[0]
 
     @classmethod
-    def from_totals(cls, totals: Any, **options: Any) -> Union["Network", List["Network"]]:
+    def from_totals(cls, totals: object, **options: object) -> Union["Network", List["Network"]]:
         """A network in which each bank owes and is owed what a table says; with `samples`, a list of them. The options
-        are the words of `tools/from_totals.py`, such as `method`, `seed`, `known`, `most`."""
-        made = cls._of_sheet("totals", totals, options)
-        return made if options.get("samples") else made[0]
+        are the words of `clearing-from-totals`, such as `method`, `seed`, `known`, `most`."""
+        networks = cls._of_sheet("totals", totals, options)
+        return networks if options.get("samples") else networks[0]
 
     @classmethod
-    def from_workbook(cls, workbook: Any, banks: str = "banks", debts: str = "debts", **options: Any) -> "Network":
+    def from_workbook(
+        cls, workbook: object, banks: str = "banks", debts: str = "debts", **options: object
+    ) -> "Network":
         """The network of a workbook with a sheet of banks (name, cash, rule, outside) and one of debts (debtor,
         creditor, class, claim); the options are those of `from_list`."""
         named = {"sheet": debts, "table": workbook, "table_sheet": banks, "amount": "claim", **options}
         return cls._of_sheet("list", workbook, named)[0]
 
     @classmethod
-    def _of_sheet(cls, kind: str, sheet: Any, options: Mapping[str, Any]) -> List["Network"]:
+    def _of_sheet(cls, kind: str, sheet: object, options: Mapping[str, object]) -> List["Network"]:
         made, nets = made_of(kind, sheet, options), []
         for banks, debts in made.files:
             net = cls.__new__(cls)
@@ -171,19 +180,19 @@ class Network:
         """Tells once that the wide limits are taken where nobody said so."""
         if self._said_limits is None and self._beyond and not self._is_told:
             self._is_told = True
-            told = f"the network is read by the wide limits, as it has {self._beyond}; limits='wide' says so"
-            warnings.warn(told, LimitsWarning, stacklevel=level_of_caller())
+            message = f"the network is read by the wide limits, as it has {self._beyond}; limits='wide' says so"
+            warnings.warn(message, LimitsWarning, stacklevel=level_of_caller())
 
-    def to_pandas(self) -> Dict[str, Any]:
+    def to_pandas(self) -> Dict[str, DataFrame]:
         """The banks and the debts, each a pandas `DataFrame`."""
         return {"banks": self.banks.to_pandas(), "debts": self.debts.to_pandas()}
 
-    def to_networkx(self) -> Any:
+    def to_networkx(self) -> MultiDiGraph:
         """The network as a networkx `MultiDiGraph`, with the class as the key of an edge."""
         columns = self.banks.columns[1:]
         return graph_of({bank.name: dict(zip(columns, bank[1:])) for bank in self.banks}, self.debts)
 
-    def to_matrix(self) -> Any:
+    def to_matrix(self) -> NDArray[int64]:
         """The claims as a numpy matrix of int64, banks by banks: what the bank of the row owes the bank of the
         column."""
         return self._checked.to_matrix()
@@ -191,14 +200,14 @@ class Network:
     def write(self, banks: File, debts: File) -> None:
         """Writes the two files, byte by byte as the program is given them; both or none, and never over a file that is
         there."""
-        made: List[File] = []
+        written: List[File] = []
         try:
             for name, data in ((banks, self._banks), (debts, self._debts)):
                 with open(name, "xb") as file:
-                    made.append(name)
+                    written.append(name)
                     file.write(data)
         except BaseException:
-            for name in made:
+            for name in written:
                 os.unlink(name)
             raise
 
@@ -215,7 +224,7 @@ class Network:
         banks = [bank._replace(cash=cash.get(bank.name, bank.cash)) for bank in self.banks]
         return self._alike(Network(banks, self.debts))
 
-    def with_debts(self, debts: Any) -> "Network":
+    def with_debts(self, debts: object) -> "Network":
         """A network of the same banks with other debts, such as those that `compress` leaves."""
         return self._alike(Network(self.banks, debts))
 
@@ -288,6 +297,7 @@ class Network:
         """What each scenario leaves: `Scenarios`, `Scenario`s, dicts of the shape of the TOML document, or the name of
         a TOML file. At most 100; `map_stress` takes more.
 
+        >>> from clearing_client import Scenario
         >>> net = Network({"A": 7, "B": 1, "C": 0}, {("A", "B"): 7, ("B", "C"): 8})
         >>> left = net.stress([Scenario("as it is"), Scenario("A loses 1", losses={"A": 1})])
         >>> [one.defaults for one in left.scenarios]
@@ -302,6 +312,7 @@ class Network:
         outside, what banks keep, and how many default; and in how many scenarios each bank does. At most 100;
         `map_outcomes` takes more.
 
+        >>> from clearing_client import Scenario
         >>> net = Network({"A": 7, "B": 1, "C": 0}, {("A", "B"): 7, ("B", "C"): 8})
         >>> left = net.outcomes([Scenario("as it is"), Scenario("A loses 1", losses={"A": 1})])
         >>> left.scenarios.column("defaults"), left.banks[1]
@@ -345,7 +356,7 @@ class Network:
         other = next(name for name in (f"bank {n}" for n in range(len(there) + 1)) if name not in there)
         net, by = self._alike(read_check(with_fields(self._checked.text, bank, other))), self._by(limits)
         text = with_fields(net.rescue(other, workers, sweeps, timeout, by).text, other, bank)
-        return read_as(text, Rescue).told(text, self, by)
+        return read_as(text, Rescue).with_source(text, self, by)
 
     def costs(self, keep: int, timeout: Optional[float] = None, limits: Limits = None) -> Costs:
         """The payments and standings where an estate in default is worth only `keep` thousandths, 0 to 1,000.
@@ -414,6 +425,7 @@ class Network:
         """Judges a journal (a `Journal`, its raises, or the name of a file) and gives the payments that a lawful one
         makes.
 
+        >>> from clearing_client import Raise
         >>> net = Network({"A": 7, "B": 1}, {("A", "B"): 10})
         >>> net.replay(net.clear(journal=True).journal).lawful
         True
@@ -421,7 +433,7 @@ class Network:
         >>> verdict.verdict, verdict.allowed, verdict.record
         ('unlawful', 7, Raise(stamp=1, debtor='A', creditor='B', class_=1, to=8))
         """
-        data = read_file(journal, None) if is_file(journal) else journal_bytes(journal)
+        data = read_file(journal, None) if isinstance(journal, FILE) else journal_bytes(journal)
         by = limits or (journal.limits if isinstance(journal, Journal) else None)
         verdict = self._ask(Verdict, "replay", third=("journal", data), timeout=timeout, limits=by)
         if verdict.entry is not None:
@@ -430,10 +442,10 @@ class Network:
 
     # How the program is asked
 
-    def __getstate__(self) -> Dict[str, Any]:
+    def __getstate__(self) -> Dict[str, object]:
         """What goes to another process: the two files, and what was said and told of limits."""
-        kept = ("_banks", "_debts", "_said_limits", "_is_told")
-        return {name: getattr(self, name) for name in kept}
+        names = ("_banks", "_debts", "_said_limits", "_is_told")
+        return {name: getattr(self, name) for name in names}
 
     def _by(self, limits: Limits) -> str:
         """The limits of a run: those that are said for it, else the network's, which tells that they are wide."""
@@ -442,9 +454,9 @@ class Network:
         return limits or self.limits
 
     @cached_property
-    def _asked(self) -> Asked:
+    def _request(self) -> Request:
         """What the two files say, for a comparison with what an answer repeats of it. The program has taken them."""
-        return Asked(self._banks, self._debts)
+        return Request(self._banks, self._debts)
 
     def _ask(
         self,
@@ -464,8 +476,8 @@ class Network:
         if done.status not in (0, 7):
             raise self._fault(done, [task, *map(str, words)], third, known)
         result = read_as(text_of(done), kind)
-        self._asked.check(result, known)
-        return result.told(text_of(done), self, by)
+        self._request.check(result, known)
+        return result.with_source(text_of(done), self, by)
 
     @contextlib.contextmanager
     def _stream(
@@ -501,18 +513,9 @@ class Network:
         return with_record(fault_of(done, words), dict(self._files(third)), known)
 
 
-def line_of(task: str, files: Sequence[str], words: Iterable[object]) -> List[Union[str, bytes]]:
-    """The command line of a task on some files."""
-    line: List[Union[str, bytes]] = [task, *files]
-    line += [word if isinstance(word, bytes) else str(word) for word in words]
-    if any("\0" in word for word in line if isinstance(word, str)):
-        raise TableError("words", 0, "", tuple(words), "a word has a character NUL")
-    return line
-
-
 def read_as(text: str, kind: Type[T]) -> T:
     """The result of a run that prints a text."""
-    result = parse(text) if text or kind is not Stress else Stress(()).told(text)
+    result = parse(text) if text or kind is not Stress else Stress(()).with_source(text)
     if not isinstance(result, kind):
         raise TextError(0, f"the program printed {type(result).__name__} in place of {kind.__name__}")
     return result
@@ -538,91 +541,12 @@ def read_check(text: str) -> Network:
     return Network(check.banks, check.debts)
 
 
-def effort(workers: int, sweeps: int) -> List[object]:
-    """The words for the number of workers and of sweeps."""
-    return ["--workers", workers, "--sweeps", sweeps]
-
-
 def level_of_caller() -> int:
     """How many calls above the one that asks is the first outside this package, for a warning about it."""
     frame, level = sys._getframe(1), 1
     while frame.f_back is not None and frame.f_globals.get("__name__", "").partition(".")[0] == __package__:
         frame, level = frame.f_back, level + 1
     return level
-
-
-def is_file(table: object) -> bool:
-    """Whether it is the name of a file."""
-    return isinstance(table, (str, os.PathLike))
-
-
-def read_file(name: Any, most: Optional[int] = LARGEST) -> bytes:
-    """The bytes of a file, but no more than one beyond the most that the program takes."""
-    try:
-        with open(name, "rb") as file:
-            return file.read() if most is None else file.read(most + 1)
-    except (OSError, ValueError) as fault:
-        raise UnreadableError(os.fspath(name), getattr(fault, "strerror", None) or str(fault)) from fault
-
-
-def as_scenarios(scenarios: Any) -> Scenarios:
-    """Scenarios of an iterable of them."""
-    return scenarios if isinstance(scenarios, Scenarios) else Scenarios(scenarios)
-
-
-def third_of(scenarios: ScenariosLike) -> Tuple[Third, Optional[Scenarios]]:
-    """The file of some scenarios, and these where they are not given as a file."""
-    is_named = is_file(scenarios)
-    chosen: Union[Scenarios, bytes] = read_file(scenarios, LARGEST_SCENARIOS) if is_named else as_scenarios(scenarios)
-    return as_third(chosen), chosen if isinstance(chosen, Scenarios) else None
-
-
-def as_third(scenarios: Union[Scenarios, bytes]) -> Third:
-    """Scenarios, or a file of them as it is, as a file of a run."""
-    return "scenarios", scenarios if isinstance(scenarios, bytes) else toml_bytes(scenarios)
-
-
-def toml_bytes(scenarios: Scenarios) -> bytes:
-    """The scenarios file."""
-    try:
-        return scenarios.to_toml().encode()
-    except UnicodeEncodeError as fault:
-        raise TableError("scenarios", 0, "", fault.object, "a name cannot be written as UTF-8") from fault
-
-
-def journal_bytes(journal: Any) -> bytes:
-    """The journal file of a journal or of raises."""
-    raises = journal.raises if isinstance(journal, Journal) else journal
-    raises = raises if isinstance(raises, Table) else Table.of(Raise, [Raise(*one) for one in raises])
-    columns = {name: tabular.fields_of(raises.column(name), "journal", name) for name in raises.columns}
-    data = tabular.csv_of(columns)
-    ends = isinstance(journal, Journal) and journal.rounds is not None
-    return data + f"rounds,{journal.rounds}\n".encode() if ends else data
-
-
-def with_record(fault: Exception, files: Mapping[str, bytes], known: object) -> Exception:
-    """A fault with the record that it is about."""
-    if isinstance(fault, RefusedError):
-        record: object = None
-        if fault.file in ("banks", "debts", "journal") and fault.file in files and fault.number != 14:
-            record = record_at(files[fault.file], fault.row)
-        elif fault.file == "scenarios" and isinstance(known, Scenarios) and 0 < fault.row <= len(known):
-            record = known[fault.row - 1]
-        elif fault.file == "words":
-            record = known
-        return RefusedError(fault.file, fault.row, fault.kind, fault.number, record)
-    return fault
-
-
-def raise_of(journal: bytes, entry: int) -> Raise:
-    """The raise of a number, from 1, of a journal file."""
-    fields = record_at(journal, entry, passing=True)
-    if fields is None or len(fields) != len(words_of(Raise)):
-        raise TextError(0, f"the program names raise {entry}, which the journal does not have")
-    stamp, debtor, creditor, class_, to = fields
-    if not all(field.isascii() and field.isdigit() and len(field) <= 20 for field in (stamp, class_, to)):
-        raise TextError(0, f"the program names raise {entry}, whose fields are no numbers")
-    return Raise(int(stamp), debtor, creditor, int(class_), int(to))
 
 
 # Without a network of one's own
@@ -640,10 +564,10 @@ def generate(
     done = run([str(word) for word in words], timeout=timeout)
     if done.status:
         raise fault_of(done, [str(word) for word in words])
-    made = read_as(text_of(done), Generated)
-    if made.total.banks != size or made.total.debts > tries:
+    generated = read_as(text_of(done), Generated)
+    if generated.total.banks != size or generated.total.debts > tries:
         raise TextError(0, "the program printed an answer on another network than it was asked for")
-    return made
+    return generated
 
 
 def read(text: Union[str, "os.PathLike[str]"]) -> Result:

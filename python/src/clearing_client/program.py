@@ -45,6 +45,14 @@ def on_path(name: str) -> Optional[str]:
     return shutil.which(name, path=os.pathsep.join(filter(os.path.isabs, os.get_exec_path())))
 
 
+def processors() -> int:
+    """How many processors this process may use."""
+    try:
+        return len(os.sched_getaffinity(0))
+    except AttributeError:
+        return os.cpu_count() or 1
+
+
 PACKED = pathlib.Path(__file__).resolve().parent / "bin/clearing"
 """The program of a wheel that has one."""
 
@@ -56,20 +64,20 @@ def find_program() -> str:
     entries alone are looked at."""
     named = os.environ.get("CLEARING")
     if named:
-        found = shutil.which(named) if os.sep in named else on_path(named)
-        if found is None:
+        path = shutil.which(named) if os.sep in named else on_path(named)
+        if path is None:
             raise NoProgramError(f"CLEARING names {named}, which is no program")
-        return proved(found)
+        return proved(path)
     if os.access(PACKED, os.X_OK):
         return str(PACKED)
     packages = pathlib.Path(__file__).resolve().parents[1]
     root = packages.parents[1]
     if packages == root / "python" / "src" and (root / "clearing").is_file():
         return str(root / "clearing")
-    found = on_path("clearing")
-    if found is None:
+    path = on_path("clearing")
+    if path is None:
         raise NoProgramError("no program `clearing`: set CLEARING to it, or put it on the path")
-    return proved(found)
+    return proved(path)
 
 
 def proved(found: str) -> str:
@@ -187,9 +195,9 @@ def started(
 def signals_wait() -> Iterator[None]:
     """What a signal does in the main thread is done at the end of the block. `Popen` leaves a process that nobody knows
     where an interrupt comes while it begins one."""
-    asked = (signal.SIGINT, signal.SIGTERM, signal.SIGHUP)
+    handled = (signal.SIGINT, signal.SIGTERM, signal.SIGHUP)
     here = threading.current_thread() is threading.main_thread()
-    numbers = [number for number in asked if here and callable(signal.getsignal(number))]
+    numbers = [number for number in handled if here and callable(signal.getsignal(number))]
     came: List[int] = []
     before = {number: signal.signal(number, lambda which, _: came.append(which)) for number in numbers}
     try:

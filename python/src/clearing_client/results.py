@@ -7,7 +7,7 @@ from __future__ import annotations
 
 from dataclasses import dataclass
 from functools import cached_property
-from typing import TYPE_CHECKING, Any, Dict, List, Optional, Tuple, Type, TypeVar
+from typing import TYPE_CHECKING, Dict, List, Mapping, Optional, Tuple, Type, TypeVar, Union
 
 from .errors import package
 from .records import (
@@ -44,9 +44,16 @@ from .records import (
 from .table import Table
 
 if TYPE_CHECKING:
+    from networkx import DiGraph, MultiDiGraph
+    from numpy import int64
+    from numpy.typing import NDArray
+    from pandas import DataFrame
+
     from .network import Network
 
-R = TypeVar("R", bound=Tuple[Any, ...])
+R = TypeVar("R", bound=Tuple[object, ...])
+AnyTable = Table[Tuple[object, ...]]
+"""A table of records of any kind."""
 S = TypeVar("S", bound="Result")
 
 
@@ -61,19 +68,19 @@ class Result:
     """The limits by which the network was read, `standard` or `wide`; None where the result is read from a text
     alone."""
 
-    def tables(self) -> Dict[str, Table[Any]]:
+    def tables(self) -> Dict[str, AnyTable]:
         """The tables by name, none of them with a line of sums. `totals` has these, and what the text says once, such
         as `rounds`: one record, and for `stress` one for each scenario."""
         fields = {name: getattr(self, name) for name in getattr(self, "__dataclass_fields__")}
-        found: Dict[str, Table[Any]] = {name: value for name, value in fields.items() if isinstance(value, Table)}
+        tables: Dict[str, AnyTable] = {name: value for name, value in fields.items() if isinstance(value, Table)}
         total = getattr(self, "total", None)
-        return found if total is None else {**found, "totals": one(type(total), total)}
+        return tables if total is None else {**tables, "totals": one(type(total), total)}
 
-    def to_pandas(self) -> Dict[str, Any]:
+    def to_pandas(self) -> Dict[str, DataFrame]:
         """The tables by name, each a pandas `DataFrame`. A single one: `result.payments.to_pandas()`."""
         return {name: table.to_pandas() for name, table in self.tables().items()}
 
-    def told(self: S, text: str, network: "Optional[Network]" = None, limits: Optional[str] = None) -> S:
+    def with_source(self: S, text: str, network: "Optional[Network]" = None, limits: Optional[str] = None) -> S:
         """This result, with its text, its network, and the limits by which that was read."""
         object.__setattr__(self, "text", text)
         object.__setattr__(self, "network", network)
@@ -84,12 +91,12 @@ class Result:
 class Flows(Result):
     """A result with an amount for each debt, as a graph or a matrix."""
 
-    def flows(self) -> Table[Any]:
+    def flows(self) -> AnyTable:
         """The table of debts with their amounts."""
-        flows: Table[Any] = getattr(self, "payments")
+        flows: AnyTable = getattr(self, "payments")
         return flows
 
-    def standings_of_banks(self) -> Optional[Table[Any]]:
+    def standings_of_banks(self) -> Optional[AnyTable]:
         """The table with a record for each bank, where the result has one."""
         return getattr(self, "standings", getattr(self, "waves", None))
 
@@ -104,15 +111,15 @@ class Flows(Result):
         pairs = zip(flows.column("debtor"), flows.column("creditor"))
         return list(dict.fromkeys(name for pair in pairs for name in pair))
 
-    def to_networkx(self) -> Any:
+    def to_networkx(self) -> MultiDiGraph:
         """A networkx `MultiDiGraph`: a node for each bank, with its record, and an edge for each debt from its debtor
         to its creditor, with the class as its key and `class`, `claim` and the other amounts as attributes."""
-        nodes: Dict[str, Dict[str, Any]] = {name: {} for name in self.names()}
+        nodes: Dict[str, Dict[str, object]] = {name: {} for name in self.names()}
         tables = [self.network.banks] if self.network is not None else []
         standings = self.standings_of_banks()
         for table in [*tables, *([standings] if standings is not None else [])]:
             for record in table:
-                nodes[record[0]].update(zip(table.columns[1:], record[1:]))
+                nodes[str(record[0])].update(zip(table.columns[1:], record[1:]))
         return graph_of(nodes, self.flows())
 
     def to_lists(self, column: Optional[str] = None) -> List[List[int]]:
@@ -120,7 +127,7 @@ class Flows(Result):
         names, flows = self.names(), self.flows()
         return rows_of(names, flows, column or flows.columns[-1])
 
-    def to_matrix(self, column: Optional[str] = None) -> Any:
+    def to_matrix(self, column: Optional[str] = None) -> NDArray[int64]:
         """A numpy matrix of int64, banks by banks in the order of `names()`: what the bank of the row pays the bank of
         the column, all classes together. `column` takes another amount, such as `claim`."""
         return matrix_of(self.to_lists(column))
@@ -129,7 +136,7 @@ class Flows(Result):
 class Standings:
     """A result that says how the banks stand."""
 
-    standings: Table[Any]
+    standings: Union[Table[Standing], Table[CostStanding], Table[ScenarioStanding]]
 
     @property
     def defaults(self) -> List[str]:
@@ -137,7 +144,7 @@ class Standings:
         return [record.bank for record in self.standings if record.state != "sound"]
 
 
-def graph_of(nodes: Dict[str, Dict[str, Any]], flows: Table[Any]) -> Any:
+def graph_of(nodes: Mapping[str, Mapping[str, object]], flows: AnyTable) -> MultiDiGraph:
     """A networkx graph of banks and debts."""
     graph = package("networkx", "to_networkx").MultiDiGraph()
     for name, attributes in nodes.items():
@@ -147,7 +154,7 @@ def graph_of(nodes: Dict[str, Dict[str, Any]], flows: Table[Any]) -> Any:
     return graph
 
 
-def rows_of(names: List[str], flows: Table[Any], column: str) -> List[List[int]]:
+def rows_of(names: List[str], flows: AnyTable, column: str) -> List[List[int]]:
     """The sums of a column over the records from a bank to another, which are the first two of its columns."""
     place = {name: at for at, name in enumerate(names)}
     rows = [[0] * len(names) for _ in names]
@@ -157,10 +164,11 @@ def rows_of(names: List[str], flows: Table[Any], column: str) -> List[List[int]]
     return rows
 
 
-def matrix_of(rows: List[List[int]]) -> Any:
+def matrix_of(rows: List[List[int]]) -> NDArray[int64]:
     """Rows as a numpy matrix of int64."""
     numpy = package("numpy", "to_matrix")
-    return numpy.array(rows, dtype="int64").reshape(len(rows), len(rows))
+    matrix: NDArray[int64] = numpy.array(rows, dtype="int64").reshape(len(rows), len(rows))
+    return matrix
 
 
 def one(record: Type[R], value: R) -> Table[R]:
@@ -198,9 +206,9 @@ class Journal(Result):
     raises: Table[Raise]
     rounds: Optional[int] = None
 
-    def tables(self) -> Dict[str, Table[Any]]:
-        told = {} if self.rounds is None else {"totals": one(JournalTotals, JournalTotals(self.rounds))}
-        return {"journal": self.raises, **told}
+    def tables(self) -> Dict[str, AnyTable]:
+        totals = {} if self.rounds is None else {"totals": one(JournalTotals, JournalTotals(self.rounds))}
+        return {"journal": self.raises, **totals}
 
 
 @dataclass(frozen=True)
@@ -210,17 +218,17 @@ class Clearing(Flows):
     payments: Table[Payment]
     journal: Optional[Journal] = None
 
-    def told(self, text: str, network: "Optional[Network]" = None, limits: Optional[str] = None) -> "Clearing":
+    def with_source(self, text: str, network: "Optional[Network]" = None, limits: Optional[str] = None) -> "Clearing":
         if self.journal is not None:
-            self.journal.told("", network, limits)
-        return super().told(text, network, limits)
+            self.journal.with_source("", network, limits)
+        return super().with_source(text, network, limits)
 
     @property
     def total(self) -> Sums:
         """What is claimed and what is paid in all."""
         return Sums(sum(self.payments.column("claim")), sum(self.payments.column("paid")))
 
-    def tables(self) -> Dict[str, Table[Any]]:
+    def tables(self) -> Dict[str, AnyTable]:
         return {"payments": self.payments, **(self.journal.tables() if self.journal is not None else {})}
 
 
@@ -250,10 +258,10 @@ class Stress(Result):
 
     scenarios: Tuple[Outcome, ...]
 
-    def told(self, text: str, network: "Optional[Network]" = None, limits: Optional[str] = None) -> "Stress":
+    def with_source(self, text: str, network: "Optional[Network]" = None, limits: Optional[str] = None) -> "Stress":
         for outcome in self.scenarios:
-            outcome.told("", network, limits)
-        return super().told(text, network, limits)
+            outcome.with_source("", network, limits)
+        return super().with_source(text, network, limits)
 
     @cached_property
     def payments(self) -> Table[ScenarioPayment]:
@@ -270,7 +278,7 @@ class Stress(Result):
         """The sums of each scenario."""
         return Table.of(ScenarioTotals, [ScenarioTotals(one.number, one.name, *one.total) for one in self.scenarios])
 
-    def tables(self) -> Dict[str, Table[Any]]:
+    def tables(self) -> Dict[str, AnyTable]:
         return {"payments": self.payments, "standings": self.standings, "totals": self.total}
 
 
@@ -282,9 +290,9 @@ class Outcomes(Result):
     banks: Table[BankCounts]
 
 
-def stacked(record: Type[R], parts: List[Tuple[int, str, Table[Any]]]) -> Table[R]:
+def stacked(record: Type[R], parts: List[Tuple[int, str, AnyTable]]) -> Table[R]:
     """The tables of the scenarios below one another, after the scenario's number and name."""
-    columns: List[List[Any]] = [[number for number, _, table in parts for _ in range(len(table))]]
+    columns: List[List[object]] = [[number for number, _, table in parts for _ in range(len(table))]]
     columns.append([name for _, name, table in parts for _ in range(len(table))])
     rest = len(getattr(record, "_fields")) - 2
     split = [[table.column(name) for name in table.columns] for _, _, table in parts]
@@ -321,12 +329,12 @@ class Verdict(Flows):
         """Whether the journal is a lawful and complete history."""
         return self.verdict == "lawful"
 
-    def tables(self) -> Dict[str, Table[Any]]:
-        told = Judgement(
+    def tables(self) -> Dict[str, AnyTable]:
+        judgement = Judgement(
             self.verdict, self.raises, self.entry, self.last, self.stamp, self.had, self.allowed, self.bank
         )
         payments = {} if self.payments is None else {"payments": self.payments}
-        return {**payments, "totals": one(Judgement, told)}
+        return {**payments, "totals": one(Judgement, judgement)}
 
     def flows(self) -> Table[Payment]:
         if self.payments is None:
@@ -417,7 +425,7 @@ class Impact(Result):
     banks: Table[Ruin]
     pairs: Table[Harm]
 
-    def to_networkx(self) -> Any:
+    def to_networkx(self) -> DiGraph:
         """A networkx `DiGraph`: a node for each bank, with its record, and an edge for each pair from the bank that
         loses its cash to the one that keeps less, with `lost` and `falls`. An edge may lead from a bank to itself."""
         graph = package("networkx", "to_networkx").DiGraph()
@@ -431,7 +439,7 @@ class Impact(Result):
         """The matrix of `to_matrix` as a list of rows, without numpy."""
         return rows_of(self.banks.column("bank"), self.pairs, "lost")
 
-    def to_matrix(self) -> Any:
+    def to_matrix(self) -> NDArray[int64]:
         """A numpy matrix of int64, banks by banks in file order: what the bank of the column keeps less where the bank
         of the row loses all its cash. Each row comes to that cash."""
         return matrix_of(self.to_lists())

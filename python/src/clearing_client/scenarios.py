@@ -1,9 +1,10 @@
 """Scenarios of losses, and how they are written as TOML."""
 from __future__ import annotations
 
+import contextlib
 import importlib
 import operator
-from typing import Any, Dict, Iterable, Iterator, List, Mapping, Sequence, Tuple, Union, overload
+from typing import Dict, Iterable, Iterator, List, Mapping, Sequence, SupportsIndex, Tuple, Union, overload
 
 from .errors import TableError
 from .tabular import whole_of
@@ -11,17 +12,16 @@ from .tabular import whole_of
 Losses = Union[Mapping[str, float], Iterable[Tuple[str, float]]]
 
 
-def whole(value: Any, row: int, field: str) -> int:
+def whole(value: object, row: int, field: str) -> int:
     """A whole number of a scenario: what a table takes for one, or anything else that is an index."""
     number = whole_of(value)
     if number is not None:
         return number
-    try:
-        if isinstance(value, bool):
-            raise TypeError
-        return operator.index(value)
-    except TypeError:
-        raise TableError("scenarios", row, field, value, f"{value!r} is not a whole number") from None
+    if isinstance(value, SupportsIndex) and not isinstance(value, bool):
+        # An array of several numbers has the method, and is no index.
+        with contextlib.suppress(TypeError):
+            return operator.index(value)
+    raise TableError("scenarios", row, field, value, f"{value!r} is not a whole number")
 
 
 class Scenario:
@@ -62,9 +62,9 @@ class Scenario:
     def __hash__(self) -> int:
         return hash((self.name, self.cut, self.losses))
 
-    def as_table(self) -> Dict[str, Any]:
+    def as_table(self) -> Dict[str, object]:
         """The scenario as a table of the TOML document."""
-        table: Dict[str, Any] = {"name": self.name}
+        table: Dict[str, object] = {"name": self.name}
         if self.cut:
             table["cut"] = self.cut
         if self.losses:
@@ -94,7 +94,7 @@ class Scenarios(Sequence[Scenario]):
     cut = 500
     """
 
-    def __init__(self, scenarios: Iterable[Union[Scenario, Mapping[str, Any]]] = ()) -> None:
+    def __init__(self, scenarios: Iterable[Union[Scenario, Mapping[str, object]]] = ()) -> None:
         self._all = tuple(scenario_of(one) for one in scenarios)
 
     @classmethod

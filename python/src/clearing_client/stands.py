@@ -1,15 +1,16 @@
 """Whether an answer stands: how each bank is where what the model leaves open is varied."""
 from __future__ import annotations
 
-import os
 from concurrent.futures import ThreadPoolExecutor
 from dataclasses import dataclass
-from typing import Any, Callable, Dict, List, Optional, Tuple, Union
+from functools import partial
+from typing import Callable, Dict, List, Optional, Tuple, Union
 
 from .case import Case
 from .compare import as_case
 from .format import MAX_CLAIM
 from .network import Network
+from .program import processors
 from .records import Debt
 from .steady import UNIT_VARIATIONS, Place, decided_by_one, other_units, places_of
 
@@ -56,11 +57,12 @@ def stands(one: Union[Case, Network]) -> Stands:
     ([], ['sound at 0', 'sound at 0'])
     """
     network = as_case(one).network
-    asked = variations_of(network)
-    with ThreadPoolExecutor(os.cpu_count() or 1) as pool:
-        answers = list(pool.map(answered, asked.values()))
+    variations = variations_of(network)
+    with ThreadPoolExecutor(processors()) as pool:
+        answers = list(pool.map(answered, variations.values()))
     names: List[str] = network.banks.column("name")
-    return Stands(tuple(asked), {name: {what: answer[name] for what, answer in zip(asked, answers)} for name in names})
+    banks = {name: {what: answer[name] for what, answer in zip(variations, answers)} for name in names}
+    return Stands(tuple(variations), banks)
 
 
 def answered(ask: Ask) -> Dict[str, Place]:
@@ -79,27 +81,22 @@ def variations_of(network: Network) -> Dict[str, Ask]:
         changed["one class"] = Network(banks, single)
     networks = {"as it is": network, **other_units(network)}
     networks.update((name, network._alike(net)) for name, net in changed.items())
-    asked: Dict[str, Ask] = {name: asking(places_of, net) for name, net in networks.items()}
+    questions: Dict[str, Ask] = {name: partial(places_of, net) for name, net in networks.items()}
     for keep in KEEPS:
-        asked[f"keeps {keep}"] = asking(places_with_costs, network, keep)
-    asked["greatest"] = asking(places_at_greatest, network)
-    return asked
-
-
-def asking(work: Callable[..., Dict[str, Place]], *given: Any) -> Ask:
-    """Some work that is asked for later."""
-    return lambda: work(*given)
+        questions[f"keeps {keep}"] = partial(places_with_costs, network, keep)
+    questions["greatest"] = partial(places_at_greatest, network)
+    return questions
 
 
 def in_one_class(debts: List[Debt]) -> Optional[List[Debt]]:
     """All debts in class 1, those of two banks together; None where two together are more than the most."""
-    found: Dict[Tuple[str, str], int] = {}
+    claims: Dict[Tuple[str, str], int] = {}
     for debt in debts:
         key = (debt.debtor, debt.creditor)
-        found[key] = found.get(key, 0) + debt.claim
-    if max(found.values(), default=0) > MAX_CLAIM:
+        claims[key] = claims.get(key, 0) + debt.claim
+    if max(claims.values(), default=0) > MAX_CLAIM:
         return None
-    return [Debt(debtor, creditor, 1, claim) for (debtor, creditor), claim in found.items()]
+    return [Debt(debtor, creditor, 1, claim) for (debtor, creditor), claim in claims.items()]
 
 
 def places_with_costs(network: Network, keep: int) -> Dict[str, Place]:

@@ -67,11 +67,11 @@ def other_units(network: Network) -> Dict[str, Network]:
     """The network where a unit is worth twice as much (amounts halved, to the nearest, a half to even), and half as
     much where the wide limits let, by which it is then read if it needs them."""
     banks, debts = list(network.banks), list(network.debts)
-    found = {"unit x2": network._alike(scaled(banks, debts, half))}
+    units = {"unit x2": network._alike(scaled(banks, debts, half))}
     if within_limits(banks, debts, 2):
         net = network._alike(scaled(banks, debts, lambda units: 2 * units))
-        found["unit /2"] = net._by_limits(WIDE) if net._beyond else net
-    return found
+        units["unit /2"] = net._by_limits(WIDE) if net._beyond else net
+    return units
 
 
 def half(units: int) -> int:

@@ -1,23 +1,36 @@
 """Tables of records, kept by columns."""
 from __future__ import annotations
 
-from typing import Any, Dict, Iterator, List, Sequence, Tuple, Type, TypeVar, Union, cast, get_type_hints, overload
+from typing import (
+    TYPE_CHECKING, Any, Callable, Dict, Iterable, Iterator, List, Optional, Sequence, Tuple, Type, TypeVar, Union,
+    get_type_hints, overload,
+)
 
 from .errors import package
 
-R = TypeVar("R", bound=Tuple[Any, ...])
+if TYPE_CHECKING:
+    from pandas import DataFrame
+
+R = TypeVar("R", bound=Tuple[object, ...], covariant=True)
+Record = TypeVar("Record", bound=Tuple[object, ...])
 
 SHOWN = 30
 
 
-def words_of(record: Type[R]) -> Tuple[str, ...]:
+def fields_of(record: Type[Record]) -> Tuple[str, ...]:
+    """The names of the fields of a kind of named tuple."""
+    fields: Tuple[str, ...] = getattr(record, "_fields")
+    return fields
+
+
+def words_of(record: Type[Record]) -> Tuple[str, ...]:
     """The names of a record's columns, as the program's texts have them.
 
     >>> from clearing_client.records import Debt
     >>> words_of(Debt)
     ('debtor', 'creditor', 'class', 'claim')
     """
-    return tuple(field.rstrip("_") for field in cast(Any, record)._fields)
+    return tuple(field.rstrip("_") for field in fields_of(record))
 
 
 class Table(Sequence[R]):
@@ -37,7 +50,7 @@ class Table(Sequence[R]):
 
     __slots__ = ("_record", "_values")
 
-    def __init__(self, record: Type[R], values: Sequence[Sequence[Any]]) -> None:
+    def __init__(self, record: Type[R], values: Sequence[Sequence[object]]) -> None:
         """A table of a kind of record, from the values of each column; all columns are equally long."""
         self._record = record
         self._values = [list(column) for column in values]
@@ -45,9 +58,9 @@ class Table(Sequence[R]):
             raise ValueError(f"not the columns {', '.join(self.columns)}, equally long")
 
     @classmethod
-    def of(cls, record: Type[R], records: Sequence[R]) -> "Table[R]":
+    def of(cls, record: Type[Record], records: Sequence[Record]) -> "Table[Record]":
         """A table of records."""
-        return cls(record, [[one[place] for one in records] for place in range(len(words_of(record)))])
+        return Table(record, [[one[place] for one in records] for place in range(len(words_of(record)))])
 
     @property
     def columns(self) -> Tuple[str, ...]:
@@ -55,14 +68,20 @@ class Table(Sequence[R]):
         return words_of(self._record)
 
     def column(self, name: str) -> List[Any]:
-        """The values of a column, in order. Amounts are integers."""
+        """The values of a column, in order. Amounts are integers, names are texts: which, no type can say of a name."""
         return list(self._values[self.columns.index(name)])
 
     def __len__(self) -> int:
         return len(self._values[0])
 
     def __iter__(self) -> Iterator[R]:
-        return (self._record(*values) for values in zip(*self._values))
+        return map(self._make, zip(*self._values))
+
+    @property
+    def _make(self) -> Callable[[Iterable[object]], R]:
+        """What makes a record of its values."""
+        make: Callable[[Iterable[object]], R] = getattr(self._record, "_make")
+        return make
 
     @overload
     def __getitem__(self, place: int) -> R:
@@ -75,7 +94,7 @@ class Table(Sequence[R]):
     def __getitem__(self, place: Union[int, slice]) -> "Union[R, Table[R]]":
         if isinstance(place, slice):
             return Table(self._record, [column[place] for column in self._values])
-        return self._record(*(column[place] for column in self._values))
+        return self._make(column[place] for column in self._values)
 
     def __eq__(self, other: object) -> bool:
         if not isinstance(other, Table):
@@ -90,7 +109,7 @@ class Table(Sequence[R]):
 
     def __str__(self) -> str:
         """The first rows, aligned; numbers to the right."""
-        right = [get_type_hints(self._record)[field] is int for field in cast(Any, self._record)._fields]
+        right = [get_type_hints(self._record)[field] is int for field in fields_of(self._record)]
         shown = [[name, *map(str, column[:SHOWN])] for name, column in zip(self.columns, self._values)]
         width = [max(map(len, column)) for column in shown]
         lines = [
@@ -101,19 +120,20 @@ class Table(Sequence[R]):
             lines.append(f".. {len(self) - SHOWN} more")
         return "\n".join(lines)
 
-    def _repr_html_(self) -> Any:
+    def _repr_html_(self) -> Optional[str]:
         """What a notebook shows: the table as pandas shows it, where pandas is there."""
         try:
-            return self.to_pandas()._repr_html_()
+            shown: Optional[str] = self.to_pandas()._repr_html_()
         except ImportError:
             return None
+        return shown
 
-    def to_pandas(self) -> Any:
+    def to_pandas(self) -> DataFrame:
         """A pandas `DataFrame` with a row for each record; amounts have the type int64, names are texts."""
         pandas = package("pandas", "to_pandas")
         types = get_type_hints(self._record)
-        kinds = [types[field] for field in cast(Any, self._record)._fields]
-        columns: Dict[str, Any] = {}
+        kinds = [types[field] for field in fields_of(self._record)]
+        columns: Dict[str, object] = {}
         for name, kind, column in zip(self.columns, kinds, self._values):
             columns[name] = pandas.Series(column, dtype={int: "int64", bool: "bool"}.get(kind, "object"))
         return pandas.DataFrame(columns)

@@ -9,7 +9,7 @@ from __future__ import annotations
 import numbers
 import operator
 from decimal import Decimal
-from typing import Any, Callable, Dict, Iterable, List, Mapping, Optional, Sequence, Tuple
+from typing import Callable, Dict, Iterable, List, Mapping, Optional, Protocol, Sequence, Tuple, cast
 
 from .errors import TableError
 
@@ -18,6 +18,47 @@ DEBT_COLUMNS = ("debtor", "creditor", "class", "claim")
 EXACT = 2**53
 """Up to here every whole number is a float of its own."""
 TOO_LONG = 10**40
+
+
+class Series(Protocol):
+    """A column of a DataFrame, or its index."""
+
+    @property
+    def name(self) -> object:
+        """What it is called."""
+
+    def tolist(self) -> List[object]:
+        """Its values, in order."""
+
+
+class Frame(Protocol):
+    """A pandas `DataFrame`, as far as it is read."""
+
+    @property
+    def columns(self) -> Sequence[str]:
+        """The names of its columns."""
+
+    @property
+    def index(self) -> Series:
+        """The names of its rows."""
+
+    def __getitem__(self, name: str) -> Series:
+        """A column."""
+
+
+class Graph(Protocol):
+    """A networkx graph, as far as it is read."""
+
+    def is_directed(self) -> bool:
+        """Whether an edge leads from a node to another."""
+
+    @property
+    def nodes(self) -> "Callable[..., Iterable[Tuple[object, Mapping[str, object]]]]":
+        """The nodes, each with its attributes."""
+
+    @property
+    def edges(self) -> "Callable[..., Iterable[Tuple[object, object, Mapping[str, object]]]]":
+        """The edges, each with its attributes."""
 
 
 def is_frame(table: object) -> bool:
@@ -30,19 +71,23 @@ def is_graph(table: object) -> bool:
     return all(hasattr(table, name) for name in ("nodes", "edges", "is_directed"))
 
 
-Columns = Dict[str, List[Any]]
+Columns = Dict[str, List[object]]
+Record = Dict[str, object]
 
 
-def columns_of(table: Any, kind: str, words: Sequence[str], of_dict: Callable[[Any], List[Dict[str, Any]]]) -> Columns:
+def columns_of(
+    table: object, kind: str, words: Sequence[str], of_dict: Callable[[Mapping[object, object]], List[Record]]
+) -> Columns:
     """The columns of a table by name: of a DataFrame, of a dict of columns, or of records."""
     if is_frame(table):
-        return checked(columns_of_frame(table, kind, words), kind, words)
+        return checked(columns_of_frame(cast(Frame, table), kind, words), kind, words)
     if isinstance(table, Mapping) and is_columns(table):
         return checked({name: list(column) for name, column in table.items()}, kind, words)
     if isinstance(table, Mapping):
         records = of_dict(table)
     else:
-        records = [record_of(one, kind, row, words) for row, one in enumerate(table, 1)]
+        rows = cast(Iterable[object], table)  # what is no iterable says so itself
+        records = [record_of(one, kind, row, words) for row, one in enumerate(rows, 1)]
     if not records:
         return {name: [] for name in words}
     names = list(dict.fromkeys(name for record in records for name in record))
@@ -53,40 +98,41 @@ def columns_of(table: Any, kind: str, words: Sequence[str], of_dict: Callable[[A
     return checked({name: [record[name] for record in records] for name in names}, kind, words)
 
 
-def columns_of_frame(table: Any, kind: str, words: Sequence[str]) -> Columns:
+def columns_of_frame(table: Frame, kind: str, words: Sequence[str]) -> Columns:
     """The columns of a DataFrame, and its index where it has the name of a column that is missing."""
     if len(set(table.columns)) != len(table.columns):
         raise TableError(kind, 0, "", list(table.columns), "two columns have one name")
-    found = {name: table[name].tolist() for name in table.columns}
-    if table.index.name in words and table.index.name not in found:
-        found[table.index.name] = table.index.tolist()
-    return found
+    columns = {name: table[name].tolist() for name in table.columns}
+    index = table.index.name
+    if isinstance(index, str) and index in words and index not in columns:
+        columns[index] = table.index.tolist()
+    return columns
 
 
-def is_columns(table: Mapping[Any, Any]) -> bool:
+def is_columns(table: Mapping[object, object]) -> bool:
     """Whether a dict has a list for each column."""
     listed = [isinstance(one, Iterable) and not isinstance(one, (str, Mapping)) for one in table.values()]
     return all(listed) and bool(listed)
 
 
-def checked(found: Columns, kind: str, columns: Sequence[str]) -> Columns:
+def checked(table: Columns, kind: str, columns: Sequence[str]) -> Columns:
     """Columns of which none is unknown, and all are equally long."""
-    for name in found:
+    for name in table:
         if name not in columns:
             raise TableError(kind, 0, str(name), None, f"no column of {kind}, which have {', '.join(columns)}")
-    if len({len(column) for column in found.values()}) > 1:
+    if len({len(column) for column in table.values()}) > 1:
         raise TableError(kind, 0, "", None, "the columns are not equally long")
-    return found
+    return table
 
 
-def record_of(one: Any, kind: str, row: int, columns: Sequence[str]) -> Dict[str, Any]:
+def record_of(one: object, kind: str, row: int, columns: Sequence[str]) -> Record:
     """A record by column: from a dict, a named tuple, or a tuple in the order of the columns. A debt may be without its
     class, and a bank without its rule."""
     if isinstance(one, Mapping):
         return dict(one)
     if isinstance(one, tuple) or isinstance(one, list):
         if hasattr(one, "_fields"):
-            return dict(zip((field.rstrip("_") for field in one._fields), one))
+            return dict(zip((field.rstrip("_") for field in getattr(one, "_fields")), one))
         if kind == "debts" and len(one) == 3:
             return dict(zip(("debtor", "creditor", "claim"), one))
         if 2 <= len(one) <= len(columns):
@@ -94,14 +140,14 @@ def record_of(one: Any, kind: str, row: int, columns: Sequence[str]) -> Dict[str
     raise TableError(kind, row, "", one, f"{one!r} is not a record of {', '.join(columns)}")
 
 
-def banks_of_dict(table: Mapping[Any, Any]) -> List[Dict[str, Any]]:
+def banks_of_dict(table: Mapping[object, object]) -> List[Record]:
     """Records of banks from a dict: a name to its cash, or to a dict of what else it has."""
     return [{"name": name, **(one if isinstance(one, Mapping) else {"cash": one})} for name, one in table.items()]
 
 
-def debts_of_dict(table: Mapping[Any, Any]) -> List[Dict[str, Any]]:
+def debts_of_dict(table: Mapping[object, object]) -> List[Record]:
     """Records of debts from a dict: (debtor, creditor) or (debtor, creditor, class) to the claim."""
-    records = []
+    records: List[Record] = []
     for row, (key, claim) in enumerate(table.items(), 1):
         if not isinstance(key, tuple) or len(key) not in (2, 3):
             raise TableError("debts", row, "", key, f"{key!r} is not a debtor and a creditor")
@@ -109,7 +155,7 @@ def debts_of_dict(table: Mapping[Any, Any]) -> List[Dict[str, Any]]:
     return records
 
 
-def name_field(value: Any, kind: str, row: int, field: str) -> str:
+def name_field(value: object, kind: str, row: int, field: str) -> str:
     """A name as it stands in a file: a text, or an integer as its digits."""
     if isinstance(value, numbers.Integral) and not isinstance(value, bool):
         return str(operator.index(value))
@@ -124,7 +170,7 @@ def name_field(value: Any, kind: str, row: int, field: str) -> str:
     return value
 
 
-def number_field(value: Any, kind: str, row: int, field: str) -> str:
+def number_field(value: object, kind: str, row: int, field: str) -> str:
     """A whole number as it stands in a file, exactly. A text is left to the program."""
     if isinstance(value, str) and value.strip(" \t"):
         return name_field(value.strip(" \t"), kind, row, field)
@@ -134,23 +180,22 @@ def number_field(value: Any, kind: str, row: int, field: str) -> str:
     return str(number)
 
 
-def whole_of(value: Any) -> Optional[int]:
+def whole_of(value: object) -> Optional[int]:
     """A whole number, where a value is one: also a float or a decimal number without a fraction."""
     if isinstance(value, numbers.Integral) and not isinstance(value, bool):
         return operator.index(value)
-    number: Any = value if isinstance(value, (float, Decimal)) else None
+    if not isinstance(value, (float, Decimal)):
+        return None
     try:
-        if number is not None and abs(number) <= EXACT and number == int(number):
-            return int(number)
+        return int(value) if -EXACT <= value <= EXACT and value == int(value) else None
     except ArithmeticError:
-        pass
-    return None
+        return None
 
 
-def fields_of(column: Sequence[Any], kind: str, field: str) -> List[str]:
+def fields_of(column: Sequence[object], kind: str, field: str) -> List[str]:
     """The fields of a column in a file. Equal values of one type are read once."""
     read = number_field if field in ("cash", "outside", "class", "claim") else name_field
-    known: Dict[Tuple[type, Any], str] = {}
+    known: Dict[Tuple[type, object], str] = {}
     fields = []
     for row, value in enumerate(column, 1):
         try:
@@ -182,42 +227,44 @@ def csv_of(columns: Mapping[str, List[str]]) -> bytes:
     return ("\n".join([",".join(columns), *lines]) + "\n").encode()
 
 
-def banks_csv(table: Any, rule: str) -> bytes:
+def banks_csv(table: object, rule: str) -> bytes:
     """The banks file of a table of banks; `rule` is that of banks in a table without this column."""
-    found = columns_of(table, "banks", BANK_COLUMNS, banks_of_dict)
-    need(found, "banks", ("name", "cash"))
-    found.setdefault("rule", [rule] * len(found["name"]))
-    return csv_of({name: fields_of(found[name], "banks", name) for name in BANK_COLUMNS if name in found})
+    columns = columns_of(table, "banks", BANK_COLUMNS, banks_of_dict)
+    need(columns, "banks", ("name", "cash"))
+    columns.setdefault("rule", [rule] * len(columns["name"]))
+    return csv_of({name: fields_of(columns[name], "banks", name) for name in BANK_COLUMNS if name in columns})
 
 
-def debts_csv(table: Any, class_: int) -> bytes:
+def debts_csv(table: object, class_: int) -> bytes:
     """The debts file of a table of debts; `class_` is that of debts in a table without this column."""
-    found = columns_of(table, "debts", DEBT_COLUMNS, debts_of_dict)
-    need(found, "debts", ("debtor", "creditor", "claim"))
-    found.setdefault("class", [class_] * len(found["claim"]))
-    return csv_of({name: fields_of(found[name], "debts", name) for name in DEBT_COLUMNS})
+    columns = columns_of(table, "debts", DEBT_COLUMNS, debts_of_dict)
+    need(columns, "debts", ("debtor", "creditor", "claim"))
+    columns.setdefault("class", [class_] * len(columns["claim"]))
+    return csv_of({name: fields_of(columns[name], "debts", name) for name in DEBT_COLUMNS})
 
 
-def need(found: Mapping[str, Any], kind: str, columns: Sequence[str]) -> None:
+def need(there: Mapping[str, object], kind: str, columns: Sequence[str]) -> None:
     """Columns that must be there."""
     for name in columns:
-        if name not in found:
+        if name not in there:
             raise TableError(kind, 0, name, None, "the column is missing")
 
 
-def tables_of_graph(graph: Any) -> Tuple[List[Dict[str, Any]], List[Dict[str, Any]]]:
+def tables_of_graph(graph: Graph) -> Tuple[List[Record], List[Record]]:
     """The banks and the debts of a networkx graph: nodes with `cash`, and `rule` and `outside` where they have them;
     edges from debtor to creditor with `claim`, and `class` where they have it. Other attributes are passed over."""
     if not graph.is_directed():
         raise TableError("graph", 0, "", graph, "its edges have no direction, from debtor to creditor")
-    banks = [{"name": name, **chosen(attributes, BANK_COLUMNS[1:])} for name, attributes in graph.nodes(data=True)]
-    debts = [
+    banks: List[Record] = [
+        {"name": name, **chosen(attributes, BANK_COLUMNS[1:])} for name, attributes in graph.nodes(data=True)
+    ]
+    debts: List[Record] = [
         {"debtor": debtor, "creditor": creditor, **chosen(attributes, DEBT_COLUMNS[2:])}
         for debtor, creditor, attributes in graph.edges(data=True)
     ]
     return banks, debts
 
 
-def chosen(attributes: Mapping[str, Any], names: Sequence[str]) -> Dict[str, Any]:
+def chosen(attributes: Mapping[str, object], names: Sequence[str]) -> Record:
     """The attributes of these names."""
     return {name: attributes[name] for name in names if name in attributes}

@@ -8,7 +8,6 @@ from __future__ import annotations
 
 import sys
 from typing import (
-    Any,
     Callable,
     Dict,
     Iterable,
@@ -70,7 +69,8 @@ from .results import (
 )
 from .table import Table, words_of
 
-R = TypeVar("R", bound=Tuple[Any, ...])
+R = TypeVar("R", bound=Tuple[object, ...])
+S = TypeVar("S", bound=Tuple[object, ...])
 
 YES_NO = {"yes": True, "no": False}
 MAX_DIGITS = 40
@@ -130,7 +130,7 @@ def one_of(words: Sequence[str], column: Sequence[str], at: int) -> List[str]:
     return list(map(sys.intern, column))
 
 
-def read_column(name: str, kind: object, column: Sequence[str], at: int) -> List[Any]:
+def read_column(name: str, kind: object, column: Sequence[str], at: int) -> Sequence[object]:
     """The values of a column whose first field stands on a line."""
     if kind is int:
         return numbers_of(column, at)
@@ -150,7 +150,7 @@ def records_of(record: Type[R], lines: Sequence[str], at: int, without: str = ""
         place = next(place for place, count in enumerate(commas) if count != len(there) - 1)
         raise TextError(at + place, f"not {len(there)} fields: {lines[place][:80]}")
     fields = ",".join(lines).split(",") if lines else []
-    columns: Dict[str, List[Any]] = {
+    columns: Dict[str, Sequence[object]] = {
         name: read_column(name, kinds[name], fields[place :: len(there)], at) for place, name in enumerate(there)
     }
     return Table(record, [columns.get(name, [0] * len(lines)) for name in kinds])
@@ -167,10 +167,10 @@ class Lines:
         """The next line; None at the end."""
         return self.lines[self.at] if self.at < len(self.lines) else None
 
-    def fail(self, wanted: str) -> TextError:
+    def fail(self, expected: str) -> TextError:
         """What is wrong where the next line is not what it should be."""
-        found = "the end of the text" if self.next is None else f"the line {self.next[:80]}"
-        return TextError(self.before + self.at + 1, f"not {wanted}, but {found}")
+        there = "the end of the text" if self.next is None else f"the line {self.next[:80]}"
+        return TextError(self.before + self.at + 1, f"not {expected}, but {there}")
 
     def take(self, line: str) -> None:
         """Goes on behind a line that must be the next; the empty one stands between two tables."""
@@ -259,7 +259,7 @@ def read_outcome(lines: Lines, number: int) -> Outcome:
 
 
 def read_two(
-    kind: Callable[[Table[Any], Table[Any]], Result], first: Type[Any], second: Type[Any]
+    kind: Callable[[Table[R], Table[S]], Result], first: Type[R], second: Type[S]
 ) -> Callable[[Lines], Result]:
     """What reads a result of two tables of these records, with an empty line between."""
 
@@ -280,8 +280,8 @@ def read_rescues(lines: Lines) -> Rescues:
     counts = banks.column("also_saved")
     if sum(counts) != len(saved):
         raise TextError(0, f"{len(saved)} pairs in place of those that the first table counts, {sum(counts)} in all")
-    told = [name for name, count in zip(banks.column("bank"), counts) for _ in range(count)]
-    if saved.column("bank") != told:
+    names = [name for name, count in zip(banks.column("bank"), counts) for _ in range(count)]
+    if saved.column("bank") != names:
         raise TextError(0, "the pairs are not those of the banks of the first table, in their order")
     return Rescues(banks, saved)
 
@@ -390,7 +390,7 @@ def parse(text: str) -> Result:
         raise TextError(1, f"no text of the program begins with {first[:80]}")
     result = reader(lines)
     lines.end()
-    return result.told(text)
+    return result.with_source(text)
 
 
 def decoded(stream: Iterable[bytes]) -> Iterator[str]:

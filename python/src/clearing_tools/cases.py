@@ -2,17 +2,20 @@
 import argparse
 import os
 import sys
-from typing import Any, List, Optional
+from decimal import Decimal
+from typing import List, NamedTuple, Optional
 
+from clearing_client import description
 from clearing_client.case import Case
 from clearing_client.errors import CaseError, ClearingError, UnreadableError
-from clearing_client.limits import LIMITS, STANDARD, WIDE, beyond
-from clearing_client.network import Network, read_file
+from clearing_client.inputs import read_file
+from clearing_client.limits import LIMITS, STANDARD, WIDE, beyond, long_file
+from clearing_client.network import Network
 from clearing_client.steady import WHY, unsteady
 
 from .fullnames import FullNames, read_labels
 from .money import Money
-from .runner import Failed, say, shown
+from .runner import ToolError, say, shown
 
 UNREADABLE, REFUSED = 3, 4
 MOST_TOLD = 10
@@ -29,7 +32,7 @@ def add_case(parser: argparse.ArgumentParser) -> None:
     add_limits(parser)
 
 
-def add_limits(parser: Any) -> None:
+def add_limits(parser: argparse.ArgumentParser) -> None:
     """The word --limits of a tool that has networks read."""
     parser.add_argument(
         "--limits",
@@ -38,60 +41,80 @@ def add_limits(parser: Any) -> None:
     )
 
 
-def take_case(parser: argparse.ArgumentParser, asked: argparse.Namespace) -> Case:
+class Taken(NamedTuple):
+    """What the words of a tool mean: a case, and what is said over it."""
+
+    case: Case
+    banks: str
+    """The banks file."""
+    debts: str
+    """The debts file."""
+    scenarios: Optional[str]
+    """The scenarios file, where there is one."""
+    limits: str
+    """The limits by which the files are read."""
+    unit: Optional[Decimal]
+    """What a unit of account is worth, where that is said or is not 1 of the currency."""
+
+    @property
+    def money(self) -> Money:
+        """How amounts are printed for people."""
+        return Money(self.unit, self.case.currency)
+
+
+def take_case(parser: argparse.ArgumentParser, args: argparse.Namespace) -> Taken:
     """The case that the words of a tool mean. What else is said beside a folder decides over it: --banks, --debts,
-    --scenarios, --labels, --unit, --currency, --title and --default-keeps, as far as the tool has these words. The
-    words that are not said are set to what the case has, so that `asked.banks`, `asked.debts` and `asked.scenarios`
-    name files, and `asked.limits` the limits by which they are read.
+    --scenarios, --labels, --unit, --currency, --title and --default-keeps, as far as the tool has these words.
 
     Ends with 2 where there is neither a folder nor the two files, and fails with 3 where a file cannot be read, and
     with 4 where the folder is refused. What is to be told of the folder is told on standard error."""
-    missing = [f"--{word}" for word in ("banks", "debts") if getattr(asked, word) is None]
-    if asked.case is None and missing:
+    missing = [option for option, name in (("--banks", args.banks), ("--debts", args.debts)) if name is None]
+    if args.case is None and missing:
         parser.error(f"the following arguments are required: {', '.join(missing)}")
-    case = read_case(asked.case) if asked.case is not None else Case.of_files(asked.banks, asked.debts)
+    case = read_case(args.case) if args.case is not None else Case.of_files(args.banks, args.debts)
     tell(case)
-    for word in ("banks", "debts", "scenarios"):
-        said = getattr(asked, word, None)
-        if said is not None:
-            case.paths[word] = said
-        elif hasattr(asked, word):
-            setattr(asked, word, case.paths.get(word))
-    asked.limits = settle_limits(case, asked.limits)
-    return with_words(case, asked)
+    words = vars(args)
+    for file in ("banks", "debts", "scenarios"):
+        if words.get(file) is not None:
+            case.paths[file] = words[file]
+    limits = settle_limits(case, args.limits)
+    unit = with_words(case, args)
+    return Taken(case, case.paths["banks"], case.paths["debts"], case.paths.get("scenarios"), limits, unit)
 
 
-def settle_limits(case: Case, said: Optional[str] = None) -> str:
+def settle_limits(case: Case, limits: Optional[str] = None) -> str:
     """The limits by which the files of a case are read: those that were said on the command line, else by the case,
     else those that they need. The case keeps them where they were said, or are wide."""
-    said = said or case.said_limits
-    by = limits_for(said, case.paths["banks"], case.paths["debts"])
-    case.said_limits = said or (WIDE if by == WIDE else None)
+    limits = limits or case.said_limits
+    by = limits_for(limits, case.paths["banks"], case.paths["debts"])
+    case.said_limits = limits or (WIDE if by == WIDE else None)
     return by
 
 
-def limits_for(said: Optional[str], banks: str, debts: str) -> str:
+def limits_for(limits: Optional[str], banks: str, debts: str) -> str:
     """The limits by which two files are read: those that were said, else the standard ones, or the wide ones where the
     files pass these, which is told. What is no file, or cannot be read, is left to the program."""
-    if said is not None or not (os.path.isfile(banks) and os.path.isfile(debts)):
-        return said or STANDARD
-    try:
-        what = long_file(banks=banks, debts=debts) or beyond(read_file(banks), read_file(debts))
-    except (UnreadableError, OSError):
-        return STANDARD
+    what = None if limits is not None else passed_by(banks, debts)
     if what is None:
-        return STANDARD
-    say(f"the network is read by the wide limits, as it has {what}; --limits wide says so")
+        return limits or STANDARD
+    say(read_widely(what))
     return WIDE
 
 
-def long_file(**names: str) -> Optional[str]:
-    """The file that is longer than the standard limits have it, in words, without reading it; or nothing."""
-    for file, name in names.items():
-        most = LIMITS[STANDARD].bytes[file]
-        if os.path.getsize(name) > most:
-            return f"a {file} file of more than {most:,} bytes"
-    return None
+def passed_by(banks: str, debts: str) -> Optional[str]:
+    """What two files have that passes the standard limits, in words, or nothing. So it is where one is no file, or
+    cannot be read."""
+    if not (os.path.isfile(banks) and os.path.isfile(debts)):
+        return None
+    try:
+        return long_file(banks=banks, debts=debts) or beyond(read_file(banks), read_file(debts))
+    except (UnreadableError, OSError):
+        return None
+
+
+def read_widely(what: str) -> str:
+    """What is told where a network is read by the wide limits, and nobody said so."""
+    return f"the network is read by the wide limits, as it has {what}; --limits wide says so"
 
 
 def add_beside(parser: argparse.ArgumentParser) -> None:
@@ -99,16 +122,37 @@ def add_beside(parser: argparse.ArgumentParser) -> None:
     parser.add_argument("--case", metavar="FOLDER", help="the case that the texts are of: names, unit and currency")
 
 
-def beside(asked: argparse.Namespace) -> Optional[Case]:
-    """The case that --case names beside what a tool reads, or nothing. It says what the words --banks, --unit and
-    --currency are where they are not said."""
-    if asked.case is None:
-        return None
-    case = read_case(asked.case)
+class Beside(NamedTuple):
+    """What is said beside a text that the program printed: a case, where one is named, and what is said over it."""
+
+    case: Optional[Case]
+    banks: Optional[str]
+    """The banks file, where one is named or the case has it."""
+    unit: Optional[Decimal]
+    currency: Optional[str]
+
+    @property
+    def inputs(self) -> List[str]:
+        """The files that the case was read from."""
+        return inputs_of(self.case) if self.case else []
+
+    @property
+    def money(self) -> Money:
+        """How amounts are printed for people."""
+        return Money(self.unit, self.currency)
+
+
+def beside(args: argparse.Namespace) -> Beside:
+    """What --case, --banks, --unit and --currency say beside what a tool reads, as far as it has these words. The case
+    says what the others are where they are not said."""
+    words = vars(args)
+    banks: Optional[str] = words.get("banks")
+    if args.case is None:
+        return Beside(None, banks, words.get("unit"), words.get("currency"))
+    case = read_case(args.case)
     tell(case)
-    if getattr(asked, "banks", "") is None:
-        asked.banks = case.paths["banks"]
-    return with_words(case, asked)
+    unit = with_words(case, args)
+    return Beside(case, banks if banks is not None else case.paths["banks"], unit, case.currency)
 
 
 def read_case(folder: str) -> Case:
@@ -116,9 +160,17 @@ def read_case(folder: str) -> Case:
     try:
         return Case.read(folder)
     except UnreadableError as fault:
-        raise Failed(str(fault), UNREADABLE) from fault
+        raise ToolError(str(fault), UNREADABLE) from fault
     except CaseError as fault:
-        raise Failed(str(fault), REFUSED) from fault
+        raise ToolError(str(fault), REFUSED) from fault
+
+
+def check_moment() -> None:
+    """Fails with 2 where the environment names no moment at which something is made: before anything runs."""
+    try:
+        description.seconds()
+    except CaseError as fault:
+        raise ToolError(str(fault), 2) from fault
 
 
 def tell(case: Case) -> None:
@@ -127,28 +179,23 @@ def tell(case: Case) -> None:
         print(shown(f"case: {note}"), file=sys.stderr)
 
 
-def with_words(case: Case, asked: argparse.Namespace) -> Case:
-    """The case with what else was said, and the words that were not said set to what it has."""
-    over(asked, case, "unit", "unit", 1)
-    over(asked, case, "currency", "currency", None)
-    over(asked, case, "title", "title", "")
-    over(asked, case, "default_keeps", "keep", None)
-    if getattr(asked, "labels", None) is not None:
-        names = read_labels(asked.labels)
+def with_words(case: Case, args: argparse.Namespace) -> Optional[Decimal]:
+    """Sets in a case what is said over it. Gives what a unit of account is worth, as it is printed: as it was said,
+    else by the case, or nothing where that is 1."""
+    words = vars(args)
+    unit: Optional[Decimal] = words.get("unit")
+    case.unit = case.unit if unit is None else unit
+    if words.get("currency") is not None:
+        case.currency = words["currency"]
+    if words.get("title") is not None:
+        case.title = words["title"]
+    if words.get("default_keeps") is not None:
+        case.keep = words["default_keeps"]
+    if words.get("labels") is not None:
+        names = read_labels(words["labels"])
         case.labels = {bank: case.label(bank)._replace(full=full) for bank, full in names.full.items()}
-        case.paths["labels"] = asked.labels
-    return case
-
-
-def over(asked: argparse.Namespace, case: Case, word: str, key: str, nothing: Any) -> None:
-    """What was said by a word decides over a key of the case; a word that was not said is what the case has."""
-    if not hasattr(asked, word):
-        return
-    said, has = getattr(asked, word), getattr(case, key)
-    if said is not None:
-        setattr(case, key, said)
-    elif has != nothing:
-        setattr(asked, word, has)
+        case.paths["labels"] = words["labels"]
+    return unit if unit is not None or case.unit == 1 else case.unit
 
 
 def inputs_of(case: Case) -> List[str]:
@@ -174,9 +221,9 @@ def marked_names_of(case: Case) -> FullNames:
     return FullNames(names_of(case).full, tell_unsteady(case))
 
 
-def names_for(asked: argparse.Namespace, case: Optional[Case]) -> FullNames:
+def names_for(args: argparse.Namespace, case: Optional[Case]) -> FullNames:
     """What banks are called in a picture: by --labels, or by the case that --case names beside what is read."""
-    return marked_names_of(case) if case else read_labels(asked.labels)
+    return marked_names_of(case) if case else read_labels(args.labels)
 
 
 def tell_unsteady(case: Case) -> List[str]:
@@ -187,7 +234,7 @@ def tell_unsteady(case: Case) -> List[str]:
     try:
         banks = unsteady(Network(case.paths["banks"], case.paths["debts"], limits=case.said_limits))
     except ClearingError as fault:
-        raise Failed(str(fault), fault.status if fault.status in (UNREADABLE, REFUSED) else 1) from fault
+        raise ToolError(str(fault), fault.status if fault.status in (UNREADABLE, REFUSED) else 1) from fault
     if banks:
         names = names_of(case)
         more = f" and {len(banks) - MOST_TOLD:,} more" if len(banks) > MOST_TOLD else ""

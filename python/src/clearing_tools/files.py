@@ -5,41 +5,38 @@ A file is written by the descriptor of its folder, which is reached step by step
 and what another user puts in the place of a step later changes nothing.
 """
 import contextlib
-import csv
 import errno
 import io
 import os
+import pathlib
 import re
 import secrets
 import shutil
 import stat
 import sys
-from typing import IO, Any, Iterable, Iterator, List, Mapping, Optional, Sequence, Tuple, Union
+from typing import IO, Iterable, Iterator, List, Mapping, Optional, Sequence, Tuple, Union
 
-from .runner import Failed
+from .runner import ToolError, StrPath
 
 Content = Union[str, bytes, IO[bytes]]
-Contents = Union[Mapping[Any, Content], Iterable[Tuple[Any, Content]]]
+Contents = Union[Mapping[str, Content], Mapping[pathlib.Path, Content], Iterable[Tuple[StrPath, Content]]]
 
 
-def text_of(name: Any) -> str:
+def text_of(name: StrPath) -> str:
     """The text of a file, without the byte order mark and with the line ends LF that editors and spreadsheets change.
     Fails where it cannot be read, or is not UTF-8."""
     try:
         return bytes_of(name).decode("utf-8-sig").replace("\r\n", "\n")
     except (OSError, ValueError) as fault:
-        raise Failed(f"{name}: cannot be read: {fault}") from fault
+        raise ToolError(f"{name}: cannot be read: {fault}") from fault
 
 
 MOST_BYTES = 400_000_000
 """No file of a network is longer, by the wide limits either, and no text of the program but a journal, what `stress`
 prints of several scenarios, and the pairs of banks of `impact` and `rescues`."""
 
-# The blanks round a field are of the field, and may be as many as a file takes.
-csv.field_size_limit(MOST_BYTES)
 
-
-def bytes_of(name: Any, most: int = MOST_BYTES) -> bytes:
+def bytes_of(name: StrPath, most: int = MOST_BYTES) -> bytes:
     """The bytes of a file. Fails where there are more than that."""
     with open(name, "rb") as file:
         return bytes_in(file, most)
@@ -55,30 +52,34 @@ def bytes_in(file: IO[bytes], most: int = MOST_BYTES) -> bytes:
     return content.getvalue()
 
 
-def csv_text(records: Iterable[Iterable[Any]]) -> str:
+def csv_text(records: Iterable[Iterable[object]]) -> str:
     """Records with commas between their fields. No name of a bank has a comma, a quote or an end of a line."""
     return "".join(",".join(map(str, record)) + "\n" for record in records)
 
 
 def put(
-    content: Union[str, bytes], output: Any = None, inputs: Sequence[Any] = (), status: int = 1, folders: bool = True
+    content: Union[str, bytes],
+    output: Optional[StrPath] = None,
+    inputs: Sequence[Optional[StrPath]] = (),
+    status: int = 1,
+    folders: bool = True,
 ) -> None:
     """Writes a text, or bytes, to a file whole or not at all, and never over an input; or to standard output where
     there is no name. Fails with this status."""
     if output is not None:
         try:
-            write_all({output: content}, inputs, folders)
-        except Failed as fault:
-            raise Failed(str(fault), status) from fault
+            write_all([(output, content)], inputs, folders)
+        except ToolError as fault:
+            raise fault.with_status(status) from fault
         return
     try:
         with open(1, "wb", closefd=False) as out:
             out.write(content.encode() if isinstance(content, str) else content)
     except OSError as fault:
-        raise Failed(f"cannot write the output: {fault.strerror}", status) from fault
+        raise ToolError(f"cannot write the output: {fault.strerror}", status) from fault
 
 
-def write_all(texts: Contents, inputs: Sequence[Any] = (), folders: bool = True) -> None:
+def write_all(texts: Contents, inputs: Sequence[Optional[StrPath]] = (), folders: bool = True) -> None:
     """Writes a text, bytes, or what a file that is open has, to each of some files, given by a dict or by pairs; their
     folders are made where they are not there, unless `folders` is false.
 
@@ -87,7 +88,7 @@ def write_all(texts: Contents, inputs: Sequence[Any] = (), folders: bool = True)
     is for nobody to read who may not read all inputs. It is written beside its place and moved there when all are
     written, so that a fault leaves each file as it was. A stream, such as /dev/stdout, is written before anything is
     moved. A link of one's own or the system's is followed."""
-    pairs = texts.items() if isinstance(texts, Mapping) else texts
+    pairs: Iterable[Tuple[StrPath, Content]] = texts.items() if isinstance(texts, Mapping) else texts
     contents = [(os.fspath(name), text.encode() if isinstance(text, str) else text) for name, text in pairs]
     check_apart([name for name, _ in contents], [os.fspath(name) for name in inputs if name is not None])
     with contextlib.ExitStack() as closing, contextlib.ExitStack() as undo:
@@ -111,13 +112,13 @@ def check_apart(names: Sequence[str], inputs: Sequence[str] = ()) -> None:
         if is_stream(name):
             continue
         if os.path.isdir(name) or name.endswith("/") or not name:
-            raise Failed(f"cannot write {name or 'a file without a name'}: it is a folder")
+            raise ToolError(f"cannot write {name or 'a file without a name'}: it is a folder")
         for other in seen:
             if is_same(name, other):
-                raise Failed(f"{other} and {name} are one file; nothing is written")
+                raise ToolError(f"{other} and {name} are one file; nothing is written")
         for other in inputs:
             if is_same(name, other):
-                raise Failed(f"{name} is also read; nothing is written over it")
+                raise ToolError(f"{name} is also read; nothing is written over it")
         seen.append(name)
 
 
@@ -132,7 +133,7 @@ def is_same(one: str, other: str) -> bool:
 DESCRIPTOR = re.compile(r"/dev/(stdin|stdout|stderr|fd/[0-9]+)|/proc/(self|thread-self|[0-9]+)/fd/[0-9]+")
 
 
-def is_stream(name: Any) -> bool:
+def is_stream(name: StrPath) -> bool:
     """Whether a name is that of an open descriptor, a pipe or a character device."""
     try:
         mode = os.stat(name).st_mode
@@ -214,7 +215,7 @@ class Way:
                 return False
             self.links += 1
             if is_others(about) or self.links > MOST_LINKS:
-                raise Failed(f"cannot write {self.name}: {part} is a link of another user")
+                raise ToolError(f"cannot write {self.name}: {part} is a link of another user")
             target = os.readlink("", dir_fd=number)
         finally:
             os.close(number)
@@ -263,22 +264,23 @@ def check_own(name: str) -> None:
 def check_kind(name: str, about: os.stat_result) -> None:
     """Fails at what is neither a file nor a stream, or a pipe of another user."""
     if stat.S_ISFIFO(about.st_mode) and is_others(about):
-        raise Failed(f"cannot write {name}: it is a pipe of another user")
+        raise ToolError(f"cannot write {name}: it is a pipe of another user")
     if stat.S_ISBLK(about.st_mode) or stat.S_ISSOCK(about.st_mode):
-        raise Failed(f"cannot write {name}: it is no file")
+        raise ToolError(f"cannot write {name}: it is no file")
 
 
 READ: List[str] = []
 """Inputs of the tool beside those that are named with a file."""
 
 
-def mask_of(inputs: Iterable[Any] = ()) -> int:
+def mask_of(inputs: Iterable[Optional[StrPath]] = ()) -> int:
     """What a new file that is made of some inputs is not to be allowed: what this user's mask says, and for whom one
     of them is not to be read."""
-    mask = os.umask(0)
+    # It is one for all threads: what another one makes meanwhile is for nobody else.
+    mask = os.umask(0o077)
     os.umask(mask)
-    for name in (*inputs, *READ):
-        with contextlib.suppress(OSError, TypeError, ValueError):
+    for name in [name for name in (*inputs, *READ) if name is not None]:
+        with contextlib.suppress(OSError, ValueError):
             about = os.stat(name)
             if stat.S_ISREG(about.st_mode):
                 mask |= sum(group for group in (0o070, 0o007) if not about.st_mode & group & 0o044)
@@ -288,7 +290,7 @@ def mask_of(inputs: Iterable[Any] = ()) -> int:
 def write_stream(name: str, content: Union[bytes, IO[bytes]]) -> None:
     """Writes to a stream or a device. One that is open is written as it is, so that what others write to it stands
     behind."""
-    with told(name):
+    with naming(name):
         for stream in (sys.stdout, sys.stderr):
             if stream is not None:
                 stream.flush()
@@ -332,12 +334,12 @@ def descriptor_of(name: str) -> Optional[int]:
 
 
 @contextlib.contextmanager
-def told(name: str) -> Iterator[None]:
+def naming(name: str) -> Iterator[None]:
     """A fault of the system becomes a message with the name of the file."""
     try:
         yield
     except (OSError, ValueError) as error:
-        raise Failed(f"cannot write {name}: {getattr(error, 'strerror', None) or error}") from error
+        raise ToolError(f"cannot write {name}: {getattr(error, 'strerror', None) or error}") from error
 
 
 def remove(name: str, folder: int) -> None:
@@ -368,7 +370,7 @@ class Ready:
         self.name = name
         self.part = f".part-{secrets.token_hex(8)}"
         self.kept: Optional[str] = None
-        with told(name):
+        with naming(name):
             self.way = closing.enter_context(contextlib.closing(Way(name, undo if folders else None)))
             about = self.way.about()
             if about is not None:
@@ -392,7 +394,7 @@ class Ready:
 
     def move(self, undo: contextlib.ExitStack) -> None:
         """Moves the file into its place. What stood there comes back where a later step fails."""
-        with told(self.name):
+        with naming(self.name):
             if self.way.about() is None:
                 self.replace(self.part, self.way.last)
                 undo.callback(remove, self.way.last, self.way.folder)

@@ -5,10 +5,11 @@ import csv
 import io
 from typing import Dict, Iterable, Mapping, Optional
 
+from clearing_client.fields import long_fields
 from clearing_client.steady import MARK
 
 from . import files
-from .runner import Failed, shown
+from .runner import ToolError, shown
 
 HEADER = ["code", "name"]
 
@@ -43,7 +44,7 @@ class FullNames:
         names = set(names)
         for name in names & self.full.keys():
             if self.without_mark(name) in names:
-                raise Failed(f"with its full name the bank {shown(name)!r} is called as another bank is", status)
+                raise ToolError(f"with its full name the bank {shown(name)!r} is called as another bank is", status)
         return self
 
 
@@ -60,18 +61,20 @@ def read_labels(name: Optional[str], status: int = 1) -> FullNames:
     if name is None:
         return FullNames()
     try:
-        rows = list(csv.reader(io.StringIO(files.text_of(name), newline=""), strict=True))
+        text = files.text_of(name)
+        with long_fields(len(text)):
+            rows = list(csv.reader(io.StringIO(text, newline=""), strict=True))
     except csv.Error as fault:
-        raise Failed(f"{name}: {fault}", status) from fault
+        raise ToolError(f"{name}: {fault}", status) from fault
     rows = [[field.strip(" \t") for field in row] for row in rows if row]
     if not rows or rows[0] != HEADER:
-        raise Failed(f"{name}: the first row is not {','.join(HEADER)}", status)
+        raise ToolError(f"{name}: the first row is not {','.join(HEADER)}", status)
     full: Dict[str, str] = {}
     for at, row in enumerate(rows[1:], 1):
         if len(row) != 2:
-            raise Failed(f"{name} row {at}: {len(row)} fields in place of 2", status)
+            raise ToolError(f"{name} row {at}: {len(row)} fields in place of 2", status)
         if row[0] in full:
-            raise Failed(f"{name} row {at}: {shown(row[0])!r} has a full name already", status)
+            raise ToolError(f"{name} row {at}: {shown(row[0])!r} has a full name already", status)
         full[row[0]] = row[1]
     return FullNames(full)
 

@@ -2,12 +2,13 @@
 decimal number to the last digit for files, and an amount with its currency for people."""
 import argparse
 import contextlib
-from decimal import Context, Decimal, Inexact, InvalidOperation, localcontext
+from decimal import Decimal, Inexact, InvalidOperation, localcontext
 from typing import Callable, Iterable, Optional
 
-from .runner import Failed
+from clearing_client.decimals import exact
 
-MOST_DIGITS = 100
+from .runner import ToolError
+
 LARGEST_POWER = 15
 
 
@@ -50,14 +51,14 @@ def amount_by(unit: Optional[Decimal]) -> Callable[[int], str]:
     number. Fails where it has more digits than are kept."""
     if unit is None:
         return str
-    exact, worth_each = Context(prec=MOST_DIGITS, traps=[Inexact, InvalidOperation]), unit
+    worth_each = unit
 
     def amount(units: int) -> str:
         try:
-            with localcontext(exact):
+            with localcontext(exact()):
                 return f"{units * worth_each:f}"
         except Inexact:
-            raise Failed(f"amounts of the unit {unit} have more digits than are kept") from None
+            raise ToolError(f"amounts of the unit {unit} have more digits than are kept") from None
 
     return amount
 
@@ -66,13 +67,21 @@ class Money:
     """Amounts as text: units of account, or a currency where a unit is worth something in it."""
 
     def __init__(self, unit: Optional[Decimal] = None, currency: Optional[str] = None) -> None:
-        self.unit = unit.normalize() + 0 if unit is not None else None
+        # Enough digits for whatever is made of a unit here.
+        self.context = exact(unit or Decimal(1))
+        with localcontext(self.context):
+            self.unit = unit.normalize() + 0 if unit is not None else None
         self.currency = currency
         self.places = max(0, -int(self.unit.as_tuple().exponent)) if self.unit is not None else 0
 
+    def worth(self, units: int, size: int = 1) -> Decimal:
+        """What some units are worth, to the last digit, in a size that is a power of ten."""
+        with localcontext(self.context):
+            return units * (self.unit or Decimal(1)) / size
+
     def number(self, units: int) -> str:
         """An amount alone."""
-        return f"{units:,}" if self.unit is None else f"{units * self.unit:,.{self.places}f}"
+        return f"{units:,}" if self.unit is None else f"{self.worth(units):,.{self.places}f}"
 
     def __call__(self, units: int) -> str:
         """An amount with its currency, or the word units."""
@@ -90,10 +99,10 @@ class Money:
     def in_short(self, units: int) -> str:
         """An amount with its currency in a sentence: billions with two decimals, whole millions below one billion,
         whole below one million. A number and its unit do not part."""
-        value = Decimal(units * (self.unit or 1))
+        value = self.worth(units).copy_abs()
         for size, word, places in SHORT:
-            if abs(value) >= size:
-                number = f"{value / size:,.{places}f}\u00a0{word}"
+            if value >= size:
+                number = f"{self.worth(units, size):,.{places}f}\u00a0{word}"
                 return (
                     f"{self.currency}\u00a0{number}"
                     if self.currency
@@ -120,7 +129,7 @@ class Money:
     def most_of(self, amounts: Iterable[int]) -> Decimal:
         """What the largest of some amounts is worth."""
         most = max([abs(units) for units in amounts], default=0)
-        return Decimal(most * (self.unit or 1))
+        return self.worth(most)
 
 
 SHORT = ((10**9, "billion", 2), (10**6, "million", 0))
@@ -138,7 +147,7 @@ class Scale:
 
     def value(self, units: int) -> float:
         """An amount in this size, for a place on an axis."""
-        return float(Decimal(units * (self.money.unit or 1)) / self.size)
+        return float(self.money.worth(units, self.size))
 
     def number(self, units: int) -> str:
         """An amount in this size. One that is not 0 is never shown as 0."""
@@ -146,6 +155,6 @@ class Scale:
             return self.money.number(units)
         if not units:
             return "0"
-        value = Decimal(units * (self.money.unit or 1)) / self.size
-        least = Decimal(1).scaleb(-self.places)
-        return f"<{least}" if 0 < value < least / 2 else f"{value:,.{self.places}f}".replace("-", "\u2212")
+        value = self.money.worth(units, self.size)
+        least = Decimal(f"1e-{self.places}")
+        return f"<{least}" if 0 < 2 * value < least else f"{value:,.{self.places}f}".replace("-", "\u2212")

@@ -24,11 +24,14 @@ are not understood, an output would be written over an input, or matplotlib is m
 where one is refused; 5 where the output cannot be written; 130 at an interrupt.
 
 Example:
-    tools/breaking.py --banks banks.csv --debts debts.csv --picture breaking.svg >breaking.csv
+    clearing-breaking --banks banks.csv --debts debts.csv --picture breaking.svg >breaking.csv
 """
 from __future__ import annotations
 
-from typing import Any, Callable, Container, Iterable, Iterator, List, NamedTuple, Optional, Sequence, Set, Tuple
+from types import ModuleType
+from typing import (
+    TYPE_CHECKING, Callable, Container, Iterable, Iterator, List, NamedTuple, Optional, Sequence, Set, Tuple,
+)
 
 from clearing_client.case import Case
 from clearing_client.format import MAX_CUT, MAX_SCENARIOS
@@ -38,8 +41,13 @@ from clearing_client.table import Table
 
 from .. import cases, cli
 from ..drawing import style
-from ..runner import Asking, Failed, command, processors, work_folder
-from . import asking as ask
+from ..drawing.tokens import LIGHT
+from ..runner import ProgramRuns, ToolError, command, processors, work_folder
+from . import queries
+
+if TYPE_CHECKING:
+    from matplotlib.axes import Axes
+    from matplotlib.figure import Figure
 
 MOST_NAMED = 30
 """So many banks are named in a picture at most."""
@@ -65,21 +73,22 @@ class Ranges:
     def points(self, count: int) -> List[int]:
         """About so many shocks that part what is open evenly."""
         pairs = self.open()
-        found: Set[int] = set()
+        points: Set[int] = set()
         each = max(1, count // max(1, len(pairs)))
         for low, high in pairs:
             parts = min(each + 1, high - low)
-            found.update(low + (high - low) * part // parts for part in range(1, parts))
-        return sorted(found)
+            points.update(low + (high - low) * part // parts for part in range(1, parts))
+        return sorted(points)
 
     def take(self, shock: int, states: List[str]) -> None:
+        """Takes how the banks stand at a shock."""
         for bank, state in enumerate(states):
             if state == "sound":
                 self.low[bank] = max(self.low[bank], shock)
             elif shock < self.high[bank]:
                 self.high[bank], self.state[bank] = shock, state
             if self.low[bank] >= self.high[bank]:
-                raise Failed(
+                raise ToolError(
                     f"the program says that a bank is sound at {self.low[bank]} and not at {self.high[bank]}, a "
                     "smaller shock: "
                     "this is against stress::laws::milder_shock_hurts_nobody"
@@ -87,7 +96,7 @@ class Ranges:
 
 
 def find(
-    asking: Asking,
+    runs: ProgramRuns,
     folder: str,
     files: List[str],
     banks: int,
@@ -101,29 +110,24 @@ def find(
     ranges = Ranges(banks, most)
     while points := ranges.points(count or MAX_SCENARIOS * processors()):
         texts = [text_of(shock) for shock in points]
-        for shock, states in zip(points, ask.stress(asking, folder, files, texts, states_of)):
+        for shock, states in zip(points, queries.stress(runs, folder, files, texts, states_of)):
             ranges.take(shock, states)
     return ranges
 
 
-def losses_of(asking: Asking, files: List[str], network: ask.Network, bank: int) -> Tuple[List[int], List[str]]:
+def losses_of(runs: ProgramRuns, files: List[str], network: queries.Network, bank: int) -> Tuple[List[int], List[str]]:
     """For each bank the least loss of one of them at which it is not sound, and its state then."""
-    text_of = lambda loss: ask.scenario_text(0, [(network.names[bank], loss)])  # noqa: E731
+    text_of = lambda loss: queries.scenario_text(0, [(network.names[bank], loss)])  # noqa: E731
     with work_folder() as folder:
-        ranges = find(asking, folder, files, len(network.names), network.cash[bank], text_of)
+        ranges = find(runs, folder, files, len(network.names), network.cash[bank], text_of)
     return ranges.high, ranges.state
 
 
-def depths_of(network: ask.Network, most: int, hit: Container[int]) -> Iterator[int]:
+def depths_of(network: queries.Network, most: int, hit: Container[int]) -> Iterator[int]:
     """The least shocks from which on banks are in default by their own fundamentals: their cash and all that is owed to
     them does not cover what they owe. From the banks that are hit so many parts of their cash go, of the most that
     there are, rounded down."""
-    spare = [cash - outside for cash, outside in zip(network.cash, network.outside)]
-    place_of = {name: place for place, name in enumerate(network.names)}
-    for debtor, creditor, _, claim in network.debts:
-        spare[place_of[debtor]] -= claim
-        spare[place_of[creditor]] += claim
-    for place, units in enumerate(spare):
+    for place, units in enumerate(queries.spare_of(network).values()):
         cash = network.cash[place]
         if units < 0:
             yield 0
@@ -138,43 +142,65 @@ class Fall(NamedTuple):
     called: str
 
 
-def draw(pyplot: Any, cuts: Sequence[int], depths: Iterable[int], most: int, words: str, called: Sequence[str]) -> Any:
-    """How many banks are in default at each shock, by how they stand at it; the axis ends soon behind the last change.
-    `called` is what each bank is called: few banks are named beside the curve, in the order in which they fall."""
-    falls = sorted(Fall(shock, name) for shock, name in zip(cuts, called) if shock <= most)
-    depths = sorted(depths)
-    has_names = 0 < len(falls) <= MOST_NAMED
-    tall = max(4.6, 1.4 + 0.2 * len(falls)) if has_names else 4.6
-    figure, axes = pyplot.subplots(figsize=(10 if has_names else 9, tall), layout="constrained")
-    last = max([fall.shock for fall in falls] + depths, default=most)
-    right = min(max(last * 1.06, 1), 1.01 * max(most, 1))
-    steps = sorted({0, right, *(fall.shock for fall in falls), *depths})
-    fundamental = [sum(shock <= step for shock in depths) for step in steps]
-    fallen = [sum(fall.shock <= step for fall in falls) for step in steps]
-    for state, below, above in (("fundamental", [0] * len(steps), fundamental), ("contagion", fundamental, fallen)):
-        axes.fill_between(
-            steps, below, above, step="post", color=style.LIGHT[state], label=f"{state} at it", linewidth=0
-        )
-    axes.step(steps, fallen, where="post", color=style.LIGHT["ink"], linewidth=0.8)
-    already = sum(fall.shock == 0 for fall in falls)
-    title = f"{len(falls)} of {len(cuts)} banks are in default at some point, {already} of them as things are"
-    axes.set_title(title, fontsize=11, loc="left", pad=26)
-    axes.set_xlim(0, right)
-    axes.set_ylim(0, max(1, len(falls)) * 1.08)
-    if has_names:
-        axes.set_yticks(
-            [at + 0.5 for at in range(len(falls))], [style.in_short(fall.called, 3.2, 8) for fall in falls], fontsize=8
-        )
-        axes.tick_params(axis="y", length=0)
-    else:
-        axes.yaxis.get_major_locator().set_params(integer=True)
-    axes.set_ylabel("banks in default, in the order in which they fall" if has_names else "banks in default")
-    axes.xaxis.set_major_formatter(lambda units, _: f"{units:,.0f}")
-    axes.set_xlabel(words)
-    # Above the axes, where no curve runs.
-    axes.legend(loc="lower left", bbox_to_anchor=(-0.01, 0.99), ncol=2, frameon=False, fontsize=9)
-    axes.spines[["top", "right"]].set_visible(False)
-    return figure
+class Curve:
+    """How many banks are in default at each shock, by how they stand at it: the banks that fall, in the order in which
+    they do, and the shocks from which on banks are in default by their own fundamentals. `called` is what each bank is
+    called."""
+
+    def __init__(self, cuts: Sequence[int], depths: Iterable[int], most: int, called: Sequence[str]) -> None:
+        self.falls = sorted(Fall(shock, name) for shock, name in zip(cuts, called) if shock <= most)
+        self.depths, self.banks = sorted(depths), len(cuts)
+        last = max([fall.shock for fall in self.falls] + self.depths, default=most)
+        # The axis ends soon behind the last change.
+        self.right = min(max(last * 1.06, 1), 1.01 * max(most, 1))
+
+    @property
+    def has_names(self) -> bool:
+        """Whether the banks are few enough to be named beside the curve."""
+        return 0 < len(self.falls) <= MOST_NAMED
+
+    @property
+    def title(self) -> str:
+        """The message of the picture."""
+        already = sum(fall.shock == 0 for fall in self.falls)
+        return f"{len(self.falls)} of {self.banks} banks are in default at some point, {already} of them as things are"
+
+    def draw(self, pyplot: ModuleType, words: str) -> Figure:
+        """The picture, with these words at the axis of the shocks."""
+        tall = max(4.6, 1.4 + 0.2 * len(self.falls)) if self.has_names else 4.6
+        figure, axes = pyplot.subplots(figsize=(10 if self.has_names else 9, tall), layout="constrained")
+        self.fill(axes)
+        axes.set_title(self.title, fontsize=11, loc="left", pad=26)
+        axes.set_xlim(0, self.right)
+        axes.set_ylim(0, max(1, len(self.falls)) * 1.08)
+        self.name_banks(axes)
+        axes.xaxis.set_major_formatter(lambda units, _: f"{units:,.0f}")
+        axes.set_xlabel(words)
+        # Above the axes, where no curve runs.
+        axes.legend(loc="lower left", bbox_to_anchor=(-0.01, 0.99), ncol=2, frameon=False, fontsize=9)
+        axes.spines[["top", "right"]].set_visible(False)
+        return figure
+
+    def fill(self, axes: Axes) -> None:
+        """The curve, filled by how the banks stand."""
+        steps = sorted({0, self.right, *(fall.shock for fall in self.falls), *self.depths})
+        alone = [sum(shock <= step for shock in self.depths) for step in steps]
+        fallen = [sum(fall.shock <= step for fall in self.falls) for step in steps]
+        for state, below, above in (("fundamental", [0] * len(steps), alone), ("contagion", alone, fallen)):
+            label = f"{state} at it"
+            axes.fill_between(steps, below, above, step="post", color=LIGHT[state], label=label, linewidth=0)
+        axes.step(steps, fallen, where="post", color=LIGHT["ink"], linewidth=0.8)
+
+    def name_banks(self, axes: Axes) -> None:
+        """The axis of banks: their names where they are few."""
+        if self.has_names:
+            names = [style.in_short(fall.called, 3.2, 8) for fall in self.falls]
+            axes.set_yticks([at + 0.5 for at in range(len(self.falls))], names, fontsize=8)
+            axes.tick_params(axis="y", length=0)
+            axes.set_ylabel("banks in default, in the order in which they fall")
+        else:
+            axes.yaxis.get_major_locator().set_params(integer=True)
+            axes.set_ylabel("banks in default")
 
 
 def loss_words(bank: str, case: Case) -> str:
@@ -189,26 +215,28 @@ def main() -> None:
     parser.add_argument("--loss", metavar="BANK", help="ask for the least loss of this bank alone")
     parser.add_argument("--output", metavar="FILE", help="the CSV, standard output where it is not given")
     parser.add_argument("--picture", metavar="FILE", help="the picture to write")
-    asked = parser.parse_args()
-    case = cases.take_case(parser, asked)
-    cli.keep_inputs(cases.inputs_of(case), [asked.output, asked.picture])
-    pyplot = style.pyplot_of() if asked.picture else None
-    asking, files = Asking(), cli.words_of(asked)
-    network = ask.network_of(asking, files) if pyplot or asked.loss is not None else ask.Network([], [], [], [], [])
-    if asked.loss is None:
+    args = parser.parse_args()
+    taken = cases.take_case(parser, args)
+    cli.keep_inputs(cases.inputs_of(taken.case), [args.output, args.picture])
+    pyplot = style.pyplot_of() if args.picture else None
+    runs, files = ProgramRuns(), cli.words_of(taken)
+    network = queries.Network([], [], [], [], [])
+    if pyplot or args.loss is not None:
+        network = queries.network_of(runs, files)
+    if args.loss is None:
         most, kind, words = MAX_CUT, "cut", "cut of all cash, per mille"
-        cuts = ask.answer_of(asking, ["breaking", *files], Breaking).cuts
+        cuts = queries.answer_of(runs, ["breaking", *files], Breaking).cuts
         names, shocks, states = map(cuts.column, ("bank", "cut", "state"))
         hit = list(range(len(names)))
-    elif asked.loss in network.names:
-        bank = network.names.index(asked.loss)
-        most, kind, words = network.cash[bank], "loss", loss_words(asked.loss, case)
-        names, hit, (shocks, states) = network.names, [bank], losses_of(asking, files, network, bank)
+    elif args.loss in network.names:
+        bank = network.names.index(args.loss)
+        most, kind, words = network.cash[bank], "loss", loss_words(args.loss, taken.case)
+        names, hit, (shocks, states) = network.names, [bank], losses_of(runs, files, network, bank)
     else:
-        like = {name.strip().casefold(): name for name in network.names}.get(asked.loss.strip().casefold())
-        raise Failed(f"no bank has the name {asked.loss!r}" + (f"; is it {like!r}?" if like else ""), 4)
-    called = cases.marked_names_of(case)
+        like = {name.strip().casefold(): name for name in network.names}.get(args.loss.strip().casefold())
+        raise ToolError(f"no bank has the name {args.loss!r}" + (f"; is it {like!r}?" if like else ""), 4)
+    called = cases.marked_names_of(taken.case)
     if pyplot:
-        picture = draw(pyplot, shocks, depths_of(network, most, hit), most, words, list(map(called, names)))
-        style.save(picture, asked.picture, folders=False)
-    ask.write(("bank", kind, "state"), zip(names, shocks, states), asked.output)
+        curve = Curve(shocks, depths_of(network, most, hit), most, list(map(called, names)))
+        style.save(curve.draw(pyplot, words), args.picture, folders=False)
+    queries.write(("bank", kind, "state"), zip(names, shocks, states), args.output)

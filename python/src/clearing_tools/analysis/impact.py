@@ -5,37 +5,44 @@ Out:  CSV on standard output, or in --ranking FILE: `bank,cash,own,others,defaul
       that hurt others most. Where the bank loses all its cash, it keeps so much less itself (`own`), the others keep so
       much less together (`others`), and so many others that were sound are in default (`defaults`, which
       `clearing impact` calls `falls`). What a bank keeps is its equity and what it pays outside.
-      --matrix FILE     `bank,of,lost`: where `bank` loses all its cash, `of` keeps so much less; a line for each pair where that is not 0
+      --matrix FILE     `bank,of,lost`: where `bank` loses all its cash, `of` keeps so much less; a line for each pair
+                        where that is not 0
       --defaults FILE   `bank,of,state`: where `bank` loses all its cash, `of`, which was sound, is in that state
-      --picture FILE    a heat map of the matrix, the banks that hurt others most first (--most of them, 40). The kind of picture is the
-                        ending: .svg, .png or .pdf. It wants matplotlib.
+      --picture FILE    a heat map of the matrix, the banks that hurt others most first (--most of them, 40). The kind
+                        of picture is the ending: .svg, .png or .pdf. It wants matplotlib.
       Of a case with a description the banks that one unit decides are told in a line on standard error.
 
 No bank keeps more then, and what all keep less is exactly the cash that was lost: no unit is lost twice
-(cascade::laws::ruin_of_a_bank_costs_its_cash). So own and others come to the cash. The answers are those of `clearing impact`. In
-which state a bank is that falls, its claims tell: another bank than the one that is ruined falls by contagion.
+(cascade::laws::ruin_of_a_bank_costs_its_cash). So own and others come to the cash. The answers are those of
+`clearing impact`. In which state a bank is that falls, its claims tell: another bank than the one that is ruined falls
+by contagion.
 
 The environment variable CLEARING names the program, the repository's where it is not set.
 
 Ends with 0; 1 where the program fails or a picture cannot be written; 2 where the words are not understood, an output
-would be written over an input, or matplotlib is missing; 3 where a file cannot be read; 4 where one is refused; 5 where the output cannot be
-written; 130 at an interrupt.
+would be written over an input, or matplotlib is missing; 3 where a file cannot be read; 4 where one is refused; 5
+where the output cannot be written; 130 at an interrupt.
 
 Example:
-    tools/impact.py --banks banks.csv --debts debts.csv --matrix impact.csv --picture impact.svg >ranking.csv
+    clearing-impact --banks banks.csv --debts debts.csv --matrix impact.csv --picture impact.svg >ranking.csv
 """
 from __future__ import annotations
 
-from typing import Any, Dict, Iterable, List, Set, Tuple
+from types import ModuleType
+from typing import TYPE_CHECKING, Dict, Iterable, List, Set, Tuple
 
 from clearing_client.records import Harm, Ruin
 from clearing_client.results import Impact
 
 from .. import cases, cli
 from ..drawing import style
+from ..drawing.tokens import LIGHT
 from ..fullnames import FullNames
-from ..runner import Asking, command
-from . import asking as ask
+from ..runner import ProgramRuns, command
+from . import queries
+
+if TYPE_CHECKING:
+    from matplotlib.figure import Figure
 
 
 def ranking_of(banks: Iterable[Ruin]) -> List[Ruin]:
@@ -43,22 +50,19 @@ def ranking_of(banks: Iterable[Ruin]) -> List[Ruin]:
     return sorted(banks, key=lambda bank: (-bank.others, -bank.falls))
 
 
-def ruined_state(network: ask.Network, bank: str) -> str:
-    """How a bank is in default that lost all its cash: by its own fundamentals, unless what is owed to it would cover
-    what it owes."""
-    spare = -network.outside[network.names.index(bank)]
-    spare += sum(claim for _, creditor, _, claim in network.debts if creditor == bank)
-    spare -= sum(claim for debtor, _, _, claim in network.debts if debtor == bank)
-    return "fundamental" if spare < 0 else "contagion"
+def fallen_of(network: queries.Network, pairs: Iterable[Harm]) -> List[Tuple[str, str, str]]:
+    """Who is in default then, and its state. A bank that keeps its cash could still pay if its debtors did. One that
+    lost all of it is in default by its own fundamentals, unless what is owed to it would cover what it owes."""
+    spare, cash = queries.spare_of(network), dict(zip(network.names, network.cash))
+    ruined = {bank for bank, units in spare.items() if units < cash[bank]}
+    return [
+        (pair.bank, pair.of, "fundamental" if pair.of == pair.bank and pair.bank in ruined else "contagion")
+        for pair in pairs
+        if pair.falls
+    ]
 
 
-def fallen_of(network: ask.Network, pairs: Iterable[Harm]) -> List[Tuple[str, str, str]]:
-    """Who is in default then, and its state. A bank that keeps its cash could still pay if its debtors
-    did."""
-    return [(pair.bank, pair.of, "contagion" if pair.of != pair.bank else ruined_state(network, pair.bank)) for pair in pairs if pair.falls]
-
-
-def draw(pyplot: Any, impact: Impact, ranking: List[Ruin], most: int, names: FullNames) -> Any:
+def draw(pyplot: ModuleType, impact: Impact, ranking: List[Ruin], most: int, names: FullNames) -> Figure:
     """A square for each pair: a row for each bank that is ruined, a column for each that keeps less then, in the
     order of the ranking."""
     shown = [record for record in ranking if record.cash][:most]
@@ -85,7 +89,7 @@ def draw(pyplot: Any, impact: Impact, ranking: List[Ruin], most: int, names: Ful
 
 
 def heat_map(
-    pyplot: Any,
+    pyplot: ModuleType,
     rows: List[str],
     columns: List[str],
     cash: Dict[str, int],
@@ -93,7 +97,7 @@ def heat_map(
     fallen: Set[Tuple[str, str]],
     message: str,
     names: FullNames,
-) -> Any:
+) -> Figure:
     """The squares with their names, which are cut where they are long, and the message above them."""
     left, below = (style.column_for([names(bank) for bank in banks], 7, 2.0) for banks in (rows, columns))
     wide = max(left + 0.4 + 0.2 * max(len(columns), 6) + 1.5, 6.0)
@@ -101,20 +105,25 @@ def heat_map(
     tall = head + 0.2 * max(len(rows), 6) + below + 0.4
     figure, axes = pyplot.subplots(figsize=(wide, tall))
     right = left + 0.4 + 0.2 * max(len(columns), 6)
-    figure.subplots_adjust(left=(left + 0.4) / wide, right=right / wide, bottom=(below + 0.3) / tall, top=1 - head / tall)
+    bottom = (below + 0.3) / tall
+    figure.subplots_adjust(left=(left + 0.4) / wide, right=right / wide, bottom=bottom, top=1 - head / tall)
     style.title(figure, message, "A dot: then in default, and not before.")
     if rows:
         cells = [[lost[bank].get(of, 0) / cash[bank] for of in columns] for bank in rows]
-        colours = pyplot.matplotlib.colors.LinearSegmentedColormap.from_list("unpaid", [style.LIGHT["paid-fill"], style.LIGHT["ink"]])
-        colours.set_under(style.LIGHT["panel"])
+        shades = [LIGHT["paid-fill"], LIGHT["ink"]]
+        colours = pyplot.matplotlib.colors.LinearSegmentedColormap.from_list("unpaid", shades)
+        colours.set_under(LIGHT["panel"])
         image = axes.imshow(cells, cmap=colours, vmin=1e-12, vmax=1, aspect="auto", interpolation="nearest")
         dots = [(x, y) for y, bank in enumerate(rows) for x, of in enumerate(columns) if (bank, of) in fallen]
         if dots:
-            axes.scatter(*zip(*dots), s=14, color=style.LIGHT["contagion"], edgecolors=style.LIGHT["paper"], linewidths=0.7)
-        bar = figure.add_axes([(right + 0.2) / wide, (below + 0.3) / tall, 0.12 / wide, 1 - (head + below + 0.3) / tall])
-        figure.colorbar(image, cax=bar, label="share of the cash that is gone", format=lambda share, _: f"{100 * share:.0f}%")
-    axes.set_yticks(range(len(rows)), [style.in_short(names(bank), left + 0.05, 7) for bank in rows], fontsize=7)
-    axes.set_xticks(range(len(columns)), [style.in_short(names(bank), below + 0.05, 7) for bank in columns], rotation=90, fontsize=7)
+            axes.scatter(*zip(*dots), s=14, color=LIGHT["contagion"], edgecolors=LIGHT["paper"], linewidths=0.7)
+        bar = figure.add_axes([(right + 0.2) / wide, bottom, 0.12 / wide, 1 - (head + below + 0.3) / tall])
+        title = "share of the cash that is gone"
+        figure.colorbar(image, cax=bar, label=title, format=lambda share, _: f"{100 * share:.0f}%")
+    of_rows = [style.in_short(names(bank), left + 0.05, 7) for bank in rows]
+    of_columns = [style.in_short(names(bank), below + 0.05, 7) for bank in columns]
+    axes.set_yticks(range(len(rows)), of_rows, fontsize=7)
+    axes.set_xticks(range(len(columns)), of_columns, rotation=90, fontsize=7)
     return figure
 
 
@@ -125,17 +134,17 @@ def main() -> None:
     parser.add_argument("--matrix", metavar="FILE", help="the matrix to write, in long form")
     parser.add_argument("--defaults", metavar="FILE", help="who is then in default, to write")
     parser.add_argument("--picture", metavar="FILE", help="the heat map to write")
-    asked = cli.parse_most(parser, "banks the heat map shows", 40)
-    case = cases.take_case(parser, asked)
-    cli.keep_inputs(cases.inputs_of(case), [asked.ranking, asked.matrix, asked.defaults, asked.picture])
-    pyplot = style.pyplot_of() if asked.picture else None
-    asking, files = Asking(), cli.words_of(asked)
-    impact = ask.answer_of(asking, ["impact", *files], Impact)
-    ranking, names = ranking_of(impact.banks), cases.marked_names_of(case)
-    if asked.matrix:
-        ask.write(("bank", "of", "lost"), (pair[:3] for pair in impact.pairs if pair.lost), asked.matrix)
-    if asked.defaults:
-        ask.write(("bank", "of", "state"), fallen_of(ask.network_of(asking, files), impact.pairs), asked.defaults)
+    args = cli.parse_most(parser, "banks the heat map shows", 40)
+    taken = cases.take_case(parser, args)
+    cli.keep_inputs(cases.inputs_of(taken.case), [args.ranking, args.matrix, args.defaults, args.picture])
+    pyplot = style.pyplot_of() if args.picture else None
+    runs, files = ProgramRuns(), cli.words_of(taken)
+    impact = queries.answer_of(runs, ["impact", *files], Impact)
+    ranking, names = ranking_of(impact.banks), cases.marked_names_of(taken.case)
+    if args.matrix:
+        queries.write(("bank", "of", "lost"), (pair[:3] for pair in impact.pairs if pair.lost), args.matrix)
+    if args.defaults:
+        queries.write(("bank", "of", "state"), fallen_of(queries.network_of(runs, files), impact.pairs), args.defaults)
     if pyplot:
-        style.save(draw(pyplot, impact, ranking, asked.most, names), asked.picture, folders=False)
-    ask.write(("bank", "cash", "own", "others", "defaults"), ranking, asked.ranking)
+        style.save(draw(pyplot, impact, ranking, args.most, names), args.picture, folders=False)
+    queries.write(("bank", "cash", "own", "others", "defaults"), ranking, args.ranking)

@@ -18,7 +18,7 @@ over an input; 3 where a file cannot be read; 4 where one is refused; 5 where th
 interrupt.
 
 Example:
-    tools/rescues.py --banks banks.csv --debts debts.csv >rescues.csv
+    clearing-rescues --banks banks.csv --debts debts.csv >rescues.csv
 """
 from __future__ import annotations
 
@@ -27,8 +27,8 @@ import fractions
 from clearing_client.results import Rescues
 
 from .. import cases, cli
-from ..runner import Asking, command
-from . import asking as ask
+from ..runner import ProgramRuns, command
+from . import queries
 
 
 @command()
@@ -36,16 +36,16 @@ def main() -> None:
     parser = cli.case_parser(__doc__)
     parser.add_argument("--output", metavar="FILE", help="the CSV, standard output where it is not given")
     parser.add_argument("--saved", metavar="FILE", help="who is saved by whose rescue, to write")
-    asked = parser.parse_args()
-    case = cases.take_case(parser, asked)
-    cli.keep_inputs(cases.inputs_of(case), [asked.output, asked.saved])
-    asking = Asking()
-    rescues = ask.answer_of(asking, ["rescues", *cli.words_of(asked)], Rescues)
+    args = parser.parse_args()
+    taken = cases.take_case(parser, args)
+    cli.keep_inputs(cases.inputs_of(taken.case), [args.output, args.saved])
+    runs = ProgramRuns()
+    rescues = queries.answer_of(runs, ["rescues", *cli.words_of(taken)], Rescues)
     ranking = sorted(rescues.banks, key=lambda bank: fractions.Fraction(-1 - bank.also_saved, bank.added))
-    if asked.saved:
+    if args.saved:
         rank = {bank.bank: at for at, bank in enumerate(ranking)}
         saved = sorted(list(rescues.saved), key=lambda pair: rank[pair.bank])
-        ask.write(("bank", "of"), saved, asked.saved)
+        queries.write(("bank", "of"), saved, args.saved)
     records = ((bank.bank, bank.added, bank.also_saved, bank.still_short) for bank in ranking)
-    ask.write(("bank", "added", "also_saved", "still_short"), records, asked.output)
-    cases.tell_unsteady(case)
+    queries.write(("bank", "added", "also_saved", "still_short"), records, args.output)
+    cases.tell_unsteady(taken.case)

@@ -1,6 +1,7 @@
 """What is asked of cases beside their files: two side by side, many networks, and whether an answer stands."""
 import argparse
-from typing import Any, Callable, Dict, List, Optional, Sequence, TypeVar
+from types import ModuleType
+from typing import TYPE_CHECKING, Callable, Dict, List, Optional, Sequence, TypeVar
 
 from clearing_client.case import Case
 from clearing_client.compare import Difference, compare
@@ -10,36 +11,40 @@ from clearing_client.stands import Stands, stands
 from clearing_client.steady import MARK, NOTE, unsteady
 
 from .. import cases, cli, files
-from ..analysis.asking import write_tables
+from ..analysis.queries import write_tables
 from ..drawing import style
+from ..drawing.tokens import LIGHT
 from ..fullnames import FullNames
-from ..runner import Failed
+from ..runner import ToolError
 from . import side_by_side
 from .side_by_side import WHAT, plain
+
+if TYPE_CHECKING:
+    from matplotlib.figure import Figure
 
 T = TypeVar("T")
 
 
-def asked_of(work: Callable[[], T]) -> T:
+def answer_or_end(work: Callable[[], T]) -> T:
     """What the program answers; what it refuses ends the tool with its status."""
     try:
         return work()
     except ClearingError as fault:
-        raise Failed(str(fault), fault.status if fault.status in (3, 4) else 1) from fault
+        raise ToolError(str(fault), fault.status if fault.status in (3, 4) else 1) from fault
 
 
 def read_all(folders: Sequence[str]) -> List[Case]:
     """The cases of some folders; what is to be told of them is told."""
-    found = [cases.read_case(folder) for folder in folders]
-    for case in found:
+    several = [cases.read_case(folder) for folder in folders]
+    for case in several:
         cases.tell(case)
         cases.settle_limits(case)
-    return found
+    return several
 
 
-def keep_apart(found: Sequence[Case], outputs: Sequence[Optional[str]]) -> None:
+def keep_apart(several: Sequence[Case], outputs: Sequence[Optional[str]]) -> None:
     """Fails where an output would be written over a file of a case."""
-    cli.keep_inputs([name for case in found for name in cases.inputs_of(case)], outputs)
+    cli.keep_inputs([name for case in several for name in cases.inputs_of(case)], outputs)
 
 
 # compare
@@ -55,18 +60,18 @@ def add_compare(parser: argparse.ArgumentParser) -> None:
     parser.add_argument("--page", metavar="FILE", help="the same as a page of HTML, to write")
 
 
-def compare_cases(asked: argparse.Namespace) -> int:
+def compare_cases(args: argparse.Namespace) -> int:
     """Writes two cases side by side."""
-    found = read_all([asked.before, asked.after])
-    keep_apart(found, [asked.output, asked.page])
-    done = asked_of(lambda: compare(*found))
-    one_unit = set(asked_of(lambda: [*unsteady(found[0]), *unsteady(found[1])]))
-    names = cases.names_of(found[1]) if found[1].labels else cases.names_of(found[0])
-    records = [[*record_of(bank, names), NOTE if bank.bank in one_unit else ""] for bank in done.banks]
-    if asked.page:
-        inputs = [name for case in found for name in cases.inputs_of(case)]
-        files.put(side_by_side.page_of(done, names, one_unit), asked.page, inputs, status=5)
-    write_tables({"banks": [header_of(names), *records]}, asked.output)
+    both = read_all([args.before, args.after])
+    keep_apart(both, [args.output, args.page])
+    comparison = answer_or_end(lambda: compare(*both))
+    one_unit = set(answer_or_end(lambda: [*unsteady(both[0]), *unsteady(both[1])]))
+    names = cases.names_of(both[1]) if both[1].labels else cases.names_of(both[0])
+    records = [[*record_of(bank, names), NOTE if bank.bank in one_unit else ""] for bank in comparison.banks]
+    if args.page:
+        inputs = [name for case in both for name in cases.inputs_of(case)]
+        files.put(side_by_side.page_of(comparison, names, one_unit), args.page, inputs, status=5)
+    write_tables({"banks": [header_of(names), *records]}, args.output)
     return 0
 
 
@@ -76,9 +81,9 @@ def header_of(names: FullNames) -> List[str]:
     return ["bank", *(["full"] if names.full else []), "change", "state_before", "state_after", *amounts, "note"]
 
 
-def record_of(bank: Difference, names: FullNames) -> List[Any]:
+def record_of(bank: Difference, names: FullNames) -> List[object]:
     """A bank of two cases as a record."""
-    record: List[Any] = [
+    record: List[object] = [
         bank.bank,
         *([names.of(bank.bank)] if names.full else []),
         bank.change,
@@ -118,33 +123,33 @@ def add_ensemble(parser: argparse.ArgumentParser) -> None:
     )
 
 
-def ask_many(asked: argparse.Namespace) -> int:
+def ask_many(args: argparse.Namespace) -> int:
     """Writes what tasks say over many networks."""
-    pyplot = style.pyplot_of() if asked.picture else None
-    found = read_all(asked.cases)
-    keep_apart(found, [asked.output, asked.picture])
-    done = asked_of(lambda: ensemble(found, asked.task or "defaults", asked.default_keeps))
-    names = cases.names_of(found[0])
+    pyplot = style.pyplot_of() if args.picture else None
+    several = read_all(args.cases)
+    keep_apart(several, [args.output, args.picture])
+    answer = answer_or_end(lambda: ensemble(several, args.task or "defaults", args.default_keeps))
+    names = cases.names_of(several[0])
     if pyplot:
-        style.save(draw(pyplot, done, names, asked.most), asked.picture, folders=False)
-    write_tables(tables_of(done, names), asked.output)
+        style.save(draw(pyplot, answer, names, args.most), args.picture, folders=False)
+    write_tables(tables_of(answer, names), args.output)
     return 0
 
 
-def tables_of(done: Ensemble, names: FullNames) -> Dict[str, List[Sequence[Any]]]:
+def tables_of(answer: Ensemble, names: FullNames) -> Dict[str, List[Sequence[object]]]:
     """The tables of many networks: who defaults in how many, and how numbers are spread."""
     full = ["full"] if names.full else []
-    tables: Dict[str, List[Sequence[Any]]] = {}
-    if done.shares:
+    tables: Dict[str, List[Sequence[object]]] = {}
+    if answer.shares:
         rows = [
             [one.task, one.bank, *full_of(one.bank, names), *one[2:], one.sentence(names(one.bank))]
-            for one in done.shares
+            for one in answer.shares
         ]
         head = ["task", "bank", *full, "defaults", "fundamental", "networks", "unsteady", "sentence"]
         tables["shares"] = [head, *rows]
     rows = [
         [one.task, one.bank, *full_of(one.bank, names), one.number, one.networks, *map(plain, one[4:])]
-        for one in done.spreads
+        for one in answer.spreads
     ]
     head = ["task", "bank", *full, "number", "networks", "least", "lower", "median", "upper", "greatest"]
     return {**tables, "spreads": [head, *rows]}
@@ -155,22 +160,23 @@ def full_of(bank: str, names: FullNames) -> List[str]:
     return [names.of(bank)] if names.full else []
 
 
-def draw(pyplot: Any, done: Ensemble, names: FullNames, most: int) -> Any:
+def draw(pyplot: ModuleType, answer: Ensemble, names: FullNames, most: int) -> "Figure":
     """A bar for each bank that defaults in some network: in how many of them, and in how many by its own fundamentals,
     by the first task that has states."""
-    asked: List[Share] = [share for share in done.shares if share.task == done.shares[0].task and share.defaults]
-    shown = asked[:most]
+    first = answer.shares[0].task if answer.shares else ""
+    defaulting: List[Share] = [share for share in answer.shares if share.task == first and share.defaults]
+    shown = defaulting[:most]
     figure, axes = pyplot.subplots(figsize=(8, 1.8 + 0.26 * max(len(shown), 3)), layout="constrained")
     places = range(len(shown))
     fallen, alone = [share.defaults for share in shown], [share.fundamental for share in shown]
-    axes.barh(places, fallen, color=style.LIGHT["contagion"], label="by contagion")
-    axes.barh(places, alone, color=style.LIGHT["fundamental"], label="by own fundamentals")
+    axes.barh(places, fallen, color=LIGHT["contagion"], label="by contagion")
+    axes.barh(places, alone, color=LIGHT["fundamental"], label="by own fundamentals")
     axes.set_yticks(places, [tick_of(share, names) for share in shown], fontsize=8)
     axes.invert_yaxis()
-    networks = max((share.networks for share in done.shares), default=0)
+    networks = max((share.networks for share in answer.shares), default=0)
     axes.set_xlim(0, max(networks, 1))
     axes.xaxis.get_major_locator().set_params(integer=True)
-    left_out = len(asked) - len(shown)
+    left_out = len(defaulting) - len(shown)
     title = f"In how many of {networks:,} networks a bank defaults" + (f"; {left_out:,} banks more" if left_out else "")
     if any(share.unsteady for share in shown):
         title += f"\n{MARK} {NOTE} in some of them"
@@ -199,23 +205,23 @@ def add_stands(parser: argparse.ArgumentParser) -> None:
     )
 
 
-def ask_stands(asked: argparse.Namespace) -> int:
+def ask_stands(args: argparse.Namespace) -> int:
     """Writes which banks are elsewhere in a variation."""
-    (case,) = read_all([asked.case])
-    keep_apart([case], [asked.output])
-    done = asked_of(lambda: stands(case))
+    (case,) = read_all([args.case])
+    keep_apart([case], [args.output])
+    answer = answer_or_end(lambda: stands(case))
     names = cases.names_of(case)
-    banks = list(done.banks) if asked.all else done.changed
-    head = ["bank", *(["full"] if names.full else []), *done.variations, "note"]
-    write_tables({"banks": [head, *(stands_record(done, bank, names) for bank in banks)]}, asked.output)
+    banks = list(answer.banks) if args.all else answer.changed
+    head = ["bank", *(["full"] if names.full else []), *answer.variations, "note"]
+    write_tables({"banks": [head, *(stands_record(answer, bank, names) for bank in banks)]}, args.output)
     return 0
 
 
-def stands_record(done: Stands, bank: str, names: FullNames) -> List[str]:
+def stands_record(answer: Stands, bank: str, names: FullNames) -> List[str]:
     """A bank in each variation, what changes marked by an asterisk; and whether its figures are of the size of a
     unit."""
-    places = done.banks[bank]
-    here = places[done.variations[0]]
-    cells = [places[name].words() + ("" if places[name] == here else " *") for name in done.variations]
-    note = NOTE if bank in done.unsteady else ""
+    places = answer.banks[bank]
+    here = places[answer.variations[0]]
+    cells = [places[name].words() + ("" if places[name] == here else " *") for name in answer.variations]
+    note = NOTE if bank in answer.unsteady else ""
     return [bank, *full_of(bank, names), *cells, note]

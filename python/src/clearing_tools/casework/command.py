@@ -24,7 +24,7 @@ Ends with 0; 1 where `check` finds something; 2 where the words are not understo
 where the folder is no case; 5 where the output cannot be written.
 
 Example:
-    tools/case.py show examples/twelve-banks
+    clearing-case show examples/twelve-banks
 """
 import argparse
 import os
@@ -39,9 +39,10 @@ from clearing_client.texts import DEBTS
 
 from .. import cases, cli, files, money
 from ..checks import lint
+from ..checks.linter import Linter
 from ..imports.made_case import currency_in, date_in
 from ..labels import word_shown
-from ..runner import Failed, command, shown
+from ..runner import ToolError, command, shown
 from ..texts import number, read_accounts, records_in
 from . import answers, shocks
 from .folder import files_in
@@ -63,7 +64,7 @@ def add_folder(parser: argparse.ArgumentParser) -> None:
     parser.add_argument("case", metavar="FOLDER", help="the case")
 
 
-def add_said(parser: argparse.ArgumentParser) -> None:
+def add_description(parser: argparse.ArgumentParser) -> None:
     """What may be said of a case while it is described anew."""
     add_folder(parser)
     parser.add_argument("--title", metavar="TEXT", help="its title")
@@ -85,9 +86,9 @@ def say_all(lines: List[str]) -> None:
 # show
 
 
-def show(asked: argparse.Namespace) -> int:
+def show(args: argparse.Namespace) -> int:
     """Prints what a case is."""
-    case = cases.read_case(asked.case)
+    case = cases.read_case(args.case)
     cases.tell(case)
     say_all(lines_of(case))
     return 0
@@ -95,7 +96,7 @@ def show(asked: argparse.Namespace) -> int:
 
 def lines_of(case: Case) -> List[str]:
     """What a case is, a line each."""
-    said = [
+    facts = [
         ("title", case.title),
         ("as of", case.as_of.isoformat() if case.as_of else ""),
         ("test", case.test),
@@ -104,7 +105,7 @@ def lines_of(case: Case) -> List[str]:
         ("by", ", ".join(str(one.get("title", "")) for one in case.contributors)),
         ("amounts", cases.money_of(case).about().removeprefix("Amounts ").rstrip(".")),
     ]
-    lines = [f"{what}: {text}" for what, text in said if text]
+    lines = [f"{what}: {text}" for what, text in facts if text]
     lines += sums_of(case)
     lines += [f"source: {source.title}{f' in {source.path}' if source.path else ''}" for source in case.sources]
     if case.summary:
@@ -121,8 +122,8 @@ def sums_of(case: Case) -> List[str]:
     accounts = read_accounts(case.paths["banks"])[1].values()
     records = records_in(case.paths["debts"], DEBTS)[1]
     claims = [number(case.paths["debts"], row, fields[3]) for row, fields in records]
-    outside = sum(account.get("outside", 0) for account in accounts)
-    lines = [f"banks: {len(accounts):,}; cash {amount(sum(account['cash'] for account in accounts))}"]
+    outside = sum(account.outside for account in accounts)
+    lines = [f"banks: {len(accounts):,}; cash {amount(sum(account.cash for account in accounts))}"]
     lines += [f"owed outside: {amount(outside)}"] if outside else []
     lines.append(f"debts: {len(claims):,}; {amount(sum(claims))}")
     if case.labels:
@@ -145,24 +146,24 @@ def import_lines(summary: ImportSummary) -> List[str]:
 # check
 
 
-def check(asked: argparse.Namespace) -> int:
+def check(args: argparse.Namespace) -> int:
     """Tells what is wrong with a case."""
-    case = cases.read_case(asked.case)
+    case = cases.read_case(args.case)
     names = {what: name for what, name in case.paths.items() if what in ("banks", "debts", "scenarios")}
     if sys.version_info < (3, 11):
         # Whose module reads the scenarios.
         names.pop("scenarios", None)
     limits = cases.settle_limits(case)
-    linter = lint.Linter(limits=limits, **{what: lint.content_of(what, name, limits) for what, name in names.items()})
+    linter = Linter(limits=limits, **{what: lint.content_of(what, name, limits) for what, name in names.items()})
     faults = list(linter.faults)
-    told = [f"case: {note}" for note in case.notes]
+    lines = [f"case: {note}" for note in case.notes]
     if not case.is_described:
-        told.append(f"case: it has no {description.NAME}")
+        lines.append(f"case: it has no {description.NAME}")
     unknown = unknown_labels(case)
-    told += [f"case: labels.csv has {len(unknown):,} names of no bank, such as {unknown[0]}"] if unknown else []
-    told += [lint.line_of(fault, names) for fault in [*faults, *linter.warnings()]]
+    lines += [f"case: labels.csv has {len(unknown):,} names of no bank, such as {unknown[0]}"] if unknown else []
+    lines += [lint.line_of(fault, names) for fault in [*faults, *linter.warnings()]]
     is_sound = not faults and not case.notes and not unknown
-    say_all([*told, "the case is as it is described" if is_sound and case.is_described else f"{len(told):,} told"])
+    say_all([*lines, "the case is as it is described" if is_sound and case.is_described else f"{len(lines):,} told"])
     return 0 if is_sound else 1
 
 
@@ -170,7 +171,7 @@ def unknown_labels(case: Case) -> List[str]:
     """The names of labels that are those of no bank."""
     try:
         banks = read_accounts(case.paths["banks"])[1]
-    except Failed:
+    except ToolError:
         return []
     return [name for name in case.labels if name not in banks]
 
@@ -178,9 +179,10 @@ def unknown_labels(case: Case) -> List[str]:
 # refresh
 
 
-def refresh(asked: argparse.Namespace) -> int:
+def refresh(args: argparse.Namespace) -> int:
     """Describes the files of a case anew."""
-    case = cases.read_case(asked.case)
+    cases.check_moment()
+    case = cases.read_case(args.case)
     for word, key in (
         ("title", "title"),
         ("test", "test"),
@@ -188,17 +190,17 @@ def refresh(asked: argparse.Namespace) -> int:
         ("unit", "unit"),
         ("default_keeps", "keep"),
     ):
-        if getattr(asked, word) is not None:
-            setattr(case, key, getattr(asked, word))
-    if asked.as_of is not None:
-        case.as_of = description.date_of(asked.as_of)
-    if asked.text is not None:
-        case.description = files.text_of(asked.text)
-    place = pathlib.Path(asked.case)
+        if getattr(args, word) is not None:
+            setattr(case, key, getattr(args, word))
+    if args.as_of is not None:
+        case.as_of = description.date_of(args.as_of)
+    if args.text is not None:
+        case.description = files.text_of(args.text)
+    place = pathlib.Path(args.case)
     try:
         text = case.description_of(files_in(case, place))
     except CaseError as fault:
-        raise Failed(f"{asked.case}: {fault}", cases.REFUSED) from fault
+        raise ToolError(f"{args.case}: {fault}", cases.REFUSED) from fault
     files.put(text, os.fspath(place / description.NAME), status=5)
     return 0
 
@@ -206,7 +208,7 @@ def refresh(asked: argparse.Namespace) -> int:
 TASKS = {
     "show": Task("what the case is", add_folder, show),
     "check": Task("whether it is as described, and whether its files have faults", add_folder, check),
-    "refresh": Task("describes its files anew", add_said, refresh),
+    "refresh": Task("describes its files anew", add_description, refresh),
     "scenarios": Task("scenarios of a sheet", shocks.add_scenarios, shocks.take_scenarios),
     "compare": Task("two cases side by side", answers.add_compare, answers.compare_cases),
     "ensemble": Task("what tasks say over many networks", answers.add_ensemble, answers.ask_many),
@@ -218,8 +220,8 @@ TASKS = {
 def main() -> int:
     """The command."""
     parser = cli.parser_of(__doc__)
-    tasks = parser.add_subparsers(dest="asked_for", required=True, metavar="TASK")
+    tasks = parser.add_subparsers(dest="subcommand", required=True, metavar="TASK")
     for name, task in TASKS.items():
         task.add_words(tasks.add_parser(name, help=task.what, description=task.what, allow_abbrev=False))
-    asked = parser.parse_args()
-    return TASKS[asked.asked_for].work(asked)
+    args = parser.parse_args()
+    return TASKS[args.subcommand].work(args)

@@ -5,7 +5,7 @@ import os
 import pathlib
 import re
 from fractions import Fraction
-from typing import Any, Dict, Iterator, List, NamedTuple
+from typing import Dict, Iterator, List, NamedTuple
 
 from clearing_client import description
 from clearing_client.case import FILES, Case
@@ -13,14 +13,14 @@ from clearing_client.format import MAX_LOSS, MAX_SCENARIOS, is_name
 from clearing_client.scenarios import Scenario, Scenarios
 
 from .. import cases, files, labels
-from ..imports import tables
-from ..imports import words as sheet_words
-from ..imports.amounts import Amounts, Unread, shown
+from ..imports import options, tables
+from ..imports.amounts import Amounts, AmountError, shown
 from ..imports.faults import Faults
 from ..imports.made_case import scale_in
+from ..imports.reading import Form
 from ..imports.summary import Summary
 from ..imports.tables import Table
-from ..runner import Failed
+from ..runner import ToolError
 from ..texts import read_accounts
 from .folder import files_in
 
@@ -33,7 +33,7 @@ class Loss(NamedTuple):
     scenario: str
     bank: str
     amount: Fraction
-    row: Any
+    row: int
     column: str
 
 
@@ -56,62 +56,63 @@ def add_scenarios(parser: argparse.ArgumentParser) -> None:
     add("--sheet", metavar="NAME", help="the sheet of a workbook")
     add("--decimal", choices=[".", ","], help="the sign before decimals")
     add("--thousands", choices=[".", ",", "'", " "], help="the sign between thousands")
-    add("--delimiter", type=sheet_words.delimiter_in, help="what stands between two fields, or tab")
-    add("--encoding", type=sheet_words.encoding_in, default="utf-8", help="the encoding of the sheet (utf-8)")
+    add("--delimiter", type=options.delimiter_in, help="what stands between two fields, or tab")
+    add("--encoding", type=options.encoding_in, default="utf-8", help="the encoding of the sheet (utf-8)")
     add(
         "--skip",
-        type=sheet_words.count_in,
+        type=options.count_in,
         default=0,
         metavar="N",
         help="rows above the header that are passed over (0)",
     )
 
 
-def take_scenarios(asked: argparse.Namespace) -> int:
+def take_scenarios(args: argparse.Namespace) -> int:
     """Makes the scenarios of a case of a sheet, and describes the case anew."""
-    case = cases.read_case(asked.case)
+    cases.check_moment()
+    case = cases.read_case(args.case)
     cases.tell(case)
-    if "scenarios" in case.paths and not asked.replace:
-        raise Failed(f"{case.paths['scenarios']} is there; say --replace to write over it")
+    if "scenarios" in case.paths and not args.replace:
+        raise ToolError(f"{case.paths['scenarios']} is there; say --replace to write over it")
     faults, summary = Faults(), Summary()
-    table = Table(asked.scenario_sheet, asked, faults, sheet=asked.sheet)
+    table = Table(args.scenario_sheet, Form(args.encoding, args.delimiter, args.skip, args.sheet), faults)
     faults.end_if_any()
-    scenarios = scenarios_of(table, case, asked, faults, summary)
+    scenarios = scenarios_of(table, case, args, faults, summary)
     faults.end_if_any()
     case.scenarios = scenarios.to_toml(plain=True).encode()
-    place = pathlib.Path(asked.case)
-    made = {os.fspath(place / FILES["scenarios"]): case.scenarios}
+    place = pathlib.Path(args.case)
+    contents = {os.fspath(place / FILES["scenarios"]): case.scenarios}
     if case.is_described:
         there = {name: data for name, data in files_in(case, place).items() if name != FILES["scenarios"]}
         text = case.description_of({**there, FILES["scenarios"]: case.scenarios})
-        made[os.fspath(place / description.NAME)] = text.encode()
-    files.write_all(made, [asked.scenario_sheet])
+        contents[os.fspath(place / description.NAME)] = text.encode()
+    files.write_all(contents, [args.scenario_sheet])
     files.put(summary.text(), status=5)
     return 0
 
 
-def scenarios_of(table: Table, case: Case, asked: argparse.Namespace, faults: Faults, summary: Summary) -> Scenarios:
+def scenarios_of(table: Table, case: Case, args: argparse.Namespace, faults: Faults, summary: Summary) -> Scenarios:
     """The scenarios of a sheet, in its order."""
-    cash = {bank: int(account["cash"]) for bank, account in read_accounts(case.paths["banks"])[1].items()}
-    losses = list(losses_of(table, asked, faults))
-    check_banks(table, losses, cash, case, faults, asked)
+    cash = {bank: account.cash for bank, account in read_accounts(case.paths["banks"])[1].items()}
+    losses = list(losses_of(table, args, faults))
+    check_banks(table, losses, cash, case, faults, args)
     names = (
-        list(table.rows) if asked.rows else [column for column in table.header if column and column not in asked.ignore]
+        list(table.rows) if args.rows else [column for column in table.header if column and column not in args.ignore]
     )
     for name in names:
         if not is_name(name):
             what = f"{name!r} is no name of a scenario: 1 to 64 bytes, no comma, quote or control character"
-            faults.add(table, table.rows[name] if asked.rows else 0, None, what, kind="name")
+            faults.add(table, table.rows[name] if args.rows else 0, None, what, kind="name")
     if len(names) > MAX_SCENARIOS:
         what = f"{len(names):,} scenarios, {len(names) - MAX_SCENARIOS:,} more than the most, {MAX_SCENARIOS:,}"
         faults.add(table, None, None, what)
     faults.end_if_any()
     units: Dict[str, Dict[str, int]] = {name: {} for name in names}
-    worth = Fraction(case.unit) / (asked.amounts_in or 1)
+    worth = Fraction(case.unit) / (args.amounts_in or 1)
     off: List[Fraction] = []
     above = 0
     for loss in losses:
-        exact = loss.amount * cash[loss.bank] if asked.share else loss.amount / worth
+        exact = loss.amount * cash[loss.bank] if args.share else loss.amount / worth
         whole = round(exact)
         if whole > MAX_LOSS:
             faults.add(table, loss.row, loss.column, f"a loss of {whole:,} units, more than the most, {MAX_LOSS:,}")
@@ -123,16 +124,16 @@ def scenarios_of(table: Table, case: Case, asked: argparse.Namespace, faults: Fa
     return Scenarios([Scenario(name, losses=units[name]) for name in names])
 
 
-def losses_of(table: Table, asked: argparse.Namespace, faults: Faults) -> Iterator[Loss]:
+def losses_of(table: Table, args: argparse.Namespace, faults: Faults) -> Iterator[Loss]:
     """The losses of a sheet that are not 0."""
-    reader = Amounts(asked.decimal or ("." if asked.share and not asked.thousands else None), asked.thousands)
+    reader = Amounts(args.decimal or ("." if args.share and not args.thousands else None), args.thousands)
     for name, row in table.rows.items():
         for column in table.header:
-            if column in asked.ignore or not column:
+            if column in args.ignore or not column:
                 continue
-            amount = amount_of(table, name, column, reader, asked.share, faults)
+            amount = amount_of(table, name, column, reader, args.share, faults)
             if amount:
-                scenario, bank = (name, column) if asked.rows else (column, name)
+                scenario, bank = (name, column) if args.rows else (column, name)
                 yield Loss(scenario, bank, amount, row, column)
 
 
@@ -147,7 +148,7 @@ def amount_of(table: Table, name: str, column: str, reader: Amounts, is_share: b
             amount = Fraction(value)
         else:
             amount = Fraction(reader.read(percent[1] if percent else cell)) / (100 if percent else 1)
-    except Unread as unread:
+    except AmountError as unread:
         faults.add(table, table.rows[name], column, unread, kind=unread.kind)
         return Fraction(0)
     if is_share and not 0 <= amount <= 1:
@@ -163,12 +164,12 @@ def amount_of(table: Table, name: str, column: str, reader: Amounts, is_share: b
 
 
 def check_banks(
-    table: Table, losses: List[Loss], cash: Dict[str, int], case: Case, faults: Faults, asked: argparse.Namespace
+    table: Table, losses: List[Loss], cash: Dict[str, int], case: Case, faults: Faults, args: argparse.Namespace
 ) -> None:
     """Refuses losses of banks that the case does not have."""
     for loss in losses:
         if loss.bank not in cash:
-            hint = "" if not asked.rows else f"; say --ignore {tables.quoted(loss.column)} if it is no bank"
+            hint = "" if not args.rows else f"; say --ignore {tables.quoted(loss.column)} if it is no bank"
             faults.add(table, loss.row, loss.column, f"{case.folder} has no bank {loss.bank}{hint}", kind="no bank")
 
 

@@ -42,11 +42,11 @@ tr.came > :first-child, tr.went > :first-child { border-left: var(--s0) solid va
 """
 
 
-def page_of(done: Comparison, names: FullNames, one_unit: Container[str] = ()) -> str:
+def page_of(comparison: Comparison, names: FullNames, one_unit: Container[str] = ()) -> str:
     """The page of two cases. The banks that one unit decides have a mark, and what it means stands below the table."""
-    titles = [title_of(done.before, "before"), title_of(done.after, "after")]
-    ordered = sorted(done.banks, key=lambda bank: (not bank.change, not any(bank.more(what) for what in WHAT)))
-    said = "".join(f"<li>{html.escape(line)}</li>\n" for line in sentences_of(done, names))
+    titles = [title_of(comparison.before, "before"), title_of(comparison.after, "after")]
+    ordered = sorted(comparison.banks, key=lambda bank: (not bank.change, not any(bank.more(what) for what in WHAT)))
+    sentences = "".join(f"<li>{html.escape(line)}</li>\n" for line in sentences_of(comparison, names))
     rows = "".join(row_of(bank, names, one_unit) for bank in ordered)
     is_marked = any(bank.bank in one_unit for bank in ordered)
     below = f"<p>{MARK} {html.escape(WHY[0].lower() + WHY[1:])}</p>\n" if is_marked else ""
@@ -55,15 +55,16 @@ def page_of(done: Comparison, names: FullNames, one_unit: Container[str] = ()) -
         "<meta name=viewport content='width=device-width'>\n"
         f"<title>{html.escape(' and '.join(titles))}</title>\n<style>{tokens.css()}{STYLE}</style>\n"
         f"<h1>{html.escape(titles[0])} and {html.escape(titles[1])}</h1>\n"
-        f"<p>Amounts in {html.escape(currency_of(done))}.</p>\n<ul>\n{said}</ul>\n"
+        f"<p>Amounts in {html.escape(currency_of(comparison))}.</p>\n<ul>\n{sentences}</ul>\n"
         f"<div class=scroll tabindex=0>\n<table>\n{head_of()}<tbody>\n{rows}</tbody>\n</table>\n</div>\n"
         f"{below}</html>\n"
     )
 
 
-def currency_of(done: Comparison) -> str:
+def currency_of(comparison: Comparison) -> str:
     """What the amounts of both cases are in."""
-    return done.after.currency or done.before.currency or ("units" if done.after.unit == 1 else "the currency")
+    before, after = comparison.before, comparison.after
+    return after.currency or before.currency or ("units" if after.unit == 1 else "the currency")
 
 
 def title_of(case: Case, otherwise: str) -> str:
@@ -71,11 +72,11 @@ def title_of(case: Case, otherwise: str) -> str:
     return " ".join(filter(None, (case.title, case.as_of.isoformat() if case.as_of else ""))) or otherwise
 
 
-def sentences_of(done: Comparison, names: FullNames) -> List[str]:
+def sentences_of(comparison: Comparison, names: FullNames) -> List[str]:
     """What changed: the banks of each change, and how much more or less there is in all."""
-    said = [f"{HEADS[change]}: {listed(done.of(change), names)}" for change in HEADS if done.of(change)]
-    sums = [f"{what.capitalize()}: {signed(done.total(what))} in all" for what in WHAT]
-    return [*(said or ["No bank changes its state"]), *sums]
+    changes = [f"{HEADS[change]}: {listed(comparison.of(change), names)}" for change in HEADS if comparison.of(change)]
+    sums = [f"{what.capitalize()}: {signed(comparison.total(what))} in all" for what in WHAT]
+    return [*(changes or ["No bank changes its state"]), *sums]
 
 
 def listed(banks: Sequence[str], names: FullNames) -> str:
@@ -86,12 +87,12 @@ def listed(banks: Sequence[str], names: FullNames) -> str:
 
 def signed(value: Decimal) -> str:
     """How much more, or less."""
-    return f"{abs(value):,f} {'more' if value > 0 else 'less'}" if value else "as before"
+    return f"{value.copy_abs():,f} {'more' if value > 0 else 'less'}" if value else "as before"
 
 
 def plain(value: Decimal) -> Decimal:
     """A number without an exponent and without noughts at its end."""
-    return Decimal(f"{value.normalize():f}") if value == value.to_integral_value() else value
+    return Decimal(f"{value:.0f}") if value == value.to_integral_value() else value
 
 
 def head_of() -> str:

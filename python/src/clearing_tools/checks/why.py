@@ -1,8 +1,8 @@
 """Says which word of a command line `clearing` does not understand, and why.
 
 In:  WORDS.., the words of a command line of `clearing`, as they were typed; the name of the program may stand before
-     them: tools/why.py clearing stress --banks b.csv --debts d.csv --scenario s.toml. Nothing is run, and no file is
-     read. `why.py --help` alone prints this; the words --help among others are looked at as the others are.
+     them: clearing-why clearing stress --banks b.csv --debts d.csv --scenario s.toml. Nothing is run, and no file is
+     read. `clearing-why --help` alone prints this; the words --help among others are looked at as the others are.
 Out: on standard output a line for each fault: the number of the word, the word, what is wrong, and, where one is known,
      what to do; and last what the words ask for, or how many faults they have. `clearing` ends with status 2 exactly
      where there is a fault.
@@ -17,13 +17,13 @@ import io
 import os
 import re
 import sys
-from typing import Any, Dict, List, Optional, Sequence, Tuple
+from typing import Dict, List, Mapping, Optional, Sequence, Tuple, Union
 
 from clearing_client.format import MAX_KEEP, MAX_SEED, MAX_SIZE, MAX_SWEEPS, MAX_TRIES, MAX_WORKERS, is_name
 from clearing_client.limits import LIMITS
 
 from .. import runner
-from ..runner import command
+from ..runner import command, tool_name
 
 # What each task requires, and what it may have.
 FILES = ["banks", "debts"]
@@ -49,8 +49,9 @@ TASKS: Dict[str, Tuple[List[str], List[str]]] = {
     "cost-bounds": (FILES + ["keep"], BY),
 }
 SHOWN = ["payments", "journal", "both"]
-# The value of each option: the name of a file or a bank, one of some words, or a number from one to another.
-OPTIONS = {
+Kind = Union[str, List[str], Tuple[int, int]]
+"""What the value of an option is: the name of a file or a bank, one of some words, or a number from one to another."""
+OPTIONS: Mapping[str, Kind] = {
     "banks": "file",
     "debts": "file",
     "scenarios": "file",
@@ -75,13 +76,15 @@ class Reader:
         self.words = words
         self.faults: List[Tuple[int, str]] = []
         self.task: Optional[str] = None
-        self.given: Dict[str, Tuple[int, Any]] = {}
+        self.options: Dict[str, int] = {}  # the number of the word in which each stands
         self.read()
 
     def add(self, at: int, what: str, hint: str = "") -> None:
+        """Adds a fault of a word."""
         self.faults.append((at, what + (f"; {hint}" if hint else "")))
 
     def read(self) -> None:
+        """Reads all words."""
         at, is_over = 0, False
         while at < len(self.words):
             word = self.words[at]
@@ -98,7 +101,8 @@ class Reader:
                 self.task = word
                 self.check_task(at, word)
             else:
-                self.add(at, f"the task is {shown(self.task)} already, and it is the only word that is no option", self.stray_hint(at, word))
+                what = f"the task is {shown(self.task)} already, and it is the only word that is no option"
+                self.add(at, what, self.stray_hint(at, word))
         self.check_uses()
 
     def read_option(self, at: int, word: str) -> int:
@@ -110,10 +114,10 @@ class Reader:
         if name not in OPTIONS:
             self.add(place, f"there is no option --{name}", option_hint(name))
             return at
-        if name in self.given:
-            self.add(place, f"--{name} stands in word {self.given[name][0]} already; an option is given once")
+        if name in self.options:
+            self.add(place, f"--{name} stands in word {self.options[name]} already; an option is given once")
             return at
-        self.given[name] = (place, value)
+        self.options[name] = place
         if not sign:
             hint = "a value does not begin with a dash" if at < len(self.words) else ""
             self.add(place, f"--{name} has no value", hint)
@@ -126,15 +130,18 @@ class Reader:
         return at
 
     def check_task(self, at: int, word: str) -> None:
+        """Whether the task is one."""
         if word not in TASKS:
             close = difflib.get_close_matches(word.casefold(), TASKS, 1)
             hint = f"is it {close[0]}?" if close else f"the tasks are {', '.join(TASKS)}"
             self.add(at, f"there is no task {shown(word)}", hint)
 
     def stray_hint(self, at: int, word: str) -> str:
+        """What may be meant with a word that is neither a task nor an option."""
         if word in OPTIONS:
             return f"is it --{word}?"
-        return "a value with a blank in it stands between quotes" if at > 1 and not self.words[at - 2].startswith("-") else ""
+        follows_a_value = at > 1 and not self.words[at - 2].startswith("-")
+        return "a value with a blank in it stands between quotes" if follows_a_value else ""
 
     def check_uses(self) -> None:
         """What the task does not take, and what it requires."""
@@ -143,35 +150,39 @@ class Reader:
         if self.task is None or self.task not in TASKS:
             return
         required, allowed = TASKS[self.task]
-        for name, (at, _) in self.given.items():
+        for name, at in self.options.items():
             if name not in required + allowed:
                 others = [task for task, uses in TASKS.items() if name in uses[0] + uses[1]]
                 self.add(at, f"{self.task} has no option --{name}", f"it is of {', '.join(others)}")
         for name in required:
-            if name not in self.given:
+            if name not in self.options:
                 self.add(0, f"{self.task} requires --{name}")
 
 
 def is_utf8(word: str) -> bool:
+    """Whether a word was UTF-8 on the command line."""
     return not any(0xD800 <= ord(c) <= 0xDFFF for c in word)
 
 
 def shown(text: str) -> str:
+    """A word between quotes, as it can be read."""
     return runner.shown(repr(text))
 
 
 def option_hint(name: str) -> str:
+    """Which option may be meant."""
     if name in ("help", "h", "version"):
         return "docs/FORMATS.md and the manual page say what there is"
     close = difflib.get_close_matches(name.casefold().lstrip("-"), OPTIONS, 1)
     return f"is it --{close[0]}?" if close else f"the options are {', '.join(f'--{option}' for option in OPTIONS)}"
 
 
-def value_fault(kind: Any, value: str) -> Optional[str]:
+def value_fault(kind: Kind, value: str) -> Optional[str]:
     """What is wrong with a value of an option, or nothing."""
     if kind == "file":
-        return "the name of a file is not empty, and does not begin with a dash" if value == "" or value.startswith("-") else None
-    if kind == "bank":
+        is_wrong = value == "" or value.startswith("-")
+        return "the name of a file is not empty, and does not begin with a dash" if is_wrong else None
+    if isinstance(kind, str):
         return bank_fault(value)
     if isinstance(kind, list):
         return None if value in kind else f"it is one of {', '.join(kind)}"
@@ -182,6 +193,7 @@ def value_fault(kind: Any, value: str) -> Optional[str]:
 
 
 def bank_fault(value: str) -> Optional[str]:
+    """What is wrong with the name of a bank, or nothing."""
     if value.startswith("-"):
         return "a bank whose name begins with a dash cannot be named"
     if not 1 <= len(value.encode()) <= 64:
@@ -198,7 +210,7 @@ def faults_of(words: Sequence[str]) -> List[Tuple[int, str]]:
 def main() -> int:
     words = sys.argv[1:]
     if words in (["--help"], ["-h"]):
-        print(f"usage: why.py WORDS..\n\n{__doc__.strip()}")
+        print(f"usage: {tool_name()} WORDS..\n\n{__doc__.strip()}")
         return 0
     if not words:
         print("why: error: there are no words; --help says more", file=sys.stderr)

@@ -1,7 +1,7 @@
 """The account of a bank: what it would have left with all its cash and all debtors paying, and what is missing of that,
 line by line, so that the lines add up to the unit. All amounts are the program's; here they are added and subtracted
 alone. Units of account."""
-from typing import Any, Dict, List, NamedTuple, Tuple
+from typing import Dict, List, NamedTuple, Tuple
 
 from .. import runner
 from . import state as states
@@ -31,45 +31,60 @@ class Account(NamedTuple):
     lost: int
     left: int
 
-    def view(self) -> Dict[str, Any]:
+    def view(self) -> Dict[str, object]:
         """The account for the page."""
         return {**self._asdict(), "unpaid": [list(line) for line in self.unpaid]}
 
 
-def debts_by(base: Base, found: Cleared) -> Tuple[Dict[int, List[Any]], Dict[int, List[Any]]]:
+class Entry(NamedTuple):
+    """A debt of a state, with its key, and its banks by their places."""
+
+    key: int
+    debtor: int
+    creditor: int
+    class_: int
+    claim: int
+    paid: int
+
+
+Entries = Dict[int, List[Entry]]
+"""The debts of each bank, by its place."""
+
+
+def debts_by(base: Base, cleared: Cleared) -> Tuple[Entries, Entries]:
     """The debts with their keys by the debtor's place, and by the creditor's."""
     places = states.names_of(base)
-    owes: Dict[int, List[Any]] = {}
-    owed: Dict[int, List[Any]] = {}
-    for key, debt in zip(found.keys, found.payments):
-        entry = (key, places[debt.debtor], places[debt.creditor], debt.class_, debt.claim, debt.paid)
-        owes.setdefault(entry[1], []).append(entry)
-        owed.setdefault(entry[2], []).append(entry)
+    owes: Entries = {}
+    owed: Entries = {}
+    for key, debt in zip(cleared.keys, cleared.payments):
+        entry = Entry(key, places[debt.debtor], places[debt.creditor], debt.class_, debt.claim, debt.paid)
+        owes.setdefault(entry.debtor, []).append(entry)
+        owed.setdefault(entry.creditor, []).append(entry)
     return owes, owed
 
 
-def account_of(base: Base, found: Cleared, bank: int) -> Account:
+def account_of(base: Base, cleared: Cleared, bank: int) -> Account:
     """The account of a bank in a state. Fails where it does not come to what the program says that the bank keeps or
     leaves unpaid."""
-    owes, owed = debts_by(base, found)
-    return account_by(base, found, bank, owes, owed.get(bank, []))
+    owes, owed = debts_by(base, cleared)
+    return account_by(base, cleared, bank, owes, owed.get(bank, []))
 
 
-def account_by(base: Base, found: Cleared, bank: int, owes: Dict[int, List[Any]], owed: List[Any]) -> Account:
+def account_by(base: Base, cleared: Cleared, bank: int, owes: Entries, owed: List[Entry]) -> Account:
     """The same, where the debts are sorted by banks already."""
-    one = found.banks[bank]
+    one = cleared.banks[bank]
     outside = one.outside or 0
-    claims = sum(debt[4] for debt in owed)
+    claims = sum(debt.claim for debt in owed)
     whole = base.banks[bank].cash + claims - one.owed
-    loss = base.banks[bank].cash - found.left[bank]
+    loss = base.banks[bank].cash - cleared.left[bank]
     unpaid = lines_of(owes, owed)
-    left = whole - loss - sum(line.claim - line.paid for line in unpaid) - outside - found.lost[bank]
+    left = whole - loss - sum(line.claim - line.paid for line in unpaid) - outside - cleared.lost[bank]
     if left != one.equity - (one.owed - one.paid) - (outside - one.outside_paid):
-        raise runner.Failed(f"the account of {runner.shown(one.name)} does not come to what the program says")
-    return Account(whole, loss, unpaid, outside, found.lost[bank], left)
+        raise runner.ToolError(f"the account of {runner.shown(one.name)} does not come to what the program says")
+    return Account(whole, loss, unpaid, outside, cleared.lost[bank], left)
 
 
-def lines_of(owes: Dict[int, List[Any]], owed: List[Any]) -> List[Line]:
+def lines_of(owes: Entries, owed: List[Entry]) -> List[Line]:
     """What each debtor leaves unpaid, the most first."""
     sums: Dict[int, List[int]] = {}
     for _, debtor, _, class_, claim, paid in owed:
@@ -78,7 +93,7 @@ def lines_of(owes: Dict[int, List[Any]], owed: List[Any]) -> List[Line]:
         one[1] += paid
         one[2] = min(one[2], class_)
     lines = [
-        Line(debtor, claim, paid, paid == 0 and any(debt[3] < class_ for debt in owes.get(debtor, [])))
+        Line(debtor, claim, paid, paid == 0 and any(debt.class_ < class_ for debt in owes.get(debtor, [])))
         for debtor, (claim, paid, class_) in sums.items() if paid < claim
     ]
     return sorted(lines, key=lambda line: (line.paid - line.claim, line.debtor))

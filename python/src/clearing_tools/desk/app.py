@@ -1,7 +1,9 @@
 """The pages of the desk. Each state has a number; none is altered, so that two tabs do not disturb one another."""
 import json
 import pathlib
-from typing import Any, Callable, Dict, Optional, Sequence
+import string
+from types import ModuleType
+from typing import TYPE_CHECKING, Callable, Dict, Iterable, List, Mapping, Optional, Sequence
 
 from .. import runner
 from ..drawing import web
@@ -9,9 +11,13 @@ from ..drawing.tokens import LIGHT
 from . import state as states
 from . import takeaway, view
 from .questions import KINDS, Questions
-from .runs import Desk, Refused
+from .runs import Cleared, Desk, RefusedChangeError
 from .state import State
 from .steps import MOST_NOTE, Shelf, Steps
+
+if TYPE_CHECKING:
+    from _typeshed.wsgi import StartResponse, WSGIEnvironment
+    from bottle import HTTPResponse
 
 HERE = pathlib.Path(__file__).resolve().parent
 SCRIPTS = sorted(path.name for path in (HERE / "script").glob("*.mjs"))
@@ -20,19 +26,19 @@ SHARED = {  # modules that the report has too
 }
 NUMBER = "re:[0-9]{1,7}"
 MOST_NAME = 64
+D3 = '<script src="script/d3.js" defer></script>\n'
 ICON = (
     '<svg xmlns="http://www.w3.org/2000/svg" viewBox="0 0 20 20"><rect x="2" y="2" width="16" height="16"'
     f' fill="{LIGHT["unpaid"]}" stroke="{LIGHT["fundamental"]}" stroke-width="3"/></svg>'
 )
 
-Route = Callable[..., Any]
+Route = Callable[..., object]
 
 
 def page_text(has_d3: bool) -> str:
-    """The page, with the player of the report in it."""
-    text = (HERE / "page/page.html").read_text(encoding="utf-8")
-    text = text.replace("<!-- player -->", web.player_markup())
-    return text if has_d3 else text.replace('<script src="script/d3.js" defer></script>\n', "")
+    """The page, with the player of the report in it; without d3 the journal is not played."""
+    template = string.Template((HERE / "page/page.html").read_text(encoding="utf-8"))
+    return template.substitute(player=web.player_markup(), d3=D3 if has_d3 else "")
 
 
 def style_text() -> str:
@@ -44,7 +50,7 @@ def style_text() -> str:
 class Application:
     """The WSGI application of a session: its states, those kept under names, and the questions that go on."""
 
-    def __init__(self, bottle: Any, desk: Desk, d3: Optional[bytes], others: Sequence[Desk] = ()) -> None:
+    def __init__(self, bottle: ModuleType, desk: Desk, d3: Optional[bytes], others: Sequence[Desk] = ()) -> None:
         self.bottle, self.desk, self.others, self.has_d3 = bottle, desk, others, d3 is not None
         self.steps, self.shelf, self.questions = Steps(), Shelf(), Questions(desk)
         self.at_first = 0  # the state that is shown first
@@ -53,8 +59,9 @@ class Application:
         self.fix_pages(d3)
         self.route_answers()
 
-    def __call__(self, environ: Dict[str, Any], respond: Any) -> Any:
-        return self.app(environ, respond)
+    def __call__(self, environ: "WSGIEnvironment", respond: "StartResponse") -> Iterable[bytes]:
+        answer: Iterable[bytes] = self.app(environ, respond)
+        return answer
 
     # What never changes: the page, its style and its scripts, each by a name that is known.
 
@@ -111,22 +118,26 @@ class Application:
         """A route that tells faults: what the program refuses is 422 with the field, a change that is none 400, and
         what fails 502."""
 
-        def answer(**words: str) -> Any:
+        def answer(**words: str) -> "HTTPResponse":
             try:
-                given = work(**words)
-                return given if isinstance(given, self.bottle.HTTPResponse) else self.sent(given)
-            except Refused as fault:
-                return self.sent({"said": fault.said, "meaning": fault.meaning, "field": fault.field}, 422)
-            except states.Untyped as fault:
-                return self.sent({"said": runner.shown(fault.said), "meaning": "", "field": fault.field}, 422)
-            except states.Misformed as fault:
-                return self.sent({"said": str(fault), "meaning": "", "field": ""}, 400)
-            except (runner.Failed, OSError) as fault:
-                return self.sent({"said": str(fault), "meaning": "", "field": ""}, 502)
+                value = work(**words)
+                return value if isinstance(value, self.bottle.HTTPResponse) else self.sent(value)
+            except RefusedChangeError as fault:
+                return self.fault(422, fault.message, fault.meaning, fault.field)
+            except states.InvalidFieldError as fault:
+                return self.fault(422, runner.shown(fault.message), field=fault.field)
+            except states.MalformedChangeError as fault:
+                return self.fault(400, str(fault))
+            except (runner.ToolError, OSError) as fault:
+                return self.fault(502, str(fault))
 
         return answer
 
-    def sent(self, value: Any, status: int = 200) -> Any:
+    def fault(self, status: int, message: str, meaning: str = "", field: str = "") -> "HTTPResponse":
+        """What is wrong with a request, in words, and at which field of the page."""
+        return self.sent({"said": message, "meaning": meaning, "field": field}, status)
+
+    def sent(self, value: object, status: int = 200) -> "HTTPResponse":
         """A value as JSON."""
         body = json.dumps(value, ensure_ascii=False, separators=(",", ":")).encode("utf-8", "replace")
         return self.bottle.HTTPResponse(body, status, {"Content-Type": "application/json; charset=utf-8"})
@@ -145,18 +156,21 @@ class Application:
             raise self.bottle.HTTPError(404, "There is no such bank.\n")
         return int(bank)
 
-    def view_of(self, number: int, state: State, found: Any) -> Dict[str, Any]:
+    def view_of(self, number: int, state: State, cleared: Cleared) -> Dict[str, object]:
         """A state for the page."""
-        return {"id": number, "line": self.steps.line(number), **view.state_view(self.desk, state, found)}
+        return {"id": number, "line": self.steps.line(number), **view.state_view(self.desk, state, cleared)}
 
-    def network(self) -> Any:
+    def network(self) -> Dict[str, object]:
+        """The network, with the cases beside it."""
         return {**view.network_view(self.desk, self.others, self.has_d3), "atFirst": self.at_first}
 
-    def one_state(self, number: str) -> Any:
+    def one_state(self, number: str) -> Dict[str, object]:
+        """A state by its number."""
         state = self.state_of(number)
         return self.view_of(int(number), state, self.desk.cleared(state))
 
-    def one_bank(self, number: str, bank: str) -> Any:
+    def one_bank(self, number: str, bank: str) -> Dict[str, object]:
+        """A bank in a state."""
         state, place = self.state_of(number), self.place_of(bank, self.desk)
         return view.bank_view(self.desk.base, self.desk.cleared(state), place)
 
@@ -166,101 +180,113 @@ class Application:
             raise self.bottle.HTTPError(404, "There is no such case.\n")
         return self.others[int(case) - 1]
 
-    def other_state(self, case: str) -> Any:
+    def other_state(self, case: str) -> Dict[str, object]:
+        """The state of another case."""
         desk = self.other(case)
-        found = desk.cleared(states.AS_IT_IS)
-        return {"id": -int(case), "line": [-int(case)], **view.state_view(desk, states.AS_IT_IS, found)}
+        cleared = desk.cleared(states.AS_IT_IS)
+        return {"id": -int(case), "line": [-int(case)], **view.state_view(desk, states.AS_IT_IS, cleared)}
 
-    def other_bank(self, case: str, bank: str) -> Any:
+    def other_bank(self, case: str, bank: str) -> Dict[str, object]:
+        """A bank of another case."""
         desk = self.other(case)
         return view.bank_view(desk.base, desk.cleared(states.AS_IT_IS), self.place_of(bank, desk))
 
-    def change(self) -> Any:
-        wanted = self.posted()
-        start = states.placed(wanted, "from", len(self.steps))
+    def change(self) -> Dict[str, object]:
+        """The state that a change leads to."""
+        change = self.json_body()
+        start = states.placed(change, "from", len(self.steps))
         before = self.steps.state(self.desk.base, start)
-        state = states.changed(self.desk.base, before, wanted)
-        found = self.desk.cleared(state, wanted)
-        return self.view_of(self.steps.add(state, start, wanted, state == before), state, found)
+        state = states.changed(self.desk.base, before, change)
+        cleared = self.desk.cleared(state, change)
+        return self.view_of(self.steps.add(state, start, change, state == before), state, cleared)
 
     # States under names, and scenarios.
 
-    def kept(self) -> Any:
+    def kept(self) -> List[Dict[str, object]]:
+        """The states that are kept."""
         return view.kept_view(self.shelf.kept)
 
-    def keep(self) -> Any:
-        wanted = self.posted()
-        number = states.placed(wanted, "state", len(self.steps))
-        name, note = text_of(wanted, "name", MOST_NAME).strip(), text_of(wanted, "note", MOST_NOTE)
+    def keep(self) -> List[Dict[str, object]]:
+        """Keeps a state under a name."""
+        body = self.json_body()
+        number = states.placed(body, "state", len(self.steps))
+        name, note = text_of(body, "name", MOST_NAME).strip(), text_of(body, "note", MOST_NOTE)
         if not name:
-            raise states.Untyped("a state that is kept has a name", "keep-name")
+            raise states.InvalidFieldError("a state that is kept has a name", "keep-name")
         self.shelf.keep(name, number, note)
         return view.kept_view(self.shelf.kept)
 
-    def drop(self) -> Any:
-        self.shelf.drop(text_of(self.posted(), "name", MOST_NAME))
+    def drop(self) -> List[Dict[str, object]]:
+        """Keeps a state no more."""
+        self.shelf.drop(text_of(self.json_body(), "name", MOST_NAME))
         return view.kept_view(self.shelf.kept)
 
-    def add_scenario(self) -> Any:
-        number = self.desk.add_scenario(self.posted())
+    def add_scenario(self) -> Dict[str, object]:
+        """Takes a scenario that was built into the list."""
+        number = self.desk.add_scenario(self.json_body())
         return {"number": number, "scenarios": view.scenarios_view(self.desk)}
 
     # Questions that take time.
 
-    def ask(self) -> Any:
-        wanted = self.posted()
-        if wanted.get("what") not in KINDS:
-            raise states.Misformed("there is no such question")
-        what, case = str(wanted["what"]), states.placed({"case": wanted.get("case", 0)}, "case", len(self.others) + 1)
+    def ask(self) -> Dict[str, object]:
+        """Asks a question."""
+        body = self.json_body()
+        if body.get("what") not in KINDS:
+            raise states.MalformedChangeError("there is no such question")
+        what, case = str(body["what"]), states.placed({"case": body.get("case", 0)}, "case", len(self.others) + 1)
         if case:
             return {"question": self.questions.ask(what, states.AS_IT_IS, None, self.others[case - 1])}
-        state = self.steps.state(self.desk.base, states.placed(wanted, "state", len(self.steps)))
-        bank = None if wanted.get("bank") is None else states.placed(wanted, "bank", len(self.desk.base.banks))
+        state = self.steps.state(self.desk.base, states.placed(body, "state", len(self.steps)))
+        bank = None if body.get("bank") is None else states.placed(body, "bank", len(self.desk.base.banks))
         return {"question": self.questions.ask(what, state, bank)}
 
-    def one_question(self, number: str, after: str) -> Any:
+    def one_question(self, number: str, after: str) -> Dict[str, object]:
+        """How far a question is, and its pieces behind so many."""
         question = self.questions.question(int(number))
         if question is None:
             raise self.bottle.HTTPError(404, "There is no such question.\n")
         return question.view(int(after))
 
-    def stop(self) -> Any:
-        question = self.questions.question(states.placed(self.posted(), "question", 10**9))
+    def stop(self) -> Dict[str, object]:
+        """Ends a question."""
+        question = self.questions.question(states.placed(self.json_body(), "question", 10**9))
         if question is not None:
             question.stop()
         return {}
 
     # What is taken away.
 
-    def journal(self, number: str) -> Any:
+    def journal(self, number: str) -> Dict[str, object]:
+        """The journal of a state for the player."""
         return view.journal_view(self.desk, self.state_of(number))
 
-    def download(self, number: str, what: str) -> Any:
+    def download(self, number: str, what: str) -> "HTTPResponse":
+        """A file of a state."""
         state = self.state_of(number)
         if what not in takeaway.KINDS:
             raise self.bottle.HTTPError(404, "There is no such download.\n")
         name, kind = takeaway.KINDS[what]
-        content = takeaway.Taken(self.desk, self.steps, self.shelf).content(int(number), state, what)
+        content = takeaway.Takeaway(self.desk, self.steps, self.shelf).content(int(number), state, what)
         headers = {"Content-Type": kind, "Content-Disposition": f'attachment; filename="{name}"'}
         return self.bottle.HTTPResponse(content, 200, headers)
 
-    def posted(self) -> Dict[str, Any]:
+    def json_body(self) -> Dict[str, object]:
         """The object that a request has as JSON."""
         environ = self.bottle.request.environ
         if environ.get("CONTENT_TYPE", "").partition(";")[0].strip() != "application/json":
-            raise states.Misformed("a change is JSON")
+            raise states.MalformedChangeError("a change is JSON")
         try:
-            wanted = json.loads(environ["wsgi.input"].read(int(environ.get("CONTENT_LENGTH") or 0)))
+            body = json.loads(environ["wsgi.input"].read(int(environ.get("CONTENT_LENGTH") or 0)))
         except (ValueError, RecursionError) as fault:
-            raise states.Misformed("a change is JSON") from fault
-        if not isinstance(wanted, dict):
-            raise states.Misformed("a change is an object")
-        return wanted
+            raise states.MalformedChangeError("a change is JSON") from fault
+        if not isinstance(body, dict):
+            raise states.MalformedChangeError("a change is an object")
+        return body
 
 
-def text_of(wanted: Dict[str, Any], key: str, most: int) -> str:
+def text_of(body: Mapping[str, object], key: str, most: int) -> str:
     """A text of a request."""
-    text = wanted.get(key, "")
+    text = body.get(key, "")
     if not isinstance(text, str) or len(text) > most or set(text) & {"\x00"}:
-        raise states.Misformed(f"{key} is no text of at most {most} letters")
+        raise states.MalformedChangeError(f"{key} is no text of at most {most} letters")
     return text

@@ -5,7 +5,11 @@ The ticket is the first part of each path. A cookie would go to every port of th
 theirs."""
 import hmac
 import secrets
-from typing import Any, Callable, Dict, Iterable, List, Optional, Tuple
+from typing import IO, TYPE_CHECKING, Callable, Iterable, List, Optional, Tuple
+
+if TYPE_CHECKING:
+    from _typeshed import OptExcInfo
+    from _typeshed.wsgi import StartResponse, WSGIApplication, WSGIEnvironment
 
 MOST_BYTES = 65_536  # of the body of a change
 MOST_READ = 1_048_576  # of a body that is refused, so that the answer is read at all
@@ -28,17 +32,15 @@ HEADERS = [
     ("Cross-Origin-Resource-Policy", "same-origin"),
     ("Cache-Control", "no-store"),
 ]
-Respond = Callable[..., Any]
 Answer = Tuple[str, bytes]
-Inner = Callable[[Dict[str, Any], Respond], Iterable[bytes]]
 
 
 class Guard:
-    """A WSGI application in front of another, which sees paths without the ticket. `asked` is called at each request
-    that passes."""
+    """A WSGI application in front of another, which sees paths without the ticket. `on_request` is called at
+    each request that passes."""
 
-    def __init__(self, inner: Inner, port: int, asked: Callable[[], None]) -> None:
-        self.inner, self.asked = inner, asked
+    def __init__(self, inner: "WSGIApplication", port: int, on_request: Callable[[], None]) -> None:
+        self.inner, self.on_request = inner, on_request
         self.host = f"127.0.0.1:{port}"
         self.ticket = secrets.token_urlsafe(16)  # 128 bits
 
@@ -47,23 +49,25 @@ class Guard:
         """The address of the page."""
         return f"http://{self.host}/{self.ticket}/"
 
-    def __call__(self, environ: Dict[str, Any], respond: Respond) -> Iterable[bytes]:
-        refused = self.refusal(environ)
-        if refused is not None:
-            return answered(respond, *refused)
+    def __call__(self, environ: "WSGIEnvironment", respond: "StartResponse") -> Iterable[bytes]:
+        refusal = self.refusal(environ)
+        if refusal is not None:
+            return answered(respond, *refusal)
         # The page's own names are relative to where the ticket ends.
         path = environ.get("PATH_INFO", "")
         environ = {**environ, "SCRIPT_NAME": f"/{self.ticket}", "PATH_INFO": path[1 + len(self.ticket):]}
-        self.asked()
+        self.on_request()
 
-        def with_headers(status: str, headers: List[Tuple[str, str]], info: Any = None) -> Any:
+        def with_headers(
+            status: str, headers: List[Tuple[str, str]], exc_info: "Optional[OptExcInfo]" = None
+        ) -> Callable[[bytes], object]:
             own = {name for name, _ in HEADERS}
             others = [pair for pair in headers if pair[0] not in own]
-            return respond(status, others + HEADERS, *([info] if info else []))
+            return respond(status, others + HEADERS, *([exc_info] if exc_info else []))
 
         return self.inner(environ, with_headers)
 
-    def refusal(self, environ: Dict[str, Any]) -> Optional[Answer]:
+    def refusal(self, environ: "WSGIEnvironment") -> Optional[Answer]:
         """What is wrong with a request, whoever it is from."""
         # Another name for this machine may be one that a page from elsewhere has turned to it.
         if environ.get("HTTP_HOST") != self.host:
@@ -79,14 +83,14 @@ class Guard:
         return body_fault(environ) if self.has_ticket(environ) else (
             "403 Forbidden", b"This desk is opened by the link that it has printed.\n")
 
-    def has_ticket(self, environ: Dict[str, Any]) -> bool:
+    def has_ticket(self, environ: "WSGIEnvironment") -> bool:
         """Whether the first part of the path is the ticket, and there is a rest."""
         parts = environ.get("PATH_INFO", "").split("/", 2)
-        given = parts[1].encode("latin-1", "replace") if len(parts) == 3 and not parts[0] else b""
-        return hmac.compare_digest(given, self.ticket.encode())
+        ticket = parts[1].encode("latin-1", "replace") if len(parts) == 3 and not parts[0] else b""
+        return hmac.compare_digest(ticket, self.ticket.encode())
 
 
-def body_fault(environ: Dict[str, Any]) -> Optional[Answer]:
+def body_fault(environ: "WSGIEnvironment") -> Optional[Answer]:
     """What is wrong with the body of a request: too long, of no told length, or there where none belongs."""
     length = environ.get("CONTENT_LENGTH") or "0"
     if not (length.isascii() and length.isdigit() and len(length) <= 15) or environ.get("HTTP_TRANSFER_ENCODING"):
@@ -97,7 +101,7 @@ def body_fault(environ: Dict[str, Any]) -> Optional[Answer]:
     return None
 
 
-def pass_over(stream: Any, left: int) -> None:
+def pass_over(stream: IO[bytes], left: int) -> None:
     """Reads what is not wanted, so that the answer reaches who sends it."""
     try:
         while left > 0 and (block := stream.read(min(left, 65_536))):
@@ -106,7 +110,7 @@ def pass_over(stream: Any, left: int) -> None:
         pass
 
 
-def answered(respond: Respond, status: str, body: bytes) -> Iterable[bytes]:
+def answered(respond: "StartResponse", status: str, body: bytes) -> Iterable[bytes]:
     """An answer of the guard itself."""
     respond(status, [("Content-Type", "text/plain; charset=utf-8"), ("Content-Length", str(len(body))), *HEADERS])
     return [body]

@@ -1,12 +1,11 @@
 """What to do about a change that the program refuses: the hints of `lint` for the field in which it was typed."""
 import re
-from decimal import Decimal
-from typing import Any, Mapping
+from typing import Mapping
 
 from clearing_client.format import MAX_CASH, MAX_CLAIM, MAX_CUT, MAX_KEEP, MAX_OUTSIDE
 from clearing_client.limits import MOST as MOST_BY_LIMITS
 
-from ..checks import lint
+from ..checks import field_hints
 from ..money import Money
 
 MOST = {
@@ -20,7 +19,7 @@ MOST = {
 PERCENT = re.compile(r"([0-9]{1,3})(?:[.,]([0-9]))? ?%")
 
 
-def hint_of(change: Mapping[str, Any], kind: str, money: Money) -> str:
+def hint_of(change: Mapping[str, object], kind: str, money: Money) -> str:
     """What to do, in some words; empty where nothing is known. The kind is that of the program's fault, empty where a
     word is refused."""
     word = str(change.get("set"))
@@ -29,11 +28,11 @@ def hint_of(change: Mapping[str, Any], kind: str, money: Money) -> str:
     if field in ("cut", "keep"):
         return of_share(text, MOST[field])
     if kind == "number":
-        return str(lint.number_hint(text.encode("utf-8", "replace")))
+        return field_hints.number_hint(text.encode("utf-8", "replace"))
     if kind == "rule":
-        return str(lint.rule_hint(text.encode("utf-8", "replace")))
+        return field_hints.rule_hint(text.encode("utf-8", "replace"))
     if kind == "class":
-        return str(lint.class_hint(str(change.get("class", "")).encode("utf-8", "replace")))
+        return field_hints.class_hint(str(change.get("class", "")).encode("utf-8", "replace"))
     if kind == "total":
         return f"all that banks owe is at most {MOST_BY_LIMITS.owed:,}; {larger_unit(money)}"
     if kind == "limit" and field in MOST:
@@ -43,7 +42,7 @@ def hint_of(change: Mapping[str, Any], kind: str, money: Money) -> str:
 
 def larger_unit(money: Money) -> str:
     """What to do where amounts meet a limit: import them anew by a unit ten times as large."""
-    unit = (money.unit or Decimal(1)) * 10
+    unit = money.worth(10)
     worth = f"{money.currency} {unit:,f}" if money.currency else f"{unit:,f}"
     return f"a unit of account of {worth} has room for ten times as much: import the sheets again with --unit {unit:f}"
 

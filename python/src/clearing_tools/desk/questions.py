@@ -6,20 +6,21 @@ import tempfile
 import threading
 import time
 from collections import OrderedDict
-from typing import Any, Callable, Dict, Iterator, List, Optional, Sequence, Tuple
+from typing import Callable, Dict, Iterable, Iterator, List, Mapping, Optional, Sequence, Tuple, TypeVar, Union
 
 from clearing_client import errors, steady
 from clearing_client.format import MAX_CUT, MAX_KEEP
 from clearing_client.limits import words_of
 from clearing_client.network import Network
-from clearing_client.records import Bank, Debt
+from clearing_client.records import Bank, Debt, Standing
 from clearing_client.results import Costs, Defaults, Impact, Outcomes, Rescue, Rescues
 from clearing_client.scenarios import Scenario, Scenarios
 
-from .. import runner
-from ..analysis import asking as ask
+from .. import runner, texts
+from ..analysis import queries
+from ..runner import StrPath
 from . import state as states
-from .runs import Desk, Place, Runs, mark_of
+from .runs import Desk, Mark, Place, Runs, mark_of
 from .state import State
 
 MOST_QUESTIONS = 64
@@ -28,18 +29,20 @@ EACH = 10  # such steps in one run of the program
 FEW = 60  # banks up to which all cuts that are tried first go in one run
 PARTS = 4  # else they go in so many
 
-Piece = Dict[str, Any]
+T = TypeVar("T")
+R = TypeVar("R")
+Piece = Dict[str, object]
 Pieces = Iterator[Tuple[Piece, int]]  # each with how many pieces there are in all, as far as it is known
 
 
-class OwnRuns(runner.Asking):
+class OwnRuns(runner.ProgramRuns):
     """The runs of one question, which take their turn among those of the desk, and can be ended alone."""
 
     def __init__(self, runs: Runs) -> None:
         super().__init__()
         self.room = runs.room
 
-    def run(self, command: Sequence[str], folder: Any = None) -> Tuple[int, bytes, bytes]:
+    def run(self, command: Sequence[str], folder: Optional[StrPath] = None) -> Tuple[int, bytes, bytes]:
         while not self.room.acquire(timeout=0.1):
             if self.stopped:
                 raise KeyboardInterrupt
@@ -48,9 +51,9 @@ class OwnRuns(runner.Asking):
         finally:
             self.room.release()
 
-    def all(self, work: Callable[[Any], Any], given: Any, what: str) -> List[Any]:
+    def all(self, work: Callable[[T], R], items: Iterable[T], what: str) -> List[R]:
         """What the work gives for each item, one after the other: a question leaves room for changes."""
-        return [work(one) for one in given]
+        return [work(one) for one in items]
 
 
 class Question:
@@ -72,7 +75,7 @@ class Question:
                     self.pieces.append(piece)
         except KeyboardInterrupt:
             pass
-        except (runner.Failed, errors.ClearingError, OSError) as fault:
+        except (runner.ToolError, errors.ClearingError, OSError) as fault:
             self.fault = "" if self.runs.stopped else str(fault)
         finally:
             self.took, self.has_ended = time.monotonic() - self.began, True
@@ -86,7 +89,7 @@ class Question:
         """Whether it was ended before all of it had come."""
         return self.runs.stopped and len(self.pieces) < self.total
 
-    def view(self, after: int) -> Dict[str, Any]:
+    def view(self, after: int) -> Dict[str, object]:
         """How far it is, and the pieces behind so many."""
         ended = self.has_ended
         come = list(self.pieces)
@@ -107,38 +110,38 @@ class Questions:
 
     def __init__(self, desk: Desk) -> None:
         self.desk, self.lock = desk, threading.Lock()
-        self.asked: "OrderedDict[int, Tuple[Any, Question]]" = OrderedDict()
+        self.by_number: "OrderedDict[int, Tuple[Mark, Question]]" = OrderedDict()
         self.numbers = itertools.count()
 
     def ask(self, what: str, state: State, bank: Optional[int], desk: Optional[Desk] = None) -> int:
         """The number of a question on a state, or on one bank of it; of the case at hand, or of another one's desk."""
-        pieces, asked_of = KINDS[what], desk or self.desk
+        pieces, asked_desk = KINDS[what], desk or self.desk
         if what == "breaking":
             state, bank = state._replace(cut="0"), None
         if what != "unit":
             # What default keeps is not asked for: these are of the clearing without costs.
             state = state._replace(keep=states.AS_IT_IS.keep)
-        mark = what, bank, mark_of(state), id(asked_of)
+        mark = what, bank, mark_of(state), id(asked_desk)
         with self.lock:
-            for number, (other, question) in self.asked.items():
+            for number, (other, question) in self.by_number.items():
                 if other == mark and not question.runs.stopped and not question.fault:
                     return number
             number = next(self.numbers)
-            asked = Question(asked_of, lambda runs, place: pieces(asked_of, runs, place, state, bank))
-            self.asked[number] = mark, asked
-            while len(self.asked) > MOST_QUESTIONS:
-                self.asked.popitem(last=False)[1][1].stop()
+            question = Question(asked_desk, lambda runs, place: pieces(asked_desk, runs, place, state, bank))
+            self.by_number[number] = mark, question
+            while len(self.by_number) > MOST_QUESTIONS:
+                self.by_number.popitem(last=False)[1][1].stop()
             return number
 
     def question(self, number: int) -> Optional[Question]:
         """The question of a number, where there is one."""
         with self.lock:
-            return self.asked[number][1] if number in self.asked else None
+            return self.by_number[number][1] if number in self.by_number else None
 
     def stop(self) -> None:
         """Ends all."""
         with self.lock:
-            for _, question in self.asked.values():
+            for _, question in self.by_number.values():
                 question.stop()
 
 
@@ -155,8 +158,8 @@ def breaking_pieces(desk: Desk, runs: OwnRuns, place: Place, state: State, bank:
     parts = 1 if count <= FEW else PARTS
     counts = [(0, 0)] * count
     for part in range(parts):
-        found = counts_of(runs, place, words, losses, coarse[part::parts])
-        counts = [(one + more, own + own_more) for (one, own), (more, own_more) in zip(counts, found)]
+        more_counts = counts_of(runs, place, words, losses, coarse[part::parts])
+        counts = [(one + more, own + own_more) for (one, own), (more, own_more) in zip(counts, more_counts)]
         if part < parts - 1:
             yield {"kind": "begun", "exact": []}, parts + 1
     # The first of these cuts at which a bank is in default; their number where it is so at none.
@@ -188,7 +191,8 @@ def counts_of(
 ) -> List[Tuple[int, int]]:
     """For each bank in how many of some cuts it is in default, and in how many of these by its own fundamentals."""
     text = Scenarios([Scenario(f"cut {cut}", cut, dict(losses)) for cut in cuts]).to_toml(plain=True)
-    answer = ask.answer_of(runs, ["outcomes", *words, f"--scenarios={place.put('cuts.toml', text.encode())}"], Outcomes)
+    scenarios = place.put("cuts.toml", text.encode())
+    answer = queries.answer_of(runs, ["outcomes", *words, f"--scenarios={scenarios}"], Outcomes)
     return list(zip(answer.banks.column("defaults"), answer.banks.column("fundamental")))
 
 
@@ -200,9 +204,9 @@ def rescue_pieces(desk: Desk, runs: OwnRuns, place: Place, state: State, bank: O
     besides."""
     words, places = desk.files(place, state), states.names_of(desk.base)
     if bank is not None and not desk.base.banks[bank].name.startswith("-"):
-        found = ask.answer_of(runs, ["rescue", *words, f"--bank={desk.base.banks[bank].name}"], Rescue)
-        yield {"kind": "one", "bank": bank, "added": found.added}, 2
-    every = ask.answer_of(runs, ["rescues", *words], Rescues)
+        rescue = queries.answer_of(runs, ["rescue", *words, f"--bank={desk.base.banks[bank].name}"], Rescue)
+        yield {"kind": "one", "bank": bank, "added": rescue.added}, 2
+    every = queries.answer_of(runs, ["rescues", *words], Rescues)
     saved: Dict[int, List[int]] = {}
     for pair in every.saved:
         saved.setdefault(places[pair.bank], []).append(places[pair.saves])
@@ -223,10 +227,10 @@ def impact_pieces(desk: Desk, runs: OwnRuns, place: Place, state: State, bank: O
     if bank is not None:
         yield ruin_of(desk, runs, place, words, state, bank), 1
         return
-    found = ask.answer_of(runs, ["impact", *words], Impact)
-    rows = [[at, one.cash, one.own, one.others, one.falls] for at, one in enumerate(found.banks)]
+    impact = queries.answer_of(runs, ["impact", *words], Impact)
+    rows = [[at, one.cash, one.own, one.others, one.falls] for at, one in enumerate(impact.banks)]
     falls: Dict[int, List[int]] = {}
-    for pair in found.pairs:
+    for pair in impact.pairs:
         if pair.falls and pair.of != pair.bank:
             falls.setdefault(places[pair.bank], []).append(places[pair.of])
     yield {"kind": "all", "rows": rows, "falls": falls}, 1
@@ -236,7 +240,7 @@ def ruin_of(desk: Desk, runs: OwnRuns, place: Place, words: List[str], state: St
     """What the loss of all its cash takes from one bank and the others: the program's standings with and without it."""
     before, name = desk.cleared(state), desk.base.banks[bank].name
     text = Scenarios([Scenario("ruin", 0, {name: before.left[bank]})]).to_toml(plain=True)
-    [after] = ask.stress(runs, str(place.path), words, [text.encode()], lambda standings: list(standings))
+    [after] = queries.stress(runs, str(place.path), words, [text.encode()], lambda standings: list(standings))
     less = [keeps(was) - keeps(now) for was, now in zip(before.banks, after)]
     falls = [was.state == "sound" != now.state for was, now in zip(before.banks, after)]
     return {
@@ -249,9 +253,9 @@ def ruin_of(desk: Desk, runs: OwnRuns, place: Place, words: List[str], state: St
     }
 
 
-def keeps(bank: Any) -> int:
+def keeps(bank: Union[texts.Bank, Standing]) -> int:
     """What a bank keeps, and pays outside."""
-    return int(bank.equity + bank.outside_paid)
+    return bank.equity + bank.outside_paid
 
 
 # Which banks one unit decides.
@@ -260,13 +264,13 @@ def keeps(bank: Any) -> int:
 def unit_pieces(desk: Desk, runs: OwnRuns, place: Place, state: State, bank: Optional[int]) -> Pieces:
     """The banks that are in another state, or begin or cease to keep anything, where a unit is worth twice or half as
     much: of the state with what the shock leaves, and with what default keeps."""
-    found, rows = desk.cleared(state), [states.row_of(desk.base, state, at) for at in range(len(desk.base.banks))]
-    banks = [Bank(one.name, left, row[1], int(row[2])) for one, left, row in zip(desk.base.banks, found.left, rows)]
-    debts = [Debt(debt.debtor, debt.creditor, debt.class_, debt.claim) for debt in found.payments]
+    cleared, rows = desk.cleared(state), [states.row_of(desk.base, state, at) for at in range(len(desk.base.banks))]
+    banks = [Bank(one.name, left, row[1], int(row[2])) for one, left, row in zip(desk.base.banks, cleared.left, rows)]
+    debts = [Debt(debt.debtor, debt.creditor, debt.class_, debt.claim) for debt in cleared.payments]
     # What is in gridlock has the label contagion where the greatest payments are not asked for.
     here = {
         one.name: steady.Place("contagion" if one.state == "gridlock" else one.state, one.equity > 0)
-        for one in found.banks
+        for one in cleared.banks
     }
     scales: List[Callable[[int], int]] = [steady.half]
     if steady.within_limits(banks, debts, 2):
@@ -284,12 +288,12 @@ def places_of(runs: OwnRuns, place: Place, network: Network, keep: int) -> Dict[
     network.write(banks, debts)
     words = [f"--banks={banks}", f"--debts={debts}", *words_of(network.limits)]
     if keep == MAX_KEEP:
-        found: Any = ask.answer_of(runs, ["defaults", *words, "--workers=1"], Defaults)
-    else:
-        found = ask.answer_of(runs, ["costs", *words, f"--keep={keep}"], Costs)
-    return {one.bank: steady.Place(one.state, one.equity > 0) for one in found.standings}
+        defaults = queries.answer_of(runs, ["defaults", *words, "--workers=1"], Defaults)
+        return {one.bank: steady.Place(one.state, one.equity > 0) for one in defaults.standings}
+    costs = queries.answer_of(runs, ["costs", *words, f"--keep={keep}"], Costs)
+    return {one.bank: steady.Place(one.state, one.equity > 0) for one in costs.standings}
 
 
-KINDS: Dict[str, Callable[..., Pieces]] = {
+KINDS: Mapping[str, Callable[[Desk, OwnRuns, Place, State, Optional[int]], Pieces]] = {
     "breaking": breaking_pieces, "rescue": rescue_pieces, "ruin": impact_pieces, "unit": unit_pieces,
 }

@@ -5,7 +5,9 @@ import tempfile
 import threading
 from collections import OrderedDict
 from concurrent.futures import ThreadPoolExecutor
-from typing import Any, Callable, Dict, Iterator, List, Mapping, NamedTuple, Optional, Sequence, Tuple
+from typing import (
+    Callable, Dict, Iterable, Iterator, List, Mapping, NamedTuple, Optional, Sequence, Tuple, Type, TypeVar, Union,
+)
 
 from clearing_client import errors
 from clearing_client import program as client
@@ -14,29 +16,35 @@ from clearing_client.case import Case
 from clearing_client.format import MAX_SCENARIOS
 from clearing_client.limits import STANDARD, of_counts, words_of
 from clearing_client.records import Payment
-from clearing_client.results import Bounds, Check, CostBounds, Stress
+from clearing_client.results import Bounds, Check, CostBounds, Outcome, Result, Stress
 from clearing_client.table import Table
 
 from .. import cases, runner, texts
-from ..analysis import asking as ask
+from ..analysis import queries
 from ..checks.why import faults_of
 from ..evidence import audit, shock
 from ..money import Money
+from ..runner import StrPath
 from . import state as states
 from .changes import Original
 from .hints import hint_of
 from .state import Base, State
 
+T = TypeVar("T")
+R = TypeVar("R")
+Answer = TypeVar("Answer", bound=Result)
+Mark = Tuple[object, ...]
+"""A state as a key of a dict."""
 AT_ONCE = 4
 MOST_KEPT = 16  # states whose clearing is kept
 
 
-class Refused(Exception):
+class RefusedChangeError(Exception):
     """A change that the program refuses: its own words, what they mean, and the field of the page."""
 
-    def __init__(self, said: str, meaning: str, field: str) -> None:
-        super().__init__(said)
-        self.said, self.meaning, self.field = said, meaning, field
+    def __init__(self, message: str, meaning: str, field: str) -> None:
+        super().__init__(message)
+        self.message, self.meaning, self.field = message, meaning, field
 
 
 class End(NamedTuple):
@@ -62,7 +70,18 @@ class Cleared(NamedTuple):
     greatest: Optional[End] = None  # the other end, where default costs
 
 
-class Runs(runner.Asking):
+class DebtsFile(NamedTuple):
+    """The debts of all states with these changes: their keys, the debts file, and the words for the limits that they
+    need."""
+
+    claims: Mapping[int, Optional[str]]
+    added: Sequence[Optional[Tuple[str, str, str, str]]]
+    keys: List[int]
+    text: bytes
+    limits: List[str]
+
+
+class Runs(runner.ProgramRuns):
     """Runs of the program, at most four at once, and the folder in which their inputs are for so long."""
 
     def __init__(self, folder: str) -> None:
@@ -70,12 +89,12 @@ class Runs(runner.Asking):
         self.folder, self.room = folder, threading.BoundedSemaphore(AT_ONCE)
         self.whole = threading.Lock()
 
-    def run(self, command: Sequence[str], folder: Any = None) -> Tuple[int, bytes, bytes]:
+    def run(self, command: Sequence[str], folder: Optional[StrPath] = None) -> Tuple[int, bytes, bytes]:
         """The status, output and messages of a command, when there is room for it."""
         with self.room:
             return super().run(command, folder)
 
-    def alone(self, command: Sequence[str], folder: Any) -> Tuple[int, bytes, bytes]:
+    def alone(self, command: Sequence[str], folder: StrPath) -> Tuple[int, bytes, bytes]:
         """The same of a tool, which has runs of its own: no other goes on beside it."""
         with self.whole:
             for _ in range(AT_ONCE):
@@ -86,24 +105,31 @@ class Runs(runner.Asking):
                 for _ in range(AT_ONCE):
                     self.room.release()
 
-    def all(self, work: Callable[[Any], Any], given: Any, what: str) -> List[Any]:
+    def all(self, work: Callable[[T], R], items: Iterable[T], what: str) -> List[R]:
         """What the work gives for each item, side by side. Nothing is said on a terminal, and a fault ends no other
         run."""
         with ThreadPoolExecutor(AT_ONCE) as pool:
-            return list(pool.map(work, given))
+            return list(pool.map(work, items))
 
-    def asked(self, words: Sequence[str], kind: Any) -> Any:
+    def result(self, words: Sequence[str], kind: Type[Answer]) -> Answer:
         """The result of a task; where the program refuses, the exception of the client."""
         status, output, messages = self.run([runner.program(), *words])
         if status:
             raise client.fault_of(client.Done(status, output, messages.decode("utf-8", "replace")), words)
         try:
-            found = parser.parse(output.decode())
+            answer = parser.parse(output.decode())
         except (errors.TextError, UnicodeDecodeError) as fault:
-            raise runner.Failed(f"{runner.program()} did not print what `clearing {words[0]}` does") from fault
-        if not isinstance(found, kind):
-            raise runner.Failed(f"{runner.program()} did not print what `clearing {words[0]}` does")
-        return found
+            raise runner.ToolError(f"{runner.program()} did not print what `clearing {words[0]}` does") from fault
+        if not isinstance(answer, kind):
+            raise runner.ToolError(f"{runner.program()} did not print what `clearing {words[0]}` does")
+        return answer
+
+    def outcome(self, job: Tuple[List[str], Type[Result]]) -> Union[Result, Exception]:
+        """The result of a task, or its fault as a value."""
+        try:
+            return self.result(*job)
+        except (errors.ClearingError, runner.ToolError) as fault:
+            return fault
 
 
 class Place:
@@ -115,7 +141,7 @@ class Place:
     def __enter__(self) -> "Place":
         return self
 
-    def __exit__(self, *_: Any) -> None:
+    def __exit__(self, *_: object) -> None:
         shutil.rmtree(self.path, ignore_errors=True)
 
     def put(self, name: str, content: bytes) -> str:
@@ -128,15 +154,15 @@ class Place:
 def base_of(runs: Runs, banks: str, debts: str, scenarios: Optional[str], limits: str = STANDARD) -> Base:
     """The network as the program reads it. Its own refusal comes first."""
     files = [f"--banks={banks}", f"--debts={debts}", *words_of(limits)]
-    check = ask.answer_of(runs, ["check", *files], Check)
+    check = queries.answer_of(runs, ["check", *files], Check)
     chosen: Sequence[shock.Scenario] = ()
     if scenarios is not None:
         runs.answer(["stress", *files, f"--scenarios={scenarios}"])
         known = [audit.Bank(bank.name.encode(), bank.cash, bank.rule, bank.outside) for bank in check.banks]
         try:
             chosen = shock.read_scenarios(pathlib.Path(scenarios).read_bytes(), known)
-        except shock.Failed as fault:
-            raise runner.Failed(str(fault), fault.status) from fault
+        except shock.ScenarioError as fault:
+            raise runner.ToolError(str(fault), fault.status) from fault
     return Base(list(check.banks), list(check.debts), chosen)
 
 
@@ -148,11 +174,11 @@ class Desk:
         self.full, self.money = cases.names_of(case), cases.money_of(case)
         self.files_given: Dict[str, bytes] = {}  # the files of the case by their names
         self.given = len(base.scenarios)  # of the file; those behind them were built here
-        self.kept: "OrderedDict[Any, Cleared]" = OrderedDict()
-        self.debts: Tuple[Any, Any] = (None, None)  # the debts that were asked for last: while a slider moves they stay
+        self.kept: "OrderedDict[Mark, Cleared]" = OrderedDict()
+        self.last_debts: Optional[DebtsFile] = None  # the last that was made: while a slider moves it stays
         self.lock = threading.Lock()
 
-    def cleared(self, state: State, change: Optional[Mapping[str, Any]] = None) -> Cleared:
+    def cleared(self, state: State, change: Optional[Mapping[str, object]] = None) -> Cleared:
         """A state as the program clears it. A fault is told at the field of the change that led there."""
         mark = mark_of(state)
         with self.lock:
@@ -160,114 +186,122 @@ class Desk:
                 self.kept.move_to_end(mark)
                 return self.kept[mark]
         try:
-            found = self.ask(state)
+            cleared = self.ask(state)
         except errors.ClearingError as fault:
             raise refusal(fault, state, change or {}, self.money) from fault
         with self.lock:
-            self.kept[mark] = found
+            self.kept[mark] = cleared
             while len(self.kept) > MOST_KEPT:
                 self.kept.popitem(last=False)
-        return found
+        return cleared
 
     def ask(self, state: State) -> Cleared:
         """A state as the program clears it, asked now."""
-        keys, debts_text, by = self.debts_of(state)
+        debts = self.debts_of(state)
         rows = [states.row_of(self.base, state, place) for place in range(len(self.base.banks))]
         left = states.left_of(self.base, state)
         with Place(self.runs) as place:
-            debts_file = place.put("debts.csv", debts_text)
+            debts_file = place.put("debts.csv", debts.text)
             banks_file = place.put("banks.csv", states.banks_csv(self.base, rows))
-            words = [f"--banks={banks_file}", f"--debts={debts_file}", *by]
+            words = [f"--banks={banks_file}", f"--debts={debts_file}", *debts.limits]
             shock_file = place.put("shock.toml", states.shock_toml(self.base, state))
-            jobs: List[Any] = [(["stress", *words, f"--scenarios={shock_file}"], Stress)]
+            jobs: List[Tuple[List[str], Type[Result]]] = [(["stress", *words, f"--scenarios={shock_file}"], Stress)]
             if left is not None:
                 left_file = place.put("left.csv", states.left_csv(self.base, state, left))
-                after = [f"--banks={left_file}", f"--debts={debts_file}", *by]
+                after = [f"--banks={left_file}", f"--debts={debts_file}", *debts.limits]
                 jobs.append((["bounds", *after], Bounds))
                 if state.keep != states.AS_IT_IS.keep:
                     jobs.append((["cost-bounds", *after, f"--keep={state.keep}"], CostBounds))
-            answers = self.runs.all(lambda job: outcome_of(self.runs, *job), jobs, "run")
-        # The program's word on the shock comes first, then that on the rest.
-        for answer in answers:
-            if isinstance(answer, BaseException):
-                raise answer
+            outcomes = self.runs.all(self.runs.outcome, jobs, "run")
+        answers = answers_in(outcomes)
         if left is None:
-            raise runner.Failed(f"{runner.program()} takes a number that is none")
-        return joined(keys, [int(row[2]) for row in rows], left, *answers)
+            raise runner.ToolError(f"{runner.program()} takes a number that is none")
+        return joined(debts.keys, [int(row[2]) for row in rows], left, answers)
 
     def files(self, place: Place, state: State) -> List[str]:
         """The two files of a state with what the shock leaves, as words of the program."""
         left = states.left_of(self.base, state)
         if left is None:
-            raise runner.Failed("the state has a number that is none")
+            raise runner.ToolError("the state has a number that is none")
         banks = place.put("banks.csv", states.left_csv(self.base, state, left))
-        _, debts, by = self.debts_of(state)
-        return [f"--banks={banks}", f"--debts={place.put('debts.csv', debts)}", *by]
+        debts = self.debts_of(state)
+        return [f"--banks={banks}", f"--debts={place.put('debts.csv', debts.text)}", *debts.limits]
 
-    def debts_of(self, state: State) -> Tuple[List[int], bytes, List[str]]:
-        """The keys of a state's debts, the debts file, and the words for the limits that the state needs."""
-        mark, (kept, found) = (state.claims, state.added), self.debts
-        if kept != mark or found is None:
-            debts = list(states.debts_of(self.base, state))
-            owed = sum(int(debt[-1]) for debt in debts if str(debt[-1]).isdecimal())
-            by = self.case.said_limits or of_counts(len(self.base.banks), len(debts), owed)
-            found = [debt[0] for debt in debts], states.debts_csv(debts), words_of(by)
-            self.debts = mark, found
-        return found
+    def debts_of(self, state: State) -> DebtsFile:
+        """The debts of a state as a file."""
+        last = self.last_debts
+        if last is not None and (last.claims, last.added) == (state.claims, state.added):
+            return last
+        debts = list(states.debts_of(self.base, state))
+        owed = sum(int(debt[-1]) for debt in debts if str(debt[-1]).isdecimal())
+        by = self.case.said_limits or of_counts(len(self.base.banks), len(debts), owed)
+        keys = [debt[0] for debt in debts]
+        last = DebtsFile(state.claims, state.added, keys, states.debts_csv(debts), words_of(by))
+        self.last_debts = last
+        return last
 
-    def add_scenario(self, wanted: Mapping[str, Any]) -> int:
+    def add_scenario(self, form: Mapping[str, object]) -> int:
         """Takes a scenario into the list, and gives its number. The program judges it as a file of one."""
         with self.lock:
-            made = states.scenario_of(self.base, wanted)
+            built = states.scenario_of(self.base, form)
             if len(self.base.scenarios) >= MAX_SCENARIOS:
-                raise states.Untyped(f"a file has {MAX_SCENARIOS} scenarios at most", "scenario-name")
-            self.base = self.base._replace(scenarios=(*self.base.scenarios, made))
+                raise states.InvalidFieldError(f"a file has {MAX_SCENARIOS} scenarios at most", "scenario-name")
+            self.base = self.base._replace(scenarios=(*self.base.scenarios, built))
             return len(self.base.scenarios)
 
 
-def mark_of(state: State) -> Any:
+def mark_of(state: State) -> Mark:
     """A state as a key of a dict."""
     claims = tuple(sorted(state.claims.items(), key=lambda pair: pair[0]))
     return (*state[:4], tuple(sorted(state.banks.items())), claims, state.added)
 
 
-def outcome_of(runs: Runs, words: Sequence[str], kind: Any) -> Any:
-    """The result of a task, or its fault as a value."""
-    try:
-        return runs.asked(words, kind)
-    except (errors.ClearingError, runner.Failed) as fault:
-        return fault
-
-
-def refusal(fault: errors.ClearingError, state: State, change: Mapping[str, Any], money: Money) -> Exception:
+def refusal(fault: errors.ClearingError, state: State, change: Mapping[str, object], money: Money) -> Exception:
     """A fault of the program, told at a field."""
     if isinstance(fault, errors.RefusedError):
-        said = f"{fault.file} row {fault.row}: {fault.kind} ({fault.number})"
+        message = f"{fault.file} row {fault.row}: {fault.kind} ({fault.number})"
         meaning = "; ".join(filter(None, [fault.meaning, hint_of(change, fault.kind, money)]))
-        return Refused(said, meaning, states.field_of(change, fault.file, fault.kind))
+        return RefusedChangeError(message, meaning, states.field_of(change, fault.file, fault.kind))
     if isinstance(fault, errors.UsageError):
         words = ["cost-bounds", "--banks=b", "--debts=d", f"--keep={state.keep}"]
-        said = "; ".join(what for _, what in faults_of(words)) or str(fault)
-        return Refused(said, hint_of(change, "", money), states.field_of(change, "", ""))
-    return runner.Failed(str(fault))
+        message = "; ".join(what for _, what in faults_of(words)) or str(fault)
+        return RefusedChangeError(message, hint_of(change, "", money), states.field_of(change, "", ""))
+    return runner.ToolError(str(fault))
 
 
-def joined(
-    keys: List[int],
-    outside: List[int],
-    left: List[int],
-    stress: Stress,
-    bounds: Bounds,
-    costs: Optional[CostBounds] = None,
-) -> Cleared:
+class Answers(NamedTuple):
+    """What the program says of a state: of the shock, of both ends of what is left, and of these where default
+    costs."""
+
+    stress: Stress
+    bounds: Bounds
+    costs: Optional[CostBounds] = None
+
+
+def answers_in(outcomes: Sequence[Union[Result, Exception]]) -> Answers:
+    """The answers of the program, in the order of the questions. Its word on the shock comes first, then that on the
+    rest."""
+    answers: List[Result] = []
+    for outcome in outcomes:
+        if isinstance(outcome, Exception):
+            raise outcome
+        answers.append(outcome)
+    stress, bounds, costs, *_ = [*answers, None, None]
+    if not isinstance(stress, Stress) or not isinstance(bounds, Bounds):
+        raise runner.ToolError(f"{runner.program()} takes a number that is none")
+    return Answers(stress, bounds, costs if isinstance(costs, CostBounds) else None)
+
+
+def joined(keys: List[int], outside: List[int], left: List[int], answers: Answers) -> Cleared:
     """What the program's answers are together. What the shock leaves of the cash must be so by the program's own
     standings."""
+    stress, bounds, costs = answers
     after = stress.scenarios[0]
     if len(after.payments) != len(keys):
-        raise runner.Failed("the program read another number of debts than there are")
+        raise runner.ToolError("the program read another number of debts than there are")
     check_left(after, left)
     if bounds.payments.column("least") != after.payments.column("paid"):
-        raise runner.Failed("`clearing bounds` says other least payments than `clearing stress`")
+        raise runner.ToolError("`clearing bounds` says other least payments than `clearing stress`")
     waves = bounds.waves.column("wave")
     more = sum(bounds.payments.column("greatest")) - sum(bounds.payments.column("least"))
     if costs is None:
@@ -300,15 +334,15 @@ def end_at(costs: CostBounds, which: str, left: Sequence[int], owed: Sequence[in
     return End(banks, lost)
 
 
-def check_left(after: Any, left: Sequence[int]) -> None:
+def check_left(after: Outcome, left: Sequence[int]) -> None:
     """Fails where the program's estates less its receipts are not the cash that is said to be left."""
     receipts = dict.fromkeys(after.standings.column("bank"), 0)
     for creditor, paid in zip(after.payments.column("creditor"), after.payments.column("paid")):
         receipts[creditor] += paid
     if [estate - got for estate, got in zip(after.standings.column("estate"), receipts.values())] != list(left):
-        raise runner.Failed("what a shock leaves of the cash is not what `clearing stress` says")
+        raise runner.ToolError("what a shock leaves of the cash is not what `clearing stress` says")
 
 
-def lines_from(found: Cleared) -> Iterator[Tuple[int, Payment]]:
+def lines_from(cleared: Cleared) -> Iterator[Tuple[int, Payment]]:
     """The debts of a state, each with its key."""
-    return zip(found.keys, found.payments)
+    return zip(cleared.keys, cleared.payments)

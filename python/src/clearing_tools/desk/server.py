@@ -27,7 +27,7 @@ Ends with 0 at an interrupt (Ctrl-C), a request to end, and after an idle hour; 
 words are not understood, or bottle is missing; 3 where a file cannot be read; 4 where one is refused.
 
 Example:
-    tools/desk.py --banks examples/twelve-banks/banks.csv --debts examples/twelve-banks/debts.csv \\
+    clearing-desk --banks examples/twelve-banks/banks.csv --debts examples/twelve-banks/debts.csv \\
         --scenarios examples/twelve-banks/scenarios.toml
 """
 import argparse
@@ -42,7 +42,8 @@ import socketserver
 import threading
 import time
 import webbrowser
-from typing import Any, Dict, Optional, Tuple
+from types import ModuleType
+from typing import TYPE_CHECKING, Dict, Optional, Tuple, Union
 from wsgiref.simple_server import WSGIRequestHandler, WSGIServer
 
 from clearing_client.case import Case
@@ -52,13 +53,19 @@ from .. import cases, cli, runner
 from ..fullnames import add_labels, read_labels
 from ..money import add_money
 from ..report.gather import D3
-from ..runner import Failed, command, lacking, work_folder
+from ..runner import ToolError, command, lacking, work_folder
 from . import session, takeaway
 from .app import Application
 from .changes import original_of
 from .guard import Guard
 from .runs import Desk, Runs, base_of
 
+if TYPE_CHECKING:
+    from _typeshed import WriteableBuffer
+    from _typeshed.wsgi import WSGIEnvironment
+
+Request = Union[socket.socket, Tuple[bytes, socket.socket]]
+"""What a request comes by: a connection, as a server of streams has it."""
 MOST_CONNECTIONS = 64
 SECONDS_OF_A_REQUEST = 10.0  # until the whole of it is there
 SECONDS_OF_A_WRITE = 20.0  # without a byte that is taken
@@ -71,9 +78,11 @@ class Until(io.RawIOBase):
         self.connection, self.ends = connection, time.monotonic() + seconds
 
     def readable(self) -> bool:
+        """It is read from."""
         return True
 
-    def readinto(self, buffer: Any) -> int:
+    def readinto(self, buffer: "WriteableBuffer") -> int:
+        """Reads what has come, as much as a buffer takes."""
         left = self.ends - time.monotonic()
         if left <= 0:
             raise socket.timeout("the request is not there in time")
@@ -90,19 +99,21 @@ class Handler(WSGIRequestHandler):
     timeout = SECONDS_OF_A_WRITE
 
     def setup(self) -> None:
+        """Has what comes read within its time."""
         super().setup()
         self.rfile = io.BufferedReader(Until(self.connection, SECONDS_OF_A_REQUEST))
 
-    def get_environ(self) -> Dict[str, Any]:
-        # Its head is there: it does not wait any more.
+    def get_environ(self) -> "WSGIEnvironment":
+        """What is known of the request. Its head is there: it does not wait any more."""
         assert isinstance(self.server, Server)
         self.server.is_read(self.connection)
         return super().get_environ()
 
-    def log_message(self, *_: Any) -> None:
-        pass
+    def log_message(self, *_: object) -> None:
+        """Nothing is said of a request."""
 
     def address_string(self) -> str:
+        """Who asks, without looking a name up."""
         return "127.0.0.1"
 
 
@@ -121,7 +132,7 @@ class Server(socketserver.ThreadingMixIn, WSGIServer):
         super().__init__(("127.0.0.1", 0), Handler)
 
     def server_bind(self) -> None:
-        # No name is looked up.
+        """Takes a port of this machine. No name is looked up."""
         socketserver.TCPServer.server_bind(self)
         self.server_name, self.server_port = "127.0.0.1", self.server_address[1]
         self.setup_environ()
@@ -145,25 +156,32 @@ class Server(socketserver.ThreadingMixIn, WSGIServer):
             self.waiting[connection] = None
             return True
 
-    def process_request(self, request: Any, client_address: Any) -> None:
-        if self.has_room(request):
+    def process_request(self, request: Request, client_address: object) -> None:
+        """Answers a request, where there is room."""
+        if self.has_room(connection_of(request)):
             super().process_request(request, client_address)
         else:
             self.shutdown_request(request)
 
-    def process_request_thread(self, request: Any, client_address: Any) -> None:
+    def process_request_thread(self, request: Request, client_address: object) -> None:
+        """Answers a request in its own thread."""
         try:
             super().process_request_thread(request, client_address)
         finally:
             with self.lock:
-                self.waiting.pop(request, None)
+                self.waiting.pop(connection_of(request), None)
                 self.open -= 1
 
-    def handle_error(self, request: Any, client_address: Any) -> None:
+    def handle_error(self, request: Request, client_address: object) -> None:
         """One that goes away is no fault of the desk."""
 
 
-def bottle_of() -> Any:
+def connection_of(request: Request) -> socket.socket:
+    """The connection of a request."""
+    return request if isinstance(request, socket.socket) else request[1]
+
+
+def bottle_of() -> ModuleType:
     """The library bottle. Where it is missing the tool fails with 2 and says for which Python."""
     try:
         return importlib.import_module("bottle")
@@ -187,7 +205,7 @@ def minutes(word: str) -> float:
     raise argparse.ArgumentTypeError(f"{word!r} is no number of minutes above 0")
 
 
-def words() -> Tuple[argparse.ArgumentParser, argparse.Namespace]:
+def parse_args() -> Tuple[argparse.ArgumentParser, argparse.Namespace]:
     """The parser, and the words of the command line."""
     parser = cli.case_parser(__doc__)
     parser.add_argument("--scenarios", metavar="FILE", help="the scenarios file")
@@ -213,13 +231,13 @@ def open_browser(link: str, folder: str) -> None:
 
 
 class Clock:
-    """When the desk was asked last."""
+    """When the last request came."""
 
     def __init__(self) -> None:
         self.last = time.monotonic()
 
-    def asked(self) -> None:
-        """It is asked now."""
+    def restart(self) -> None:
+        """One comes now."""
         self.last = time.monotonic()
 
 
@@ -242,55 +260,56 @@ def described_files(case: Case) -> Dict[str, bytes]:
     if case.paths.get("scenarios") is not None:
         case.scenarios = takeaway.bytes_of(case.paths["scenarios"])
     try:
-        made = case.files({})
+        files = case.files({})
     except ClearingError:
         return {}
-    return {name: data for name, data in made.items() if name not in ("banks.csv", "debts.csv")}
+    return {name: data for name, data in files.items() if name not in ("banks.csv", "debts.csv")}
 
 
 def application_of(
-    bottle: Any, runs: Runs, parser: argparse.ArgumentParser, asked: argparse.Namespace, folder: str
+    bottle: ModuleType, runs: Runs, parser: argparse.ArgumentParser, args: argparse.Namespace, folder: str
 ) -> Application:
     """The application of the case or the session that was asked for, and of the cases beside it."""
     document = None
-    if asked.session is not None:
-        if asked.case is not None or asked.banks is not None or asked.debts is not None:
+    if args.session is not None:
+        if args.case is not None or args.banks is not None or args.debts is not None:
             parser.error("a session has its case: --session stands without FOLDER, --banks and --debts")
         place = pathlib.Path(folder) / "session"
         place.mkdir()
-        document = session.unpacked(asked.session, place)
-        asked.case = str(place)
-    read_labels(asked.labels, 4)  # its faults have the status of a refusal
-    desk = desk_of(runs, cases.take_case(parser, asked))
-    others = [desk_of(runs, cases.read_case(name)) for name in asked.against]
-    for name, other in zip(asked.against, others):
+        document = session.unpacked(args.session, place)
+        args.case = str(place)
+    read_labels(args.labels, 4)  # its faults have the status of a refusal
+    desk = desk_of(runs, cases.take_case(parser, args).case)
+    others = [desk_of(runs, cases.read_case(name)) for name in args.against]
+    for name, other in zip(args.against, others):
         if (other.case.unit, other.case.currency) != (desk.case.unit, desk.case.currency):
-            raise Failed(f"{name}: its amounts are in another unit or currency than those of the case", 4)
+            raise ToolError(f"{name}: its amounts are in another unit or currency than those of the case", 4)
     application = Application(bottle, desk, library(), others)
     if document is not None:
-        application.at_first = session.opened(desk, document, application.steps, application.shelf, asked.session)
+        application.at_first = session.opened(desk, document, application.steps, application.shelf, args.session)
     return application
 
 
 @command("desk.py")
 def main() -> int:
-    parser, asked = words()
+    parser, args = parse_args()
+    cases.check_moment()
     bottle = bottle_of()
     # Runs go on in folders of their own.
     os.environ["CLEARING"] = runner.program()
     with work_folder() as folder:
         runs = Runs(folder)
-        application = application_of(bottle, runs, parser, asked, folder)
+        application = application_of(bottle, runs, parser, args, folder)
         server, clock = Server(), Clock()
-        guard = Guard(application, server.server_port, clock.asked)
+        guard = Guard(application, server.server_port, clock.restart)
         server.set_app(guard)
         serving = threading.Thread(target=server.serve_forever, args=(0.1,), daemon=True)
         try:
             serving.start()
             print(f"The desk is at {guard.link}\nCtrl-C ends it.", flush=True)
-            if not asked.no_browser:
+            if not args.no_browser:
                 open_browser(guard.link, folder)
-            while time.monotonic() - clock.last < 60 * asked.idle:
+            while time.monotonic() - clock.last < 60 * args.idle:
                 time.sleep(0.1)
         except KeyboardInterrupt:
             pass

@@ -7,7 +7,7 @@ import io
 import json
 import pathlib
 import zipfile
-from typing import Any, Dict, List, Mapping, Sequence, Tuple
+from typing import Dict, List, Mapping, Sequence, Tuple
 
 from clearing_client.case import FILES, Case
 from clearing_client.description import NAME
@@ -16,7 +16,7 @@ from clearing_client.limits import MOST
 
 from .. import runner
 from . import state as states
-from .runs import Desk, Refused
+from .runs import Desk, RefusedChangeError
 from .state import Base
 from .steps import MOST_KEPT, MOST_NOTE, Shelf, Steps
 
@@ -40,13 +40,13 @@ def archive_of(files: Mapping[str, bytes]) -> bytes:
 
 def saved(desk: Desk, files: Mapping[str, bytes], steps: Steps, shelf: Shelf, at_hand: int) -> bytes:
     """A session as a file. `files` are those of the case, and `at_hand` is the state that is shown."""
-    kept = [one for one in shelf.kept[1:] if one.case == 0]
+    states_kept = [one for one in shelf.kept[1:] if one.case == 0]
     document = {
         "session": VERSION,
         "scenarios": [[one.name, one.cut, sorted(one.losses.items())] for one in desk.base.scenarios[desk.given:]],
         "states": [
             {"name": one.name, "note": one.note, "state": states.as_json(steps.state(desk.base, one.state))}
-            for one in kept
+            for one in states_kept
         ],
         "atHand": states.as_json(steps.state(desk.base, at_hand)),
     }
@@ -54,7 +54,7 @@ def saved(desk: Desk, files: Mapping[str, bytes], steps: Steps, shelf: Shelf, at
     return archive_of({**{f"case/{name}": data for name, data in files.items()}, STATES: text + b"\n"})
 
 
-def unpacked(path: str, folder: pathlib.Path) -> Dict[str, Any]:
+def unpacked(path: str, folder: pathlib.Path) -> Dict[str, object]:
     """Puts the case of a session into a folder, and gives what the session says of states. Fails with 3 where it cannot
     be read, and with 4 where it is no session."""
     try:
@@ -66,11 +66,11 @@ def unpacked(path: str, folder: pathlib.Path) -> Dict[str, Any]:
             text = part_of(archive, STATES, MOST_STATES_BYTES, path) if STATES in names else b""
         document = json.loads(text)
     except OSError as fault:
-        raise runner.Failed(f"cannot read {path}: {fault.strerror or fault}", 3) from fault
+        raise runner.ToolError(f"cannot read {path}: {fault.strerror or fault}", 3) from fault
     except (zipfile.BadZipFile, ValueError, RecursionError, NotImplementedError, RuntimeError) as fault:
-        raise runner.Failed(f"{path} is no session of a desk", 4) from fault
+        raise runner.ToolError(f"{path} is no session of a desk", 4) from fault
     if not isinstance(document, dict) or document.get("session") != VERSION:
-        raise runner.Failed(f"{path} is no session of a desk that this one can open", 4)
+        raise runner.ToolError(f"{path} is no session of a desk that this one can open", 4)
     return document
 
 
@@ -79,11 +79,11 @@ def part_of(archive: zipfile.ZipFile, member: str, most: int, path: str) -> byte
     with archive.open(member) as file:
         data = file.read(most + 1)
     if len(data) > most:
-        raise runner.Failed(f"{path}: {member} is longer than it may be", 4)
+        raise runner.ToolError(f"{path}: {member} is longer than it may be", 4)
     return data
 
 
-def opened(desk: Desk, document: Mapping[str, Any], steps: Steps, shelf: Shelf, path: str) -> int:
+def opened(desk: Desk, document: Mapping[str, object], steps: Steps, shelf: Shelf, path: str) -> int:
     """Takes the scenarios and the kept states of a session, each cleared by the program, and gives the number of the
     state that was at hand. Fails with 4 where one of them is none."""
     try:
@@ -92,48 +92,48 @@ def opened(desk: Desk, document: Mapping[str, Any], steps: Steps, shelf: Shelf, 
             name, note = text_in(one, "name", 200), text_in(one, "note", MOST_NOTE)
             shelf.keep(name, taken(desk, one.get("state"), steps), note)
         return taken(desk, document.get("atHand", {}), steps)
-    except (states.Misformed, states.Untyped, Refused, ClearingError) as fault:
-        raise runner.Failed(f"{path}: {fault}", 4) from fault
+    except (states.MalformedChangeError, states.InvalidFieldError, RefusedChangeError, ClearingError) as fault:
+        raise runner.ToolError(f"{path}: {fault}", 4) from fault
 
 
-def taken(desk: Desk, value: Any, steps: Steps) -> int:
+def taken(desk: Desk, value: object, steps: Steps) -> int:
     """The number of a state of a session, once the program has cleared it."""
     state = states.from_json(desk.base, value)
     desk.cleared(state)
     return steps.put(state)
 
 
-def listed(document: Mapping[str, Any], key: str, most: int) -> List[Dict[str, Any]]:
+def listed(document: Mapping[str, object], key: str, most: int) -> List[Dict[str, object]]:
     """A list of objects of a document."""
-    found = document.get(key, [])
-    if not isinstance(found, list) or len(found) > most or not all(isinstance(one, dict) for one in found):
-        raise states.Misformed(f"{key} is no list of states")
-    return found
+    objects = document.get(key, [])
+    if not isinstance(objects, list) or len(objects) > most or not all(isinstance(one, dict) for one in objects):
+        raise states.MalformedChangeError(f"{key} is no list of states")
+    return objects
 
 
-def text_in(one: Mapping[str, Any], key: str, most: int) -> str:
+def text_in(one: Mapping[str, object], key: str, most: int) -> str:
     """A text of an object."""
     text = one.get(key, "")
     if not isinstance(text, str) or len(text) > most:
-        raise states.Misformed(f"{key} is no text of at most {most} letters")
+        raise states.MalformedChangeError(f"{key} is no text of at most {most} letters")
     return text
 
 
-def with_scenarios(base: Base, scenarios: Any) -> Base:
+def with_scenarios(base: Base, scenarios: object) -> Base:
     """The network with the scenarios of a session behind those of the file."""
     if not isinstance(scenarios, list):
-        raise states.Misformed("scenarios is no list")
+        raise states.MalformedChangeError("scenarios is no list")
     for one in scenarios:
         name, cut, losses = one if isinstance(one, list) and len(one) == 3 else ("", "", None)
-        wanted = {"name": name, "cut": str(cut), "losses": [[pair[0], str(pair[1])] for pair in pairs_of(losses)]}
-        base = base._replace(scenarios=(*base.scenarios, states.scenario_of(base, wanted)))
+        form = {"name": name, "cut": str(cut), "losses": [[pair[0], str(pair[1])] for pair in pairs_of(losses)]}
+        base = base._replace(scenarios=(*base.scenarios, states.scenario_of(base, form)))
     return base
 
 
-def pairs_of(losses: Any) -> Sequence[Tuple[Any, Any]]:
+def pairs_of(losses: object) -> Sequence[Tuple[object, object]]:
     """Losses as pairs."""
     if not isinstance(losses, list) or not all(isinstance(pair, list) and len(pair) == 2 for pair in losses):
-        raise states.Misformed("losses are pairs of a bank and an amount")
+        raise states.MalformedChangeError("losses are pairs of a bank and an amount")
     return [(pair[0], pair[1]) for pair in losses]
 
 
@@ -142,4 +142,4 @@ def read_case(folder: pathlib.Path) -> Case:
     try:
         return Case.read(folder)
     except ClearingError as fault:
-        raise runner.Failed(str(fault), 4) from fault
+        raise runner.ToolError(str(fault), 4) from fault

@@ -5,7 +5,7 @@ What is typed stands in the files as it was typed, so that the program judges it
 import csv
 import io
 import re
-from typing import Any, Dict, Iterator, List, Mapping, NamedTuple, Optional, Sequence, Tuple
+from typing import Callable, Dict, Iterator, List, Mapping, NamedTuple, Optional, Sequence, Tuple
 
 from clearing_client.format import MAX_CUT, MAX_KEEP, MAX_LOSS, is_name
 from clearing_client.records import Bank, Debt
@@ -40,16 +40,16 @@ class State(NamedTuple):
     added: Tuple[Optional[Tuple[str, str, str, str]], ...] = ()
 
 
-class Misformed(ValueError):
+class MalformedChangeError(ValueError):
     """A change that is none: the page does not ask for such a thing."""
 
 
-class Untyped(ValueError):
+class InvalidFieldError(ValueError):
     """What was typed cannot be taken, and the program is not asked: what is said of it, and the field of the page."""
 
-    def __init__(self, said: str, field: str) -> None:
-        super().__init__(said)
-        self.said, self.field = said, field
+    def __init__(self, message: str, field: str) -> None:
+        super().__init__(message)
+        self.message, self.field = message, field
 
 
 AS_IT_IS = State()
@@ -72,33 +72,33 @@ def number_of(text: str) -> Optional[int]:
 # Changes. Each takes the network, a state and what the page sent, and gives another state.
 
 
-def typed(change: Mapping[str, Any], name: str) -> str:
+def typed(change: Mapping[str, object], name: str) -> str:
     """A text of a change, as it was typed in a field of one line."""
     value = change.get(name)
     if not isinstance(value, str) or len(value) > MOST_LETTERS or NO_LINE.search(value):
-        raise Misformed(f"{name} is no line of at most {MOST_LETTERS} letters")
+        raise MalformedChangeError(f"{name} is no line of at most {MOST_LETTERS} letters")
     return plain(value)
 
 
-def placed(change: Mapping[str, Any], name: str, count: int) -> int:
+def placed(change: Mapping[str, object], name: str, count: int) -> int:
     """A place among so many of a change."""
     value = change.get(name)
     if type(value) is not int or not 0 <= value < count:
-        raise Misformed(f"{name} is no place")
+        raise MalformedChangeError(f"{name} is no place")
     return value
 
 
-def with_cut(base: Base, state: State, change: Mapping[str, Any]) -> State:
+def with_cut(base: Base, state: State, change: Mapping[str, object]) -> State:
     """Another cut of all cash."""
     return state._replace(cut=typed(change, "value"))
 
 
-def with_keep(base: Base, state: State, change: Mapping[str, Any]) -> State:
+def with_keep(base: Base, state: State, change: Mapping[str, object]) -> State:
     """Another part that is kept of an estate in default."""
     return state._replace(keep=typed(change, "value"))
 
 
-def with_scenario(base: Base, state: State, change: Mapping[str, Any]) -> State:
+def with_scenario(base: Base, state: State, change: Mapping[str, object]) -> State:
     """The cut and the losses of a scenario of the file; none of the number 0."""
     number = placed(change, "value", len(base.scenarios) + 1)
     if not number:
@@ -107,11 +107,11 @@ def with_scenario(base: Base, state: State, change: Mapping[str, Any]) -> State:
     return state._replace(cut=str(chosen.cut), scenario=number, losses=tuple(sorted(chosen.losses.items())))
 
 
-def with_bank(base: Base, state: State, change: Mapping[str, Any]) -> State:
+def with_bank(base: Base, state: State, change: Mapping[str, object]) -> State:
     """Another cash, rule or sum owed outside of a bank."""
     place, field = placed(change, "bank", len(base.banks)), change.get("field")
     if field not in ("cash", "rule", "outside"):
-        raise Misformed("field is none of a bank")
+        raise MalformedChangeError("field is none of a bank")
     row = dict(zip(("cash", "rule", "outside"), row_of(base, state, place)))
     row[str(field)] = typed(change, "value")
     banks = dict(state.banks)
@@ -121,12 +121,12 @@ def with_bank(base: Base, state: State, change: Mapping[str, Any]) -> State:
     return state._replace(banks=banks)
 
 
-def with_claim(base: Base, state: State, change: Mapping[str, Any]) -> State:
+def with_claim(base: Base, state: State, change: Mapping[str, object]) -> State:
     """Another claim of a debt."""
     return with_debt(base, state, change, typed(change, "value"))
 
 
-def with_struck(base: Base, state: State, change: Mapping[str, Any]) -> State:
+def with_struck(base: Base, state: State, change: Mapping[str, object]) -> State:
     """A debt less; one of the file that was struck is there again where `again` is said."""
     key = placed(change, "debt", len(base.debts) + len(state.added))
     if change.get("again") is True and key < len(base.debts):
@@ -134,35 +134,35 @@ def with_struck(base: Base, state: State, change: Mapping[str, Any]) -> State:
     return with_debt(base, state, change, None)
 
 
-def with_debt(base: Base, state: State, change: Mapping[str, Any], claim: Optional[str]) -> State:
+def with_debt(base: Base, state: State, change: Mapping[str, object], claim: Optional[str]) -> State:
     """A debt with another claim, or struck where it is None."""
     key = placed(change, "debt", len(base.debts) + len(state.added))
     if key >= len(base.debts):
         added, at = list(state.added), key - len(base.debts)
         before = added[at]
         if before is None:
-            raise Misformed("debt was struck")
+            raise MalformedChangeError("debt was struck")
         added[at] = None if claim is None else (*before[:3], claim)
         return state._replace(added=tuple(added))
     claims = dict(state.claims)
     if claims.get(key, "") is None:
-        raise Misformed("debt was struck")
+        raise MalformedChangeError("debt was struck")
     claims[key] = claim
     if claim == str(base.debts[key].claim):
         del claims[key]
     return state._replace(claims=claims)
 
 
-def with_added(base: Base, state: State, change: Mapping[str, Any]) -> State:
+def with_added(base: Base, state: State, change: Mapping[str, object]) -> State:
     """A debt more."""
     debtor, creditor, rank, claim = (typed(change, name) for name in ("debtor", "creditor", "class", "claim"))
     if not any(field.strip(" \t") for field in (debtor, creditor, rank, claim)):
         # The program passes over a record of blanks.
-        raise Untyped("a debt has a debtor, a creditor, a class and a claim", "creditor")
+        raise InvalidFieldError("a debt has a debtor, a creditor, a class and a claim", "creditor")
     return state._replace(added=(*state.added, (debtor, creditor, rank, claim)))
 
 
-CHANGES = {
+CHANGES: Mapping[str, Callable[[Base, State, Mapping[str, object]], State]] = {
     "cut": with_cut,
     "keep": with_keep,
     "scenario": with_scenario,
@@ -173,11 +173,12 @@ CHANGES = {
 }
 
 
-def changed(base: Base, state: State, change: Any) -> State:
+def changed(base: Base, state: State, change: object) -> State:
     """The state that a change leads to. Nothing is judged here but the form of what the page sends."""
-    if not isinstance(change, dict) or change.get("set") not in CHANGES:
-        raise Misformed("this is no change")
-    return CHANGES[change["set"]](base, state, change)
+    work = CHANGES.get(str(change.get("set"))) if isinstance(change, dict) else None
+    if work is None or not isinstance(change, dict):
+        raise MalformedChangeError("this is no change")
+    return work(base, state, change)
 
 
 # What a state is as files.
@@ -200,7 +201,7 @@ def debts_of(base: Base, state: State) -> Iterator[Tuple[int, str, str, str, str
             yield (key, *record)
 
 
-def csv_of(header: str, rows: Sequence[Sequence[Any]]) -> bytes:
+def csv_of(header: str, rows: Sequence[Sequence[object]]) -> bytes:
     """A file of the program. What is typed stands in it as one field, whatever it is."""
     text = io.StringIO()
     text.write(header + "\n")
@@ -208,7 +209,7 @@ def csv_of(header: str, rows: Sequence[Sequence[Any]]) -> bytes:
     return text.getvalue().encode("utf-8", "surrogatepass")
 
 
-def banks_csv(base: Base, rows: Sequence[Sequence[Any]]) -> bytes:
+def banks_csv(base: Base, rows: Sequence[Sequence[object]]) -> bytes:
     """A banks file of rows of cash, rule and outside; in version 2 where a bank owes something outside."""
     if all(str(outside) == "0" for _, _, outside in rows):
         return csv_of("name,cash,rule", [(bank.name, *row[:2]) for bank, row in zip(base.banks, rows)])
@@ -264,7 +265,7 @@ def as_scenario(
     return Scenario(name, int(state.cut), losses) if int(state.cut) or losses else None
 
 
-def field_of(change: Mapping[str, Any], file: str, kind: str) -> str:
+def field_of(change: Mapping[str, object], file: str, kind: str) -> str:
     """The field of the page to which a fault of the program belongs."""
     word = str(change.get("set"))
     if word == "bank":
@@ -284,32 +285,38 @@ def names_of(base: Base) -> Dict[str, int]:
 # Scenarios that are built at the desk.
 
 
-def scenario_of(base: Base, wanted: Mapping[str, Any]) -> shock.Scenario:
+def scenario_of(base: Base, form: Mapping[str, object]) -> shock.Scenario:
     """A scenario as the page sends it: a name, a cut, and losses as pairs of a bank's place and an amount. What the
     program refuses of it it refuses itself; here stands what it would read as something else."""
-    name, cut, losses = typed(wanted, "name").strip(" \t"), typed(wanted, "cut"), wanted.get("losses")
+    name, cut, losses = typed(form, "name").strip(" \t"), typed(form, "cut"), form.get("losses")
     if not is_name(name):
-        raise Untyped("a scenario has a name of 1 to 64 bytes, without comma and quote", "scenario-name")
+        raise InvalidFieldError("a scenario has a name of 1 to 64 bytes, without comma and quote", "scenario-name")
     if any(name == one.name for one in base.scenarios):
-        raise Untyped("there is a scenario of this name; give this one another", "scenario-name")
+        raise InvalidFieldError("there is a scenario of this name; give this one another", "scenario-name")
     if number_of(cut) is None or int(cut) > MAX_CUT:
-        raise Untyped(f"a cut is a whole number from 0 to {MAX_CUT:,}, per mille", "scenario-cut")
+        raise InvalidFieldError(f"a cut is a whole number from 0 to {MAX_CUT:,}, per mille", "scenario-cut")
+    amounts = losses_in(base, losses)
+    if not int(cut) and not any(amounts.values()):
+        raise InvalidFieldError("a scenario takes cash: a cut, or a loss of a bank", "scenario-losses")
+    return shock.Scenario(name, int(cut), amounts)
+
+
+def losses_in(base: Base, losses: object) -> Dict[int, int]:
+    """The losses of a scenario as the page sends them, by the places of banks."""
     if not isinstance(losses, list) or len(losses) > len(base.banks):
-        raise Misformed("losses are pairs of a bank and an amount")
-    found: Dict[int, int] = {}
+        raise MalformedChangeError("losses are pairs of a bank and an amount")
+    amounts: Dict[int, int] = {}
     for pair in losses:
         if not isinstance(pair, list) or len(pair) != 2:
-            raise Misformed("losses are pairs of a bank and an amount")
+            raise MalformedChangeError("losses are pairs of a bank and an amount")
         place = placed({"bank": pair[0]}, "bank", len(base.banks))
         amount = number_of(typed({"amount": pair[1]}, "amount"))
-        if place in found:
-            raise Untyped(f"{base.banks[place].name} stands there twice", "scenario-losses")
+        if place in amounts:
+            raise InvalidFieldError(f"{base.banks[place].name} stands there twice", "scenario-losses")
         if amount is None or amount > MAX_LOSS:
-            raise Untyped(f"a loss is a whole number from 0 to {MAX_LOSS:,}", "scenario-losses")
-        found[place] = amount
-    if not int(cut) and not any(found.values()):
-        raise Untyped("a scenario takes cash: a cut, or a loss of a bank", "scenario-losses")
-    return shock.Scenario(name, int(cut), found)
+            raise InvalidFieldError(f"a loss is a whole number from 0 to {MAX_LOSS:,}", "scenario-losses")
+        amounts[place] = amount
+    return amounts
 
 
 def scenarios_toml(base: Base, scenarios: Sequence[shock.Scenario]) -> bytes:
@@ -324,9 +331,9 @@ def scenarios_toml(base: Base, scenarios: Sequence[shock.Scenario]) -> bytes:
 # A state as a value of JSON, for a session that is saved.
 
 
-def as_json(state: State) -> Dict[str, Any]:
+def as_json(state: State) -> Dict[str, object]:
     """A state as a value of JSON; what is not changed is left out."""
-    whole = {
+    whole: Dict[str, object] = {
         "cut": state.cut,
         "keep": state.keep,
         "scenario": state.scenario,
@@ -335,37 +342,37 @@ def as_json(state: State) -> Dict[str, Any]:
         "claims": {str(key): claim for key, claim in sorted(state.claims.items())},
         "added": [None if record is None else list(record) for record in state.added],
     }
-    plain_ = {"cut": "0", "keep": AS_IT_IS.keep, "scenario": 0}
-    return {key: value for key, value in whole.items() if value and value != plain_.get(key)}
+    unchanged = {"cut": "0", "keep": AS_IT_IS.keep, "scenario": 0}
+    return {key: value for key, value in whole.items() if value and value != unchanged.get(key)}
 
 
-def from_json(base: Base, value: Any) -> State:
-    """The state of such a value. Fails with `Misformed` where it is none."""
+def from_json(base: Base, value: object) -> State:
+    """The state of such a value. Fails with `MalformedChangeError` where it is none."""
     keys = {"cut", "keep", "scenario", "losses", "banks", "claims", "added"}
     if not isinstance(value, dict) or not set(value) <= keys:
-        raise Misformed("a state has other keys")
+        raise MalformedChangeError("a state has other keys")
     banks, claims = value.get("banks", {}), value.get("claims", {})
     added, losses = value.get("added", []), value.get("losses", [])
     if not all(isinstance(part, kind) for part, kind in ((banks, dict), (claims, dict), (added, list), (losses, list))):
-        raise Misformed("a state has a part of another kind")
+        raise MalformedChangeError("a state has a part of another kind")
     return State(
         cut=typed({"cut": value.get("cut", "0")}, "cut"),
         keep=typed({"keep": value.get("keep", AS_IT_IS.keep)}, "keep"),
         scenario=placed({"scenario": value.get("scenario", 0)}, "scenario", len(base.scenarios) + 1),
         losses=tuple(pair_of(base, pair) for pair in losses),
-        banks={key_of(place, len(base.banks)): texts_of(row, 3) for place, row in banks.items()},
+        banks={key_of(place, len(base.banks)): bank_row(row) for place, row in banks.items()},
         claims={
             key_of(key, len(base.debts)): None if claim is None else typed({"claim": claim}, "claim")
             for key, claim in claims.items()
         },
-        added=tuple(None if record is None else texts_of(record, 4) for record in added),
+        added=tuple(None if record is None else debt_record(record) for record in added),
     )
 
 
-def pair_of(base: Base, pair: Any) -> Tuple[int, int]:
+def pair_of(base: Base, pair: object) -> Tuple[int, int]:
     """A loss: the bank's place, and the units."""
     if not isinstance(pair, list) or len(pair) != 2:
-        raise Misformed("a loss is no pair")
+        raise MalformedChangeError("a loss is no pair")
     return placed({"bank": pair[0]}, "bank", len(base.banks)), placed({"amount": pair[1]}, "amount", MAX_LOSS + 1)
 
 
@@ -373,12 +380,24 @@ def key_of(key: str, count: int) -> int:
     """A place that stands as a key of JSON."""
     number = number_of(key)
     if number is None or number >= count:
-        raise Misformed("a key is no place")
+        raise MalformedChangeError("a key is no place")
     return number
 
 
-def texts_of(row: Any, count: int) -> Any:
+def bank_row(row: object) -> Tuple[str, str, str]:
+    """The cash, the rule and what is owed outside of a bank, as they were typed."""
+    cash, rule, outside = texts_of(row, 3)
+    return cash, rule, outside
+
+
+def debt_record(record: object) -> Tuple[str, str, str, str]:
+    """The debtor, the creditor, the class and the claim of a debt, as they were typed."""
+    debtor, creditor, rank, claim = texts_of(record, 4)
+    return debtor, creditor, rank, claim
+
+
+def texts_of(row: object, count: int) -> List[str]:
     """So many texts, as they were typed."""
     if not isinstance(row, list) or len(row) != count:
-        raise Misformed("a row has another length")
-    return tuple(typed({"field": field}, "field") for field in row)
+        raise MalformedChangeError("a row has another length")
+    return [typed({"field": field}, "field") for field in row]

@@ -4,7 +4,7 @@ A state is held as the change that led to it, and some as they are: thousands of
 they do not change."""
 import threading
 from collections import OrderedDict
-from typing import Any, Dict, List, Mapping, NamedTuple, Optional
+from typing import Dict, List, Mapping, NamedTuple, Optional
 
 from .. import runner
 from . import state as states
@@ -21,7 +21,7 @@ class Step(NamedTuple):
     beginning."""
 
     before: Optional[int]
-    change: Mapping[str, Any]
+    change: Mapping[str, object]
     depth: int  # changes since the last state that is held as it is
 
 
@@ -49,18 +49,18 @@ class Steps:
     def state(self, base: Base, number: int) -> State:
         """The state of a number: from the nearest one that is held, by the changes since."""
         with self.lock:
-            changes: List[Mapping[str, Any]] = []
+            changes: List[Mapping[str, object]] = []
             at = number
             while at not in self.held and at not in self.recent:
                 step = self.steps[at]
                 changes.append(step.change)
                 assert step.before is not None
                 at = step.before
-            found = self.held[at] if at in self.held else self.recent[at]
+            state = self.held[at] if at in self.held else self.recent[at]
             for change in reversed(changes):
-                found = states.changed(base, found, change)
-            self.remember(number, found)
-            return found
+                state = states.changed(base, state, change)
+            self.remember(number, state)
+            return state
 
     def remember(self, number: int, state: State) -> None:
         """Holds a state for a while."""
@@ -69,7 +69,7 @@ class Steps:
         while len(self.recent) > MOST_RECENT:
             self.recent.popitem(last=False)
 
-    def add(self, state: State, before: int, change: Mapping[str, Any], is_same: bool) -> int:
+    def add(self, state: State, before: int, change: Mapping[str, object], is_same: bool) -> int:
         """The number of a state that was reached from another by a change; that of the other where nothing is changed
         by it."""
         if is_same:
@@ -97,7 +97,7 @@ class Steps:
     def check_room(self) -> None:
         """Fails where there are as many states as a desk has."""
         if len(self.steps) >= MOST_STATES:
-            raise runner.Failed(f"a desk has {MOST_STATES:,} states at most; save the session, and open it again")
+            raise runner.ToolError(f"a desk has {MOST_STATES:,} states at most; save the session, and open it again")
 
     def line(self, number: int) -> List[int]:
         """The states from the first one to this."""
@@ -119,11 +119,11 @@ class Shelf:
         with self.lock:
             place = next((at for at, one in enumerate(self.kept) if one.name == name), len(self.kept))
             if states.NO_LINE.search(name) or runner.shown(name) != name:
-                raise states.Untyped("a name is one line, and each of its signs can be seen", "keep-name")
+                raise states.InvalidFieldError("a name is one line, and each of its signs can be seen", "keep-name")
             if place == 0:
-                raise states.Untyped(f"“{self.kept[0].name}” is the name of the state as it is", "keep-name")
+                raise states.InvalidFieldError(f"“{self.kept[0].name}” is the name of the state as it is", "keep-name")
             if place >= MOST_KEPT:
-                raise states.Untyped(f"a desk keeps {MOST_KEPT} states at most", "keep-name")
+                raise states.InvalidFieldError(f"a desk keeps {MOST_KEPT} states at most", "keep-name")
             self.kept[place:place + 1] = [Kept(name, state, note, case)]
 
     def drop(self, name: str) -> None:

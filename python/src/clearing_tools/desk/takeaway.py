@@ -3,7 +3,7 @@ as a case, the session, the report, and the folder of evidence."""
 import pathlib
 import sys
 import tempfile
-from typing import Any, Callable, Dict, List, Optional
+from typing import Callable, Dict, List, Optional
 
 from clearing_client.case import Case
 from clearing_client.description import Origin
@@ -34,7 +34,7 @@ KINDS = {
 }
 
 
-class Taken:
+class Takeaway:
     """What is taken away from a session."""
 
     def __init__(self, desk: Desk, steps: Steps, shelf: Shelf) -> None:
@@ -80,7 +80,7 @@ class Taken:
         scenario = states.as_scenario(self.desk.base, state, states.left_of(self.desk.base, state),
                                       name if is_name(name) else "tried at the desk")
         if scenario is None:
-            raise runner.Failed("the changes are no scenario: a scenario takes cash, and nothing else")
+            raise runner.ToolError("the changes are no scenario: a scenario takes cash, and nothing else")
         return self.source(state) + Scenarios([scenario]).to_toml(plain=True).encode()
 
     def case(self, place: Place, state: State) -> bytes:
@@ -88,7 +88,7 @@ class Taken:
         before = self.desk.case
         title = f"{before.title or 'A network'}: {self.name_of(state)}"
         hashes = {f"{what}.csv": f"sha256:{original.digest}" for what, original in self.desk.originals.items()}
-        made = Case(
+        case = Case(
             Network(str(place.path / "banks.csv"), str(place.path / "debts.csv")),
             title=title,
             description=before.description,
@@ -104,9 +104,9 @@ class Taken:
             origin=Origin(before.title, hashes, tuple(changes.in_words(self.desk.base, state))),
         )
         try:
-            files = made.files(before.sheets())
+            files = case.files(before.sheets())
         except ClearingError as fault:
-            raise runner.Failed(str(fault)) from fault
+            raise runner.ToolError(str(fault)) from fault
         return session.archive_of({f"case/{name}": data for name, data in files.items()})
 
     def report(self, place: Place, state: State) -> bytes:
@@ -123,18 +123,18 @@ class Taken:
             words += ["--currency", desk.money.currency]
         title = self.name_of(state)
         words += ["--title", f"{desk.case.title}: {title}" if desk.case.title else title, "--out", "report.html"]
-        self.made(place, "report.gather", [*words, *self.told(place, state)])
+        self.run_tool(place, "report.gather", [*words, *self.changes_words(place, state)])
         return (place.path / "report.html").read_bytes()
 
     def evidence(self, place: Place, state: State) -> bytes:
         """The folder of evidence of the state, in an archive."""
-        words = ["make", "evidence", *self.evident(place, state), *self.told(place, state)]
-        self.made(place, "evidence.evidence", words)
+        words = ["make", "evidence", *self.evidence_words(place, state), *self.changes_words(place, state)]
+        self.run_tool(place, "evidence.evidence", words)
         top = place.path
         paths = [path for path in sorted((top / "evidence").rglob("*")) if path.is_file()]
         return session.archive_of({path.relative_to(top).as_posix(): path.read_bytes() for path in paths})
 
-    def told(self, place: Place, state: State) -> List[str]:
+    def changes_words(self, place: Place, state: State) -> List[str]:
         """The changes in words, as words of a tool; none where nothing was changed."""
         if not changes.in_words(self.desk.base, state):
             return []
@@ -142,7 +142,7 @@ class Taken:
         place.put("changes.txt", text.encode("utf-8", "backslashreplace"))
         return ["--changes", "changes.txt"]
 
-    def evident(self, place: Place, state: State) -> List[str]:
+    def evidence_words(self, place: Place, state: State) -> List[str]:
         """The files of the evidence, as words: the files as they were given with the changes as a scenario, where they
         are one, or where nothing was changed; else those of the state."""
         desk, files = self.desk, ["--banks", "banks.csv", "--debts", "debts.csv"]
@@ -159,14 +159,14 @@ class Taken:
         place.put("changes.toml", self.changes_toml(state))
         return [*files, "--scenarios", "changes.toml"]
 
-    def made(self, place: Place, module: str, words: List[str]) -> None:
+    def run_tool(self, place: Place, module: str, words: List[str]) -> None:
         """Runs one of the tools in the folder of the files, on as many processors as the desk has runs at once."""
         script = (f"import os; os.sched_setaffinity(0, sorted(os.sched_getaffinity(0))[:{AT_ONCE}]); "
                   f"from clearing_tools.{module} import main; main()")
         command = ["env", f"PYTHONPATH={SOURCES}", sys.executable, "-B", "-c", script, *words]
         status, _, messages = self.desk.runs.alone(command, str(place.path))
         if status:
-            raise runner.Failed(messages.decode("utf-8", "replace").strip() or f"a tool ended with {status}")
+            raise runner.ToolError(messages.decode("utf-8", "replace").strip() or f"a tool ended with {status}")
 
 
 def printed_file(desk: Desk, what: str, folder: str) -> str:
@@ -185,8 +185,8 @@ def bytes_of(path: Optional[str]) -> Optional[bytes]:
     return pathlib.Path(path).read_bytes()
 
 
-def given_files(case: Case) -> Dict[str, Any]:
+def given_files(case: Case) -> Dict[str, bytes]:
     """The files of a case by their names, as they are now."""
     names = {"banks": "banks.csv", "debts": "debts.csv", "scenarios": "scenarios.toml"}
-    found = {name: bytes_of(case.paths.get(what)) for what, name in names.items()}
-    return {name: data for name, data in found.items() if data is not None}
+    contents = {name: bytes_of(case.paths.get(what)) for what, name in names.items()}
+    return {name: data for name, data in contents.items() if data is not None}

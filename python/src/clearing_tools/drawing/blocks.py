@@ -118,19 +118,20 @@ class Matrix:
     def column(self, at: int, name: str) -> str:
         """The name above a column, which leans."""
         whole = runner.shown(self.called("column", name))
-        kept = lettering.cut(whole, (self.top - 16) / math.sin(math.radians(LEAN)), SIZE, True)
-        title = f"<title>{svg.text_of(whole)}</title>" if kept != whole else ""
+        short = lettering.cut(whole, (self.top - 16) / math.sin(math.radians(LEAN)), SIZE, True)
+        title = f"<title>{svg.text_of(whole)}</title>" if short != whole else ""
         where = f'transform="translate({self.left + CELL * (at + 0.5) + 3:.1f} {self.top - 8:.1f}) rotate({-LEAN})"'
-        return f'<text class="nm2" {where}>{svg.text_of(kept)}{title}</text>'
+        return f'<text class="nm2" {where}>{svg.text_of(short)}{title}</text>'
 
     def row(self, at: int, name: str) -> str:
         """The name beside a row with the mark of its bank, and what it leaves unpaid behind the row."""
         y = self.top + CELL * (at + 0.5)
         whole = runner.shown(self.called("row", name))
-        kept = lettering.cut(whole, self.left - 34, SIZE, True)
-        title = f"<title>{svg.text_of(whole)}</title>" if kept != whole else ""
+        short = lettering.cut(whole, self.left - 34, SIZE, True)
+        title = f"<title>{svg.text_of(whole)}</title>" if short != whole else ""
         text = (
-            f'<text class="nm2" x="{self.left - 28:.1f}" y="{y + 4:.1f}" text-anchor="end">{svg.text_of(kept)}{title}</text>'
+            f'<text class="nm2" x="{self.left - 28:.1f}" y="{y + 4:.1f}" text-anchor="end">'
+            f"{svg.text_of(short)}{title}</text>"
         )
         unpaid = sum(unpaid_on(flow) for flow in self.flows if flow.debtor == name)
         amount = (
@@ -141,12 +142,12 @@ class Matrix:
         if bank is None:
             return text + amount
         body = svg.mark(bank.state, self.left - 14, y, 5.6, f"m-{bank.state} n-mark") + text
-        said = f"<title>{svg.text_of(say_bank(bank._replace(name=self.say(name)), self.money))}</title>"
+        title_of_bank = f"<title>{svg.text_of(say_bank(bank._replace(name=self.say(name)), self.money))}</title>"
         target = self.link(bank) if self.link else ""
         linked = (
-            f'<a href="#{target}" data-bank="{target.removeprefix("bank-")}">{said}{body}</a>'
+            f'<a href="#{target}" data-bank="{target.removeprefix("bank-")}">{title_of_bank}{body}</a>'
             if target
-            else f"<g>{said}{body}</g>"
+            else f"<g>{title_of_bank}{body}</g>"
         )
         return linked + amount
 
@@ -158,10 +159,11 @@ class Matrix:
         may = ' data-over=""' if self.largest > self.most else ""
         x = self.left + CELL * (self.columns.index(str(flow.creditor)) + 0.5)
         y = self.top + CELL * (self.rows.index(flow.debtor) + 0.5)
-        said = flow._replace(debtor=self.called("row", flow.debtor), creditor=self.called("column", str(flow.creditor)))
+        debtor, creditor = self.called("row", flow.debtor), self.called("column", str(flow.creditor))
+        called = flow._replace(debtor=debtor, creditor=creditor)
         return (
             f'<g class="flow cell{kind}" data-flow="{at}"{may} data-middle="{x:.1f} {y:.1f}">'
-            f"<title>{svg.text_of(say_flow(said, self.money))}</title>"
+            f"<title>{svg.text_of(say_flow(called, self.money))}</title>"
             f'<rect class="sq" x="{x - side / 2:.1f}" y="{y - side / 2:.1f}" width="{side:.1f}"'
             f' height="{side:.1f}"/></g>'
         )
@@ -195,11 +197,12 @@ def legend_of(matrix: Matrix, banks: Sequence[Bank]) -> List[Tuple[str, str]]:
     over = sample('<g class="cell over"><rect class="sq" x="1" y="1" width="14" height="14"/></g>', 16)
     most = f"; the largest is {matrix.money.in_short(matrix.most)}" if matrix.most else ""
     more = f"unpaid by many together, more than the areas show: up to {matrix.money.in_short(matrix.largest)}"
-    said = f"A row is a debtor, a column a creditor: the {len(shown)} with most unpaid, all others in two blocks. "
+    named = f"the {len(shown)} with most unpaid, all others in two blocks"
+    how_to_read = f"A row is a debtor, a column a creditor: {named}. "
     return [
         (square, f"unpaid; area: the amount{most}"),
         *[(over, more)] * (matrix.largest > matrix.most),
         (paid, "owed, and paid in full"),
         *states_in(shown),
-        ("", said + f"Of {count(len(banks), 'bank')} {unpaid:,} leave something unpaid."),
+        ("", how_to_read + f"Of {count(len(banks), 'bank')} {unpaid:,} leave something unpaid."),
     ]

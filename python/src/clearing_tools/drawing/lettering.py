@@ -35,14 +35,14 @@ def cut(text: str, width: float, size: float, is_bold: bool = False) -> str:
         return text
     room = width - width_of(CUT, size, is_bold)
     words = text.split(" ")
-    kept = words[:1]
+    words_kept = words[:1]
     for word in words[1:]:
-        if width_of(" ".join([*kept, word]), size, is_bold) > room:
+        if width_of(" ".join([*words_kept, word]), size, is_bold) > room:
             break
-        kept.append(word)
-    while len(kept) > 1 and len(kept[-1]) < LEAST_WORD:
-        kept.pop()
-    held = " ".join(kept).rstrip(",;:-")
+        words_kept.append(word)
+    while len(words_kept) > 1 and len(words_kept[-1]) < LEAST_WORD:
+        words_kept.pop()
+    held = " ".join(words_kept).rstrip(",;:-")
     return (held if width_of(held, size, is_bold) <= room else fitting(held, room, size, is_bold)) + CUT
 
 
@@ -68,10 +68,10 @@ def short(text: str, most: int = 28) -> str:
     """A name in a sentence: whole up to so many letters, else cut after a whole word of four letters or more."""
     if len(text) <= most:
         return text
-    kept = text[:most].rpartition(" ")[0].split(" ") if " " in text[:most] else [text[: most - 1]]
-    while len(kept) > 1 and len(kept[-1]) < LEAST_WORD:
-        kept.pop()
-    return " ".join(kept).rstrip(",;:-") + CUT
+    words_kept = text[:most].rpartition(" ")[0].split(" ") if " " in text[:most] else [text[: most - 1]]
+    while len(words_kept) > 1 and len(words_kept[-1]) < LEAST_WORD:
+        words_kept.pop()
+    return " ".join(words_kept).rstrip(",;:-") + CUT
 
 
 def columns_of(names: List[str], size: float, least: float, most: float) -> Tuple[float, bool]:

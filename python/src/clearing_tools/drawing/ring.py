@@ -76,12 +76,13 @@ def places_of(banks: Sequence[Bank], has_outside: bool) -> Dict[Optional[str], P
     if has_outside:
         names, sides = [*names, None], [*sides, 18.0]
     tall = HEIGHT if len(names) <= MOST_LEVEL else HEIGHT + 120
-    found: Dict[Optional[str], Place] = {}
+    places: Dict[Optional[str], Place] = {}
     for at, (name, side) in enumerate(zip(names, sides)):
         angle = 2 * math.pi * at / max(len(names), 1) - math.pi / 2
         reach = side * (0.62 if name is None or side > LEAST_SIDE else 0.6) + 2
-        found[name] = Place(WIDTH / 2 + RADIUS * math.cos(angle), tall / 2 + RADIUS * math.sin(angle), angle, reach, side)
-    return found
+        x, y = WIDTH / 2 + RADIUS * math.cos(angle), tall / 2 + RADIUS * math.sin(angle)
+        places[name] = Place(x, y, angle, reach, side)
+    return places
 
 
 # Debts.
@@ -206,11 +207,11 @@ def ray_text(place: Place, called: str, note: str) -> str:
     far = place.reach + 6
     x, y = place.x + far * math.cos(place.angle), place.y + far * math.sin(place.angle)
     called = runner.shown(called)
-    kept = lettering.cut(called, 118 - (lettering.width_of(note, NOTE) + 5 if note else 0), NOTE, True)
-    whole = f"<title>{svg.text_of(called)}</title>" if kept != called else ""
+    short = lettering.cut(called, 118 - (lettering.width_of(note, NOTE) + 5 if note else 0), NOTE, True)
+    whole = f"<title>{svg.text_of(called)}</title>" if short != called else ""
     amount = f'<tspan class="un"> {svg.text_of(note)}</tspan>' if note else ""
     where = f'transform="translate({x:.1f} {y:.1f}) rotate({degrees:.1f})" text-anchor="{"end" if turned else "start"}"'
-    return f'<text class="nm2" dy="4" {where}>{svg.text_of(kept)}{amount}{whole}</text>'
+    return f'<text class="nm2" dy="4" {where}>{svg.text_of(short)}{amount}{whole}</text>'
 
 
 # The whole.
@@ -239,12 +240,12 @@ class Ring:
     def curves_of(self) -> List[Curve]:
         """The curves of the flows; of two between two banks the one of which less stays unpaid is bent less."""
         unpaid = {(flow.debtor, flow.creditor): (unpaid_on(flow), flow.debtor) for flow in self.flows}
-        middle, found = (HEIGHT if self.is_level else HEIGHT + 120) / 2, []
+        middle, curves = (HEIGHT if self.is_level else HEIGHT + 120) / 2, []
         for flow in self.flows:
             back = unpaid.get((flow.creditor or "", flow.debtor))
             bent = BEND_BACK if back is not None and back > unpaid[flow.debtor, flow.creditor] else BEND
-            found.append(curve_of(self.places[flow.debtor], self.places[flow.creditor], middle, bent))
-        return found
+            curves.append(curve_of(self.places[flow.debtor], self.places[flow.creditor], middle, bent))
+        return curves
 
     def debts(self) -> str:
         """The debts, those that are paid first, and thin above wide."""
@@ -254,11 +255,11 @@ class Ring:
         parts = []
         for at in order:
             flow = self.flows[at]
-            said = flow._replace(
+            called = flow._replace(
                 debtor=self.say(flow.debtor), creditor=None if flow.creditor is None else self.say(flow.creditor)
             )
             parts.append(
-                flow_of(at, flow, self.curves[at], width_for(unpaid_on(flow), self.most), say_flow(said, self.money))
+                flow_of(at, flow, self.curves[at], width_for(unpaid_on(flow), self.most), say_flow(called, self.money))
             )
         return "".join(parts)
 
@@ -268,7 +269,7 @@ class Ring:
             (at for at in range(len(self.flows)) if unpaid_on(self.flows[at])),
             key=lambda at: -unpaid_on(self.flows[at]),
         )
-        taken = [
+        boxes = [
             (place.x - place.side / 2, place.y - place.side / 2, place.x + place.side / 2, place.y + place.side / 2)
             for place in self.places.values()
         ]
@@ -279,8 +280,8 @@ class Ring:
             for t in (0.5, 0.42, 0.58, 0.34, 0.66, 0.26, 0.74):
                 x, y = self.curves[at].at(t)
                 box = (x - half, y - 8, x + half, y + 7)
-                if not any(overlaps(box, other) for other in taken):
-                    taken.append(box)
+                if not any(overlaps(box, other) for other in boxes):
+                    boxes.append(box)
                     parts.append(
                         f'<text x="{x:.1f}" y="{y + 4:.1f}" class="amt" text-anchor="middle">{svg.text_of(word)}</text>'
                     )
@@ -302,14 +303,14 @@ class Ring:
     def level_names(self) -> Dict[Optional[str], Name]:
         """The names that are written level, by the banks, on each side moved apart."""
         notes: Dict[Optional[str], str] = {bank.name: self.note(bank) for bank in self.banks}
-        made = {
+        names = {
             name: name_of(place, self.called(name), notes.get(name, "")) for name, place in self.places.items()
         }
         for anchor in ("start", "end"):
-            side = [name for name in made if made[name].anchor == anchor]
-            for old, new in zip(sorted(side, key=lambda name: made[name].top), spread([made[name] for name in side])):
-                made[old] = new
-        return made
+            side = [name for name in names if names[name].anchor == anchor]
+            for old, new in zip(sorted(side, key=lambda name: names[name].top), spread([names[name] for name in side])):
+                names[old] = new
+        return names
 
     def names(self) -> Dict[Optional[str], str]:
         """The names as text, by the banks."""

@@ -17,13 +17,14 @@ Out:  a bar for each bank in default, the longest shortfall first: what it pays 
 Example:
     clearing defaults --banks banks.csv --debts debts.csv >defaults.csv
     clearing clear --banks banks.csv --debts debts.csv >payments.csv
-    tools/shortfalls.py defaults.csv shortfalls.svg --payments payments.csv
+    clearing-shortfalls defaults.csv shortfalls.svg --payments payments.csv
 
 Ends with 0, with 1 where a file cannot be read or written or is not such a text, and with 2 where the command line is
 not understood or matplotlib is missing.
 """
 import argparse
-from typing import Any, Callable, Dict, List, Optional, Sequence, Tuple
+from types import ModuleType
+from typing import TYPE_CHECKING, Callable, Dict, List, Optional, Sequence, Tuple
 
 from clearing_client.records import Payment
 
@@ -34,6 +35,10 @@ from ..runner import command
 from ..texts import STATES, Bank, due_of, shortfall_of
 from . import lettering, style
 from .tokens import LIGHT
+
+if TYPE_CHECKING:
+    from matplotlib.axes import Axes
+    from matplotlib.figure import Figure
 
 MOST_LEFT = 2.8  # inches of names
 CASH = {"facecolor": LIGHT["ink-2"], "edgecolor": LIGHT["paper"]}
@@ -61,7 +66,7 @@ def parts_owed(bank: Bank, debts: Optional[Sequence[Payment]]) -> List[Tuple[str
     return parts
 
 
-def part(axes: Any, place: float, at: int, units: int, kind: Dict[str, str], height: float) -> int:
+def part(axes: "Axes", place: float, at: int, units: int, kind: Dict[str, str], height: float) -> int:
     """A part of a bar; answers its end."""
     if units:
         axes.barh(place, units, height=height, left=at, linewidth=0.7, **kind)
@@ -69,13 +74,13 @@ def part(axes: Any, place: float, at: int, units: int, kind: Dict[str, str], hei
 
 
 def draw(
-    pyplot: Any,
+    pyplot: ModuleType,
     banks: Sequence[Bank],
     debts: Optional[Sequence[Payment]],
     money: Money,
     most: int,
     say: Callable[[str], str] = str,
-) -> Any:
+) -> "Figure":
     """A bar for each bank, or two where the debts are known; `say` gives what a bank of a name is called."""
     short, shown = in_default(banks, most)
     longest = max([max(due_of(bank), bank.estate) for bank in shown], default=0) or 1
@@ -106,7 +111,13 @@ def draw(
 
 
 def bars_owed(
-    axes: Any, place: float, height: float, bank: Bank, debts: Optional[Sequence[Payment]], longest: int, money: Money
+    axes: "Axes",
+    place: float,
+    height: float,
+    bank: Bank,
+    debts: Optional[Sequence[Payment]],
+    longest: int,
+    money: Money,
 ) -> None:
     """What a bank owes, part by part, each with what is paid of it; and the shortfall beside it."""
     at = 0
@@ -126,7 +137,7 @@ def bars_owed(
     axes.text(at + 0.008 * longest, place, label_of(bank, money), va="center", fontsize=8.5, color=LIGHT["ink"])
 
 
-def titles(figure: Any, banks: Sequence[Bank], short: Sequence[Bank], shown: Sequence[Bank], money: Money) -> None:
+def titles(figure: "Figure", banks: Sequence[Bank], short: Sequence[Bank], shown: Sequence[Bank], money: Money) -> None:
     """The message, and the unit below it."""
     total = sum(map(shortfall_of, short))
     left_out = f"; the {len(shown)} largest are shown" if len(shown) < len(short) else ""
@@ -140,7 +151,7 @@ def label_of(bank: Bank, money: Money) -> str:
     return f"{money.number(unpaid)} ({labels.percent(unpaid, due_of(bank))})"
 
 
-def scale(axes: Any, shown: Sequence[Bank], longest: int, money: Money) -> None:
+def scale(axes: "Axes", shown: Sequence[Bank], longest: int, money: Money) -> None:
     """The axes: the amounts in one size, and room for the words behind each bar."""
     wide = axes.get_position().width * axes.figure.get_figwidth()
     room = [
@@ -157,7 +168,7 @@ def scale(axes: Any, shown: Sequence[Bank], longest: int, money: Money) -> None:
     axes.spines[["top", "right", "left"]].set_visible(False)
 
 
-def legend(pyplot: Any, figure: Any, shown: Sequence[Bank], debts: Optional[Sequence[Payment]]) -> None:
+def legend(pyplot: ModuleType, figure: "Figure", shown: Sequence[Bank], debts: Optional[Sequence[Payment]]) -> None:
     """What bars and marks mean."""
     kinds = {"paid": PAID, "left unpaid": UNPAID}
     if debts is not None:
@@ -176,7 +187,7 @@ def legend(pyplot: Any, figure: Any, shown: Sequence[Bank], debts: Optional[Sequ
     figure.legend(handles, words, loc="lower left", bbox_to_anchor=place, ncol=columns, frameon=False, fontsize=8.5)
 
 
-def words() -> argparse.Namespace:
+def parse_args() -> argparse.Namespace:
     """The words of the tool."""
     parser = cli.parser_with(__doc__)
     parser.add_argument("defaults", metavar="DEFAULTS", help="what `clearing defaults` prints")
@@ -188,25 +199,25 @@ def words() -> argparse.Namespace:
     add_labels(parser)
     cases.add_beside(parser)
     add_money(parser)
-    asked = parser.parse_args()
-    if asked.most < 1:
+    args = parser.parse_args()
+    if args.most < 1:
         parser.error("--most is at least 1")
-    return asked
+    return args
 
 
 @command("shortfalls.py")
 def main() -> None:
-    asked = words()
+    args = parse_args()
     pyplot = style.pyplot_of()
-    style.check_kind(asked.output)
-    case = cases.beside(asked)
-    banks = texts.read_banks(asked.defaults, texts.read_outside(asked.banks) if asked.banks else None)
-    if asked.bounds:
-        banks = texts.with_gridlock(banks, texts.read_gridlock(asked.bounds))
-    debts = texts.read_payments(asked.payments) if asked.payments else None
+    style.check_kind(args.output)
+    beside = cases.beside(args)
+    banks = texts.read_banks(args.defaults, texts.read_outside(beside.banks) if beside.banks else None)
+    if args.bounds:
+        banks = texts.with_gridlock(banks, texts.read_gridlock(args.bounds))
+    debts = texts.read_payments(args.payments) if args.payments else None
     if debts is not None:
-        texts.check_same_network(debts, banks, asked.payments, asked.defaults)
-    full = cases.names_for(asked, case).check(bank.name for bank in banks)
-    figure = draw(pyplot, banks, debts, Money(asked.unit, asked.currency), asked.most, full)
-    inputs = [asked.defaults, asked.payments, asked.bounds, asked.banks, asked.labels]
-    style.save(figure, asked.output, [*inputs, *(cases.inputs_of(case) if case else [])])
+        texts.check_same_network(debts, banks, args.payments, args.defaults)
+    full = cases.names_for(args, beside.case).check(bank.name for bank in banks)
+    figure = draw(pyplot, banks, debts, beside.money, args.most, full)
+    inputs = [args.defaults, args.payments, args.bounds, beside.banks, args.labels]
+    style.save(figure, args.output, [*inputs, *beside.inputs])

@@ -13,21 +13,27 @@ Out:  a map with a row for each scenario, in file order, and a column for each b
 
 Example:
     clearing stress --banks banks.csv --debts debts.csv --scenarios scenarios.toml >stress.txt
-    tools/stress_map.py stress.txt stress.svg
+    clearing-stress-map stress.txt stress.svg
 
 Ends with 0, with 1 where a file cannot be read or written or is not such a text, and with 2 where the command line is
 not understood or matplotlib is missing.
 """
-from typing import Any, Callable, Dict, Iterator, List, Mapping, NamedTuple, Optional, Sequence, Tuple
+from types import ModuleType
+from typing import (
+    TYPE_CHECKING, Callable, Dict, Iterator, List, Mapping, NamedTuple, Optional, Sequence, Tuple,
+)
 
 from clearing_client.texts import SUMS
 
 from .. import cases, cli, labels, texts
 from ..fullnames import add_labels
-from ..runner import Failed, command
+from ..runner import ToolError, StrPath, command
 from ..texts import DEFAULTS_HEADERS, Bank, due_of, given_by, lines_in, shortfall_of
 from . import style
 from .tokens import LIGHT
+
+if TYPE_CHECKING:
+    from matplotlib.figure import Figure
 
 
 class Scenario(NamedTuple):
@@ -47,14 +53,14 @@ class Part(NamedTuple):
     lines: List[str]
 
 
-def parts_in(name: Any) -> Iterator[Part]:
+def parts_in(name: StrPath) -> Iterator[Part]:
     """The parts of a file, one after another as it is read. An empty line stands between two; payments are passed
     over unread."""
     part: Optional[Part] = None
     empty = False
     for at, line in enumerate(lines_in(name), 1):
         if at == 1 and line == SUMS:
-            raise Failed(
+            raise ToolError(
                 f"{name}: this is what `clearing outcomes` prints, scenarios in sums; a map is drawn of what"
                 " `clearing stress` prints"
             )
@@ -64,7 +70,7 @@ def parts_in(name: Any) -> Iterator[Part]:
             part, empty = Part(at, line, None, []), False
         elif part is None:
             if line:
-                raise Failed(f"{name}: line 1: no scenario begins here")
+                raise ToolError(f"{name}: line 1: no scenario begins here")
         else:
             if part.header is None and line in DEFAULTS_HEADERS:
                 part, empty = part._replace(header=at), False
@@ -72,29 +78,29 @@ def parts_in(name: Any) -> Iterator[Part]:
                 part.lines.extend([""] * empty + [line] * (line != ""))
             empty = line == ""
     if part is None:
-        raise Failed(f"{name}: it has no scenario")
+        raise ToolError(f"{name}: it has no scenario")
     part.lines.extend([""] * empty)
     yield part
 
 
-def read_scenario(name: Any, part: Part, outside: Optional[Mapping[str, int]]) -> Scenario:
+def read_scenario(name: StrPath, part: Part, outside: Optional[Mapping[str, int]]) -> Scenario:
     """One scenario, of whose part the defaults are read."""
     if part.header is None:
-        raise Failed(f"{name}: line {part.first}: the scenario has no table of defaults")
+        raise ToolError(f"{name}: line {part.first}: the scenario has no table of defaults")
     header, *lines = part.lines
     if len(lines) < 2 or not lines[-2].startswith("total,") or not lines[-1].startswith("cash,"):
-        raise Failed(f"{name}: line {part.first}: the scenario does not end with the lines total and cash")
+        raise ToolError(f"{name}: line {part.first}: the scenario does not end with the lines total and cash")
     banks = texts.table_of(name, header, lines[:-2], part.header + 1, outside)
     return Scenario(part.head.removeprefix("scenario,"), {bank.name: bank for bank in banks})
 
 
-def read_stress(name: Any, outside: Optional[Mapping[str, int]] = None) -> List[Scenario]:
+def read_stress(name: StrPath, outside: Optional[Mapping[str, int]] = None) -> List[Scenario]:
     """The scenarios in file order. What is held is the banks of each."""
     scenarios: List[Scenario] = []
     for part in parts_in(name):
         scenarios.append(read_scenario(name, part, outside))
         if scenarios[-1].banks.keys() != scenarios[0].banks.keys():
-            raise Failed(f"{name}: scenario {len(scenarios)} has other banks than the first")
+            raise ToolError(f"{name}: scenario {len(scenarios)} has other banks than the first")
     return scenarios
 
 
@@ -129,7 +135,7 @@ class Map:
 
     def __init__(
         self,
-        pyplot: Any,
+        pyplot: ModuleType,
         scenarios: Sequence[Scenario],
         shown: Sequence[str],
         message: str,
@@ -158,24 +164,24 @@ class Map:
     def cell(self, column: int, row: int, bank: Bank) -> None:
         """What a bank leaves unpaid in a scenario: a strip of the accent, above it the number and the mark of its
         label."""
-        due, given = due_of(bank), given_by(bank)
+        due, paid = due_of(bank), given_by(bank)
         self.box(
             column + 0.04, row + 0.05, 0.92, 0.9, LIGHT["panel" if bank.state == "sound" else "paper"], LIGHT["rule"]
         )
         if due:
             self.box(column + 0.1, row + 0.7, 0.8, 0.16, LIGHT["paid-fill"], LIGHT["paid-fill"])
-            unpaid = (due - given) / due
+            unpaid = (due - paid) / due
             if unpaid:
                 self.box(column + 0.1, row + 0.7, 0.8 * max(unpaid, 0.03), 0.16, LIGHT["unpaid"], LIGHT["unpaid"])
         if bank.state != "sound":
             self.axes.plot([column + 0.17], [row + 0.36], **style.mark_of(bank.state, 6))
-            text = labels.percent(due - given, due)
+            text = labels.percent(due - paid, due)
             self.axes.text(column + 0.93, row + 0.38, text, ha="right", va="center", fontsize=8, color=LIGHT["ink"])
 
     def names_and_sums(self) -> None:
         """The names of scenarios and banks, and the defaults of each in the margins."""
         axes = self.axes
-        how: Dict[str, Any] = {"va": "center", "fontsize": 9, "color": LIGHT["ink"]}
+        how: Dict[str, object] = {"va": "center", "fontsize": 9, "color": LIGHT["ink"]}
         rows, columns = len(self.scenarios), max(len(self.shown), 1)
         named = [style.name_of(scenario.name, self.left + 0.1, 9) for scenario in self.scenarios]
         axes.set_yticks([row + 0.5 for row in range(rows)], named, fontsize=9)
@@ -184,11 +190,10 @@ class Map:
         for column, name in enumerate(self.shown):
             defaults = sum(scenario.banks[name].state != "sound" for scenario in self.scenarios)
             axes.text(column + 0.5, rows + 0.35, defaults, ha="center", **how)
-            kept = style.in_short(self.called(name), self.above + 0.05)
-            axes.text(
-                column + 0.4, -0.15, kept, rotation=60, ha="left", rotation_mode="anchor", **{**how, "va": "baseline"}
-            )
-        axes.text(columns + 0.15, rows + 0.35, "defaults", **{**how, "fontsize": 8, "color": LIGHT["ink-2"]})
+            short = style.in_short(self.called(name), self.above + 0.05)
+            leaning = dict(how, va="baseline", ha="left", rotation=60, rotation_mode="anchor")
+            axes.text(column + 0.4, -0.15, short, **leaning)
+        axes.text(columns + 0.15, rows + 0.35, "defaults", **dict(how, fontsize=8, color=LIGHT["ink-2"]))
 
     def legend(self) -> None:
         """What marks and strips mean."""
@@ -203,17 +208,19 @@ class Map:
         )
 
 
-def draw(pyplot: Any, scenarios: Sequence[Scenario], most: int, say: Callable[[str], str] = str) -> Any:
+def draw(
+    pyplot: ModuleType, scenarios: Sequence[Scenario], most: int, say: Callable[[str], str] = str
+) -> "Figure":
     """The map, with at most so many banks; `say` gives what a bank of a name is called."""
     columns = columns_of(scenarios)
     shown = columns[:most]
-    whole = Map(pyplot, scenarios, shown, title_of(scenarios, columns, shown), say)
+    stress_map = Map(pyplot, scenarios, shown, title_of(scenarios, columns, shown), say)
     for row, scenario in enumerate(scenarios):
         for column, name in enumerate(shown):
-            whole.cell(column, row, scenario.banks[name])
-    whole.names_and_sums()
-    whole.legend()
-    return whole.figure
+            stress_map.cell(column, row, scenario.banks[name])
+    stress_map.names_and_sums()
+    stress_map.legend()
+    return stress_map.figure
 
 
 @command("stress_map.py")
@@ -224,12 +231,12 @@ def main() -> None:
     parser.add_argument("--banks", metavar="FILE", help="the banks file, for what banks owe outside")
     add_labels(parser)
     cases.add_beside(parser)
-    asked = cli.parse_most(parser, "banks are shown", 30)
+    args = cli.parse_most(parser, "banks are shown", 30)
     pyplot = style.pyplot_of()
-    style.check_kind(asked.output)
-    case = cases.beside(asked)
-    outside = texts.read_outside(asked.banks) if asked.banks else None
-    scenarios = read_stress(asked.stress, outside)
-    full = cases.names_for(asked, case).check(scenarios[0].banks)
-    inputs = [asked.stress, asked.banks, asked.labels, *(cases.inputs_of(case) if case else [])]
-    style.save(draw(pyplot, scenarios, asked.most, full), asked.output, inputs)
+    style.check_kind(args.output)
+    beside = cases.beside(args)
+    outside = texts.read_outside(beside.banks) if beside.banks else None
+    scenarios = read_stress(args.stress, outside)
+    full = cases.names_for(args, beside.case).check(scenarios[0].banks)
+    inputs = [args.stress, beside.banks, args.labels, *beside.inputs]
+    style.save(draw(pyplot, scenarios, args.most, full), args.output, inputs)

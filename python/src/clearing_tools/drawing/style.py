@@ -3,17 +3,22 @@ and how they are written.
 
 One meaning each: grey is what is paid, the accent what stays unpaid; the shape of a bank and its colour are its
 state."""
+import importlib
 import io
 import os
-from typing import Any, Dict, List, Sequence
+from types import ModuleType
+from typing import TYPE_CHECKING, Dict, List, Optional, Sequence, Union
 
 from clearing_client.steady import MARK
 
 from .. import runner
 from ..files import is_stream, put
-from ..runner import Failed, lacking
+from ..runner import ToolError, lacking
 from . import lettering
 from .tokens import LIGHT
+
+if TYPE_CHECKING:
+    from matplotlib.figure import Figure
 
 COLOUR_OF = {
     "sound": "sound",
@@ -28,7 +33,7 @@ POINTS = 72  # in an inch
 # Pictures by matplotlib.
 
 
-def pyplot_of() -> Any:
+def pyplot_of() -> ModuleType:
     """The part of matplotlib that draws. Where it is missing the tool fails with 2 and says for which Python."""
     try:
         import matplotlib
@@ -37,12 +42,10 @@ def pyplot_of() -> Any:
     matplotlib.use("Agg")
     # The same data make the same file.
     matplotlib.rcParams.update({"svg.hashsalt": "clearing", "font.family": ["DejaVu Sans"]})
-    from matplotlib import pyplot
-
-    return pyplot
+    return importlib.import_module("matplotlib.pyplot")
 
 
-def mark_of(state: str, size: float) -> Dict[str, Any]:
+def mark_of(state: str, size: float) -> Dict[str, Union[str, float]]:
     """How matplotlib draws the mark of a state."""
     return {
         "marker": MARKERS[state],
@@ -79,7 +82,7 @@ def lines_for(text: str, inches: float, size: float, is_bold: bool = False) -> L
     return lettering.lines_of(runner.shown(text), inches * POINTS, size, is_bold, 8)
 
 
-def title(figure: Any, message: str, below: str = "") -> float:
+def title(figure: "Figure", message: str, below: str = "") -> float:
     """The message of a picture as its title, with a line below it, in lines that the picture has room for. Answers
     how tall they are, in inches."""
     wide, tall = figure.get_size_inches()
@@ -99,16 +102,16 @@ def check_kind(output: str) -> str:
     name = output if is_stream(output) else os.path.realpath(output)
     kind = os.path.splitext(name)[1].removeprefix(".").lower()
     if kind not in ("svg", "png", "pdf"):
-        raise Failed(f"{output}: does not end with .svg, .png or .pdf")
+        raise ToolError(f"{output}: does not end with .svg, .png or .pdf")
     return kind
 
 
-def save(figure: Any, output: str, inputs: Sequence[Any] = (), folders: bool = True) -> None:
+def save(figure: "Figure", output: str, inputs: Sequence[Optional[str]] = (), folders: bool = True) -> None:
     """Writes a picture of matplotlib, whole or not at all, and never over an input."""
     kind = check_kind(output)
     content = io.BytesIO()
     try:
         figure.savefig(content, format=kind, dpi=150, metadata={"Date": None} if kind == "svg" else None)
     except ValueError as fault:
-        raise Failed(f"cannot write {output}: {fault}") from fault
+        raise ToolError(f"cannot write {output}: {fault}") from fault
     put(content.getvalue(), output, inputs, folders=folders)

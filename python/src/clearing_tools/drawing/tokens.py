@@ -22,8 +22,8 @@ def css() -> str:
 def tokens_of(theme: str) -> Dict[str, str]:
     """The tokens of a theme by their names, without the two dashes; those that it leaves are those of the light one."""
     block = css().partition(f"\n{THEMES[theme]}")[2].partition("}")[0]
-    found = dict(re.findall(r"--([a-z0-9-]+): ([^;]+);", block))
-    return found if theme == "light" else {**tokens_of("light"), **found}
+    values = dict(re.findall(r"--([a-z0-9-]+): ([^;]+);", block))
+    return values if theme == "light" else {**tokens_of("light"), **values}
 
 
 def colours_of(theme: str) -> Dict[str, str]:

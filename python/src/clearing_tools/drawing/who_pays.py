@@ -23,90 +23,89 @@ matrix each square is what stays unpaid from one bank to another: those with mos
 Example:
     clearing clear --banks banks.csv --debts debts.csv >payments.csv
     clearing defaults --banks banks.csv --debts debts.csv >defaults.csv
-    tools/who_pays.py payments.csv defaults.csv --output picture.svg
+    clearing-who-pays payments.csv defaults.csv --output picture.svg
 
 Ends with 0, with 1 where a file cannot be read or written or is not such a text, and with 2 where the command line is
 not understood.
 """
 import argparse
-from typing import Callable, List, Optional, Sequence, Tuple
+from typing import Callable, List, Sequence, Tuple
 
-from clearing_client.case import Case
 from clearing_client.records import Payment
 
 from .. import cases, cli, files, labels, texts
 from ..fullnames import add_labels
 from ..money import Money, add_money
-from ..runner import Failed, command
+from ..runner import ToolError, command
 from ..texts import Bank, Flow
 from . import network
 from .ring import Drawn
 
 
-def chosen(debts: Sequence[Payment], banks: List[Bank], asked: argparse.Namespace) -> Tuple[List[Payment], List[Bank]]:
+def chosen(debts: Sequence[Payment], banks: List[Bank], args: argparse.Namespace) -> Tuple[List[Payment], List[Bank]]:
     """The debts and banks that are drawn."""
     debts = list(debts)
-    if asked.around is not None:
-        if asked.around not in {bank.name for bank in banks}:
-            raise Failed(f"{asked.defaults}: it has no bank {asked.around!r}")
-        debts = [debt for debt in debts if asked.around in (debt.debtor, debt.creditor)]
-    if asked.only_unpaid:
+    if args.around is not None:
+        if args.around not in {bank.name for bank in banks}:
+            raise ToolError(f"{args.defaults}: it has no bank {args.around!r}")
+        debts = [debt for debt in debts if args.around in (debt.debtor, debt.creditor)]
+    if args.only_unpaid:
         debts = [debt for debt in debts if debt.paid < debt.claim]
-    if asked.around is not None or asked.only_unpaid:
-        named = {asked.around} | {debt.debtor for debt in debts} | {debt.creditor for debt in debts}
-        in_default = asked.only_unpaid and asked.around is None
+    if args.around is not None or args.only_unpaid:
+        named = {args.around} | {debt.debtor for debt in debts} | {debt.creditor for debt in debts}
+        in_default = args.only_unpaid and args.around is None
         banks = [bank for bank in banks if bank.name in named or (in_default and bank.state != "sound")]
     return debts, banks
 
 
-def flows_shown(debts: Sequence[Payment], banks: Sequence[Bank], asked: argparse.Namespace) -> List[Flow]:
+def flows_shown(debts: Sequence[Payment], banks: Sequence[Bank], args: argparse.Namespace) -> List[Flow]:
     """The flows that are drawn."""
     flows = texts.flows_of(debts, banks)
     outside = [
         flow
         for flow in flows
         if flow.creditor is None
-        and (asked.around in (None, flow.debtor))
-        and not (asked.only_unpaid and flow.paid == flow.claim)
+        and (args.around in (None, flow.debtor))
+        and not (args.only_unpaid and flow.paid == flow.claim)
     ]
     return [flow for flow in flows if flow.creditor is not None] + outside
 
 
 def caption(
-    banks: Sequence[Bank], asked: argparse.Namespace, money: Money, called: Callable[[str], str]
+    banks: Sequence[Bank], args: argparse.Namespace, money: Money, called: Callable[[str], str]
 ) -> Tuple[str, str]:
     """The title and the line below it."""
     title, below = labels.headline(banks, money, called)
     shown = " and ".join(
-        (["not paid in full"] if asked.only_unpaid else [])
-        + ([f"of {labels.apart(asked.around)}"] if asked.around is not None else [])
+        (["not paid in full"] if args.only_unpaid else [])
+        + ([f"of {labels.apart(args.around)}"] if args.around is not None else [])
     )
     return title, f"{below}{f' Shown: debts {shown}.' if shown else ''} {money.about()}"
 
 
-def draw(asked: argparse.Namespace, case: Optional[Case]) -> str:
+def draw(args: argparse.Namespace, beside: cases.Beside) -> str:
     """The picture."""
-    money = Money(asked.unit, asked.currency)
-    debts: Sequence[Payment] = texts.read_payments(asked.payments)
-    outside = texts.read_outside(asked.banks) if asked.banks else None
-    banks = texts.read_banks(asked.defaults, outside)
-    texts.check_same_network(debts, banks, asked.payments, asked.defaults)
-    if asked.bounds:
-        banks = texts.with_gridlock(banks, texts.read_gridlock(asked.bounds))
+    money = beside.money
+    debts: Sequence[Payment] = texts.read_payments(args.payments)
+    outside = texts.read_outside(beside.banks) if beside.banks else None
+    banks = texts.read_banks(args.defaults, outside)
+    texts.check_same_network(debts, banks, args.payments, args.defaults)
+    if args.bounds:
+        banks = texts.with_gridlock(banks, texts.read_gridlock(args.bounds))
     if not banks:
-        raise Failed(f"{asked.defaults}: it has no bank")
-    full = cases.names_for(asked, case).check(bank.name for bank in banks)
-    title, below = caption(banks, asked, money, full)
-    debts, banks = chosen(debts, banks, asked)
+        raise ToolError(f"{args.defaults}: it has no bank")
+    full = cases.names_for(args, beside.case).check(bank.name for bank in banks)
+    title, below = caption(banks, args, money, full)
+    debts, banks = chosen(debts, banks, args)
     if not banks:
         return network.picture(
             Drawn("", [0, 0, 0, 0], [], [], {}, {}), title, f"{below} There is no such debt."
         )
-    drawn = network.drawing_of(flows_shown(debts, banks, asked), banks, money, asked.form, say=full)
+    drawn = network.drawing_of(flows_shown(debts, banks, args), banks, money, args.form, say=full)
     return network.picture(drawn, title, below)
 
 
-def words() -> argparse.Namespace:
+def parse_args() -> argparse.Namespace:
     """The words of the tool."""
     parser = cli.parser_with(__doc__)
     parser.add_argument("payments", metavar="PAYMENTS", help="what `clearing clear` prints")
@@ -125,7 +124,7 @@ def words() -> argparse.Namespace:
 
 @command("who_pays.py")
 def main() -> None:
-    asked = words()
-    case = cases.beside(asked)
-    inputs = [asked.payments, asked.defaults, asked.bounds, asked.banks, asked.labels]
-    files.put(draw(asked, case), asked.output, [*inputs, *(cases.inputs_of(case) if case else [])])
+    args = parse_args()
+    beside = cases.beside(args)
+    inputs = [args.payments, args.defaults, args.bounds, beside.banks, args.labels]
+    files.put(draw(args, beside), args.output, [*inputs, *beside.inputs])

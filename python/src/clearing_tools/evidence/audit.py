@@ -145,7 +145,7 @@ class Parser(argparse.ArgumentParser):
         super().error(shown(message))
 
 
-class Refused(Exception):
+class RefusedError(Exception):
     """The first fault of a file, as the program names it."""
 
     def __init__(self, file: str, row: int, kind: str) -> None:
@@ -165,25 +165,25 @@ MOST_FIELDS = 6
 def quoted(data: bytes, at: int) -> Tuple[bytes, int]:
     """The field that begins with a quote at a place, and the place behind it. Between quotes two quotes are one; what
     follows the closing quote belongs to the field."""
-    found = QUOTES.match(data, at)
+    match = QUOTES.match(data, at)
     # An odd number of quotes at the start opens the field and leaves pairs; an even one closes it again.
-    if found is not None and len(found[0]) % 2:
-        found = next((each for each in QUOTES.finditer(data, found.end()) if len(each[0]) % 2), None)
-    close = found.end() - 1 if found else len(data)
+    if match is not None and len(match[0]) % 2:
+        match = next((each for each in QUOTES.finditer(data, match.end()) if len(each[0]) % 2), None)
+    close = match.end() - 1 if match else len(data)
     rest, behind = plain(data, close + 1)
     return data[at + 1 : close].replace(b'""', b'"') + rest, behind
 
 
 def plain(data: bytes, at: int) -> Tuple[bytes, int]:
     """What stands from a place up to a comma or the end of a line, and the place behind it."""
-    found = PLAIN.match(data, at)
-    return (found[0], found.end()) if found else (b"", at)
+    match = PLAIN.match(data, at)
+    return (match[0], match.end()) if match else (b"", at)
 
 
 def behind_line_ends(data: bytes, at: int) -> int:
     """The place behind the ends of lines that stand at a place."""
-    found = LINE_ENDS.match(data, at)
-    return found.end() if found else at
+    match = LINE_ENDS.match(data, at)
+    return match.end() if match else at
 
 
 def records(data: bytes) -> Iterator[Fields]:
@@ -216,12 +216,12 @@ def records(data: bytes) -> Iterator[Fields]:
 
 def rows(file: str, data: bytes, *headers: Fields) -> Iterator[Tuple[int, Fields]]:
     """First the header, then each record that has a field with a byte, with its row."""
-    found = records(data)
-    header = next(found, None)
+    remaining = records(data)
+    header = next(remaining, None)
     if header is None or header not in headers:
-        raise Refused(file, 0, "header")
+        raise RefusedError(file, 0, "header")
     yield 0, header
-    for row, fields in enumerate(found, 1):
+    for row, fields in enumerate(remaining, 1):
         if any(fields):
             yield row, fields
 
@@ -229,7 +229,7 @@ def rows(file: str, data: bytes, *headers: Fields) -> Iterator[Tuple[int, Fields
 def must(holds: bool, file: str, row: int, kind: str) -> None:
     """Refuses a record of which something does not hold."""
     if not holds:
-        raise Refused(file, row, kind)
+        raise RefusedError(file, row, kind)
 
 
 def is_name(field: bytes) -> bool:
@@ -244,9 +244,9 @@ def is_name(field: bytes) -> bool:
 def number(field: bytes, most: int, file: str, row: int) -> int:
     """The number of a field, up to a limit."""
     must(field.isdigit() and len(field) <= 20, file, row, "number")
-    found = int(field)
-    must(found <= most, file, row, "limit")
-    return found
+    units = int(field)
+    must(units <= most, file, row, "limit")
+    return units
 
 
 def bank_of(field: bytes, places: Mapping[bytes, int], file: str, row: int) -> int:
@@ -264,11 +264,11 @@ def rank_of(field: bytes, file: str, row: int) -> int:
 
 def read_banks(data: bytes, by: str = STANDARD) -> List[Bank]:
     """The banks of a banks file, of either version."""
-    found = rows("banks", data, BANKS, BANKS_2)
-    width = len(next(found)[1])
+    remaining = rows("banks", data, BANKS, BANKS_2)
+    width = len(next(remaining)[1])
     banks: List[Bank] = []
     names: Set[bytes] = set()
-    for row, fields in found:
+    for row, fields in remaining:
         at = "banks", row
         must(len(banks) < LIMITS[by].banks, *at, "too many")
         must(len(fields) == width, *at, "fields")
@@ -284,13 +284,13 @@ def read_banks(data: bytes, by: str = STANDARD) -> List[Bank]:
 
 def read_debts(data: bytes, banks: Sequence[Bank], by: str = STANDARD) -> List[Debt]:
     """The debts of a debts file."""
-    found = rows("debts", data, DEBTS)
-    next(found)
+    remaining = rows("debts", data, DEBTS)
+    next(remaining)
     places = {bank.name: place for place, bank in enumerate(banks)}
     debts: List[Debt] = []
     seen: Set[Tuple[int, int, int]] = set()
     owed = 0
-    for row, fields in found:
+    for row, fields in remaining:
         at = "debts", row
         must(len(debts) < LIMITS[by].debts, *at, "too many")
         must(len(fields) == 4, *at, "fields")
@@ -325,7 +325,7 @@ def limits_needed(banks_data: bytes, debts_data: bytes) -> Tuple[str, str]:
     those are passed; and what passes them."""
     try:
         read_network(banks_data, debts_data)
-    except Refused as fault:
+    except RefusedError as fault:
         if fault.kind in ("too many", "total", "file size"):
             return WIDE, str(fault)
     return STANDARD, ""
@@ -346,12 +346,12 @@ class Journal:
             (banks[debt.debtor].name, banks[debt.creditor].name, b"%d" % debt.rank): x
             for x, debt in enumerate(self.network.debts)
         }
-        found = rows("journal", self.data, JOURNAL)
-        next(found)
-        held: Optional[Tuple[int, Fields]] = next(found, None)
+        remaining = rows("journal", self.data, JOURNAL)
+        next(remaining)
+        held: Optional[Tuple[int, Fields]] = next(remaining, None)
         count = 0
         while held is not None:
-            (row, fields), held = held, next(found, None)
+            (row, fields), held = held, next(remaining, None)
             is_end = held is None and len(fields) == 2 and fields[0] == b"rounds"
             if is_end and fields[1].isdigit() and len(fields[1]) <= 20:
                 self.rounds = int(fields[1])
@@ -364,7 +364,7 @@ class Journal:
                 bank_of(fields[1], places, "journal", row)
                 bank_of(fields[2], places, "journal", row)
                 rank_of(fields[3], "journal", row)
-                raise Refused("journal", row, "unknown debt")
+                raise RefusedError("journal", row, "unknown debt")
             yield stamp, x, number(fields[4], 10**6, "journal", row)
             count += 1
 
@@ -596,7 +596,7 @@ def difference(name: str, given: bytes, made: bytes) -> str:
     return f"{name} differ: line {at + 1} is {is_there}, and by the journal {is_here}"
 
 
-def told(network: Network, verdict: Verdict) -> List[str]:
+def verdict_lines(network: Network, verdict: Verdict) -> List[str]:
     """The verdict in words, a line for each."""
     kind, numbers, _ = verdict
     if kind == "lawful":
@@ -617,9 +617,9 @@ def judge(files: Mapping[str, bytes], by: str = STANDARD) -> Tuple[List[str], in
         network = read_network(files["banks"], files["debts"], by)
         journal = Journal(files["journal"], network, by)
         verdict = follow(network, journal)
-    except Refused as fault:
+    except RefusedError as fault:
         return [str(fault)], 4
-    lines, status = told(network, verdict), 0 if verdict.kind == "lawful" else 7
+    lines, status = verdict_lines(network, verdict), 0 if verdict.kind == "lawful" else 7
     if status == 0:
         for name, text_of in (("payments", payments_text), ("defaults", defaults_text)):
             if name in files:
@@ -641,12 +641,12 @@ def content_of(option: str, name: str, by: str) -> bytes:
     return content.getvalue()
 
 
-def told_limits(banks_data: bytes, debts_data: bytes) -> str:
+def settled_limits(banks_data: bytes, debts_data: bytes) -> str:
     """The limits that the two files need; that they are wide is told."""
     by, why = limits_needed(banks_data, debts_data)
     if by == WIDE:
-        told = f"the network is read by the wide limits, as it passes the standard ones ({why})"
-        print(f"audit.py: {told}; --limits wide says so", file=sys.stderr)
+        what = f"the network is read by the wide limits, as it passes the standard ones ({why})"
+        print(f"audit.py: {what}; --limits wide says so", file=sys.stderr)
     return by
 
 
@@ -672,13 +672,13 @@ def main() -> int:
     parser.add_argument("--payments", metavar="FILE", help="the payments to be compared")
     parser.add_argument("--defaults", metavar="FILE", help="the table of defaults to be compared")
     parser.add_argument("--limits", choices=list(LIMITS), help="the limits of the network and the journal")
-    asked = vars(parser.parse_args())
-    by = asked.pop("limits")
+    args = vars(parser.parse_args())
+    by = args.pop("limits")
     files: Dict[str, bytes] = {}
-    for option, name in asked.items():
+    for option, name in args.items():
         # The two files stand first, and say by which limits the others are read.
         if by is None and len(files) == 2:
-            by = told_limits(files["banks"], files["debts"])
+            by = settled_limits(files["banks"], files["debts"])
         if name is not None:
             try:
                 files[option] = content_of(option, name, by or WIDE)

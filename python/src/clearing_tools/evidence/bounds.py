@@ -23,11 +23,11 @@ def end_of_text(document: str, at: int) -> int:
     """The place behind the text between quotes that begins at a place."""
     quote = document[at : at + 3] if document[at : at + 3] in ENDS else document[at]
     at += len(quote)
-    while found := ENDS[quote].search(document, at):
-        at = found.end()
-        if not found[0].startswith("\\"):
+    while match := ENDS[quote].search(document, at):
+        at = match.end()
+        if not match[0].startswith("\\"):
             # Up to two quotes before the last three belong to the text.
-            while len(quote) == 3 and document[at : at + 1] == quote[0] and at < found.end() + 2:
+            while len(quote) == 3 and document[at : at + 1] == quote[0] and at < match.end() + 2:
                 at += 1
             return at
     return len(document)
@@ -37,17 +37,17 @@ def fault_of(document: str) -> Optional[str]:
     """The kind of the fault of a document that is beyond these limits, `toml` or `shape`, else None."""
     at = line = deep = parts = others = 0
     header: Optional[int] = None
-    while found := SIGN.search(document, at):
-        sign, at = found[0], found.end()
+    while match := SIGN.search(document, at):
+        sign, at = match[0], match.end()
         if sign == "#":
             at = document.find("\n", at)
             at = at if at >= 0 else len(document)
         elif sign in "\"'":
-            at = end_of_text(document, found.start())
+            at = end_of_text(document, match.start())
         elif sign == ".":
             parts, others = parts + 1, others + (header is None)
-        elif sign == "[" and not deep and header is None and not document[line : found.start()].strip(" \t"):
-            header, parts = found.start(), 0
+        elif sign == "[" and not deep and header is None and not document[line : match.start()].strip(" \t"):
+            header, parts = match.start(), 0
         elif sign == "]" and header is not None:
             if document[header:at].translate(QUOTES_AND_BLANKS) not in ("[[scenario]", "[[scenario.loss]"):
                 others += 1 + parts

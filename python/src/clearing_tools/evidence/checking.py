@@ -1,4 +1,4 @@
-"""Checks a folder of evidence: what `evidence.sh check` does.
+"""Checks a folder of evidence: what `clearing-evidence check` does.
 
 Each file of the folder is read once, and all that follows is told of a copy that nobody else can write. The inputs are
 read first: they say which files belong to the folder and how long each may be, and only these are read and copied. A
@@ -14,13 +14,13 @@ import sys
 from typing import Dict, Iterable, Iterator, List, NamedTuple, Optional, Sequence, Set, Tuple
 
 from .. import runner
-from ..runner import Failed
+from ..runner import ToolError
 from . import audit, shock, source
 from .parts import (
-    BANKS, CHANGES, DESCRIPTION, FILE, JOURNAL, LABELS, PROGRAM, README, SUMS, TABLES, TEXTS, UNREAD, VERSIONS,
-    CommandOf, NoRoom, Part, at_hand, checksum_of, commands_of, commands_text, is_stress, limits_of, limits_words,
-    most_of, most_of_journal, names_of, opened_in, parts_of, program_sum, read_inputs, read_rescue, rescue_holds,
-    sums_listed, sums_text, words_of,
+    BANKS, CHANGES, DESCRIPTION, FILE, JOURNAL, LABELS, OLDER_README, PROGRAM, README, SUMS, TABLES, TEXTS, UNREAD,
+    VERSIONS, CommandOf, NoRoomError, Part, at_hand, checksum_of, commands_of, commands_text, is_stress, limits_of,
+    limits_words, most_of, most_of_journal, names_of, opened_in, parts_of, program_sum, read_inputs, read_rescue,
+    rescue_holds, sums_listed, sums_text, words_of,
 )
 
 # No folder of these commands has as many names.
@@ -50,16 +50,16 @@ class Folder:
     """A folder of evidence as it was read: the names that are in it, the checksums of the files that belong to it, why
     some could not be read, and a copy of the others."""
 
-    def __init__(self, given: str, copy: str) -> None:
-        self.given, self.copy = given, pathlib.Path(copy)
+    def __init__(self, path: str, copy: str) -> None:
+        self.path, self.copy = path, pathlib.Path(copy)
         self.sums: Dict[str, str] = {}
         self.unread: Dict[str, str] = {}
         self.most: Dict[str, int] = {}
         try:
-            self.number = os.open(given, os.O_RDONLY | os.O_DIRECTORY)
+            self.number = os.open(path, os.O_RDONLY | os.O_DIRECTORY)
             self.names = names_in(self.number)
         except OSError as fault:
-            raise Failed(f"{audit.shown(given)} cannot be read: {fault.strerror}", UNREAD) from fault
+            raise ToolError(f"{audit.shown(path)} cannot be read: {fault.strerror}", UNREAD) from fault
 
     def close(self) -> None:
         """Lets go of the folder."""
@@ -76,7 +76,7 @@ class Folder:
             path.parent.mkdir(exist_ok=True)
             copy = open(path, "wb", buffering=0)
         except OSError as fault:
-            raise NoRoom(fault.strerror) from fault
+            raise NoRoomError(fault.strerror) from fault
         self.most[name] = most
         with copy:
             try:
@@ -98,7 +98,7 @@ class Folder:
     def must_be_there(self, name: str) -> pathlib.Path:
         """What is no plain file within the folder is none."""
         if name not in self.sums:
-            raise Failed(f"{name} is not there", UNREAD)
+            raise ToolError(f"{name} is not there", UNREAD)
         return self.copy / name
 
     def read(self, name: str) -> bytes:
@@ -106,7 +106,7 @@ class Folder:
         try:
             return self.must_be_there(name).read_bytes()
         except OSError as fault:
-            raise Failed(f"{name} cannot be read: {fault.strerror}", UNREAD) from fault
+            raise ToolError(f"{name} cannot be read: {fault.strerror}", UNREAD) from fault
 
     def changed(self) -> Optional[str]:
         """What of the folder is not now as it was read, if anything."""
@@ -115,38 +115,38 @@ class Folder:
                 if checksum_of(opened_in(self.number, name), self.most[name]) != known:
                     return name
             return None if sorted(names_in(self.number)) == sorted(self.names) else "the folder"
-        except (OSError, Failed):
+        except (OSError, ToolError):
             return "the folder"
 
 
 def names_in(folder: int) -> List[str]:
     """What is in a folder: each name from it, with a `/` behind that of a folder, and how deep a folder of these
     commands is."""
-    found = entries_in(folder)
-    for below in [name for name in found if name.endswith("/")]:
+    names = entries_in(folder)
+    for below in [name for name in names if name.endswith("/")]:
         number = os.open(below[:-1], os.O_RDONLY | os.O_DIRECTORY | os.O_NOFOLLOW, dir_fd=folder)
         try:
-            found += [below + name for name in entries_in(number)]
+            names += [below + name for name in entries_in(number)]
         finally:
             os.close(number)
-        check_count(found)
-    return found
+        check_count(names)
+    return names
 
 
 def entries_in(folder: int) -> List[str]:
     """What stands in a folder, which is given by its descriptor, with a `/` behind the name of a folder."""
-    found: List[str] = []
+    names: List[str] = []
     with os.scandir(folder) as entries:
         for entry in entries:
-            found.append(entry.name + ("/" if entry.is_dir(follow_symlinks=False) else ""))
-            check_count(found)
-    return found
+            names.append(entry.name + ("/" if entry.is_dir(follow_symlinks=False) else ""))
+            check_count(names)
+    return names
 
 
 def check_count(names: Sequence[object]) -> None:
     """Fails at more names than a folder of these commands has."""
     if len(names) > MOST_NAMES:
-        raise Failed(f"the folder has more than {MOST_NAMES} names, and none of these commands has so many", UNREAD)
+        raise ToolError(f"the folder has more than {MOST_NAMES} names, and none of these commands has so many", UNREAD)
 
 
 def inputs_of(folder: Folder) -> Inputs:
@@ -157,10 +157,10 @@ def inputs_of(folder: Folder) -> Inputs:
         banks, debts = folder.read("inputs/banks.csv"), folder.read("inputs/debts.csv")
         by = limits_of(folder.read("commands.tsv"))
         network, scenarios = read_inputs(banks, debts, scenarios_data, by)
-    except audit.Refused as fault:
-        raise Failed(f"inputs: {fault}", UNREAD) from fault
-    except shock.Failed as fault:
-        raise Failed(f"inputs: {fault}", fault.status if fault.status == 2 else UNREAD) from fault
+    except audit.RefusedError as fault:
+        raise ToolError(f"inputs: {fault}", UNREAD) from fault
+    except shock.ScenarioError as fault:
+        raise ToolError(f"inputs: {fault}", fault.status if fault.status == 2 else UNREAD) from fault
     parts = parts_of(network.banks, scenarios, rescue)
     rescued = read_rescue(rescue)[0].decode() if rescue is not None else None
     commands = commands_of(parts, scenarios_data is not None, rescued, by)
@@ -182,13 +182,13 @@ def described_otherwise(folder: Folder) -> List[str]:
         resources = json.loads(folder.read(DESCRIPTION).decode("utf-8"))["resources"]
         known = {resource.get("path"): resource.get("hash") for resource in resources}
     except (ValueError, KeyError, TypeError, AttributeError, RecursionError) as fault:
-        raise Failed(f"{DESCRIPTION} is not the description of a case", UNREAD) from fault
-    found = []
-    for name, said in known.items():
+        raise ToolError(f"{DESCRIPTION} is not the description of a case", UNREAD) from fault
+    differing = []
+    for name, digest in known.items():
         has = folder.sums.get(f"inputs/{name}")
-        if isinstance(name, str) and said is not None and has is not None and said != f"sha256:{has}":
-            found.append(name)
-    return found
+        if isinstance(name, str) and digest is not None and has is not None and digest != f"sha256:{has}":
+            differing.append(name)
+    return differing
 
 
 def most_in(name: str, network: audit.Network) -> int:
@@ -206,13 +206,19 @@ def most_of_tables(network: audit.Network) -> int:
 
 
 class Checking:
-    """A folder under check: what was read of it, what is told of it, and what fails."""
+    """A folder under check: what was read of it, what is told of it, and what fails. It takes so much memory itself,
+    and what it runs has limits of its own."""
 
-    def __init__(self, given: str, copy: str) -> None:
-        self.folder = Folder(given, copy)
+    def __init__(self, path: str, copy: str) -> None:
+        with runner.limited_memory(MEMORY):
+            self.folder = Folder(path, copy)
+            self.take()
+
+    def take(self) -> None:
+        """Reads the inputs, and then the files that belong to the folder."""
         self.failed: Set[int] = set()
-        self.asking, self.program_asking = runner.Asking(LIMITS), runner.Asking(PROGRAM_LIMITS)
-        self.fault: Optional[Failed] = None
+        self.audit_runs, self.program_runs = runner.ProgramRuns(LIMITS), runner.ProgramRuns(PROGRAM_LIMITS)
+        self.fault: Optional[ToolError] = None
         # No file belongs to inputs that are none.
         self.files: Set[str] = set()
         named = [name for name in self.folder.names if FILE.fullmatch(name)]
@@ -221,7 +227,7 @@ class Checking:
         try:
             self.known = inputs_of(self.folder)
             self.files = files_of(self.folder, self.known)
-        except Failed as fault:
+        except ToolError as fault:
             # It is told when the inputs are looked at.
             self.fault = fault
             return
@@ -235,8 +241,8 @@ class Checking:
         size = sum(min(self.folder.size(name), most[name]) for name in most)
         room = shutil.disk_usage(self.folder.copy).free // 2
         if size > room:
-            given = audit.shown(self.folder.given)
-            raise NoRoom(f"a copy of {given} takes {size:,} bytes, and there is room for {room:,}")
+            shown = audit.shown(self.folder.path)
+            raise NoRoomError(f"a copy of {shown} takes {size:,} bytes, and there is room for {room:,}")
 
     def tell(self, line: str, failing: Optional[int] = None) -> None:
         """A line, in which whatever stands in the folder is shown as it can be read."""
@@ -244,6 +250,18 @@ class Checking:
             self.failed.add(failing)
         sys.stdout.buffer.write((audit.shown(line) + "\n").encode("utf-8", "backslashreplace"))
         sys.stdout.flush()
+
+    def status(self) -> int:
+        """Looks at all, and tells what was checked and what was not: the status."""
+        with contextlib.closing(self.folder):
+            with runner.limited_memory(MEMORY):
+                self.look()
+            # The program has its own limits.
+            here = self.program()
+            if here is not None:
+                self.replay()
+            self.end(here)
+        return min(self.failed, default=0)
 
     def look(self) -> None:
         """Looks at all but what the program here says, in turn, and tells of each."""
@@ -258,14 +276,6 @@ class Checking:
         self.source_holds()
         self.banks_hold()
         self.audit()
-
-    def look_again(self) -> int:
-        """Asks the program, where there is one, and tells what was checked and what was not: the status."""
-        here = self.program()
-        if here is not None:
-            self.replay()
-        self.end(here)
-        return min(self.failed, default=0)
 
     # Checksums and names.
 
@@ -296,7 +306,7 @@ class Checking:
         """The texts that say the same in each folder, or have a form."""
         if self.folder.read("commands.tsv") != commands_text(self.known.commands):
             self.tell("commands.tsv: not the commands that make these files", UNREAD)
-        if self.folder.read("README.txt") != README.encode():
+        if self.folder.read("README.txt") not in (README.encode(), OLDER_README.encode()):
             self.tell("README.txt: not the text of these tools", UNREAD)
         if not VERSIONS.fullmatch(self.folder.read("versions.txt")):
             self.tell("versions.txt: not of its form", UNREAD)
@@ -309,15 +319,15 @@ class Checking:
             return
         text = self.folder.read("source/command.tsv")
         try:
-            made = source.made_of(text, lambda name: self.folder.read(f"source/{name}"))
-        except Failed as fault:
+            contents = source.made_of(text, lambda name: self.folder.read(f"source/{name}"))
+        except ToolError as fault:
             self.tell(f"source: {str(fault).partition(chr(10))[0]}", BANKS if fault.status == 4 else UNREAD)
             return
-        for name, content in made.items():
+        for name, content in contents.items():
             place = source.place_of(name)
             same = self.folder.has(place) and self.folder.read(place) == content
             self.tell(f"source: {place} {'same' if same else 'differs'}", None if same else BANKS)
-        if self.folder.has(LABELS) and source.NAMED not in made and not self.folder.has(DESCRIPTION):
+        if self.folder.has(LABELS) and source.NAMED not in contents and not self.folder.has(DESCRIPTION):
             self.tell(f"source: {LABELS} differs", BANKS)
 
     def is_described(self) -> None:
@@ -350,19 +360,19 @@ class Checking:
         words = self.files_words(part)
         for table in ("payments", "defaults"):
             words += [f"--{table}", self.name(f"{part.folder}/{table}.csv")]
-        status, output, messages = self.asking.run([sys.executable, "-I", audit.__file__, *words])
+        status, output, messages = self.audit_runs.run([sys.executable, "-I", audit.__file__, *words])
         return status, output.decode("utf-8", "replace").splitlines(), messages.decode("utf-8", "replace").strip()
 
     def audit(self) -> None:
-        """Each journal by tools/audit.py, the rescue and the stress."""
+        """Each journal by clearing-audit, the rescue and the stress."""
         parts = self.known.parts
-        for part, (status, lines, messages) in zip(parts, self.asking.all(self.audited, parts, "journal")):
+        for part, (status, lines, messages) in zip(parts, self.audit_runs.all(self.audited, parts, "journal")):
             if status in (0, 1) and lines:
                 verdict = "lawful," + lines[0].split()[0]
                 self.tell(f"{part.label}: " + "; ".join([verdict, *lines[2:4]]), None if status == 0 else TABLES)
             else:
-                told = lines or messages.splitlines() or [f"audit.py ended with {status}"]
-                self.tell(f"{part.label}: {told[0]}", JOURNAL)
+                first, *_ = lines or messages.splitlines() or [f"audit.py ended with {status}"]
+                self.tell(f"{part.label}: {first}", JOURNAL)
         if self.known.rescue is not None:
             self.rescue_holds(self.known.rescue)
         if self.folder.has("inputs/scenarios.toml"):
@@ -377,9 +387,9 @@ class Checking:
         except (ValueError, IndexError):
             holds = False
         bank, added, _, _ = read_rescue(rescue)
-        said = "sound with it, and not with a unit less" if added else "sound as it is"
-        told = said if holds else "not what the tables say"
-        self.tell(f"rescue of {bank.decode()} with {added}: {told}", None if holds else TABLES)
+        verdict = "sound with it, and not with a unit less" if added else "sound as it is"
+        verdict = verdict if holds else "not what the tables say"
+        self.tell(f"rescue of {bank.decode()} with {added}: {verdict}", None if holds else TABLES)
 
     # The program.
 
@@ -394,23 +404,23 @@ class Checking:
 
     def replayed(self, part: Part) -> Tuple[int, bytes, bytes]:
         """What the program says of a journal."""
-        return self.program_asking.run([runner.program(), "replay", *self.files_words(part)])
+        return self.program_runs.run([runner.program(), "replay", *self.files_words(part)])
 
     def is_same_again(self, command: CommandOf) -> bool:
         """Whether the program prints for a command what the folder has."""
-        status, output, _ = self.program_asking.run([runner.program(), *command[1]], self.folder.copy)
+        status, output, _ = self.program_runs.run([runner.program(), *command[1]], self.folder.copy)
         return status == 0 and output == self.folder.read(command[0])
 
     def replay(self) -> None:
         """Replays the journals by the program, and runs each command again."""
         parts, commands = self.known.parts, self.known.commands
-        for part, (status, output, messages) in zip(parts, self.program_asking.all(self.replayed, parts, "replay")):
+        for part, (status, output, messages) in zip(parts, self.program_runs.all(self.replayed, parts, "replay")):
             verdict, _, payments = output.partition(b"\n\n")
             same = status == 0 and payments == self.folder.read(f"{part.folder}/payments.csv")
-            said = (verdict if status in (0, 7) else messages).decode("utf-8", "replace").strip()
+            line = (verdict if status in (0, 7) else messages).decode("utf-8", "replace").strip()
             tail = f"; payments {'same' if same else 'differ'}" if status == 0 else ""
-            self.tell(f"{part.label}, replayed by the program: {said}{tail}", None if same else PROGRAM)
-        again = self.program_asking.all(self.is_same_again, commands, "run")
+            self.tell(f"{part.label}, replayed by the program: {line}{tail}", None if same else PROGRAM)
+        again = self.program_runs.all(self.is_same_again, commands, "run")
         differ = [file for (file, _), is_same in zip(commands, again) if not is_same]
         count = f"{len(commands) - len(differ)} of {len(commands)} the same"
         self.tell(f"commands run again: {count}", PROGRAM if differ else None)
@@ -449,9 +459,9 @@ class Checking:
 
     def not_looked_at(self, here: Optional[str]) -> Iterator[str]:
         """What no check of a folder can say, with the files that nothing is computed of."""
-        made = {"inputs/banks.csv", "inputs/debts.csv", "source/command.tsv", "source/summary.csv"}
+        not_given = {"inputs/banks.csv", "inputs/debts.csv", "source/command.tsv", "source/summary.csv"}
         from_sheets = self.folder.has("source/")
-        inputs = ", ".join(given_names(self.folder.sums, made if from_sheets else set()))
+        inputs = ", ".join(given_names(self.folder.sums, not_given if from_sheets else set()))
         what = "sheets and inputs" if from_sheets else "inputs"
         yield (
             f"that the {what} are true ({inputs}), and that SHA256SUMS is the one that was handed over: it has the"
@@ -472,18 +482,12 @@ def given_names(names: Iterable[str], made: Set[str]) -> List[str]:
     return [name for name in sorted(names) if name.startswith(("inputs/", "source/")) and name not in made]
 
 
-def check(asked: argparse.Namespace) -> int:
+def check(args: argparse.Namespace) -> int:
     """Checks the folder that was asked for: the status."""
-    if not os.path.isdir(asked.folder):
-        raise Failed(f"{audit.shown(asked.folder)} is no folder", UNREAD)
+    if not os.path.isdir(args.folder):
+        raise ToolError(f"{audit.shown(args.folder)} is no folder", UNREAD)
     try:
         with runner.work_folder() as copy:
-            with runner.limited_memory(MEMORY):
-                checking = Checking(asked.folder, copy)
-            with contextlib.closing(checking.folder):
-                with runner.limited_memory(MEMORY):
-                    checking.look()
-                # The program has its own limits.
-                return checking.look_again()
-    except NoRoom as fault:
-        raise Failed(f"no copy can be made in the folder of temporary files: {fault}", 1) from fault
+            return Checking(args.folder, copy).status()
+    except NoRoomError as fault:
+        raise ToolError(f"no copy can be made in the folder of temporary files: {fault}", 1) from fault

@@ -11,10 +11,11 @@ import os
 import pathlib
 import resource
 import sys
-from typing import Any, Callable, Dict, List, Tuple
+from typing import Callable, Dict, List, Tuple
 
 SOURCES = pathlib.Path(__file__).resolve().parents[2]
-TOOLS = ("matrix", "list", "totals")
+TOOLS = {"matrix": "matrix", "list": "exposure_list", "totals": "totals"}
+"""The modules of the tools for sheets, by the word that names them here."""
 
 LIMITS: Dict[int, int] = {
     resource.RLIMIT_AS: 4 << 30,
@@ -45,12 +46,14 @@ def limit() -> None:
         resource.setrlimit(what, (least, least))
 
 
-def is_below(name: Any, places: Tuple[str, ...]) -> bool:
-    """Whether a name is that of one of some folders, or of a file in one, whatever links lead there."""
+def is_below(name: object, places: Tuple[str, ...]) -> bool:
+    """Whether something is the name of one of some folders, or of a file in one, whatever links lead there."""
+    if not isinstance(name, (str, bytes, os.PathLike)):
+        return False
     return (os.path.realpath(os.fsdecode(name)) + os.sep).startswith(places)
 
 
-def guard(folder: str, libraries: Tuple[str, ...]) -> Callable[[str, Tuple[Any, ...]], None]:
+def guard(folder: str, libraries: Tuple[str, ...]) -> Callable[[str, Tuple[object, ...]], None]:
     """What Python asks before it opens a file, or does anything else outside itself. Python does not say in which open
     folder a name is looked for; but no folder can be opened that is not below the one that all are confined to."""
     own = (os.path.realpath(folder) + os.sep,)
@@ -58,12 +61,13 @@ def guard(folder: str, libraries: Tuple[str, ...]) -> Callable[[str, Tuple[Any, 
     def refuse(what: str) -> None:
         raise PermissionError(1, f"{what} is not for a command of an evidence")
 
-    def ask(event: str, words: Tuple[Any, ...]) -> None:
+    def ask(event: str, words: Tuple[object, ...]) -> None:
         if event == "open" and not isinstance(words[0], int):
             name, _, flags = words
-            is_library = flags & os.O_ACCMODE == os.O_RDONLY and is_below(name, libraries)
+            is_library = isinstance(flags, int) and flags & os.O_ACCMODE == os.O_RDONLY and is_below(name, libraries)
             if not (is_library or is_below(name, own)):
-                refuse(f"the file {os.fsdecode(name)!r}")
+                shown = os.fsdecode(name) if isinstance(name, (str, bytes, os.PathLike)) else name
+                refuse(f"the file {shown!r}")
         elif event in CHANGES and not isinstance(words[0], int) and not is_below(words[0], own):
             refuse(event)
         elif event.startswith(FORBIDDEN):
@@ -80,7 +84,7 @@ def main(words: List[str]) -> None:
     # The folder of this file is no place to import from: it is the first on the path.
     others = [place for place in sys.path if os.path.isabs(place) and place != os.path.dirname(__file__)]
     sys.path[:] = [str(SOURCES), *others]
-    tool = importlib.import_module(f"clearing_tools.imports.{words[0]}")
+    tool = importlib.import_module(f"clearing_tools.imports.{TOOLS[words[0]]}")
     for library in LIBRARIES:
         with contextlib.suppress(ImportError):
             importlib.import_module(library)

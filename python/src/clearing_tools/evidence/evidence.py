@@ -1,31 +1,30 @@
 """Makes a folder of evidence for what `clearing` says of a network, and checks one on any machine.
 
-    tools/evidence.sh make FOLDER --banks FILE --debts FILE [--scenarios FILE] [--bank NAME] [--changes FILE]
-    tools/evidence.sh make FOLDER --case CASE [--scenarios FILE] [--bank NAME] [--changes FILE]
-    tools/evidence.sh make FOLDER --source COMMAND [--scenarios FILE] [--bank NAME] [--changes FILE]
-    tools/evidence.sh check FOLDER
+    clearing-evidence make FOLDER --banks FILE --debts FILE [--scenarios FILE] [--bank NAME] [--changes FILE]
+    clearing-evidence make FOLDER --case CASE [--scenarios FILE] [--bank NAME] [--changes FILE]
+    clearing-evidence make FOLDER --source COMMAND [--scenarios FILE] [--bank NAME] [--changes FILE]
+    clearing-evidence check FOLDER
 
 In:   for `make` the two files, a file of scenarios and the name of a bank, as `clearing` takes them; for `check` the
-folder Out:  for `make` the folder, and a line with the checksum of its checksums; for `check` a line for each thing
-looked at
+      folder
+Out:  for `make` the folder, and a line with the checksum of its checksums; for `check` a line for each thing looked at
 
 `make` writes a new folder, whole or not at all: the inputs as they were (inputs/); for the network as it is (as-is/),
 and for each scenario (scenario-1/ ...) with the banks file that it leaves, a journal, the payments and the defaults;
 with --bank the rescue of that bank, the network with the sum that saves it (rescue/) and with a unit less
 (unit-less/), and the same of each; stress.csv with what `clearing stress` prints, which is compared with all that;
 commands.tsv with the words and the status of each run, and the limits in them where they are wide (--limits, or where
-the network needs them); versions.txt; and SHA256SUMS over all files. With --source in
-place of the two files, source/ has the sheets of that command of from_matrix.py, from_list.py or from_totals.py
-(without where it writes), the command and the summary, and the two files are what it makes. With --case the inputs are
-those of a case, with labels.csv and its description, and source/ has its sheets where it keeps them; a case whose files
-are not those that were described is refused. --changes keeps a text
-that says what was changed before, as inputs/changes.txt, of which nothing is computed. One worker makes each journal,
-so that the same program makes the same bytes again.
+the network needs them); versions.txt; and SHA256SUMS over all files. With --source in place of the two files, source/
+has the sheets of that command of clearing-from-matrix, clearing-from-list or clearing-from-totals (without where it
+writes), the command and the summary, and the two files are what it makes. With --case the inputs are those of a case,
+with labels.csv and its description, and source/ has its sheets where it keeps them; a case whose files are not those
+that were described is refused. --changes keeps a text that says what was changed before, as inputs/changes.txt, of
+which nothing is computed. One worker makes each journal, so that the same program makes the same bytes again.
 
 `check` asks for the folder, Python and nothing else. It reads each file once, into a copy of its own. The folder must
 have exactly the files that `make` writes for its inputs, and nothing else. It compares the checksums, commands.tsv and
 README.txt, makes the banks file of each scenario and of the rescue anew, and the two files where their sheets are
-there, and follows each journal by tools/audit.py, which shares no code with the program. Where a built program is at
+there, and follows each journal by clearing-audit, which shares no code with the program. Where a built program is at
 hand (CLEARING, or that of the wheel, the installation or the repository) it replays the journals too, and runs each
 command again. It prints a line for each, and at the end what was checked and what was not.
 
@@ -46,10 +45,10 @@ import secrets
 import shutil
 import sys
 import tempfile
-from typing import Any, Dict, Iterator, List, Optional
+from typing import TYPE_CHECKING, Dict, Iterator, List, Optional
 
 from .. import files, runner
-from ..runner import ROOT, Failed
+from ..runner import ROOT, ToolError
 from . import audit, shock, source
 from .checking import check
 from .parts import (
@@ -57,12 +56,15 @@ from .parts import (
     limits_words, parts_of, program_sum, read_inputs, rescue_holds, stress_of, sums_text,
 )
 
+if TYPE_CHECKING:
+    from clearing_client.case import Case
+
 # Making.
 
 
-def said_here(*words: str) -> Optional[str]:
+def line_printed_by(*words: str) -> Optional[str]:
     """The first line of what a command prints in the repository, none where it fails."""
-    text = runner.said_by(*words, folder=ROOT)
+    text = runner.printed_by(*words, folder=ROOT)
     return None if text is None else text.partition("\n")[0]
 
 
@@ -71,12 +73,12 @@ def commit_of() -> Optional[str]:
     changed since. A file that it does not have counts below crates/ alone, where a build would take it up."""
     if not runner.STANDS:
         return None
-    top = said_here("git", "rev-parse", "--show-toplevel")
-    commit = said_here("git", "rev-parse", "HEAD")
-    if commit is None or not runner.same_file(top, ROOT):
+    top = line_printed_by("git", "rev-parse", "--show-toplevel")
+    commit = line_printed_by("git", "rev-parse", "HEAD")
+    if commit is None or top is None or not runner.same_file(top, ROOT):
         return None
-    changed = said_here("git", "status", "--porcelain", "--untracked-files=no")
-    added = said_here("git", "ls-files", "--others", "--exclude-standard", "--", "crates")
+    changed = line_printed_by("git", "status", "--porcelain", "--untracked-files=no")
+    added = line_printed_by("git", "ls-files", "--others", "--exclude-standard", "--", "crates")
     return commit + (", with changes that are not committed" if changed or added else "")
 
 
@@ -85,66 +87,67 @@ def versions() -> bytes:
     lines = [
         f"repository {commit_of() or 'none: the tools are not in a repository'}",
         f"program {program_sum()}",
-        f"toolchain {said_here('rt', 'version') or 'none: rt is not on the path'}",
+        f"toolchain {line_printed_by('rt', 'version') or 'none: rt is not on the path'}",
         f"python {platform.python_version()}",
     ]
     return "".join(line + "\n" for line in lines).encode()
 
 
-def take_case(asked: argparse.Namespace) -> None:
+def take_case(args: argparse.Namespace) -> None:
     """Sets the files that were not said to those of the case. One whose files are not those that were described is
     refused. It is read as all tools read it; what checks an evidence has no need of that."""
-    asked.labels = asked.description = asked.kept = None
-    if asked.case is None:
+    args.labels = args.description = args.case_with_sheets = None
+    if args.case is None:
         return
     cases = importlib.import_module("clearing_tools.cases")
-    case = cases.read_case(asked.case)
+    case = cases.read_case(args.case)
     if case.notes:
-        raise Failed(f"{asked.case}: {case.notes[0]}", cases.REFUSED)
+        raise ToolError(f"{args.case}: {case.notes[0]}", cases.REFUSED)
     for name in ("banks", "debts", "scenarios", "labels"):
-        if vars(asked)[name] is None:
-            setattr(asked, name, case.paths.get(name))
-    asked.description = os.path.join(asked.case, "datapackage.json") if case.is_described else None
-    asked.kept = case if asked.source is None and keeps_sheets(case) else None
-    asked.limits = asked.limits or case.said_limits
+        if vars(args)[name] is None:
+            setattr(args, name, case.paths.get(name))
+    args.description = os.path.join(args.case, "datapackage.json") if case.is_described else None
+    args.case_with_sheets = case if args.source is None and keeps_sheets(case) else None
+    args.limits = args.limits or case.said_limits
 
 
-def keeps_sheets(case: Any) -> bool:
+def keeps_sheets(case: "Case") -> bool:
     """Whether a case has copies of all the sheets that it was made of, and the command that did it."""
-    kept = [source.path for source in case.sources if source.path]
-    has_all = len(kept) == len(case.sources) and {f"sources/{name}" for name in case.sheet_names}.issuperset(kept)
-    return bool(kept and has_all and case.summary is not None and case.summary.command)
+    copied = [source.path for source in case.sources if source.path]
+    has_all = len(copied) == len(case.sources) and {f"sources/{name}" for name in case.sheet_names}.issuperset(copied)
+    return bool(copied and has_all and case.summary is not None and case.summary.command)
 
 
-def sheets_of_case(case: Any, folder: pathlib.Path) -> Dict[str, str]:
+def sheets_of_case(case: "Case", folder: pathlib.Path) -> Dict[str, str]:
     """The sheets of a case by their paths in it, each in a file of its own in a folder. They are read by the case,
     which opens nothing outside."""
     cases, errors = map(importlib.import_module, ("clearing_tools.cases", "clearing_client.errors"))
-    found: Dict[str, str] = {}
+    files_of_sheets: Dict[str, str] = {}
     try:
         for name, data in case.sheets().items():
-            found[f"sources/{name}"] = str(folder / name)
+            files_of_sheets[f"sources/{name}"] = str(folder / name)
             (folder / name).write_bytes(data)
     except errors.UnreadableError as fault:
-        raise Failed(str(fault), cases.UNREADABLE) from fault
+        raise ToolError(str(fault), cases.UNREADABLE) from fault
     except errors.CaseError as fault:
-        raise Failed(str(fault), cases.REFUSED) from fault
-    return found
+        raise ToolError(str(fault), cases.REFUSED) from fault
+    return files_of_sheets
 
 
-def keep_source(folder: pathlib.Path, case: Any) -> None:
+def keep_source(folder: pathlib.Path, case: "Case") -> None:
     """Keeps the sheets of a case, unless its files are not what they make any more."""
     with tempfile.TemporaryDirectory() as name:
-        sheets, made = pathlib.Path(name, "sheets"), pathlib.Path(name, "made")
-        for path in (sheets, made):
+        sheets, anew = pathlib.Path(name, "sheets"), pathlib.Path(name, "made")
+        for path in (sheets, anew):
             path.mkdir()
-        source.keep(made, *source.of_case(case.summary.command, sheets_of_case(case, sheets)), put)
-        for path in made.glob("inputs/*"):
+        assert case.summary is not None  # as `keeps_sheets` has it
+        source.keep(anew, *source.of_case(case.summary.command, sheets_of_case(case, sheets)), put)
+        for path in anew.glob("inputs/*"):
             there = folder / "inputs" / path.name
             if not there.exists() or there.read_bytes() != path.read_bytes():
                 runner.say(f"the sheets of the case do not make its {path.name} any more; they are left out")
                 return
-        for path in made.glob("source/*"):
+        for path in anew.glob("source/*"):
             put(folder, f"source/{path.name}", path.read_bytes())
 
 
@@ -152,74 +155,98 @@ def whole(name: str) -> bytes:
     """The bytes of a file that the program does not read; one that is too long for a check is refused."""
     content = contents(name)
     if len(content) > MOST_OF_OTHERS:
-        raise Failed(f"{audit.shown(name)} is longer than {MOST_OF_OTHERS:,} bytes", 4)
+        raise ToolError(f"{audit.shown(name)} is longer than {MOST_OF_OTHERS:,} bytes", 4)
     return content
 
 
-def put_inputs(folder: pathlib.Path, asked: argparse.Namespace) -> None:
+def put_inputs(folder: pathlib.Path, args: argparse.Namespace) -> None:
     """Puts the inputs into a folder."""
-    if asked.source is not None:
-        source.keep(folder, *source.parsed(asked.source), put)
-    for name, place in ((asked.labels, LABELS), (asked.description, DESCRIPTION)):
+    if args.source is not None:
+        source.keep(folder, *source.parsed(args.source), put)
+    for name, place in ((args.labels, LABELS), (args.description, DESCRIPTION)):
         if name is not None:
             put(folder, place, whole(name))
     for name in ("banks", "debts", "scenarios"):
-        if vars(asked)[name] is not None:
+        if vars(args)[name] is not None:
             ending = "toml" if name == "scenarios" else "csv"
-            content = contents(vars(asked)[name]) if name == "scenarios" else contents(vars(asked)[name], NETWORK.size)
+            content = contents(vars(args)[name]) if name == "scenarios" else contents(vars(args)[name], NETWORK.size)
             put(folder, f"inputs/{name}.{ending}", content)
-    if asked.changes is not None:
-        put(folder, CHANGES, whole(asked.changes))
-    if asked.kept is not None:
-        keep_source(folder, asked.kept)
+    if args.changes is not None:
+        put(folder, CHANGES, whole(args.changes))
+    if args.case_with_sheets is not None:
+        keep_source(folder, args.case_with_sheets)
 
 
-def make_in(folder: pathlib.Path, asked: argparse.Namespace) -> str:
-    """Fills a folder, and says what was made."""
-    asking = runner.Asking()
-    put_inputs(folder, asked)
+class Making:
+    """A folder that is filled: the inputs, then what the program makes of them, then what says how."""
 
-    def read(name: str) -> bytes:
-        return (folder / name).read_bytes()
+    def __init__(self, folder: pathlib.Path, args: argparse.Namespace) -> None:
+        self.folder, self.args, self.runs = folder, args, runner.ProgramRuns()
+        put_inputs(folder, args)
+        self.limits = limits_for(args.limits, self.read("inputs/banks.csv"), self.read("inputs/debts.csv"))
+        rescue = self.refused_first()
+        scenarios_data = self.read("inputs/scenarios.toml") if args.scenarios is not None else None
+        banks, debts = self.read("inputs/banks.csv"), self.read("inputs/debts.csv")
+        self.network, self.scenarios = read_inputs(banks, debts, scenarios_data, self.limits)
+        self.parts = parts_of(self.network.banks, self.scenarios, rescue)
+        self.run_all()
+        self.check_apart(rescue)
+        put(folder, "versions.txt", versions())
+        put(folder, "README.txt", README.encode())
+        self.names = files_of(folder)
+        self.sums = sums_text({name: checksum(self.read(name)) for name in self.names})
+        put(folder, "SHA256SUMS", self.sums)
 
-    by = limits_for(asked.limits, read("inputs/banks.csv"), read("inputs/debts.csv"))
-    inputs = ["--banks", "inputs/banks.csv", "--debts", "inputs/debts.csv", *limits_words(by)]
-    # The program's own refusal comes first.
-    asking.answer(["check", *inputs], folder)
-    rescue = asking.answer(["rescue", *inputs, "--bank", asked.bank], folder) if asked.bank is not None else None
-    if asked.scenarios is not None:
-        asking.answer(["stress", *inputs, "--scenarios", "inputs/scenarios.toml"], folder)
-    scenarios_data = read("inputs/scenarios.toml") if asked.scenarios is not None else None
-    network, scenarios = read_inputs(read("inputs/banks.csv"), read("inputs/debts.csv"), scenarios_data, by)
-    parts = parts_of(network.banks, scenarios, rescue)
-    for part in parts:
-        if part.banks is not None:
-            put(folder, f"{part.folder}/banks.csv", part.banks)
-    commands = commands_of(parts, asked.scenarios is not None, asked.bank, by)
-    answers = asking.all(lambda command: asking.answer(command[1], folder), commands, "run")
-    for (file, _), answer in zip(commands, answers):
-        put(folder, file, answer)
-    apart = "is not what `clear` and `defaults` print"
-    if asked.scenarios is not None and read("stress.csv") != stress_of(scenarios, parts, read):
-        raise Failed(f"what `clearing stress` prints {apart} of the banks that each scenario leaves")
-    if rescue is not None and not rescue_holds(network, rescue, read):
-        raise Failed(f"what `clearing rescue` prints {apart} with the sum and with a unit less")
-    put(folder, "commands.tsv", commands_text(commands))
-    put(folder, "versions.txt", versions())
-    put(folder, "README.txt", README.encode())
-    names = files_of(folder)
-    sums = sums_text({name: checksum(read(name)) for name in names})
-    put(folder, "SHA256SUMS", sums)
-    count = f"{len(parts)} network{'' if len(parts) == 1 else 's'}, {len(names)} files"
-    return f"{count}; SHA256SUMS itself has the checksum {checksum(sums)}"
+    def read(self, name: str) -> bytes:
+        """The content of a file of the folder."""
+        return (self.folder / name).read_bytes()
+
+    def refused_first(self) -> Optional[bytes]:
+        """Has the program read the inputs, whose own refusal comes first; what it prints of a rescue, if one is asked
+        for."""
+        args = self.args
+        inputs = ["--banks", "inputs/banks.csv", "--debts", "inputs/debts.csv", *limits_words(self.limits)]
+        self.runs.answer(["check", *inputs], self.folder)
+        rescue = None
+        if args.bank is not None:
+            rescue = self.runs.answer(["rescue", *inputs, "--bank", args.bank], self.folder)
+        if args.scenarios is not None:
+            self.runs.answer(["stress", *inputs, "--scenarios", "inputs/scenarios.toml"], self.folder)
+        return rescue
+
+    def run_all(self) -> None:
+        """Puts the banks files of the networks, and what each command prints."""
+        for part in self.parts:
+            if part.banks is not None:
+                put(self.folder, f"{part.folder}/banks.csv", part.banks)
+        commands = commands_of(self.parts, self.args.scenarios is not None, self.args.bank, self.limits)
+        answers = self.runs.all(lambda command: self.runs.answer(command[1], self.folder), commands, "run")
+        for (file, _), answer in zip(commands, answers):
+            put(self.folder, file, answer)
+        put(self.folder, "commands.tsv", commands_text(commands))
+
+    def check_apart(self, rescue: Optional[bytes]) -> None:
+        """Fails where two answers of the program do not agree."""
+        apart = "is not what `clear` and `defaults` print"
+        if self.args.scenarios is not None:
+            if self.read("stress.csv") != stress_of(self.scenarios, self.parts, self.read):
+                raise ToolError(f"what `clearing stress` prints {apart} of the banks that each scenario leaves")
+        if rescue is not None and not rescue_holds(self.network, rescue, self.read):
+            raise ToolError(f"what `clearing rescue` prints {apart} with the sum and with a unit less")
+
+    @property
+    def summary(self) -> str:
+        """What was made, in a line."""
+        count = f"{len(self.parts)} network{'' if len(self.parts) == 1 else 's'}, {len(self.names)} files"
+        return f"{count}; SHA256SUMS itself has the checksum {checksum(self.sums)}"
 
 
-def limits_for(said: Optional[str], banks: bytes, debts: bytes) -> str:
-    """The limits that were said, else those that the two files need; that they are wide is told."""
-    by, why = (said, "") if said else audit.limits_needed(banks, debts)
+def limits_for(named: Optional[str], banks: bytes, debts: bytes) -> str:
+    """The limits that were named, else those that the two files need; that they are wide is told."""
+    by, why = (named, "") if named else audit.limits_needed(banks, debts)
     if why:
-        told = f"the network is read by the wide limits, as it passes the standard ones ({why})"
-        runner.say(f"{told}; --limits wide says so")
+        what = f"the network is read by the wide limits, as it passes the standard ones ({why})"
+        runner.say(f"{what}; --limits wide says so")
     return by
 
 
@@ -232,11 +259,11 @@ def put(folder: pathlib.Path, name: str, content: bytes) -> None:
 
 def files_of(folder: pathlib.Path) -> List[str]:
     """The names of all that is in a folder but folders, from that folder."""
-    found = []
+    there = []
     for place, folders, names in os.walk(folder):
         links = [name for name in folders if os.path.islink(os.path.join(place, name))]
-        found += [os.path.relpath(os.path.join(place, name), folder).replace(os.sep, "/") for name in names + links]
-    return found
+        there += [os.path.relpath(os.path.join(place, name), folder).replace(os.sep, "/") for name in names + links]
+    return there
 
 
 @contextlib.contextmanager
@@ -266,26 +293,26 @@ def new_folder(way: files.Way, mode: int) -> Iterator[pathlib.Path]:
         os.close(number)
 
 
-def make(asked: argparse.Namespace) -> int:
+def make(args: argparse.Namespace) -> int:
     """Makes a new folder: the status."""
-    if os.path.lexists(asked.folder):
-        raise Failed(f"{asked.folder} is there already", 2)
-    take_case(asked)
+    if os.path.lexists(args.folder):
+        raise ToolError(f"{args.folder} is there already", 2)
+    take_case(args)
     # Who may not read the inputs may not read the evidence.
-    sheets = source.sheets_of(asked.source) if asked.source is not None else []
-    given = [asked.banks, asked.debts, asked.scenarios, asked.labels, asked.changes, *sheets]
-    mask = files.mask_of(name for name in given if name is not None)
+    sheets = source.sheets_of(args.source) if args.source is not None else []
+    inputs = [args.banks, args.debts, args.scenarios, args.labels, args.changes, *sheets]
+    mask = files.mask_of(name for name in inputs if name is not None)
     os.umask(mask)
     try:
-        with contextlib.closing(files.Way(asked.folder)) as way, new_folder(way, 0o777 & ~mask) as folder:
-            told = make_in(folder, asked)
+        with contextlib.closing(files.Way(args.folder)) as way, new_folder(way, 0o777 & ~mask) as folder:
+            summary = Making(folder, args).summary
     except OSError as fault:
-        raise Failed(f"cannot write {asked.folder}: {fault.strerror}", 5) from fault
-    except audit.Refused as fault:
-        raise Failed(str(fault), 4) from fault
-    except shock.Failed as fault:
-        raise Failed(str(fault), fault.status) from fault
-    sys.stdout.buffer.write(f"{audit.shown(asked.folder)}: {told}\n".encode())
+        raise ToolError(f"cannot write {args.folder}: {fault.strerror}", 5) from fault
+    except audit.RefusedError as fault:
+        raise ToolError(str(fault), 4) from fault
+    except shock.ScenarioError as fault:
+        raise ToolError(str(fault), fault.status) from fault
+    sys.stdout.buffer.write(f"{audit.shown(args.folder)}: {summary}\n".encode())
     return 0
 
 
@@ -308,8 +335,8 @@ def main() -> int:
     making.add_argument("--changes", metavar="FILE", help="a text that says what was changed against other files")
     making.add_argument("--limits", choices=list(audit.LIMITS), help="the limits of the network")
     tasks.add_parser("check", help="checks a folder", allow_abbrev=False).add_argument("folder", metavar="FOLDER")
-    asked = parser.parse_args()
-    is_whole = asked.task == "check" or asked.case is not None and asked.source is None
-    if not is_whole and (asked.banks is None, asked.debts is None) != ((asked.source is not None),) * 2:
+    args = parser.parse_args()
+    is_whole = args.task == "check" or args.case is not None and args.source is None
+    if not is_whole and (args.banks is None, args.debts is None) != ((args.source is not None),) * 2:
         making.error("--banks and --debts are needed, or --source in their place")
-    return (make if asked.task == "make" else check)(asked)
+    return (make if args.task == "make" else check)(args)

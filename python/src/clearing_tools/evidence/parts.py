@@ -6,7 +6,7 @@ import stat
 from typing import Callable, Dict, IO, Iterable, List, Mapping, NamedTuple, Optional, Sequence, Set, Tuple
 
 from .. import runner
-from ..runner import ROOT, Failed
+from ..runner import ROOT, ToolError
 from . import audit, shock
 
 BUILT = ROOT / "crates/clear_main/out/clear_main"
@@ -49,7 +49,7 @@ class Part(NamedTuple):
     banks: Optional[bytes]
 
 
-README = """Evidence for what `clearing` says of a network.
+README_BEGIN = """Evidence for what `clearing` says of a network.
 
 source/        the sheets that the two files were made of, with the command and its summary, where it began there
 inputs/        the files as they were given, or made of the source; changes.txt says what was changed before, where \
@@ -62,12 +62,20 @@ commands.tsv   the words and the status of each run of the program, from this fo
 versions.txt   of the repository, the program and the toolchain
 SHA256SUMS     checksums of all files: `sha256sum --check SHA256SUMS`
 
+"""
+README = README_BEGIN + """\
+`clearing-evidence check FOLDER` of the repository checks all this with Python alone; on another machine it needs
+bin/clearing-evidence and python/src of the repository, in one folder. docs/FORMATS.md there has the files, and
+clearing-audit says in its first lines what they mean.
+"""
+OLDER_README = README_BEGIN + """\
 `tools/evidence.sh check FOLDER` of the repository checks all this with Python alone; on another machine it needs \
 tools/evidence.sh,
 tools/evidence.py and python/src of the repository, in one folder. docs/FORMATS.md there has the files, and \
 tools/audit.py says in its
 first lines what they mean.
 """
+"""What folders say that were made before the commands stood in bin/. It goes with the next release."""
 
 
 def contents(name: str, most: int = MOST_OF_OTHERS) -> bytes:
@@ -77,7 +85,7 @@ def contents(name: str, most: int = MOST_OF_OTHERS) -> bytes:
         with open(name, "rb") as file:
             return file.read(most + 1)
     except (OSError, ValueError) as fault:
-        raise Failed(f"cannot read {audit.shown(name)}", 3) from fault
+        raise ToolError(f"cannot read {audit.shown(name)}", 3) from fault
 
 
 def checksum(content: bytes) -> str:
@@ -113,13 +121,13 @@ def read_rescue(text: bytes) -> Tuple[bytes, int, int, bytes]:
             return bank, int(added), int(short), payments
     except ValueError:
         pass
-    raise Failed("rescue.csv is not what `clearing rescue` prints", UNREAD)
+    raise ToolError("rescue.csv is not what `clearing rescue` prints", UNREAD)
 
 
 def with_added(banks: Sequence[audit.Bank], name: bytes, units: int) -> List[audit.Bank]:
     """The banks, with so much more cash of one."""
     if all(bank.name != name for bank in banks):
-        raise Failed("rescue.csv is of a bank that the inputs do not have", UNREAD)
+        raise ToolError("rescue.csv is of a bank that the inputs do not have", UNREAD)
     return [bank._replace(cash=bank.cash + (units if bank.name == name else 0)) for bank in banks]
 
 
@@ -258,7 +266,7 @@ def opened_in(folder: int, name: str) -> int:
     return number
 
 
-class NoRoom(Exception):
+class NoRoomError(Exception):
     """Why a copy of a file cannot be written."""
 
 
@@ -266,15 +274,15 @@ def checksum_of(number: int, most: int, copy: Optional[IO[bytes]] = None) -> str
     """The checksum of an open file, read block by block, as far as its limit; what is read is written to a copy where
     one is open."""
     with open(number, "rb", buffering=0) as file:
-        found, size = hashlib.sha256(), 0
+        digest, size = hashlib.sha256(), 0
         while block := file.read(1 << 20):
             size += len(block)
             if size > most:
                 raise OSError(0, f"it is longer than {most:,} bytes")
-            found.update(block)
+            digest.update(block)
             if copy is not None:
                 write_copy(copy, block)
-    return found.hexdigest()
+    return digest.hexdigest()
 
 
 def write_copy(copy: IO[bytes], block: bytes) -> None:
@@ -284,7 +292,7 @@ def write_copy(copy: IO[bytes], block: bytes) -> None:
         while left:
             left = left[copy.write(left) :]
     except OSError as fault:
-        raise NoRoom(fault.strerror) from fault
+        raise NoRoomError(fault.strerror) from fault
 
 
 # The program.
@@ -306,16 +314,13 @@ def program_file() -> str:
 
 def program_sum() -> str:
     """The checksum of that file; it ends with 2 where it cannot be read."""
-    found = hashlib.sha256()
     try:
         with open(program_file(), "rb") as file:
             if not stat.S_ISREG(os.fstat(file.fileno()).st_mode):
                 raise OSError(0, "it is no file")
-            while block := file.read(1 << 20):
-                found.update(block)
+            return runner.digest_of(file)
     except OSError as fault:
-        raise Failed(f"cannot read the program {audit.shown(runner.program())}", 2) from fault
-    return found.hexdigest()
+        raise ToolError(f"cannot read the program {audit.shown(runner.program())}", 2) from fault
 
 
 def sums_listed(text: bytes) -> Dict[str, str]:
@@ -324,6 +329,6 @@ def sums_listed(text: bytes) -> Dict[str, str]:
     for line in text.decode("utf-8", "surrogateescape").removesuffix("\n").split("\n"):
         sum_of, _, name = line.partition("  ")
         if not name or name in listed or len(sum_of) != 64:
-            raise Failed("SHA256SUMS is not a list of checksums", UNREAD)
+            raise ToolError("SHA256SUMS is not a list of checksums", UNREAD)
         listed[name] = sum_of
     return listed

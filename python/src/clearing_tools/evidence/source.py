@@ -15,12 +15,14 @@ import sys
 from typing import Callable, Dict, List, Mapping, NamedTuple, Optional, Sequence, Tuple
 
 from .. import runner
-from ..runner import Failed
+from ..runner import ToolError
 from . import confined
 from .parts import MOST_OF_COMMAND, MOST_OF_SHEETS
 
 TOOLS = {"from_matrix.py": "matrix", "from_list.py": "list", "from_totals.py": "totals"}
-"""The tools that make two files of sheets, and their modules."""
+"""The tools that make two files of sheets, by the names that are kept of them, and their modules."""
+COMMANDS = {f"clearing-{name[:-3].replace('_', '-')}": name for name in TOOLS}
+"""Their commands."""
 # What makes more than one network.
 MANY = "--samples"
 # What says where to write, with a value behind it, and without; it is left out of a command that is kept.
@@ -51,8 +53,9 @@ def parsed(command: str) -> Tuple[str, List[Word]]:
     try:
         tool, *words = shlex.split(command)
     except ValueError as fault:
-        raise Failed(f"--source is no command: {fault}", 2) from fault
-    tool = checked_tool(os.path.basename(tool), words)
+        raise ToolError(f"--source is no command: {fault}", 2) from fault
+    tool = os.path.basename(tool)
+    tool = checked_tool(COMMANDS.get(tool, tool), words)
     return tool, list(map(word_in, without_places(words)))
 
 
@@ -74,21 +77,21 @@ def word_of_case(word: str, sheets: Mapping[str, str]) -> Word:
 def checked_tool(tool: str, words: Sequence[str]) -> str:
     """The tool of a command. Fails where it is none of those for sheets, or makes more than one network."""
     if tool not in TOOLS:
-        raise Failed(f"--source begins with one of {', '.join(TOOLS)}", 2)
+        raise ToolError(f"--source begins with one of {', '.join(COMMANDS)}", 2)
     if any(word.split("=")[0] == MANY for word in words):
-        raise Failed(f"--source is of one network, and {MANY} makes several", 2)
+        raise ToolError(f"--source is of one network, and {MANY} makes several", 2)
     return tool
 
 
 def without_places(words: Sequence[str]) -> List[str]:
     """The words of a command without those that say where to write."""
-    found, is_value = [], False
+    own, is_value = [], False
     for word in words:
         option, sign, _ = word.partition("=")
         if not is_value and option not in (*PLACES, *FLAGS):
-            found.append(word)
+            own.append(word)
         is_value = not is_value and option in PLACES and not sign
-    return found
+    return own
 
 
 def word_in(word: str) -> Word:
@@ -113,19 +116,19 @@ def keep(
         if word.sheet is None:
             lines.append(f"word\t{word.text}")
             continue
-        kept = f"{len(lines)}-{os.path.basename(word.sheet)}"
-        put(folder, f"source/{kept}", sheet_in(word.sheet))
-        lines.append(f"file\t{word.text}\t{kept}")
+        place = f"{len(lines)}-{os.path.basename(word.sheet)}"
+        put(folder, f"source/{place}", sheet_in(word.sheet))
+        lines.append(f"file\t{word.text}\t{place}")
     if any(re.search("[\n\r\0]", line) or line.count("\t") > 2 for line in lines):
-        raise Failed("a word of --source has a tab or the end of a line", 2)
+        raise ToolError("a word of --source has a tab or the end of a line", 2)
     text = "".join(line + "\n" for line in lines).encode()
     try:
         words_in(text)
     except ValueError as fault:
-        raise Failed(f"--source: {fault} cannot be kept", 2) from fault
+        raise ToolError(f"--source: {fault} cannot be kept", 2) from fault
     put(folder, "source/command.tsv", text)
-    made = made_of(text, lambda name: (folder / "source" / name).read_bytes())
-    for name, content in made.items():
+    contents = made_of(text, lambda name: (folder / "source" / name).read_bytes())
+    for name, content in contents.items():
         put(folder, place_of(name), content)
 
 
@@ -143,7 +146,7 @@ def sheet_in(name: str) -> bytes:
             raise OSError(0, f"it is longer than {MOST_OF_SHEETS:,} bytes")
         return content
     except OSError as fault:
-        raise Failed(f"cannot read {name}: {fault.strerror}", 3) from fault
+        raise ToolError(f"cannot read {name}: {fault.strerror}", 3) from fault
 
 
 def words_in(text: bytes) -> Tuple[str, List[Word]]:
@@ -182,7 +185,7 @@ def known_words(text: bytes) -> Tuple[str, List[Word]]:
     try:
         return words_in(text)
     except ValueError as fault:
-        raise Failed(f"source/command.tsv is not a command that is run: {fault}", 3) from fault
+        raise ToolError(f"source/command.tsv is not a command that is run: {fault}", 3) from fault
 
 
 def names_of(text: bytes) -> List[str]:
@@ -203,9 +206,9 @@ def made_of(text: bytes, read: Callable[[str], bytes]) -> Dict[str, bytes]:
         run_tool(tool, list(map(in_folder, words)), folder)
         try:
             there = [*MADE, *([NAMED] if (folder / "made" / NAMED).exists() else [])]
-            return {made: (folder / "made" / made).read_bytes() for made in there}
+            return {file: (folder / "made" / file).read_bytes() for file in there}
         except OSError as fault:
-            raise Failed("source/command.tsv is not a command that is run: it makes no files", 3) from fault
+            raise ToolError("source/command.tsv is not a command that is run: it makes no files", 3) from fault
 
 
 def in_folder(word: Word) -> str:
@@ -221,9 +224,9 @@ def run_tool(tool: str, words: List[str], folder: pathlib.Path) -> None:
         nothing, pipe = subprocess.DEVNULL, subprocess.PIPE
         done = subprocess.run(command, cwd=folder, stdin=nothing, stdout=nothing, stderr=pipe, timeout=MOST_SECONDS)
     except subprocess.TimeoutExpired as fault:
-        raise Failed(f"{tool} takes longer than {MOST_SECONDS} seconds", 4) from fault
+        raise ToolError(f"{tool} takes longer than {MOST_SECONDS} seconds", 4) from fault
     except (OSError, ValueError) as fault:
-        raise Failed(f"source/command.tsv is not a command that is run: {fault}", 3) from fault
+        raise ToolError(f"source/command.tsv is not a command that is run: {fault}", 3) from fault
     if done.returncode:
-        said = done.stderr[:MOST_OF_COMMAND].decode("utf-8", "replace").strip()
-        raise Failed(said or f"{tool} ended with {done.returncode}", 4 if done.returncode == 1 else 2)
+        message = done.stderr[:MOST_OF_COMMAND].decode("utf-8", "replace").strip()
+        raise ToolError(message or f"{tool} ended with {done.returncode}", 4 if done.returncode == 1 else 2)

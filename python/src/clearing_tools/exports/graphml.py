@@ -17,16 +17,22 @@ or networkx is not there.
 """
 import io
 import re
-from typing import Any, Dict, List, Tuple
+from typing import TYPE_CHECKING, Dict, List, Tuple, Union
 
 from clearing_client.case import Case
 
 from .. import cases, cli, files
-from ..runner import Failed, command, lacking
+from ..runner import ToolError, command, lacking
 from ..texts import lines_of, read_accounts, read_payments, read_standings
 
+if TYPE_CHECKING:
+    from networkx import MultiDiGraph
 
-def banks_of(name: str) -> Dict[str, Dict[str, Any]]:
+Attributes = Dict[str, Union[int, float, str]]
+"""What a graph says of a bank or a debt."""
+
+
+def banks_of(name: str) -> Dict[str, Attributes]:
     """What `defaults` says of each bank, by its name: what is paid outside only where the text has it."""
     standings = read_standings(name)
     words = lines_of(name)[0].split(",")[1:]
@@ -39,19 +45,19 @@ BARRED = re.compile("[\ufffe\uffff]|<(?=U\\+(?:FFFE|FFFF|003C)>)")
 
 def xml_name(name: str) -> str:
     """A name as XML can hold it: those two stand as <U+FFFE> and <U+FFFF>. Names that differ stay so."""
-    return BARRED.sub(lambda found: f"<U+{ord(found[0]):04X}>", name)
+    return BARRED.sub(lambda match: f"<U+{ord(match[0]):04X}>", name)
 
 
-def add_accounts(name: str, banks: Dict[str, Dict[str, Any]]) -> None:
+def add_accounts(name: str, banks: Dict[str, Attributes]) -> None:
     """Adds what the banks file says to what is known of each bank."""
-    accounts = read_accounts(name)[1]
+    columns, accounts = read_accounts(name)
     for other in accounts.keys() ^ banks.keys():
-        raise Failed(f"{name} is not of the network of the others: see the bank {other}")
+        raise ToolError(f"{name} is not of the network of the others: see the bank {other}")
     for bank, account in accounts.items():
-        banks[bank].update(account)
+        banks[bank].update({column: getattr(account, column) for column in columns})
 
 
-def add_labels(case: Case, banks: Dict[str, Dict[str, Any]]) -> None:
+def add_labels(case: Case, banks: Dict[str, Attributes]) -> None:
     """Adds what the labels of a case say of each bank; all banks have the attributes that one of them has."""
     for word in ("short", "full", "group", "country"):
         if any(getattr(label, word) for label in case.labels.values()):
@@ -59,43 +65,40 @@ def add_labels(case: Case, banks: Dict[str, Dict[str, Any]]) -> None:
                 known[word] = xml_name(getattr(case.label(bank), word))
 
 
-def debts_of(name: str, banks: Dict[str, Dict[str, Any]]) -> List[Tuple[str, str, Dict[str, Any]]]:
+def debts_of(name: str, banks: Dict[str, Attributes]) -> List[Tuple[str, str, Attributes]]:
     """The debts with what is paid on each, in file order."""
     owes = dict.fromkeys(banks, 0)
-    debts = []
+    debts: List[Tuple[str, str, Attributes]] = []
     for line, (debtor, creditor, class_, claim, paid) in enumerate(read_payments(name), 2):
         for bank in (debtor, creditor):
             if bank not in banks:
-                raise Failed(f"{name}: line {line}: the other text has no bank {bank!r}")
+                raise ToolError(f"{name}: line {line}: the other text has no bank {bank!r}")
         if paid > claim:
-            raise Failed(f"{name}: line {line}: more is paid than is claimed")
-        share = paid / claim if claim else 1.0
-        debts.append(
-            (
-                debtor,
-                creditor,
-                {
-                    "weight": claim,
-                    "class": class_,
-                    "claim": claim,
-                    "paid": paid,
-                    "unpaid": claim - paid,
-                    "share": share,
-                },
-            )
-        )
+            raise ToolError(f"{name}: line {line}: more is paid than is claimed")
+        debt: Attributes = {
+            "weight": claim,
+            "class": class_,
+            "claim": claim,
+            "paid": paid,
+            "unpaid": claim - paid,
+            "share": paid / claim if claim else 1.0,
+        }
+        debts.append((debtor, creditor, debt))
         owes[debtor] += claim
     for bank, owed in owes.items():
         if banks[bank]["owed"] != owed:
-            raise Failed(
+            raise ToolError(
                 f"{name}: the debts of {bank} come to {owed}, and the other text says {banks[bank]['owed']}: are "
                 "they of one network?"
             )
     return debts
 
 
-def graph_of(networkx: Any, banks: Dict[str, Dict[str, Any]], debts: List[Tuple[str, str, Dict[str, Any]]]) -> Any:
-    graph = networkx.MultiDiGraph()
+def graph_of(banks: Dict[str, Attributes], debts: List[Tuple[str, str, Attributes]]) -> "MultiDiGraph":
+    """The graph, with a node for each bank and an edge for each debt."""
+    from networkx import MultiDiGraph
+
+    graph = MultiDiGraph()
     for name, bank in banks.items():
         graph.add_node(xml_name(name), label=xml_name(name), **bank)
     for at, (debtor, creditor, debt) in enumerate(debts, 1):
@@ -113,14 +116,14 @@ def main() -> None:
     )
     parser.add_argument("--banks", metavar="FILE", help="the banks file")
     parser.add_argument("--out", required=True, metavar="FILE", help="the file to write")
-    words = parser.parse_args()
-    case = cases.beside(words)
-    banks = banks_of(words.defaults)
-    debts = debts_of(words.payments, banks)
-    if words.banks:
-        add_accounts(words.banks, banks)
-    if case:
-        add_labels(case, banks)
+    args = parser.parse_args()
+    beside = cases.beside(args)
+    banks = banks_of(args.defaults)
+    debts = debts_of(args.payments, banks)
+    if beside.banks:
+        add_accounts(beside.banks, banks)
+    if beside.case:
+        add_labels(beside.case, banks)
     try:
         import networkx
 
@@ -128,8 +131,7 @@ def main() -> None:
     except (ImportError, AttributeError) as fault:
         raise lacking("networkx", "all") from fault
     text = io.BytesIO()
-    networkx.write_graphml_xml(graph_of(networkx, banks, debts), text, encoding="utf-8")
+    networkx.write_graphml_xml(graph_of(banks, debts), text, encoding="utf-8")
     files.write_all(
-        [(words.out, text.getvalue())],
-        [words.payments, words.defaults, words.banks, *(cases.inputs_of(case) if case else [])],
+        [(args.out, text.getvalue())], [args.payments, args.defaults, beside.banks, *beside.inputs]
     )

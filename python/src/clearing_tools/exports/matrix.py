@@ -5,7 +5,7 @@ In:  FOLDER, a case, or --banks FILE and --debts FILE, two files that `clearing 
 Out: on standard output, or in --out FILE, comma-separated records in UTF-8: the names of the banks in the first row
      and the first column, where they meet what the bank of the row owes or pays the bank of the column, all classes
      together or one alone (--class), and last the columns `cash`, `outside` where the banks file has it, and `rule`.
-     from_matrix.py reads it back. No file that is read is written over. A file whose name ends with .xlsx is a
+     clearing-from-matrix reads it back. No file that is read is written over. A file whose name ends with .xlsx is a
      workbook, which needs openpyxl (Debian's package python3-openpyxl).
 
 With --unit, or by the unit of the case, amounts are units times it, as decimal numbers.
@@ -14,75 +14,74 @@ Ends with 0, or with 1 and a message where a file is not as it should be, or wit
 """
 import argparse
 from decimal import Decimal
-from typing import Any, Callable, Dict, Iterable, Iterator, List, Tuple, Union
+from typing import Callable, Container, Dict, Iterable, Iterator, List, Tuple, Union
 
 from clearing_client.texts import DEBTS
 
 from .. import cases, cli, files, money
-from ..runner import Failed, command
+from ..runner import ToolError, StrPath, command
 from ..texts import number, read_accounts, read_payments, records_in
 from .workbook import book_of, is_book
 
 
-AsAmount = Callable[[int], Any]
+AsAmount = Callable[[int], object]
 DebtRecord = Tuple[int, str, str, int, int, int]
 """A row, the debtor, the creditor, the class, the claim, and what is shown of it."""
 Debts = Dict[Tuple[str, str, int], Tuple[int, int]]
 """The claim, and what is shown of it, by debtor, creditor and class."""
 
 
-def debts_in(name: Any) -> Iterator[DebtRecord]:
+def debts_in(name: StrPath) -> Iterator[DebtRecord]:
     """The debts of a debts file, each with its row and its claim twice: what is owed is what is shown."""
     for row, (debtor, creditor, class_, claim) in records_in(name, DEBTS)[1]:
         yield row, debtor, creditor, number(name, row, class_), number(name, row, claim), number(name, row, claim)
 
 
-def debts_of(name: Any, records: Iterable[DebtRecord], banks: Dict[str, List[Any]]) -> Debts:
+def debts_of(name: StrPath, records: Iterable[DebtRecord], banks: Container[str]) -> Debts:
     """For each debt its debtor, creditor, class and claim, and what is shown of it."""
     debts: Debts = {}
     for row, debtor, creditor, class_, claim, amount in records:
         for bank in (debtor, creditor):
             if bank not in banks:
-                raise Failed(f"{name} row {row}: no bank has the name {bank!r}")
+                raise ToolError(f"{name} row {row}: no bank has the name {bank!r}")
         key = (debtor, creditor, class_)
         if key in debts:
-            raise Failed(f"{name} row {row}: a second debt of {debtor} to {creditor} of class {class_}")
+            raise ToolError(f"{name} row {row}: a second debt of {debtor} to {creditor} of class {class_}")
         debts[key] = (claim, amount)
     return debts
 
 
-def paid_of(words: argparse.Namespace, banks: Dict[str, List[Any]], debts: Debts) -> Debts:
-    """What is paid on each debt, by a file of payments of just these debts."""
-    paid = debts_of(
-        words.payments, ((row, *payment) for row, payment in enumerate(read_payments(words.payments), 1)), banks
-    )
+def paid_of(payments: str, name: str, banks: Container[str], debts: Debts) -> Debts:
+    """What is paid on each debt, by a file of payments of just these debts, which are those of a file of this name."""
+    records = ((row, *payment) for row, payment in enumerate(read_payments(payments), 1))
+    paid = debts_of(payments, records, banks)
     for key in {**debts, **paid}:
         if key not in paid or key not in debts or paid[key][0] != debts[key][0]:
-            raise Failed(
-                f"{words.payments} is not of the debts in {words.debts}: see the debt of {key[0]} to {key[1]} of "
+            raise ToolError(
+                f"{payments} is not of the debts in {name}: see the debt of {key[0]} to {key[1]} of "
                 f"class {key[2]}"
             )
     return paid
 
 
-def matrix_of(words: argparse.Namespace, as_amount: AsAmount) -> Iterator[List[Any]]:
+def matrix_of(taken: cases.Taken, args: argparse.Namespace, as_amount: AsAmount) -> Iterator[List[object]]:
     """The records of the matrix, its header first."""
-    columns, accounts = read_accounts(words.banks)
+    columns, accounts = read_accounts(taken.banks)
     names = [name for name in ("cash", "outside", "rule") if name in columns]
-    banks = {
-        bank: [account[name] if name == "rule" else as_amount(account[name]) for name in names]
-        for bank, account in accounts.items()
-    }
-    debts = debts_of(words.debts, debts_in(words.debts), banks)
-    if words.payments:
-        debts = paid_of(words, banks, debts)
+    banks: Dict[str, List[object]] = {}
+    for bank, account in accounts.items():
+        outside = [as_amount(account.outside)] if "outside" in columns else []
+        banks[bank] = [as_amount(account.cash), *outside, account.rule]
+    debts = debts_of(taken.debts, debts_in(taken.debts), banks)
+    if args.payments:
+        debts = paid_of(args.payments, taken.debts, banks, debts)
     cells: Dict[Tuple[str, str], int] = {}
     for (debtor, creditor, class_), amounts in debts.items():
-        if words.class_ in (None, class_):
+        if args.class_ in (None, class_):
             cells[debtor, creditor] = cells.get((debtor, creditor), 0) + amounts[1]
     yield ["", *banks, *names]
-    for debtor, columns in banks.items():
-        yield [debtor, *(as_amount(cells.get((debtor, creditor), 0)) for creditor in banks), *columns]
+    for debtor, own in banks.items():
+        yield [debtor, *(as_amount(cells.get((debtor, creditor), 0)) for creditor in banks), *own]
 
 
 @command("to_matrix")
@@ -92,11 +91,11 @@ def main() -> None:
     parser.add_argument("--class", dest="class_", type=int, choices=range(1, 10), help="one class alone")
     money.add_unit(parser)
     parser.add_argument("--out", metavar="FILE", help="the file to write, in place of standard output")
-    words = parser.parse_args()
-    case = cases.take_case(parser, words)
-    amount = money.amount_by(words.unit)
-    if is_book(words.out):
-        made: Union[str, bytes] = book_of({"matrix": matrix_of(words, lambda units: Decimal(amount(units)))})
+    args = parser.parse_args()
+    taken = cases.take_case(parser, args)
+    amount = money.amount_by(taken.unit)
+    if is_book(args.out):
+        content: Union[str, bytes] = book_of({"matrix": matrix_of(taken, args, lambda units: Decimal(amount(units)))})
     else:
-        made = files.csv_text(matrix_of(words, amount))
-    files.put(made, words.out, [*cases.inputs_of(case), words.payments])
+        content = files.csv_text(matrix_of(taken, args, amount))
+    files.put(content, args.out, [*cases.inputs_of(taken.case), args.payments])

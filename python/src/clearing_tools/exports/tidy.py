@@ -28,28 +28,31 @@ import pathlib
 import sys
 import tempfile
 from decimal import Decimal
-from typing import IO, Any, Callable, Dict, Iterable, Iterator, List, Union
+from typing import IO, Callable, Dict, Iterable, Iterator, List, Mapping, Sequence, Union
 
 from clearing_client.errors import TextError
 from clearing_client.limits import MOST
 from clearing_client.records import ScenarioPayment, ScenarioStanding, ScenarioTotals
+from clearing_client.results import AnyTable
 from clearing_client.table import words_of
 from clearing_client.texts import SUMS, outcomes_in
 
 from .. import cases, cli, files, money
-from ..runner import Failed, command
+from ..runner import ToolError, command
 from ..texts import parsed
 from .workbook import book_of, is_book
 
 AsAmount = Callable[[int], str]
 Content = Union[str, IO[bytes]]
+Value = Union[str, int, None]
+"""What stands in a column: a name, a number, or whether something is so, where that is known."""
 AMOUNTS = set(
     """claim paid least greatest estate outside_paid owed equity lost cash outside to added short cancelled had allowed
     own others lost_at_least equity_at_least lost_at_greatest equity_at_greatest""".split()
 )
 # A journal by the wide limits and what is printed beside it are no longer, and no header is.
 MOST_BYTES, MOST_LINE = MOST.bytes["journal"] + files.MOST_BYTES, 1_000_000
-SHOWN = {True: "yes", False: "no", None: ""}
+SHOWN: Mapping[object, str] = {True: "yes", False: "no", None: ""}
 
 
 @contextlib.contextmanager
@@ -61,7 +64,7 @@ def opened(output: str) -> Iterator[IO[bytes]]:
     try:
         file = open(output, "rb")
     except OSError as fault:
-        raise Failed(f"{output}: cannot be read: {fault}") from fault
+        raise ToolError(f"{output}: cannot be read: {fault}") from fault
     with file:
         yield file
 
@@ -80,7 +83,7 @@ def tables_of(output: str, as_amount: AsAmount, undo: contextlib.ExitStack) -> D
                 return stress_tables(name, itertools.chain([first], stream), as_amount, undo)
             text = (first + files.bytes_in(stream, MOST_BYTES)).decode("utf-8-sig").replace("\r\n", "\n")
         except (OSError, UnicodeDecodeError) as fault:
-            raise Failed(f"{name}: cannot be read: {fault}") from fault
+            raise ToolError(f"{name}: cannot be read: {fault}") from fault
     return {table: "".join(csv_lines(each, as_amount)) for table, each in parsed(name, text).tables().items()}
 
 
@@ -89,48 +92,48 @@ def stress_tables(
 ) -> Dict[str, Content]:
     """The files of the tables of what `stress` printed, each record with the number and the name of its scenario."""
     kinds = {"payments": ScenarioPayment, "standings": ScenarioStanding, "totals": ScenarioTotals}
-    made: Dict[str, IO[bytes]] = {table: undo.enter_context(tempfile.TemporaryFile()) for table in kinds}
+    texts: Dict[str, IO[bytes]] = {table: undo.enter_context(tempfile.TemporaryFile()) for table in kinds}
     for table, kind in kinds.items():
-        made[table].write((",".join(words_of(kind)) + "\n").encode())
+        texts[table].write((",".join(words_of(kind)) + "\n").encode())
     try:
         for outcome in outcomes_in(stream):
             for table, each in outcome.tables().items():
                 _, *rows = csv_lines(each, as_amount)
-                made[table].write("".join(f"{outcome.number},{outcome.name},{row}" for row in rows).encode())
+                texts[table].write("".join(f"{outcome.number},{outcome.name},{row}" for row in rows).encode())
     except TextError as fault:
-        raise Failed(f"{name}: {fault}") from fault
-    return dict(made)
+        raise ToolError(f"{name}: {fault}") from fault
+    return dict(texts)
 
 
-def cell_of(name: str, value: Any, as_amount: AsAmount) -> str:
+def cell_of(name: str, value: Value, as_amount: AsAmount) -> str:
     """A value of a column as a text."""
     if value is None or isinstance(value, bool):
         return SHOWN[value]
-    return as_amount(value) if name in AMOUNTS else str(value)
+    return as_amount(value) if name in AMOUNTS and isinstance(value, int) else str(value)
 
 
-def csv_lines(table: Any, as_amount: AsAmount) -> List[str]:
+def csv_lines(table: AnyTable, as_amount: AsAmount) -> List[str]:
     """The lines of a file of a table. No name has a comma, a quote or the end of a line."""
     columns = [[cell_of(name, value, as_amount) for value in table.column(name)] for name in table.columns]
     return [",".join(row) + "\n" for row in [table.columns, *zip(*columns)]]
 
 
-def value_of(name: str, value: Any, as_amount: AsAmount) -> Any:
+def value_of(name: str, value: Value, as_amount: AsAmount) -> Union[str, int, Decimal]:
     """A value of a column as a number or a text."""
     if value is None or isinstance(value, (bool, str)):
         return value if isinstance(value, str) else SHOWN[value]
     return Decimal(as_amount(value)) if name in AMOUNTS else value
 
 
-def sheets_of(output: str, as_amount: AsAmount) -> Dict[str, List[Any]]:
+def sheets_of(output: str, as_amount: AsAmount) -> Dict[str, List[Sequence[object]]]:
     """The tables of a text as the sheets of a workbook: the records of each by its name, the header first."""
     name = "standard input" if output == "-" else output
     with opened(output) as stream:
         try:
             text = files.bytes_in(stream, MOST_BYTES).decode("utf-8-sig").replace("\r\n", "\n")
         except (OSError, UnicodeDecodeError) as fault:
-            raise Failed(f"{name}: cannot be read: {fault}") from fault
-    sheets = {}
+            raise ToolError(f"{name}: cannot be read: {fault}") from fault
+    sheets: Dict[str, List[Sequence[object]]] = {}
     for title, table in parsed(name, text).tables().items():
         columns = [[value_of(column, value, as_amount) for value in table.column(column)] for column in table.columns]
         sheets[title] = [table.columns, *zip(*columns)]
@@ -145,19 +148,19 @@ def main() -> None:
     money.add_unit(parser)
     parser.add_argument("--folder", help="the folder of the tables, which is made where it is not there")
     parser.add_argument("--out", metavar="FILE.xlsx", help="one workbook in place of the files")
-    words = parser.parse_args()
-    if words.out is not None and (words.folder is not None or not is_book(words.out)):
+    args = parser.parse_args()
+    if args.out is not None and (args.folder is not None or not is_book(args.out)):
         parser.error("--out is a file that ends with .xlsx, in place of --folder")
-    is_input = words.output == "-"
-    path = pathlib.Path("output" if is_input else words.output)
-    folder = path.parent if words.folder is None else pathlib.Path(words.folder)
-    case = cases.beside(words)
-    as_amount = money.amount_by(words.unit)
+    is_input = args.output == "-"
+    path = pathlib.Path("output" if is_input else args.output)
+    folder = path.parent if args.folder is None else pathlib.Path(args.folder)
+    beside = cases.beside(args)
+    as_amount = money.amount_by(beside.unit)
     with contextlib.ExitStack() as undo:
-        if words.out is not None:
-            tables: Dict[Any, Any] = {words.out: book_of(sheets_of(words.output, as_amount))}
+        if args.out is not None:
+            tables: Dict[str, files.Content] = {args.out: book_of(sheets_of(args.output, as_amount))}
         else:
-            made = tables_of(words.output, as_amount, undo)
-            tables = {folder / f"{path.stem}-{name}.csv": table for name, table in made.items()}
-        files.write_all(tables, [*([] if is_input else [words.output]), *(cases.inputs_of(case) if case else [])])
+            contents = tables_of(args.output, as_amount, undo)
+            tables = {str(folder / f"{path.stem}-{name}.csv"): table for name, table in contents.items()}
+        files.write_all(tables, [*([] if is_input else [args.output]), *beside.inputs])
     files.put(b"".join(os.fsencode(name) + b"\n" for name in tables))

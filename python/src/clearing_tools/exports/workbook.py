@@ -5,12 +5,16 @@ import io
 import re
 import zipfile
 from decimal import Decimal
-from typing import Any, Iterable, Mapping, Sequence, Union
+from typing import TYPE_CHECKING, Iterable, Mapping, Optional, Sequence, Union
 
 from .. import files
-from ..runner import Failed, lacking
+from ..runner import ToolError, StrPath, lacking
 
-Tables = Mapping[str, Iterable[Sequence[Any]]]
+if TYPE_CHECKING:
+    from openpyxl.cell import Cell
+    from openpyxl.worksheet._write_only import WriteOnlyWorksheet
+
+Tables = Mapping[str, Iterable[Sequence[object]]]
 """Tables by their titles, each its records, the header first."""
 DIGITS, MOST_ROWS = 15, 1_048_576
 EPOCH = (1980, 1, 1, 0, 0, 0)
@@ -18,22 +22,12 @@ EPOCH = (1980, 1, 1, 0, 0, 0)
 MADE = re.compile(rb"(<dcterms:(?:created|modified)[^>]*>)[^<]*(?=<)")
 
 
-def is_book(name: Any) -> bool:
+def is_book(name: Optional[StrPath]) -> bool:
     """Whether a file is to be a workbook, by its ending."""
     return name is not None and str(name).casefold().endswith(".xlsx")
 
 
-def library() -> Any:
-    try:
-        import openpyxl
-
-        openpyxl.Workbook
-    except (ImportError, AttributeError) as fault:
-        raise lacking("openpyxl", "sheets", ", which writes .xlsx") from fault
-    return openpyxl
-
-
-def number_of(value: Any) -> Any:
+def number_of(value: object) -> Union[int, Decimal, None]:
     """A number that a spreadsheet keeps to its last digit, or nothing."""
     if isinstance(value, (int, Decimal)) and not isinstance(value, bool):
         digits = str(value).lstrip("-").replace(".", "").lstrip("0")
@@ -44,45 +38,48 @@ def number_of(value: Any) -> Any:
 def book_of(tables: Tables) -> bytes:
     """The bytes of a workbook of some tables, each its records by its title, the header first. Fails where a text
     cannot stand in one, or a table is too long."""
-    openpyxl = library()
-    from openpyxl.cell import WriteOnlyCell
-
-    book = openpyxl.Workbook(write_only=True)
+    try:
+        from openpyxl import Workbook
+    except ImportError as fault:
+        raise lacking("openpyxl", "sheets", ", which writes .xlsx") from fault
+    book = Workbook(write_only=True)
     for title, records in tables.items():
         sheet = book.create_sheet(title)
         sheet.freeze_panes = "A2"
         for row, record in enumerate(records, 1):
             if row > MOST_ROWS:
-                raise Failed(f"the table {title} has more than the {MOST_ROWS:,} rows of a sheet; write it as .csv")
-            sheet.append([cell_of(WriteOnlyCell, sheet, value) for value in record])
-    made = io.BytesIO()
-    book.save(made)
-    return without_dates(made)
+                raise ToolError(f"the table {title} has more than the {MOST_ROWS:,} rows of a sheet; write it as .csv")
+            sheet.append([cell_of(sheet, value) for value in record])
+    content = io.BytesIO()
+    book.save(content)
+    return without_dates(content)
 
 
-def cell_of(make: Any, sheet: Any, value: Any) -> Any:
+def cell_of(sheet: "WriteOnlyWorksheet", value: object) -> "Cell":
     """A cell of a number, or of a text as it is."""
+    from openpyxl.cell import WriteOnlyCell
+
     number = number_of(value)
     if number is not None:
-        cell = make(sheet, number)
+        cell = WriteOnlyCell(sheet, number)
         places = -int(number.as_tuple().exponent) if isinstance(number, Decimal) else 0
         if places > 0:
             cell.number_format = "0." + "0" * places
         return cell
     text = "" if value is None else str(value)
     if re.search("[\x00-\x08\x0b\x0c\x0e-\x1f\ufffe\uffff]", text):
-        raise Failed(f"{text!r} cannot stand in a workbook; write it as .csv")
-    cell = make(sheet, "x")
+        raise ToolError(f"{text!r} cannot stand in a workbook; write it as .csv")
+    cell = WriteOnlyCell(sheet, "x")
     cell.value = text
     cell.data_type = "s"
     cell.quotePrefix = 1 if text[:1] in tuple("=+-@") else 0
     return cell
 
 
-def without_dates(made: Any) -> bytes:
+def without_dates(book: io.BytesIO) -> bytes:
     """A workbook without the time at which it was made."""
     plain = io.BytesIO()
-    with zipfile.ZipFile(made) as archive, zipfile.ZipFile(plain, "w", zipfile.ZIP_DEFLATED) as other:
+    with zipfile.ZipFile(book) as archive, zipfile.ZipFile(plain, "w", zipfile.ZIP_DEFLATED) as other:
         for info in archive.infolist():
             content = archive.read(info)
             if info.filename == "docProps/core.xml":
@@ -95,7 +92,7 @@ def without_dates(made: Any) -> bytes:
     return plain.getvalue()
 
 
-def content_of(tables: Tables, name: Any) -> Union[str, bytes]:
+def content_of(tables: Tables, name: Optional[StrPath]) -> Union[str, bytes]:
     """What a file of some tables has: a workbook by its ending, else comma-separated records, an empty line between
     tables."""
     return book_of(tables) if is_book(name) else "\n".join(map(files.csv_text, tables.values()))

@@ -25,7 +25,7 @@ class Cell(str):
     currency: Optional[str] = None
 
 
-class Unread(Exception):
+class AmountError(Exception):
     """A text that is no amount; with the kind of a question, where one answer serves many cells."""
 
     def __init__(self, what: str, question: object = None, kind: str = "no amount") -> None:
@@ -60,7 +60,7 @@ class Amounts:
         self.numbers: Set[Amount] = set()
 
     def read(self, text: str) -> Amount:
-        """The amount in a cell: an integer or a fraction. Fails with `Unread` where it is none."""
+        """The amount in a cell: an integer or a fraction. Fails with `AmountError` where it is none."""
         if isinstance(text, Cell):
             return self.of_cell(text)
         amount = self.known.get(text)
@@ -69,34 +69,37 @@ class Amounts:
         return amount
 
     def of_cell(self, cell: Cell) -> Amount:
+        """The amount of a cell of a workbook: its number, or what its text says."""
         if cell.fault:
-            raise Unread(f"{str(cell)!r} {cell.fault}")
+            raise AmountError(f"{str(cell)!r} {cell.fault}")
         value: Optional[Amount] = cell.value
         if value is None:
             return self.of_text(str(cell))
         if value < 0 and not self.is_signed:
-            raise Unread(below_zero(str(cell)), kind="below 0")
+            raise AmountError(below_zero(str(cell)), kind="below 0")
         if cell.currency and value:
             self.see_currency(cell.currency, str(cell))
         self.numbers.add(value)
         return value
 
     def of_text(self, text: str) -> Amount:
+        """The amount of a text, with its sign and without its currency."""
         if text.isascii() and text.isdigit() and len(text) <= MOST_DIGITS:
             return int(text)
         text = "".join(SAME_SIGN.get(c, c) for c in text).strip(" ")
         if is_null(text):
             if self.empty_words:
                 return 0
-            raise Unread(f"{text!r} is not an amount; say --empty 0 to read it as 0, or --leave-out empty", kind="null")
+            what = f"{text!r} is not an amount; say --empty 0 to read it as 0, or --leave-out empty"
+            raise AmountError(what, kind="null")
         digits, currency = bare(text)
         if digits == "" or all(c in DASHES for c in digits):
             if currency and not digits:
-                raise Unread(f"{text!r} is not an amount")
+                raise AmountError(f"{text!r} is not an amount")
             return 0
         amount = self.number(text, digits)
         if is_negative(digits) and amount and not self.is_signed:
-            raise Unread(below_zero(text), kind="below 0")
+            raise AmountError(below_zero(text), kind="below 0")
         if currency:
             self.see_currency(currency, text)
         return -amount if is_negative(digits) else amount
@@ -105,30 +108,31 @@ class Amounts:
         """Refuses a currency that is another than those before."""
         self.currency = self.currency or (currency, text)
         if self.currency[0] != currency:
-            raise Unread(
+            raise AmountError(
                 f"{text!r} is of another currency than {self.currency[1]!r}: {currency}, not {self.currency[0]}; "
                 "convert all amounts to one"
             )
 
     def number(self, text: str, digits: str) -> Amount:
+        """The number of a text, whatever its sign, by its digits and the signs between them."""
         if is_negative(digits):
             digits = digits.strip(DASHES + "() ")
         if not any(c.isascii() and c.isdigit() for c in digits) or len(digits) > 2 * MOST_DIGITS:
-            raise Unread(f"{text!r} is not an amount")
+            raise AmountError(f"{text!r} is not an amount")
         power = POWER.fullmatch(digits)
         if power:
             if power[2]:
                 self.use(text, power[2], "decimals")
             return decimal_of(power[1], power[3] or "") * Fraction(10) ** int(power[4])
         if not PLAIN.fullmatch(digits):
-            raise Unread(f"{text!r} is not an amount")
+            raise AmountError(f"{text!r} is not an amount")
         sign = self.decimal_sign(text, digits)
         whole, _, part = digits.rpartition(sign) if sign else (digits, "", "")
         separators = {c for c in whole if not c.isdigit()}
         for c in separators:
             self.use(text, c, "thousands")
         if len(separators) > 1 or separators and not (is_in_threes(whole) or is_indian(whole)):
-            raise Unread(f"{text!r} is not an amount: its digits do not stand in groups of three")
+            raise AmountError(f"{text!r} is not an amount: its digits do not stand in groups of three")
         if sign:
             self.use(text, sign, "decimals")
         return decimal_of("".join(c for c in whole if c.isdigit()), part)
@@ -149,22 +153,22 @@ class Amounts:
         if self.thousands is not None or len(behind) != 3 or not 1 <= len(before) <= 3 or before[0] == "0":
             return last
         question = f"{text}: thousands or decimals? say --thousands {last} or --decimal {last}"
-        raise Unread(question, last)
+        raise AmountError(question, last)
 
     def use(self, text: str, sign: str, use: str) -> None:
         """Remembers a use of a sign, and refuses another of it, or two signs for decimals."""
-        said = {self.decimal: "decimals", self.thousands: "thousands"}
-        if sign in said and said[sign] != use or use == "decimals" and self.decimal not in (None, sign):
-            raise Unread(self.question_of(text, sign, use), ("sign", sign, use))
+        uses = {self.decimal: "decimals", self.thousands: "thousands"}
+        if sign in uses and uses[sign] != use or use == "decimals" and self.decimal not in (None, sign):
+            raise AmountError(self.question_of(text, sign, use), ("sign", sign, use))
         other = self.uses.get(sign)
         if other and other[0] != use:
-            raise Unread(
+            raise AmountError(
                 f"{text!r} has {sign!r} before {use}, and {other[1]!r} before {other[0]}; say --decimal or --thousands"
             )
         if use == "decimals":
             for seen, (what, where) in self.uses.items():
                 if what == use and seen != sign:
-                    raise Unread(
+                    raise AmountError(
                         f"{text!r} has {sign!r} before its decimals, and {where!r} has {seen!r}; say --decimal"
                     )
         self.uses.setdefault(sign, (use, text))
@@ -172,8 +176,8 @@ class Amounts:
     def question_of(self, text: str, sign: str, use: str) -> str:
         """What is asked where a sheet has a sign otherwise than a word says."""
         word = {"decimals": "--decimal", "thousands": "--thousands"}
-        said = word["thousands" if use == "decimals" and sign == self.thousands else "decimals"]
-        return f"{text!r} has {sign!r} before its {use}, and {said} says otherwise; is {word[use]} {sign} meant?"
+        named = word["thousands" if use == "decimals" and sign == self.thousands else "decimals"]
+        return f"{text!r} has {sign!r} before its {use}, and {named} says otherwise; is {word[use]} {sign} meant?"
 
 
 NULLS = {"null", "(null)", "na", "n/a", "n.a.", "none", "nan", "nil"}
@@ -192,6 +196,7 @@ def below_zero(text: str) -> str:
 
 
 def is_in_threes(whole: str) -> bool:
+    """Whether digits stand in groups of three, such as 1,234,567."""
     return re.fullmatch(r"[0-9]{1,3}(\D[0-9]{3})+", whole) is not None
 
 
@@ -206,23 +211,26 @@ def bare(text: str) -> Tuple[str, Optional[str]]:
         r"(?P<code>[^\W\d_]{3}|[^\W\d_]{0,3}\W)(?P<rest>.*)",
         r"(?P<rest>.*?)(?P<code>[^\W\d_]{3}|[^\W\d_]{0,2}\W)",
     ):
-        found = re.fullmatch(pattern, text, re.DOTALL)
-        if found and is_currency(found["code"]):
-            return found["rest"].strip(" "), CURRENCIES.get(found["code"], found["code"])
+        match = re.fullmatch(pattern, text, re.DOTALL)
+        if match and is_currency(match["code"]):
+            return match["rest"].strip(" "), CURRENCIES.get(match["code"], match["code"])
     return text, None
 
 
 def is_currency(code: str) -> bool:
+    """Whether it is a currency: three capitals, or what ends with a sign such as that of the euro."""
     return re.fullmatch("[A-Z]{3}", code) is not None or unicodedata.category(code[-1]) == "Sc"
 
 
 def is_negative(text: str) -> bool:
+    """Whether an amount is below 0: a dash stands before or behind it, or it stands in parentheses."""
     return text[0] in DASHES or text[-1] in DASHES or text[0] == "(" and text[-1] == ")"
 
 
 def decimal_of(whole: str, part: str) -> Amount:
+    """The number of some digits, and of others behind the decimal sign."""
     if not whole + part or len(whole) > MOST_DIGITS or len(part) > MOST_DIGITS:
-        raise Unread(f"{whole}.{part} is not an amount")
+        raise AmountError(f"{whole}.{part} is not an amount")
     number = Fraction(int(whole + part or "0"), 10 ** len(part))
     return int(number) if number.denominator == 1 else number
 

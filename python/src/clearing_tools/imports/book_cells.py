@@ -1,8 +1,9 @@
 """The cells of workbooks: numbers as spreadsheets show them, texts, dates and errors, each with its text."""
+import datetime
 import re
 from decimal import Decimal
 from fractions import Fraction
-from typing import Any, Optional, Union
+from typing import Optional, Union
 
 from .amounts import CURRENCIES, Cell
 
@@ -37,9 +38,9 @@ def of_text(text: str) -> Cell:
     return cell_of(text, None, "is the error of a formula" if ERROR.fullmatch(text) else None)
 
 
-def of_date(value: Any) -> Cell:
-    """The cell of a date, which is no amount."""
-    text = value.isoformat() if hasattr(value, "isoformat") else str(value)
+def of_date(value: object) -> Cell:
+    """The cell of a date or a time, which is no amount."""
+    text = value.isoformat() if isinstance(value, (datetime.date, datetime.time)) else str(value)
     return cell_of(text.removesuffix("T00:00:00"), None, "is a date, and no amount")
 
 
@@ -57,6 +58,6 @@ def in_per_cent(cell: Cell) -> Cell:
 def currency_in(form: str) -> Optional[str]:
     """The currency of a number format, or nothing."""
     form = form[:LOOKED_AT]
-    found = re.search(r"\[\$([^\[\]\-]+)", form) or re.search(r'"\s*([A-Z]{3}|[€$£¥₹])\s*"', form)
-    found = found or re.search(r"([€$£¥₹])", re.sub(r"\[[^\[\]]*\]", "", form))
-    return CURRENCIES.get(found[1].strip(), found[1].strip()) if found else None
+    match = re.search(r"\[\$([^\[\]\-]+)", form) or re.search(r'"\s*([A-Z]{3}|[€$£¥₹])\s*"', form)
+    match = match or re.search(r"([€$£¥₹])", re.sub(r"\[[^\[\]]*\]", "", form))
+    return CURRENCIES.get(match[1].strip(), match[1].strip()) if match else None

@@ -1,6 +1,6 @@
 """Workbooks of the form .ods, by odfpy."""
 import re
-from typing import Any, Callable, Dict, Iterator, List, Tuple
+from typing import TYPE_CHECKING, Callable, Dict, Iterator, List, Tuple
 
 from ..runner import lacking
 from .amounts import CURRENCIES
@@ -8,6 +8,9 @@ from .book_cells import ERROR, cell_of, in_per_cent, of_number, of_text, of_trut
 from .book_scan import CELLS, NUMERIC, OFFICE, ROW_GROUPS, TABLE, TEXT, ContentScan, Scan
 from .book_rows import Row, check_count, filled_down, letters, limited
 from .faults import SheetError
+
+if TYPE_CHECKING:
+    from odf.element import Element
 
 
 class OdsBook:
@@ -22,8 +25,8 @@ class OdsBook:
         if not isinstance(scan, ContentScan):
             raise SheetError(f"{name} has no part for its sheets")
         self.name, self.scan, self.text_of = name, scan, teletype.extractText
-        found = opendocument.load(name).spreadsheet.getElementsByType(table.Table)
-        self.sheets: Dict[str, Any] = {sheet.attributes.get((TABLE, "name"), ""): sheet for sheet in found}
+        sheets = opendocument.load(name).spreadsheet.getElementsByType(table.Table)
+        self.sheets: "Dict[str, Element]" = {sheet.attributes.get((TABLE, "name"), ""): sheet for sheet in sheets}
         for title, there in scan.filled.items():
             if title not in self.sheets:
                 check_count(name, title, 0, max(there, 1))
@@ -42,7 +45,7 @@ class OdsBook:
         sheet = self.sheets[title]
         return limited(self.name, filled_down(self.all_rows(sheet), merged_in(sheet)))
 
-    def all_rows(self, sheet: Any) -> Iterator[Tuple[int, Row]]:
+    def all_rows(self, sheet: "Element") -> Iterator[Tuple[int, Row]]:
         """The rows of a sheet, each as often as it stands there."""
         self.hidden, number = 0, 1
         for row in rows_in(sheet):
@@ -54,7 +57,7 @@ class OdsBook:
                     yield number + more, list(cells)
             number += count
 
-    def cells_of(self, row: Any, number: int) -> Row:
+    def cells_of(self, row: "Element", number: int) -> Row:
         """The cells of a row up to the last that is not empty."""
         cells: Row = []
         empty = 0
@@ -72,7 +75,7 @@ class OdsBook:
             empty = 0
         return cells
 
-    def cell(self, element: Any, place: Callable[[], str]) -> str:
+    def cell(self, element: "Element", place: Callable[[], str]) -> str:
         """What stands in a cell, without the comments on it."""
         has = element.attributes.get
         paragraphs = [child for child in element.childNodes if getattr(child, "qname", None) == (TEXT, "p")]
@@ -86,8 +89,8 @@ class OdsBook:
             return of_text(text)
         if kind in NUMERIC:
             currency = has((OFFICE, "currency"))
-            made = of_number(float(has((OFFICE, "value"))), CURRENCIES.get(currency, currency))
-            return in_per_cent(made) if kind == "percentage" else made
+            number = of_number(float(has((OFFICE, "value"))), CURRENCIES.get(currency, currency))
+            return in_per_cent(number) if kind == "percentage" else number
         if kind in ("date", "time"):
             return cell_of(str(has((OFFICE, f"{kind}-value")) or text), None, "is a date, and no amount")
         if kind == "boolean":
@@ -101,9 +104,9 @@ class OdsBook:
         return list(self.rows(title)), self.hidden
 
 
-def merged_in(sheet: Any) -> Dict[int, Dict[int, int]]:
+def merged_in(sheet: "Element") -> Dict[int, Dict[int, int]]:
     """Cells that are merged downward: by the row and the place of the first column of each, the last row."""
-    found: Dict[int, Dict[int, int]] = {}
+    merged: Dict[int, Dict[int, int]] = {}
     number = 1
     for row in rows_in(sheet):
         at = 0
@@ -113,13 +116,13 @@ def merged_in(sheet: Any) -> Dict[int, Dict[int, int]]:
                 continue
             span = str(cell.attributes.get((TABLE, "number-rows-spanned"), "1"))
             if re.fullmatch("[0-9]{1,7}", span, re.ASCII) and int(span) > 1:
-                found.setdefault(number, {})[at] = number + int(span) - 1
+                merged.setdefault(number, {})[at] = number + int(span) - 1
             at += int(cell.attributes.get((TABLE, "number-columns-repeated"), 1))
         number += int(row.attributes.get((TABLE, "number-rows-repeated"), 1))
-    return found
+    return merged
 
 
-def rows_in(element: Any) -> Iterator[Any]:
+def rows_in(element: "Element") -> "Iterator[Element]":
     """The rows of a sheet, those in groups and headers too."""
     for child in element.childNodes:
         kind = getattr(child, "qname", ("", ""))

@@ -197,12 +197,12 @@ class WorksheetScan(Scan):
 
 def merged_down(ranges: List[str]) -> Dict[int, Dict[int, int]]:
     """Cells that are merged downward: by the row and the place of the first column of each, the last row."""
-    found: Dict[int, Dict[int, int]] = {}
+    merged: Dict[int, Dict[int, int]] = {}
     for one in ranges:
         ends = re.fullmatch(r"([A-Z]{1,3})([0-9]{1,7}):([A-Z]{1,3})([0-9]{1,7})", one, re.ASCII)
         if ends and int(ends[2]) < int(ends[4]) <= MAX_ROW:
-            found.setdefault(int(ends[2]), {})[place_of(ends[1]) - 1] = int(ends[4])
-    return found
+            merged.setdefault(int(ends[2]), {})[place_of(ends[1]) - 1] = int(ends[4])
+    return merged
 
 
 class StringsScan(Scan):
@@ -437,13 +437,13 @@ class Parser:
 
 def scan_part(name: str, archive: zipfile.ZipFile, part: str, budget: Budget) -> Scan:
     """What a part of a workbook shows."""
-    found = Parser(name, part, budget)
+    parser = Parser(name, part, budget)
     try:
         with archive.open(part) as file:
-            found.parser.ParseFile(file)
+            parser.parser.ParseFile(file)
     except expat.ExpatError as fault:
         raise SheetError(f"{name}: its part {part} is no XML: {fault}") from fault
-    return found.scan
+    return parser.scan
 
 
 def scan_all(name: str, archive: zipfile.ZipFile, size: int) -> Dict[str, Scan]:

@@ -1,13 +1,16 @@
 """Workbooks of the form .xlsx, by openpyxl."""
 import re
-import warnings
-from typing import Any, Dict, Iterator, List, Optional, Tuple
+from typing import TYPE_CHECKING, Dict, Iterator, List, Optional, Tuple
 
 from ..runner import lacking
 from .book_cells import LOOKED_AT, currency_in, in_per_cent, of_date, of_number, of_text, of_truth
 from .book_scan import Scan, WorksheetScan, merged_down
 from .book_rows import Row, check_count, filled_down, limited
 from .faults import SheetError
+
+if TYPE_CHECKING:
+    from openpyxl.cell.read_only import ReadOnlyCell
+    from openpyxl.worksheet._read_only import ReadOnlyWorksheet
 
 
 class XlsxBook:
@@ -22,11 +25,9 @@ class XlsxBook:
             raise lacking("openpyxl", "sheets", f", which reads {name}") from fault
         self.name, self.scans = name, scans
         self.formats: Dict[int, Tuple[bool, Optional[str]]] = {}
-        # What is said of extensions that are passed over is of no use here.
-        warnings.filterwarnings("ignore", module="openpyxl")
         # A file that is open may have any name. Its rows are read as they are asked for.
         book = load(open(name, "rb"), read_only=True, data_only=True, keep_links=False)
-        self.sheets: Dict[str, Any] = {sheet.title: sheet for sheet in book.worksheets}
+        self.sheets: "Dict[str, ReadOnlyWorksheet]" = {sheet.title: sheet for sheet in book.worksheets}
         self.seen = 0
 
     def titles(self) -> List[str]:
@@ -50,7 +51,7 @@ class XlsxBook:
         scan = self.scans.get(str(getattr(self.sheets[title], "_worksheet_path", "")).lstrip("/"))
         return scan if isinstance(scan, WorksheetScan) else None
 
-    def cell(self, cell: Any) -> str:
+    def cell(self, cell: "ReadOnlyCell") -> str:
         """What stands in a cell."""
         value = cell.value
         if value is None:
@@ -60,11 +61,11 @@ class XlsxBook:
             return of_truth(str(value))
         if isinstance(value, (int, float)):
             is_percent, currency = self.format_of(cell)
-            made = of_number(value, currency)
-            return in_per_cent(made) if is_percent else made
+            number = of_number(value, currency)
+            return in_per_cent(number) if is_percent else number
         return of_text(value) if isinstance(value, str) else of_date(value)
 
-    def format_of(self, cell: Any) -> Tuple[bool, Optional[str]]:
+    def format_of(self, cell: "ReadOnlyCell") -> Tuple[bool, Optional[str]]:
         """Whether a cell is shown in per cent, and in which currency."""
         style = cell._style_id
         if style not in self.formats:

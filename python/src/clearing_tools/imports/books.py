@@ -8,10 +8,12 @@ is one `SheetError`."""
 import contextlib
 import io
 import os
+import threading
+import warnings
 import zipfile
 from typing import List, Optional, Protocol, Tuple
 
-from ..runner import Failed
+from ..runner import ToolError
 from .book_ods import OdsBook
 from .book_rows import Row
 from .book_scan import scan_all
@@ -19,6 +21,7 @@ from .book_xlsx import XlsxBook
 from .faults import SheetError
 
 ZIP, OLD = b"PK\x03\x04", bytes.fromhex("d0cf11e0a1b11ae1")
+ONE_AT_A_TIME = threading.Lock()
 ODS = b"application/vnd.oasis.opendocument.spreadsheet"
 
 
@@ -49,13 +52,14 @@ def rows_of(name: str, sheet: Optional[str], option: str) -> Tuple[str, List[Tup
                 f"{name} is a workbook of an old form (.xls), or has a password; save it as .xlsx without one"
             )
     try:
-        # A library may tell on standard output what it does not understand.
-        with contextlib.redirect_stdout(io.StringIO()):
+        # A library may tell on standard output, or warn, of what it does not understand. Both are one for all threads.
+        with ONE_AT_A_TIME, contextlib.redirect_stdout(io.StringIO()), warnings.catch_warnings():
+            warnings.filterwarnings("ignore", module="openpyxl")
             book = book_of(name)
             title = chosen(name, book, sheet, option)
             rows, hidden = book.sheet(title)
         return title, rows, hidden
-    except (Failed, MemoryError):
+    except (ToolError, MemoryError):
         raise
     except Exception as fault:
         # The libraries and the unpacking raise what they come upon.

@@ -1,17 +1,31 @@
 """Lines of totals: found by their names or their numbers, and checked before they are dropped."""
-import argparse
+import enum
 import math
 import unicodedata
 from fractions import Fraction
-from typing import Any, Container, Dict, Iterable, Iterator, List, Mapping, Optional, Sequence, Set, Tuple
+from typing import Container, Dict, Iterable, Iterator, List, Mapping, Optional, Sequence, Set, Tuple, Union
 
-from .amounts import Amount, Amounts, Unread, decimals_of, shown
+from .amounts import Amount, Amounts, AmountError, decimals_of, shown
 from .faults import Faults
+from .sheet_options import SheetOptions
 from .summary import Summary
 from .tables import Table, quoted
 
-Value = Any
+
+class Special(enum.Enum):
+    """What stands in a cell in place of an amount."""
+
+    UNREAD = enum.auto()
+    """A text that is no amount, or may be one in two ways: nothing is said of its line's sum until it is read."""
+
+
+UNREAD = Special.UNREAD
+Value = Union[int, None, Special]
 """A whole number, None for what is empty and may be, or `UNREAD`."""
+Sum = Tuple[Optional[int], int]
+"""A sum, or None where a value is not read, and how far it may be off."""
+Off = Tuple[int, int, int]
+"""A place at which a line of totals is wrong, its value, and the sum of the others, as whole numbers."""
 WrongPlace = Tuple[int, Fraction, Fraction]
 WrongCell = Tuple[str, str, Amount, Amount]
 """The row and the column of a cell of totals, what stands there, and what the others come to."""
@@ -53,12 +67,8 @@ SURE = 1000
 
 
 def is_called_total(name: str) -> bool:
+    """Whether a name is one that lines of totals have."""
     return unicodedata.normalize("NFKC", name).strip(" :.*").casefold() in TOTALS
-
-
-UNREAD = object()
-"""What stands for a text that is no amount, or may be one in two ways: nothing is said of its line's sum until it is
-read."""
 
 
 class Values:
@@ -66,49 +76,46 @@ class Values:
     None for what is empty in a line that is called one of totals, or in a column that such a line may leave empty. They
     are whole numbers, `scale` of which make one."""
 
-    def __init__(
-        self, table: Table, amounts: Amounts, columns: Iterable[str], may_be_empty: Container[str] = ()
-    ) -> None:
-        self.table, self.columns = table, list(columns)
-        places = [table.columns[column] for column in self.columns]
-        open_ = [column in may_be_empty or is_called_total(column) for column in self.columns]
-        read = amounts.read
+    def __init__(self, columns: Sequence[str], rows: Mapping[str, Sequence[Value]], scale: int) -> None:
+        self.columns, self.rows, self.scale = columns, rows, scale
 
-        def value(text: str, may_be_empty: bool) -> Value:
-            try:
-                return None if may_be_empty and text == "" else read(text)
-            except Unread:
-                return UNREAD
-
-        self.rows = {}
+    @classmethod
+    def read(
+        cls, table: Table, amounts: Amounts, columns: Sequence[str], may_be_empty: Container[str] = ()
+    ) -> "Values":
+        """Reads them of a table."""
+        places = [table.columns[column] for column in columns]
+        open_ = [column in may_be_empty or is_called_total(column) for column in columns]
+        lines: Dict[str, List[Union[Amount, None, Special]]] = {}
         for row, cells in table.cells.items():
             may = [True] * len(open_) if is_called_total(row) else open_
-            self.rows[row] = [value(cells[at], open_at) for at, open_at in zip(places, may)]
-        self.scale = self.make_whole(amounts)
-
-    def make_whole(self, amounts: Amounts) -> int:
-        """Makes whole numbers of the amounts, which are many: by how much each is more."""
+            lines[row] = [value_of(cells[at], open_at, amounts) for at, open_at in zip(places, may)]
         known = [amount for amount in (*amounts.known.values(), *amounts.numbers) if not isinstance(amount, int)]
         scale: int = 10 ** max(map(decimals_of, known), default=0)
-        if scale > 1:
-            for row, line in self.rows.items():
-                self.rows[row] = [whole_of(value, scale) for value in line]
-        return scale
+        return cls(columns, {row: [whole_of(value, scale) for value in line] for row, line in lines.items()}, scale)
 
 
-def whole_of(value: Value, scale: int) -> Value:
+def value_of(text: str, may_be_empty: bool, amounts: Amounts) -> Union[Amount, None, Special]:
+    """The amount of a cell, as far as it can be read."""
+    try:
+        return None if may_be_empty and text == "" else amounts.read(text)
+    except AmountError:
+        return UNREAD
+
+
+def whole_of(value: Union[Amount, None, Special], scale: int) -> Value:
     """A value as a whole number, so many of which make one."""
-    if value is None or value is UNREAD:
+    if value is None or isinstance(value, Special):
         return value
     return value * scale if isinstance(value, int) else value.numerator * (scale // value.denominator)
 
 
-def sum_of(values: Sequence[Value], scale: int) -> Tuple[Optional[int], int]:
+def sum_of(values: Sequence[Value], scale: int) -> Sum:
     """A sum, or None where a value is not read, and how far it may be off as sheets print it: half of its last digit
     for each value."""
     if UNREAD in values:
         return None, 0
-    there = [value for value in values if value is not None]
+    there = [value for value in values if isinstance(value, int)]
     if scale == 1 or not there:
         return sum(there), slack_of(there)
     places = decimals_of(Fraction(math.gcd(*there, scale), scale))
@@ -123,17 +130,19 @@ def slack_of(there: Sequence[int]) -> int:
 
 
 def wrong_places(
-    line: Sequence[Value], sums: Sequence[Tuple[Optional[int], int]], most: int
-) -> Optional[Tuple[List[int], int]]:
+    line: Sequence[Value], sums: Sequence[Sum], most: int
+) -> Optional[Tuple[List[Off], int]]:
     """The places at which a line is not the sum of the others, where `sums` has it too, and how many of the others are
     above 0; or None once there are more than so many."""
-    wrong, above = [], 0
+    wrong: List[Off] = []
+    above = 0
     for at, (value, (total, slack)) in enumerate(zip(line, sums)):
-        if total is None or value is None and total:
+        # Where a sum is not read, nothing is wrong; nor is a value, since its sum is not.
+        if total is None or value is UNREAD or value is None and total:
             continue
         value = value or 0
         if abs(2 * value - total) > slack:
-            wrong.append(at)
+            wrong.append((at, value, total - value))
             if len(wrong) > most:
                 return None
         elif value:
@@ -141,81 +150,93 @@ def wrong_places(
     return wrong, above
 
 
+def sums_of(lines: Iterable[Sequence[Value]], scale: int) -> List[Sum]:
+    """The sum of each column of some lines."""
+    return [sum_of(column, scale) for column in zip(*lines)]
+
+
 def totals_in(
-    lines: Mapping[str, Sequence[Value]], words: argparse.Namespace, scale: int
+    lines: Mapping[str, Sequence[Value]], args: SheetOptions, scale: int
 ) -> Dict[str, List[WrongPlace]]:
     """The lines of totals, each with the places at which it is wrong: a place, its value and the sum of the others.
     Lines are called so, or are the sums of all the others, but for a few places where at least three are; two where it
     is to be dropped, or where the few are near."""
-    keep = words.keep
+    keep = args.keep
     named = {name: line for name, line in lines.items() if name not in keep and is_called_total(name)}
     others = {name: line for name, line in lines.items() if name not in named}
-    sums = [sum_of(column, scale) for column in zip(*others.values())]
-    found: Dict[str, List[Tuple[int, int, int]]] = {}
-    rest = sums
+    rest = sums = sums_of(others.values(), scale)
+    totals: Dict[str, List[Off]] = {}
     for name, line in others.items():
         if name in keep or len(others) < 3:
             continue
-        is_dropped = name in words.drop
+        is_dropped = name in args.drop
         judged = wrong_places(line, sums, max(1, len(line) // (2 if is_dropped else SHARE)))
-        # Where a sum is not read, nothing is wrong.
-        off = [(at, line[at] or 0, (sums[at][0] or 0) - (line[at] or 0)) for at in judged[0]] if judged else []
+        if judged is None:
+            continue
+        off, witnesses = judged
         is_near = all(NEAR * abs(value - total) <= total for _, value, total in off)
-        if judged and judged[1] and (not off or judged[1] >= WITNESSES - (is_dropped or is_near)):
-            found[name] = off
-    if found and named:
-        rest = [sum_of(column, scale) for column in zip(*(line for name, line in others.items() if name not in found))]
+        if witnesses and (not off or witnesses >= WITNESSES - (is_dropped or is_near)):
+            totals[name] = off
+    if totals and named:
+        rest = sums_of((line for name, line in others.items() if name not in totals), scale)
     for name, line in named.items():
-        found[name] = off_places(line, rest)
-    scaled = {
-        name: [(at, Fraction(value, scale), Fraction(total, scale)) for at, value, total in off]
-        for name, off in found.items()
-    }
-    return {name: scaled[name] for name in lines if name in scaled}
+        totals[name] = off_places(line, rest)
+    return {name: in_fractions(totals[name], scale) for name in lines if name in totals}
 
 
-def off_places(line: Sequence[Value], sums: Sequence[Tuple[Optional[int], int]]) -> List[Tuple[int, int, int]]:
+def in_fractions(off: Iterable[Off], scale: int) -> List[WrongPlace]:
+    """Wrong places with the amounts of the sheet in place of whole numbers."""
+    return [(at, Fraction(value, scale), Fraction(total, scale)) for at, value, total in off]
+
+
+def off_places(line: Sequence[Value], sums: Sequence[Sum]) -> List[Off]:
     """The places at which a line of totals is not the sum of the others, each with what stands there and the sum; those
     that are not read say nothing."""
-    found = []
-    for at, (value, (total, slack)) in enumerate(zip(line, sums)):
-        if value is not None and value is not UNREAD and total is not None and abs(value - total) > slack:
-            found.append((at, value, total))
-    return found
+    return [
+        (at, value, total)
+        for at, (value, (total, slack)) in enumerate(zip(line, sums))
+        if isinstance(value, int) and total is not None and abs(value - total) > slack
+    ]
 
 
 class Totals:
-    """The lines of totals of a table, found before any is dropped: rows and columns by their names."""
+    """The lines of totals of a table, found before any is dropped: rows and columns by their names, each with the
+    places at which it is wrong."""
 
     def __init__(
         self,
         table: Table,
-        amounts: Amounts,
-        columns: Iterable[str],
-        banks: Iterable[str],
-        words: argparse.Namespace,
-        may_be_empty: Container[str] = (),
+        values: Values,
+        banks: Sequence[str],
+        rows: Dict[str, List[WrongPlace]],
+        across: Dict[str, List[WrongPlace]],
     ) -> None:
-        values = Values(table, amounts, columns, may_be_empty)
-        self.table, self.columns = table, values.columns
-        self.values = values
-        self.rows = totals_in(values.rows, words, values.scale)
-        self.across, self.banks = {}, list(banks)
-        if banks:
-            places = {column: at for at, column in enumerate(values.columns)}
-            self.across = totals_in(
-                {column: [line[places[column]] for line in values.rows.values()] for column in banks},
-                words,
-                values.scale,
-            )
-        self.names = list(values.rows)
+        self.table, self.values, self.banks, self.rows, self.across = table, values, banks, rows, across
+
+    @classmethod
+    def read(
+        cls,
+        table: Table,
+        args: SheetOptions,
+        columns: Sequence[str],
+        banks: Sequence[str] = (),
+        may_be_empty: Container[str] = (),
+    ) -> "Totals":
+        """Finds them in some columns of a table, of which those of banks may be lines of totals themselves."""
+        values = Values.read(table, args.amounts(), columns, may_be_empty)
+        places = {column: at for at, column in enumerate(columns)}
+        across = {column: [line[places[column]] for line in values.rows.values()] for column in banks}
+        return cls(
+            table, values, banks, totals_in(values.rows, args, values.scale), totals_in(across, args, values.scale)
+        )
 
     def wrong_cells(self, name: str) -> Iterator[WrongCell]:
         """The cells of a line of totals that are wrong: row, column, what stands there, and what the others come to."""
         for at, value, total in self.rows.get(name, ()):
-            yield name, self.columns[at], value, total
+            yield name, self.values.columns[at], value, total
+        names = list(self.values.rows)
         for at, value, total in self.across.get(name, ()):
-            yield self.names[at], name, value, total
+            yield names[at], name, value, total
 
     def off_by_rounding(self, name: str) -> List[Fraction]:
         """By how much the cells of a line of totals are off, where they are."""
@@ -228,15 +249,15 @@ class Totals:
                 for at, column in enumerate(columns)
             ]
         if name in self.across:
-            at = self.columns.index(name)
-            places = [self.columns.index(bank) for bank in self.banks if bank not in self.across]
+            at = self.values.columns.index(name)
+            places = [self.values.columns.index(bank) for bank in self.banks if bank not in self.across]
             lines += [(line[at], [line[place] for place in places]) for row, line in rows.items()]
-        found = []
+        gaps = []
         for value, others in lines:
-            if value not in (None, UNREAD) and UNREAD not in others:
-                off = abs(value - sum(other for other in others if other is not None))
-                found += [Fraction(off, self.values.scale)] if off else []
-        return found
+            if isinstance(value, int) and UNREAD not in others:
+                off = abs(value - sum(other for other in others if isinstance(other, int)))
+                gaps += [Fraction(off, self.values.scale)] if off else []
+        return gaps
 
     def check(self, name: str, faults: Faults, summary: Summary) -> None:
         """Checks a line of totals that is dropped."""
@@ -244,10 +265,10 @@ class Totals:
         for row, column, value, total in cells:
             faults.add(self.table, self.table.rows[row], column, wrong(name, value, total))
         if not cells and (name in self.rows or name in self.across):
-            summary.tell("control totals that agree", 1, None, f"{said(name)} in {self.table.label}")
+            summary.tell("control totals that agree", 1, None, f"{called(name)} in {self.table.label}")
             off = self.off_by_rounding(name)
             if off:
-                detail = f"the largest by {shown(max(off))}; {said(name)} in {self.table.label}"
+                detail = f"the largest by {shown(max(off))}; {called(name)} in {self.table.label}"
                 summary.tell("control totals off by rounding", len(off), sum(off), detail)
 
     def refuse(self, faults: Faults, names: Optional[Container[str]] = None) -> Set[str]:
@@ -259,13 +280,15 @@ class Totals:
         return {name for name in {**self.rows, **self.across} if names is None or name in names}
 
 
-def said(name: str) -> str:
+def called(name: str) -> str:
+    """A line of totals in a sentence."""
     return name or "the line without a name"
 
 
 def wrong(name: str, value: Amount, total: Amount) -> str:
+    """What is said of a line of totals that is not the sum of the others."""
     return (
-        f"{said(name)} says {shown(value)}, and the others come to {shown(total)}: correct the sheet, or delete the "
+        f"{called(name)} says {shown(value)}, and the others come to {shown(total)}: correct the sheet, or delete the "
         "line of totals"
     )
 

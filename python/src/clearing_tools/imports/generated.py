@@ -73,8 +73,8 @@ def main() -> None:
     parser.add_argument("--tries", required=True, type=cli.number_in(0, MAX_TRIES), help="how many debts are tried")
     parser.add_argument("--banks", required=True, metavar="FILE", help="the banks file to write")
     parser.add_argument("--debts", required=True, metavar="FILE", help="the debts file to write")
-    words = parser.parse_args()
-    banks, debts = generate(words.seed, words.size, words.tries)
+    args = parser.parse_args()
+    banks, debts = generate(args.seed, args.size, args.tries)
     files.write_all(
-        [(words.banks, f"{BANKS_1}\n{files.csv_text(banks)}"), (words.debts, f"{DEBTS}\n{files.csv_text(debts)}")]
+        [(args.banks, f"{BANKS_1}\n{files.csv_text(banks)}"), (args.debts, f"{DEBTS}\n{files.csv_text(debts)}")]
     )

@@ -2,6 +2,7 @@
 did."""
 import argparse
 import contextlib
+import dataclasses
 import os
 import pathlib
 import sys
@@ -15,14 +16,14 @@ from clearing_client.case import Case, Label, Source
 from clearing_client.errors import CaseError
 
 from .. import files
-from ..runner import Failed
-from .amounts import Amounts, Unread, decimals_of, shown
+from ..runner import ToolError
+from .amounts import Amounts, AmountError, decimals_of
 from .faults import Faults
+from .sheet_options import LABEL_COLUMNS, CaseOptions, SheetOptions
 from .summary import Summary
 from .tables import Table, need_column
 from .units import Network
 
-LABEL_COLUMNS = ("short", "group", "country")
 WRITTEN = ("case", "replace", "banks", "debts", "out", "label", "summary", "keep-sources")
 """Words that say where something is written, and nothing of what."""
 REFUSED = 1
@@ -65,7 +66,7 @@ def scale_in(word: str) -> Fraction:
     """How much of the currency an amount of 1 in the sheet is: a decimal number above 0."""
     try:
         scale = Fraction(Amounts(decimal=".").read(word))
-    except Unread:
+    except AmountError:
         scale = Fraction(0)
     if scale <= 0:
         raise argparse.ArgumentTypeError(f"{word!r} is not a number above 0, such as 1000")
@@ -79,45 +80,40 @@ def currency_in(word: str) -> str:
     return word
 
 
-def check_case_words(parser: argparse.ArgumentParser, asked: argparse.Namespace) -> None:
+def check_case_words(parser: argparse.ArgumentParser, args: SheetOptions) -> None:
     """Ends with 2 where words for a case are said without one."""
-    words = ("replace", "keep_sources", "title", "as_of", "test", "short_column", "group_column", "country_column")
-    for word in (*words, "amounts_in"):
-        if getattr(asked, word) and asked.case is None:
-            parser.error(f"--{word.replace('_', '-')} is for --case")
+    case = args.of_case
+    words = {
+        "replace": case.is_replaced,
+        "keep-sources": case.is_kept,
+        "title": case.title,
+        "as-of": case.as_of,
+        "test": case.test,
+        **{f"{word}-column": case.columns.get(word) for word in LABEL_COLUMNS},
+        "amounts-in": case.amounts_in,
+    }
+    for word, value in words.items():
+        if value and args.case is None:
+            parser.error(f"--{word} is for --case")
 
 
-def check_columns(words: argparse.Namespace, table: Table, faults: Faults, banks: Container[str] = ()) -> None:
+def check_columns(columns: Mapping[str, str], table: Table, faults: Faults, banks: Container[str] = ()) -> None:
     """Refuses a table without a column that the words of a case name."""
-    for word in LABEL_COLUMNS:
-        column = getattr(words, f"{word}_column")
-        if column is not None:
-            need_column(faults, table, f"{word}-column", column, banks)
+    for word, column in columns.items():
+        need_column(faults, table, f"{word}-column", column, banks)
 
 
-def tell_scale(words: argparse.Namespace, summary: Summary) -> None:
-    """Tells what the amounts of the sheets are in, where that was said."""
-    if words.amounts_in:
-        detail = f"{shown(words.amounts_in)} {words.currency or 'of the currency'}"
-        summary.tell("amounts of the sheets are in", detail=detail)
-
-
-def columns_of(words: argparse.Namespace) -> List[str]:
-    """The columns that the words of a case name."""
-    return [column for column in (getattr(words, f"{word}_column") for word in LABEL_COLUMNS) if column is not None]
-
-
-def labels_of(network: Network, table: Table, words: argparse.Namespace) -> List[Label]:
+def labels_of(network: Network, table: Table, columns: Mapping[str, str]) -> List[Label]:
     """A label for each bank that has a full name, a short one, a group or a country."""
-    found = []
+    labels = []
     for bank in network.banks:
-        has = {word: cell_of(table, bank.name, getattr(words, f"{word}_column")) for word in LABEL_COLUMNS}
+        has = {word: cell_of(table, bank.name, columns.get(word)) for word in LABEL_COLUMNS}
         name = network.codes.get(bank.name, bank.name)
         full = network.labels.get(bank.name, bank.name)
         label = Label(name, has["short"], full if full != name else "", has["group"], has["country"])
         if any(label[1:]):
-            found.append(label)
-    return found
+            labels.append(label)
+    return labels
 
 
 def cell_of(table: Table, bank: str, column: Optional[str]) -> str:
@@ -125,41 +121,48 @@ def cell_of(table: Table, bank: str, column: Optional[str]) -> str:
     return str(table.cell(bank, column)) if column is not None and bank in table.rows else ""
 
 
-def case_files(
-    folder: str,
-    texts: Tuple[str, str],
-    unit: Fraction,
-    labels: Sequence[Label],
-    words: argparse.Namespace,
-    tool: str,
-    read: Iterable[Optional[str]],
-    summary: Summary,
-) -> Dict[str, bytes]:
-    """The files of a case by their names, the description last."""
-    names, scale = sources_of(read), words.amounts_in or Fraction(1)
-    before = replaced(folder, words.replace)
-    try:
-        case = Case(
-            cases.network_of(texts[0].encode(), texts[1].encode()),
-            title=words.title or (before.title if before else ""),
+@dataclasses.dataclass(frozen=True)
+class CaseOfSheets:
+    """A case that is made of sheets by a tool: its folder, the texts of the two files, the unit of account in amounts
+    of the sheet, the labels of its banks, and what was said of it."""
+
+    folder: str
+    texts: Tuple[str, str]
+    unit: Fraction
+    labels: Sequence[Label]
+    options: CaseOptions
+    tool: str
+
+    def files(self, read: Iterable[Optional[str]], summary: Summary) -> Dict[str, bytes]:
+        """The files of the case by their names, the description last; with the sheets that were read, and what was
+        done."""
+        names = sources_of(read)
+        try:
+            case = self.case_of(names, replaced(self.folder, self.options.is_replaced), summary)
+            is_kept = self.options.is_kept
+            contents = case.files({name: files.bytes_of(path) for path, name in names.items()} if is_kept else {})
+        except CaseError as fault:
+            raise ToolError(f"{self.folder}: {fault}", REFUSED) from fault
+        return {os.path.join(self.folder, name): data for name, data in contents.items()}
+
+    def case_of(self, names: Mapping[str, str], before: Optional[Case], summary: Summary) -> Case:
+        """The case, which keeps what belongs to the one that it is written over."""
+        options, scale = self.options, self.options.amounts_in or Fraction(1)
+        banks, debts = self.texts
+        sheets = f"{cases.SHEETS}/" if options.is_kept else ""
+        return Case(
+            cases.network_of(banks.encode(), debts.encode()),
+            title=options.title or (before.title if before else ""),
             description=before.description if before else "",
-            as_of=words.as_of,
-            test=words.test,
-            currency=words.currency,
-            unit=decimal_of(unit * scale),
-            labels=labels,
+            as_of=options.as_of,
+            test=options.test,
+            currency=options.currency,
+            unit=decimal_of(self.unit * scale),
+            labels=self.labels,
             scenarios=before.scenarios if before else None,
-            sources=[
-                Source(name, f"{cases.SHEETS}/{name}" if words.keep_sources else "", hash_of(path))
-                for path, name in names.items()
-            ],
-            summary=summary.of_case(command_of(tool, words.line, names, words.keep_sources), scale),
+            sources=[Source(name, f"{sheets}{name}" if sheets else "", hash_of(path)) for path, name in names.items()],
+            summary=summary.of_case(command_of(self.tool, options.line, names, options.is_kept), scale),
         )
-        sources = {name: files.bytes_of(path) for path, name in names.items()} if words.keep_sources else {}
-        made = case.files(sources)
-    except CaseError as fault:
-        raise Failed(f"{folder}: {fault}", REFUSED) from fault
-    return {os.path.join(folder, name): data for name, data in made.items()}
 
 
 def replaced(folder: str, is_replaced: bool) -> Optional[Case]:
@@ -171,20 +174,20 @@ def replaced(folder: str, is_replaced: bool) -> Optional[Case]:
         return Case.read(folder) if any(os.scandir(folder)) else None
     except CaseError as fault:
         more = "; say --replace" if not is_replaced else ""
-        raise Failed(f"{fault}{more}", REFUSED) from fault
+        raise ToolError(f"{fault}{more}", REFUSED) from fault
 
 
 def remove_stale(written: Sequence[str]) -> None:
     """Removes the files of cases that were written over which the new ones have not. Folders are gone into by their
     descriptors and no link is followed, so that nothing goes that does not stand in the folder of a case itself."""
-    kept = set(written)
+    names = set(written)
     for place in [name for name in written if os.path.basename(name) == description.NAME]:
         folder = os.path.dirname(place)
         with contextlib.suppress(OSError), contextlib.closing(files.Way(place)) as way:
             for name in cases.FILES.values():
-                if os.path.join(folder, name) not in kept:
+                if os.path.join(folder, name) not in names:
                     files.remove(name, way.folder)
-            remove_sheets(way.folder, {os.path.basename(name) for name in kept if is_sheet_of(folder, name)})
+            remove_sheets(way.folder, {os.path.basename(name) for name in names if is_sheet_of(folder, name)})
 
 
 def is_sheet_of(folder: str, name: str) -> bool:
@@ -231,7 +234,7 @@ def sources_of(read: Iterable[Optional[str]]) -> Dict[str, str]:
 
 def command_of(tool: str, line: Sequence[str], names: Mapping[str, str], is_kept: bool) -> List[str]:
     """The words of a command without those that say where to write, and with the sheets by their names in the case."""
-    found, skip = [f"{tool}.py"], False
+    line_kept, skip = [f"{tool}.py"], False
     for word in line:
         if skip:
             skip = False
@@ -240,8 +243,8 @@ def command_of(tool: str, line: Sequence[str], names: Mapping[str, str], is_kept
         if option.startswith("--") and option[2:] in WRITTEN:
             skip = not sign and option[2:] not in ("replace", "keep-sources")
             continue
-        found.append(by_name(word, names, f"{cases.SHEETS}/" if is_kept else ""))
-    return found
+        line_kept.append(by_name(word, names, f"{cases.SHEETS}/" if is_kept else ""))
+    return line_kept
 
 
 def by_name(word: str, names: Mapping[str, str], before: str) -> str:

@@ -36,18 +36,18 @@ openpyxl (Debian's package python3-openpyxl) is needed for .xlsx, and odf (pytho
 Ends with 0, or with 1 and every fault that was found, each in a line, or with 2 where the words are not understood.
 """
 import argparse
-from typing import Any, Callable, Dict, Iterable, Iterator, List, Optional, Set, Tuple
+from typing import Dict, Iterable, Iterator, List, NamedTuple, Optional, Sequence, Set, Tuple
 
 from .. import cli
 from ..runner import command
-from . import made_case, tables, words as sheet_words
-from .amounts import Amount, Amounts, Unread, is_null
+from . import made_case, options
+from .amounts import Amount, Amounts, AmountError, is_null
+from .columns import Columns, alike, columns_of, take_alike
 from .control import Totals, is_called_total
 from .faults import Faults
 from .groups import add_groups, read_groups
 from .left_out import (
     LEFT,
-    Counted,
     Gone,
     Rates,
     add_rates,
@@ -55,119 +55,92 @@ from .left_out import (
     beside_of,
     currencies_in,
     is_of_currencies,
-    left_out_of,
     no_total,
-    tell_above,
     tell_columns,
 )
-from .summary import Summary
-from .tables import Cells, Table
+from .sheet_options import MatrixOptions
+from .summary import Counted, Summary, tell_read
+from .tables import Cells, Table, need_column
 from .units import Debt, Network, grouped
 
-Made = Tuple[sheet_words.Outputs, List[Optional[str]], Summary]
-"""The files that are asked for, each with its content, what is read, and the summary."""
 ZERO = ("", "0")
 
 
-def add_own(add: Callable[..., Any]) -> None:
-    add("matrix", metavar="MATRIX", help="the matrix of liabilities")
+def add_own(parser: argparse.ArgumentParser) -> None:
+    """The words of this tool alone."""
+    add = parser.add_argument
+    add("file", metavar="MATRIX", help="the matrix of liabilities")
     add("--table", metavar="FILE", help="a file with the columns that are not banks")
     add("--table-sheet", metavar="NAME", help="the sheet of the table's workbook")
     add(
         "--table-skip",
-        type=sheet_words.count_in,
+        type=options.count_in,
         default=0,
         metavar="N",
         help="rows above the header of the table that are passed over (0)",
     )
     add("--columns-owe", action="store_true", help="the bank of a column owes the bank of a row")
-    add_rates(add)
-    add_groups(add)
+    add_rates(parser)
+    add_groups(parser)
+
+
+class NoBanks(NamedTuple):
+    """The columns that are no banks'."""
+
+    columns: Columns
+    """Those of the table that are looked at for the banks."""
+    extra: Set[Optional[str]]
+    """The columns of the matrix that are no banks, looked at or not."""
+    others: List[str]
+    """Those that are not looked at, and are told."""
 
 
 class Matrix:
-    """A matrix and its table, which may be one sheet."""
+    """A matrix and its table, which may be one sheet, with the columns that are no banks'."""
 
-    def __init__(self, words: argparse.Namespace, faults: Faults, summary: Summary) -> None:
-        self.words, self.faults, self.summary = words, faults, summary
-        self.matrix = Table(words.matrix, words, faults, sheet=words.sheet)
-        self.table = (
-            Table(words.table, words, faults, sheet=words.table_sheet, option="--table-sheet")
-            if words.table
-            else self.matrix
-        )
-        self.is_one = self.table is self.matrix
-        faults.end_if_any()
-        banks = self.matrix.rows if self.is_one else ()
-        usual = [*(() if words.outside else ["outside"]), *(() if words.rule_column else ["rule"])]
-        tables.take_alike(words, self.table, "cash", banks)
-        passed = tables.find_outside(faults, words, self.table, banks)
-        tables.find_column(faults, words, self.table, "rule-column", banks)
-        self.amounts = [words.cash, *words.outside] if words.outside else [words.cash]
-        if words.label_column:
-            tables.need_column(faults, self.table, "label-column", words.label_column, banks)
-        made_case.check_columns(words, self.table, faults, banks)
-        labels = [words.label_column, *made_case.columns_of(words)]
-        # A bank may have such a name where an option names another column.
-        asked = [
-            column
-            for name in ("outside", "rule")
-            for column in tables.alike(self.table, name, banks)
-            if name in usual or column not in banks
-        ]
-        self.extra = {*self.amounts, words.rule_column, *labels, *passed, *asked} if self.is_one else set()
-        used = {*self.amounts, words.rule_column, *labels}
-        self.others = (
-            [column for column in self.table.header if column not in used] if not self.is_one else list(passed)
-        )
-        self.gone, self.is_signed = left_out_of(words), sheet_words.takes_negative(words)
+    def __init__(
+        self,
+        args: MatrixOptions,
+        faults: Faults,
+        summary: Summary,
+        sheets: Sequence[Table],
+        no_banks: NoBanks,
+        rates: Rates,
+    ) -> None:
+        self.args, self.faults, self.summary = args, faults, summary
+        self.sheets, self.matrix, self.table, self.is_one = sheets, sheets[0], sheets[-1], len(sheets) == 1
+        self.columns, self.extra, self.others = no_banks
+        self.rates = rates
         self.empty, self.left = 0, {what: Counted() for what in LEFT}
-        self.see_currencies()
 
-    def see_currencies(self) -> None:
-        """Columns of currencies are no banks; one that has several is asked for."""
-        words, sheets = self.words, [self.matrix] if self.is_one else [self.matrix, self.table]
-        for sheet in sheets:
-            for column in sheet.header:
-                if column in self.matrix.rows or column in {
-                    *self.amounts,
-                    words.rule_column,
-                    words.label_column,
-                    *made_case.columns_of(words),
-                }:
-                    continue
-                is_rate = bool(words.rate) and words.rate.startswith(f"{column}=")
-                if not (is_rate or is_of_currencies(sheet, column)):
-                    continue
-                self.extra |= {column} if sheet is self.matrix else set()
-                self.others += [column] if sheet is self.matrix and not is_rate else []
-                if currencies_in(sheet, column) and not is_rate and column not in words.ignore:
-                    ask_currencies(self.faults, sheet, column)
-        self.rates = Rates(words, sheets, self.faults)
+    @classmethod
+    def read(cls, args: MatrixOptions, faults: Faults, summary: Summary) -> "Matrix":
+        """Reads the sheets, and finds the columns that are no banks'."""
+        sheets = [Table(args.file, args.form, faults)]
+        sheets += [Table(args.table, args.table_form, faults)] if args.table else []
+        faults.end_if_any()
+        no_banks = no_banks_in(sheets, args, faults)
+        return cls(args, faults, summary, sheets, no_banks, Rates.read(args, sheets, faults))
 
     def totals(self) -> Set[str]:
         """Checks the lines of totals that are dropped, drops them, and refuses the others."""
-        words, matrix, table = self.words, self.matrix, self.table
+        args, matrix, table = self.args, self.matrix, self.table
         banks = [column for column in matrix.header if column not in self.extra]
-        beside = [column for column in self.amounts if column in table] if self.is_one else []
-        found = [Totals(matrix, sheet_words.amounts_of(words), banks + beside, banks, words, beside)]
+        beside = [column for column in self.columns.amounts if column in table] if self.is_one else []
+        several = [Totals.read(matrix, args, banks + beside, banks, beside)]
         if not self.is_one:
-            found.append(self.totals_beside(found[0]))
-        for name in words.drop:
-            for totals in found:
+            several.append(self.totals_beside(several[0]))
+        for name in args.drop:
+            for totals in several:
                 totals.check(name, self.faults, self.summary)
-            self.drop(name, any(name in totals.rows or name in totals.across for totals in found))
-        for name in self.gone.banks:
+            self.drop(name, any(name in totals.rows or name in totals.across for totals in several))
+        for name in args.left_out.banks:
             self.leave_out(name)
-        left = [{name for name in {**totals.rows, **totals.across} if name not in words.drop} for totals in found]
-        refused = found[0].refuse(self.faults, left[0])
+        left = [{name for name in {**totals.rows, **totals.across} if name not in args.drop} for totals in several]
+        refused = several[0].refuse(self.faults, left[0])
         if not self.is_one:
-            refused |= found[1].refuse(self.faults, left[1] - refused)
+            refused |= several[1].refuse(self.faults, left[1] - refused)
         return refused
-
-    def sheets(self) -> List[Table]:
-        """The sheets, each once."""
-        return [self.matrix] if self.is_one else [self.matrix, self.table]
 
     def drop(self, name: str, is_total: bool) -> None:
         """Drops a line of totals, or a column that is no bank; refuses to drop a bank."""
@@ -178,29 +151,28 @@ class Matrix:
             self.faults.add(self.matrix, self.matrix.rows.get(name), None, what)
             return
         if not is_total and name in self.table and name not in self.matrix.rows:
-            reader = lambda: sheet_words.amounts_of(self.words)
-            tell_columns(self.summary, [name], self.table, reader, "amounts left out by --drop")
-        if not any([sheet.drop(name) for sheet in self.sheets()]):
+            tell_columns(self.summary, [name], self.table, self.args.amounts, "amounts left out by --drop")
+        if not any([sheet.drop(name) for sheet in self.sheets]):
             self.faults.add(self.matrix, None, None, f"there is no {name} to drop")
 
     def gone_of(self, name: str) -> Gone:
         """What goes with a bank: what its row and its column have, without what is no bank's, and what stands
         beside."""
-        gone, reader, matrix = Gone(name), sheet_words.amounts_of(self.words, True), self.matrix
-        row, column = (gone.owed, gone.owes) if self.words.columns_owe else (gone.owes, gone.owed)
+        gone, reader, matrix = Gone(name), self.args.amounts(is_signed=True), self.matrix
+        row, column = (gone.owed, gone.owes) if self.args.columns_owe else (gone.owes, gone.owed)
         if name in matrix.rows:
             banks = [other for other in matrix.header if other not in self.extra and other != name]
             count_all(row, (matrix.cell(name, other) for other in banks), reader)
         if name in matrix.columns and name not in self.extra:
             count_all(column, (text for other, text in matrix.column(name).items() if other != name), reader)
         if name in self.table.rows:
-            gone.beside = beside_of(self.table, name, self.amounts, reader)
+            gone.beside = beside_of(self.table, name, self.columns.amounts, reader)
         return gone
 
     def leave_out(self, name: str) -> None:
         """Leaves out a bank with all that it owes and is owed, and tells it."""
         gone = self.gone_of(name)
-        if not any([sheet.drop(name) for sheet in self.sheets()]):
+        if not any([sheet.drop(name) for sheet in self.sheets]):
             self.faults.add(self.matrix, None, None, f"there is no {name or 'line without a name'} to leave out")
             return
         gone.tell(self.summary)
@@ -208,9 +180,7 @@ class Matrix:
     def totals_beside(self, found: Totals) -> Totals:
         """The totals of the table. A bank with amounts of its own there, which are not the sum of the others', is a
         bank."""
-        beside = Totals(
-            self.table, sheet_words.amounts_of(self.words), [c for c in self.amounts if c in self.table], (), self.words
-        )
+        beside = Totals.read(self.table, self.args, [c for c in self.columns.amounts if c in self.table])
         for row in [
             row for row in found.rows if row in self.table.rows and row not in beside.rows and not is_called_total(row)
         ]:
@@ -225,8 +195,8 @@ class Matrix:
     def check_columns(self, totals: Set[str]) -> None:
         """Rows and columns name the same banks, or the table does, and the table has a column of cash."""
         matrix, table, faults = self.matrix, self.table, self.faults
-        if self.words.cash not in table:
-            faults.add(table, 0, None, f"no column {self.words.cash} for the cash of the banks (--cash, --table)")
+        if self.columns.cash not in table:
+            faults.add(table, 0, None, f"no column {self.columns.cash} for the cash of the banks (--cash, --table)")
         known = table.rows if not self.is_one else {}
         for column in matrix.header:
             if column not in self.extra and column not in matrix.rows and column not in totals and column not in known:
@@ -255,9 +225,9 @@ class Matrix:
     def debts(self, names: List[str], cells: Cells) -> Iterator[Debt]:
         """The debts of the matrix, row by row."""
         matrix = self.matrix
-        order = [name for name in names if name in (matrix.rows if self.words.columns_owe else matrix.columns)]
+        order = [name for name in names if name in (matrix.rows if self.args.columns_owe else matrix.columns)]
         for debtor in names:
-            if self.words.columns_owe:
+            if self.args.columns_owe:
                 if debtor not in matrix.columns:
                     continue
                 at = matrix.columns[debtor]
@@ -270,11 +240,12 @@ class Matrix:
             yield from self.debts_of(debtor, line, cells)
 
     def debts_of(self, debtor: str, line: List[Tuple[str, str]], cells: Cells) -> Iterator[Debt]:
+        """The debts of a bank, of its line of creditors and cells."""
         for creditor, text in line:
             if text in ZERO and type(text) is str:
                 self.empty += text == "" and debtor != creditor
                 continue
-            row, column = (creditor, debtor) if self.words.columns_owe else (debtor, creditor)
+            row, column = (creditor, debtor) if self.args.columns_owe else (debtor, creditor)
             amount = cells.amount(self.matrix, row, column)
             place = (self.matrix, self.matrix.rows[row], column)
             if not amount:
@@ -282,16 +253,16 @@ class Matrix:
             elif debtor == creditor:
                 self.see_diagonal(debtor, amount)
             elif amount > 0:
-                yield Debt(debtor, creditor, self.words.class_, amount, place)
-            elif "negative" in self.gone.kinds:
+                yield Debt(debtor, creditor, self.args.rank, amount, place)
+            elif "negative" in self.args.left_out.kinds:
                 self.left["negative"].add(amount)
             else:
                 self.left["turned"].add(-amount)
-                yield Debt(creditor, debtor, self.words.class_, -amount, place)
+                yield Debt(creditor, debtor, self.args.rank, -amount, place)
 
     def see_diagonal(self, bank: str, amount: Amount) -> None:
         """Refuses what a bank owes itself, until it is left out."""
-        if "self" in self.gone.kinds:
+        if "self" in self.args.left_out.kinds:
             self.left["self"].add(amount)
             return
         what = "the diagonal is not 0: no bank owes itself; correct it, or say --leave-out self"
@@ -305,12 +276,49 @@ class Matrix:
             counted.tell(self.summary, LEFT[what], step="read" if what == "turned" else "leftOut")
 
 
+def no_banks_in(sheets: Sequence[Table], args: MatrixOptions, faults: Faults) -> NoBanks:
+    """The columns of a matrix and its table that are no banks'."""
+    matrix, table, is_one = sheets[0], sheets[-1], len(sheets) == 1
+    banks = matrix.rows if is_one else ()
+    columns = columns_of(faults, args, table, take_alike(table, args.cash, banks), banks)
+    if args.label_column:
+        need_column(faults, table, "label-column", args.label_column, banks)
+    made_case.check_columns(args.of_case.columns, table, faults, banks)
+    # A bank may have such a name where an option names another column.
+    usual = [*(() if args.outside else ["outside"]), *(() if args.rule_column else ["rule"])]
+    like = [
+        column
+        for name in ("outside", "rule")
+        for column in alike(table, name, banks)
+        if name in usual or column not in banks
+    ]
+    used = {*columns.amounts, columns.rule, args.label_column, *args.of_case.columns.values()}
+    extra = {*used, *columns.passed, *like} if is_one else set()
+    others = list(columns.passed) if is_one else [column for column in table.header if column not in used]
+    for sheet in sheets:
+        for column in currency_columns(sheet, {*matrix.rows, *used}, args, faults):
+            extra |= {column} if sheet is matrix else set()
+            others += [column] if sheet is matrix and not args.is_rate(column) else []
+    return NoBanks(columns, extra, others)
+
+
+def currency_columns(sheet: Table, used: Set[Optional[str]], args: MatrixOptions, faults: Faults) -> List[str]:
+    """The columns of a sheet that are of currencies, beside those that are used. One that has several is asked for."""
+    found = []
+    for column in sheet.header:
+        if column not in used and (args.is_rate(column) or is_of_currencies(sheet, column)):
+            found.append(column)
+            if currencies_in(sheet, column) and not args.is_rate(column) and column not in args.ignore:
+                ask_currencies(faults, sheet, column)
+    return found
+
+
 def count_all(counted: Counted, texts: Iterable[str], reader: Amounts) -> None:
     """Counts the amounts of some cells that are not 0."""
     for text in texts:
         try:
             amount = reader.read(text)
-        except Unread:
+        except AmountError:
             continue
         if amount:
             counted.add(amount)
@@ -318,81 +326,67 @@ def count_all(counted: Counted, texts: Iterable[str], reader: Amounts) -> None:
 
 def merged(debts: Iterable[Debt], summary: Summary) -> List[Debt]:
     """Debts of which no two have one debtor and creditor: what was turned round adds to what stands there."""
-    found: Dict[Tuple[str, str, int], Debt] = {}
+    by_key: Dict[Tuple[str, str, int], Debt] = {}
     summed = 0
     for debt in debts:
         key = (debt.debtor, debt.creditor, debt.rank)
-        if key in found:
-            found[key].amount += debt.amount
+        if key in by_key:
+            by_key[key].amount += debt.amount
             summed += 1
         else:
-            found[key] = debt
+            by_key[key] = debt
     if summed:
         summary.tell("debts summed, as one was turned round", 2 * summed, None, f"into {summed:,}", step="summed")
-    return list(found.values())
+    return list(by_key.values())
 
 
-def tell_read(summary: Summary, sheets: Iterable[Table], words: argparse.Namespace) -> None:
-    """Tells what the sheets are."""
-    for sheet in sheets:
-        summary.tell("rows read", len(sheet.rows), None, sheet.label)
-        if sheet.sheet.hidden:
-            summary.tell("hidden rows, read as the others", sheet.sheet.hidden, None, sheet.label)
-        broken = sheet.sheet.broken
-        if broken:
-            some = ", ".join(map(str, broken[:3])) + (", .." if len(broken) > 3 else "")
-            summary.tell(
-                "rows with a line end in a cell, each read as one", len(broken), None, f"row {some} of {sheet.label}"
-            )
-        tell_above(summary, sheet, sheet_words.amounts_of(words, True))
-    made_case.tell_scale(words, summary)
-
-
-def network_of(words: argparse.Namespace, faults: Faults, summary: Summary) -> Tuple[Network, Table]:
+def network_of(args: MatrixOptions, faults: Faults, summary: Summary) -> Tuple[Network, Table]:
     """The network of a matrix, and its sheet."""
-    sheets = Matrix(words, faults, summary)
-    tell_read(summary, [sheets.matrix] if sheets.is_one else [sheets.matrix, sheets.table], words)
+    sheets = Matrix.read(args, faults, summary)
+    tell_read(summary, sheets.sheets, args)
     totals = sheets.totals()
     sheets.check_columns(totals)
     faults.end_if_any()
     if sheets.others:
         summary.tell("columns not looked at", len(sheets.others), None, ", ".join(sheets.others), step="leftOut")
-        tell_columns(
-            summary,
-            sheets.others,
-            sheets.table,
-            lambda: sheet_words.amounts_of(words),
-            "amounts in a column not looked at",
-        )
-    cells = Cells(sheet_words.amounts_of(words, sheets.is_signed), faults, sheets.rates.convert)
+        tell_columns(summary, sheets.others, sheets.table, args.amounts, "amounts in a column not looked at")
+    cells = Cells(args.amounts(is_signed=args.takes_negative), faults, sheets.rates.convert)
     names = sheets.names()
     debts = merged(sheets.debts(names, cells), summary)
-    network = Network(sheet_words.banks_of(sheets.table, names, words, cells, summary), debts, bool(words.outside))
+    banks = options.banks_of(sheets.table, names, sheets.columns, args, cells, summary)
+    network = Network(banks, debts, bool(sheets.columns.outside), sheets.table)
     faults.end_if_any()
     sheets.tell_left()
     sheets.rates.tell(summary)
     summary.tell("debts in the sheet", len(debts), network.owed())
-    network.labels, network.table = sheet_words.labels_in(network, sheets.table, words), sheets.table
-    groups = read_groups(words, faults)
+    network.labels = options.labels_in(banks, sheets.table, args.label_column)
+    groups = read_groups(args, faults)
     if groups:
         network = grouped(network, groups, faults, sheets.matrix, summary)
     return network, sheets.matrix
 
 
-def made(words: argparse.Namespace) -> Made:
+def convert(args: MatrixOptions) -> options.Conversion:
     """The files that the words ask for, each with its text, what is read, and the summary."""
     faults, summary = Faults(), Summary()
-    network, table = network_of(words, faults, summary)
-    read = [words.matrix, words.table, words.groups, words.rate and words.rate.partition("=")[2]]
-    return sheet_words.outputs_of(network, table, words, faults, summary, "from_matrix", read), read, summary
+    network, table = network_of(args, faults, summary)
+    read = [args.file, args.table, args.groups, args.rates_file]
+    outputs = options.outputs_of(network, table, args, faults, summary, "from_matrix", read)
+    return options.Conversion(outputs, read, summary)
 
 
-def parser() -> cli.Parser:
-    return sheet_words.parser_of(__doc__, add_own)
+def build_parser() -> cli.Parser:
+    """The parser of this tool."""
+    return options.parser_of(__doc__, add_own)
+
+
+def parse_args(argv: Optional[Sequence[str]] = None) -> MatrixOptions:
+    """The words of a command line, or some others."""
+    return options.parse_args(MatrixOptions, build_parser(), argv)
 
 
 @command("from_matrix")
 def main() -> None:
-    words = sheet_words.parsed(parser())
-    outputs, read, summary = made(words)
-    sheet_words.write(outputs, read, summary, words)
+    """The command of this tool."""
+    args = parse_args()
+    options.write(convert(args), args)

@@ -1,15 +1,17 @@
 """How a sheet becomes rows of cells, each row with its number as the sheet counts it: comma-separated records of any
 make, or a workbook."""
-import argparse
 import codecs
 import csv
 import io
 import re
+from dataclasses import dataclass
 from itertools import repeat
-from typing import Dict, Iterable, List, Optional, Sequence, Tuple
+from typing import Dict, List, Optional, Sequence, Tuple
+
+from clearing_client.fields import long_fields
 
 from .. import files
-from ..runner import Failed
+from ..runner import ToolError
 from . import books
 from .book_rows import Row
 
@@ -22,57 +24,81 @@ HIDDEN = "a quoted field holds a line as wide as the header; delete its quotes i
 LOOKED_AT = 30
 
 
+@dataclass(frozen=True)
+class Form:
+    """How a file is to be read."""
+
+    encoding: str = "utf-8"
+    """The encoding of a text."""
+    delimiter: Optional[str] = None
+    """What stands between two fields, where that was said."""
+    skip: int = 0
+    """How many rows stand above the header."""
+    title: Optional[str] = None
+    """The sheet of a workbook, where one was named."""
+    before: str = "--"
+    """What stands before `sheet` and `skip` in the options that say so: `--table-` for a table beside the sheet."""
+
+
+@dataclass(frozen=True)
 class Rows:
     """The rows of a sheet, from its header on: their numbers and cells, none of them empty, each cell without blanks at
-    its ends.
+    its ends."""
 
-    `sheet` is the title of a workbook's sheet, or none; `is_book` says that cells have letters and numbers."""
+    name: str
+    """The file."""
+    rows: List[NumberedRow]
+    above: List[NumberedRow]
+    """The rows above the header, which were passed over."""
+    broken: List[int]
+    """The rows that have a cell with a line end in it."""
+    title: Optional[str] = None
+    """The title of a workbook's sheet."""
+    hidden: int = 0
+    """How many rows of a workbook's sheet are hidden."""
+    delimiter: Optional[str] = None
+    """What stands between two fields of a text."""
 
-    def __init__(
-        self,
-        name: str,
-        rows: List[NumberedRow],
-        sheet: Optional[str] = None,
-        hidden: int = 0,
-        delimiter: Optional[str] = None,
-        broken: Iterable[int] = (),
-        above: Iterable[NumberedRow] = (),
-    ) -> None:
-        self.name, self.rows, self.sheet, self.hidden, self.delimiter = name, rows, sheet, hidden, delimiter
-        # The rows that have a cell with a line end in it.
-        self.broken = list(broken)
-        # The rows above the header that were passed over.
-        self.above = list(above)
-        self.is_book = sheet is not None
-        self.label = f"{name} sheet {sheet}" if self.is_book else name
+    @property
+    def is_book(self) -> bool:
+        """Whether it is a sheet of a workbook, whose cells have letters and numbers."""
+        return self.title is not None
+
+    @property
+    def label(self) -> str:
+        """What the sheet is called."""
+        return f"{self.name} sheet {self.title}" if self.is_book else self.name
 
     def where(self, number: int) -> str:
+        """A row in words."""
         return f"{self.label} row {number}"
 
 
-def rows_of(name: str, words: argparse.Namespace, sheet: Optional[str] = None, option: str = "--sheet") -> Rows:
-    """The rows of a file from its header on; a sheet of a workbook is named by an option. A table beside the sheet has
-    the words `--table-sheet` and `--table-skip`."""
-    before = option.removesuffix("sheet")
-    skip = words.skip if before == "--" else words.table_skip
+def rows_of(name: str, form: Form) -> Rows:
+    """The rows of a file from its header on."""
     try:
         with open(name, "rb") as file:
             start = file.read(8)
         if books.is_workbook(start):
-            title, found, hidden = books.rows_of(name, sheet, option)
-            broken = [number for number, row in found if number > skip and any("\n" in str(cell) for cell in row)]
-            above, below = [one for one in found if one[0] <= skip], [one for one in found if one[0] > skip]
-            rows = Rows(name, below, title, hidden, broken=broken, above=above)
-        elif sheet is not None:
-            raise Failed(f"{name} is no workbook, and has no sheet {sheet}")
+            rows = book_rows(name, form)
+        elif form.title is not None:
+            raise ToolError(f"{name} is no workbook, and has no sheet {form.title}")
         else:
-            rows = text_rows(name, words, skip)
+            rows = text_rows(name, form)
     except OSError as error:
-        raise Failed(f"cannot read {name}: {error.strerror}") from error
+        raise ToolError(f"cannot read {name}: {error.strerror}") from error
     if not rows.rows:
-        raise Failed(f"{name} has no record")
-    check_title(rows, before)
+        raise ToolError(f"{name} has no record")
+    check_title(rows, form.before)
     return rows
+
+
+def book_rows(name: str, form: Form) -> Rows:
+    """The rows of a sheet of a workbook."""
+    title, found, hidden = books.rows_of(name, form.title, f"{form.before}sheet")
+    above, below = [one for one in found if one[0] <= form.skip], [one for one in found if one[0] > form.skip]
+    broken = [number for number, row in below if any("\n" in str(cell) for cell in row)]
+    return Rows(name, below, above, broken, title, hidden)
 
 
 def check_title(rows: Rows, before: str) -> None:
@@ -83,7 +109,7 @@ def check_title(rows: Rows, before: str) -> None:
     at = next(at for at, count in enumerate(wide) if count >= most - 1)
     at = header_at(first, wide, at)
     if at and (wide[0] * 2 <= most or wide[0] <= 2 < most):
-        raise Failed(
+        raise ToolError(
             f"{rows.where(first[0][0])} looks like a title above the header, which is row {first[at][0]}, is it? say "
             f"{before}skip {first[at][0] - 1}"
         )
@@ -92,7 +118,7 @@ def check_title(rows: Rows, before: str) -> None:
         if rows.delimiter:
             other = f"is its delimiter another than {rows.delimiter!r} (--delimiter)"
             hint = f"{other}, or are there lines above the header ({before}skip)?"
-        raise Failed(f"{rows.label} has one column alone; {hint}")
+        raise ToolError(f"{rows.label} has one column alone; {hint}")
 
 
 def header_at(first: Sequence[NumberedRow], wide: Sequence[int], at: int) -> int:
@@ -121,17 +147,16 @@ def text_of(name: str, encoding: str) -> str:
             encoding = "utf-16"
         return data.decode("utf-8-sig" if encoding == "utf-8" else encoding)
     except UnicodeError as error:
-        raise Failed(
+        raise ToolError(
             f"{name} is not {encoding.upper()}; save it as UTF-8, or say its --encoding, such as cp1252"
         ) from error
 
 
-def text_rows(name: str, words: argparse.Namespace, skip: int) -> Rows:
+def text_rows(name: str, form: Form) -> Rows:
     """The rows of a file of comma-separated records. Stray quotes are refused, since all that stands between two of
     them would be one field."""
-    text = text_of(name, words.encoding)
-    delimiter = words.delimiter or delimiter_of(text, skip)
-    csv.field_size_limit(len(text) + 1)
+    text = text_of(name, form.encoding)
+    delimiter = form.delimiter or delimiter_of(text, form.skip)
     reader, last, number = csv.reader(io.StringIO(text, newline=""), delimiter=delimiter, strict=True), 0, 0
     rows: List[NumberedRow] = []
     above: List[NumberedRow] = []
@@ -140,24 +165,25 @@ def text_rows(name: str, words: argparse.Namespace, skip: int) -> Rows:
     # A text that stands in many cells is held once.
     held: Dict[str, str] = {}
     try:
-        for number, record in enumerate(reader, 1):
-            record = [held.setdefault(field, field) for field in map(str.strip, record, repeat(" \t"))]
-            if number > skip and any(record):
-                rows.append((number, record))
-                if reader.line_num - last > 1:
-                    wide.append((rows[-1], last, reader.line_num))
-            elif any(record):
-                above.append((number, record))
-            last = reader.line_num
+        with long_fields(len(text)):
+            for number, record in enumerate(reader, 1):
+                record = [held.setdefault(field, field) for field in map(str.strip, record, repeat(" \t"))]
+                if number > form.skip and any(record):
+                    rows.append((number, record))
+                    if reader.line_num - last > 1:
+                        wide.append((rows[-1], last, reader.line_num))
+                elif any(record):
+                    above.append((number, record))
+                last = reader.line_num
     except csv.Error as error:
         # Before 3.11 Python reads no NUL.
-        raise Failed(f"{name} row {number + 1}: {error if 'NUL' in str(error) else OPEN_QUOTE}") from error
+        raise ToolError(f"{name} row {number + 1}: {error if 'NUL' in str(error) else OPEN_QUOTE}") from error
     lines = list(io.StringIO(text, newline="")) if wide else []
     for (row, record), start, end in wide:
         if hides_a_record(lines[start:end], delimiter, len(rows[0][1])):
-            raise Failed(f"{name} row {row}: {HIDDEN}")
+            raise ToolError(f"{name} row {row}: {HIDDEN}")
     broken = [row for (row, record), _, _ in wide if any("\n" in field or "\r" in field for field in record)]
-    return Rows(name, rows, delimiter=delimiter, broken=broken, above=above)
+    return Rows(name, rows, above, broken, delimiter=delimiter)
 
 
 def hides_a_record(lines: Sequence[str], delimiter: str, width: int) -> bool:

@@ -1,9 +1,14 @@
 """What was done to a sheet, told on standard error or written as a table."""
-from typing import Dict, List, Optional, Sequence, Tuple
+import contextlib
+from fractions import Fraction
+from typing import Dict, Iterable, List, Optional, Sequence, Tuple
 
 from clearing_client.description import STEPS, ImportLine, ImportSummary
 
-from .amounts import Amount, shown
+from .amounts import Amount, Amounts, AmountError, shown
+from .reading import is_amount
+from .sheet_options import CaseOptions, SheetOptions
+from .tables import AnySheet
 
 Line = Tuple[str, Optional[int], Optional[Amount], str]
 COLUMNS = ("what", "count", "amount", "detail")
@@ -64,3 +69,61 @@ def field_of(value: object) -> str:
     """A field of a record, in quotes where it needs them."""
     text = str(value)
     return '"' + text.replace('"', '""') + '"' if any(c in text for c in ',"\r\n') else text
+
+
+class Counted:
+    """How many amounts, and their sum."""
+
+    def __init__(self) -> None:
+        self.count = 0
+        self.sum: Amount = Fraction(0)
+
+    def add(self, amount: Amount) -> None:
+        """Adds an amount."""
+        self.count += 1
+        self.sum += amount
+
+    def tell(self, summary: Summary, what: str, detail: str = "", step: str = "leftOut") -> None:
+        """Tells it where there is any."""
+        if self.count:
+            summary.tell(what, self.count, self.sum, detail, step=step)
+
+
+# What every tool tells first.
+
+
+def tell_read(summary: Summary, sheets: Iterable[AnySheet], args: SheetOptions) -> None:
+    """Tells what the sheets are."""
+    for sheet in sheets:
+        summary.tell("rows read", len(sheet.rows), None, sheet.label)
+        if sheet.sheet.hidden:
+            summary.tell("hidden rows, read as the others", sheet.sheet.hidden, None, sheet.label)
+        broken = sheet.sheet.broken
+        if broken:
+            some = ", ".join(map(str, broken[:3])) + (", .." if len(broken) > 3 else "")
+            summary.tell(
+                "rows with a line end in a cell, each read as one", len(broken), None, f"row {some} of {sheet.label}"
+            )
+        tell_above(summary, sheet, args.amounts(is_signed=True))
+    tell_scale(summary, args.of_case)
+
+
+def tell_above(summary: Summary, table: AnySheet, amounts: Amounts) -> None:
+    """Tells the amounts that stand above the header, in rows that are passed over."""
+    counted, rows = Counted(), []
+    for number, row in table.sheet.above:
+        for cell in row:
+            if is_amount(cell):
+                with contextlib.suppress(AmountError):
+                    counted.add(amounts.read(cell))
+                    rows.append(number)
+    places = list(dict.fromkeys(rows))
+    some = ", ".join(map(str, places[:3])) + (", .." if len(places) > 3 else "")
+    counted.tell(summary, "amounts above the header, passed over", f"row {some} of {table.label}")
+
+
+def tell_scale(summary: Summary, case: CaseOptions) -> None:
+    """Tells what the amounts of the sheets are in, where that was said."""
+    if case.amounts_in:
+        detail = f"{shown(case.amounts_in)} {case.currency or 'of the currency'}"
+        summary.tell("amounts of the sheets are in", detail=detail)

@@ -1,66 +1,45 @@
-"""Tables of a sheet, with the names of columns in the header, and how their columns are found."""
-import argparse
+"""Tables of a sheet, with the names of columns in the header, and the amounts of their cells."""
 import re
 from fractions import Fraction
-from typing import Any, Callable, Container, Dict, List, Optional, Sequence
+from typing import Container, Dict, Generic, List, Optional, Protocol, TypeVar, Union
 
 from ..labels import word_shown
 from ..runner import shown
-from .amounts import Amount, Amounts, Unread
+from .amounts import Amount, Amounts, AmountError
 from .book_rows import Row, letters
 from .faults import Faults
-from .reading import NumberedRow, rows_of
+from .reading import Form, NumberedRow, rows_of
 
-Convert = Callable[["Table", Any, Amount], Amount]
-"""What makes an amount of a row one in the currency of the network."""
-
-# What a column may be called that has what is owed to others than the banks, and what shows that it is no debt.
-OUTSIDE = re.compile(
-    r"outside|extern|other liab|other debt|deposit|non.?bank|customer|einlagen|sonstige verb|übrige "
-    r"verb|dépôt|depot|autres dettes"
-    r"|autres engag|third.part|dritt|kunden|client|in issue|issued|^el$",
-    re.IGNORECASE,
-)
-NO_DEBT = re.compile(r"asset|aktiv|actif|claim|forderung|créance|receiv|held|central bank", re.IGNORECASE)
+Key = TypeVar("Key", str, int)
+"""By what the rows of a sheet are found: the name of a bank, or the number of a row."""
 
 
-class Table:
-    """A sheet with the names of columns in its header; with names of rows in the first column, unless it is a list.
+class Sheet(Generic[Key]):
+    """A sheet with the names of columns in its header.
 
-    `rows` has the number of each row as the sheet counts it, by its name, or by its number in a list; `cells` its cells
-    by the places of `columns`."""
+    `rows` has the number of each row as the sheet counts it, by its key; `cells` its cells by the places of
+    `columns`."""
 
-    def __init__(
-        self,
-        name: str,
-        words: argparse.Namespace,
-        faults: Faults,
-        is_list: bool = False,
-        sheet: Optional[str] = None,
-        option: str = "--sheet",
-    ) -> None:
-        found = rows_of(name, words, sheet, option)
-        self.name, self.label, self.faults, self.sheet, self.before = (
-            name,
-            found.label,
-            faults,
-            found,
-            option.removesuffix("sheet"),
-        )
-        self.first, header = found.rows[0]
-        self.lead = 0 if is_list else 1
-        width = self.width_of(found.rows)
+    lead = 0
+    """How many columns stand before those of the header's names."""
+
+    def __init__(self, name: str, form: Form, faults: Faults) -> None:
+        source = rows_of(name, form)
+        self.name, self.label, self.faults, self.sheet = name, source.label, faults, source
+        self.before = form.before
+        self.first, header = source.rows[0]
+        width = self.width_of(source.rows)
         self.header = list(map(str, header[self.lead : width])) + [""] * (width - max(len(header), self.lead))
         self.columns: Dict[str, int] = {}
-        self.rows: Dict[Any, int] = {}
-        self.cells: Dict[Any, Row] = {}
+        self.rows: Dict[Key, int] = {}
+        self.cells: Dict[Key, Row] = {}
         for at, column in enumerate(self.header):
             if column in self.columns:
                 faults.add(self, 0, column or "without a name", "a second column of this name")
             self.columns.setdefault(column, at)
         self.letters = {column: letters(at + self.lead) for column, at in self.columns.items()}
-        for number, record in found.rows[1:]:
-            self.take(number, record, width, is_list)
+        for number, record in source.rows[1:]:
+            self.take(number, record, width)
 
     def width_of(self, rows: List[NumberedRow]) -> int:
         """How many columns there are: those of the header, without what is empty at its end and below."""
@@ -76,44 +55,35 @@ class Table:
             width -= 1
         return width
 
-    def take(self, number: int, record: Row, width: int, is_list: bool) -> None:
-        """Takes a row in."""
+    def take(self, number: int, record: Row, width: int) -> None:
+        """Takes a row in, which is to be as wide as the header."""
         if self.sheet.is_book:
             record = record + [""] * (width - len(record))
         if len(record) > width and not any(record[width:]):
             record = record[:width]
         if len(record) != width:
             self.faults.add(self, number, None, f"{len(record)} fields, and the header has {width}")
-        elif is_list:
-            self.rows[number], self.cells[number] = number, record
         else:
-            name = record[0]
-            fault = getattr(name, "fault", None)
-            if fault:
-                what = f"the name {str(name)!r} {fault.replace(', and no amount', '')}, and no name"
-                self.faults.add(self, number, None, what)
-            elif name in self.rows:
-                called = f"of the name {name}" if name else "without a name"
-                self.faults.add(
-                    self, number, None, f"a second row {called}, beside row {self.rows[name]}", kind="second"
-                )
-            else:
-                self.rows[str(name)], self.cells[str(name)] = number, record[1:]
+            self.keep(number, record)
+
+    def keep(self, number: int, record: Row) -> None:
+        """Keeps a row under its key."""
+        raise NotImplementedError
 
     def __contains__(self, column: str) -> bool:
         return column in self.columns
 
-    def cell(self, key: Any, column: str) -> str:
+    def cell(self, key: Key, column: str) -> str:
         """The cell of a row in a column, empty where there is no such column."""
         at = self.columns.get(column)
         return "" if at is None else self.cells[key][at]
 
-    def column(self, column: str) -> Dict[Any, str]:
-        """The cells of a column by their rows."""
+    def column(self, column: str) -> Dict[Key, str]:
+        """The cells of a column by the keys of their rows."""
         at = self.columns[column]
         return {key: cells[at] for key, cells in self.cells.items()}
 
-    def place(self, row: Any, column: Optional[str]) -> str:
+    def place(self, row: Optional[int], column: Optional[str]) -> str:
         """A place as words: with the cell as a spreadsheet names it where it is one."""
         row = self.first if row == 0 else row
         if self.sheet.is_book and row is not None and column in self.letters:
@@ -124,6 +94,36 @@ class Table:
             )
         return "".join([f" row {row}" if row is not None else "", f" column {column}" if column else ""])
 
+
+AnySheet = Union[Sheet[str], Sheet[int]]
+
+
+class Listing(Sheet[int]):
+    """A sheet whose rows have no names: each is found by its number."""
+
+    def keep(self, number: int, record: Row) -> None:
+        """Keeps a row under its number."""
+        self.rows[number], self.cells[number] = number, record
+
+
+class Table(Sheet[str]):
+    """A sheet with the names of its rows in the first column."""
+
+    lead = 1
+
+    def keep(self, number: int, record: Row) -> None:
+        """Keeps a row under its name, which no other has."""
+        name = record[0]
+        fault = getattr(name, "fault", None)
+        if fault:
+            what = f"the name {str(name)!r} {fault.replace(', and no amount', '')}, and no name"
+            self.faults.add(self, number, None, what)
+        elif name in self.rows:
+            called = f"of the name {name}" if name else "without a name"
+            self.faults.add(self, number, None, f"a second row {called}, beside row {self.rows[name]}", kind="second")
+        else:
+            self.rows[str(name)], self.cells[str(name)] = number, record[1:]
+
     def drop_row(self, name: str) -> None:
         """Drops the row of a name, where there is one."""
         self.rows.pop(name, None)
@@ -131,13 +131,20 @@ class Table:
 
     def drop(self, name: str) -> bool:
         """Drops the row and the column of a name. Says whether there was one."""
-        found = name in self.rows or name in self.columns
+        is_there = name in self.rows or name in self.columns
         self.rows.pop(name, None)
         self.cells.pop(name, None)
         if name in self.columns:
             del self.columns[name]
             self.header.remove(name)
-        return found
+        return is_there
+
+
+class Convert(Protocol):
+    """What makes an amount of a row one in the currency of the network."""
+
+    def __call__(self, table: Sheet[Key], row: Key, amount: Amount) -> Amount:
+        """The amount of a row in the currency of the network."""
 
 
 class Cells:
@@ -146,19 +153,19 @@ class Cells:
     def __init__(self, amounts: Amounts, faults: Faults, convert: Optional[Convert] = None) -> None:
         self.amounts, self.faults, self.convert = amounts, faults, convert
 
-    def amount(self, table: Table, row: Any, column: str) -> Amount:
+    def amount(self, table: Sheet[Key], row: Key, column: str) -> Amount:
         """The amount in a cell, in the currency of the network, 0 where it is not one."""
         try:
             amount = self.amounts.read(table.cell(row, column))
-        except Unread as unread:
+        except AmountError as unread:
             self.unread(unread, table, row, column)
             return Fraction(0)
         return self.convert(table, row, amount) if self.convert else amount
 
-    def unread(self, unread: Unread, table: Table, row: Any, column: str) -> None:
+    def unread(self, unread: AmountError, table: Sheet[Key], row: Key, column: str) -> None:
         """Tells of a cell that is no amount."""
         if unread.question:
-            self.faults.ask(table, table.rows[row], column, unread, unread.question)
+            self.faults.ask(table, table.rows[row], column, str(unread), unread.question)
         else:
             self.faults.add(table, table.rows[row], column, unread, kind=unread.kind)
 
@@ -172,7 +179,7 @@ def quoted(name: str) -> str:
     )
 
 
-def need_column(faults: Faults, table: Table, option: str, column: str, banks: Container[str] = ()) -> None:
+def need_column(faults: Faults, table: AnySheet, option: str, column: str, banks: Container[str] = ()) -> None:
     """Refuses a table without a column, by the option that gives it another name. Banks are not told among those it
     has. Where a row below has the name, it may be the header."""
     if column in table:
@@ -185,85 +192,3 @@ def need_column(faults: Faults, table: Table, option: str, column: str, banks: C
         else f"; say --{option} NAME"
     )
     faults.add(table, 0, None, f"no column {column}; it has {there or 'no other'}{hint}")
-
-
-def alike(table: Table, name: str, banks: Container[str] = (), drop: Container[str] = ()) -> List[str]:
-    """The columns of a name, or of that name but for capitals or spaces where it is no bank's; without those to be
-    dropped."""
-    plain = name.strip().casefold()
-    named = [column for column in table.header if column.strip().casefold() == plain and column not in drop]
-    return [column for column in named if column == name or column not in banks]
-
-
-def ask_alike(faults: Faults, table: Table, option: str, usual: str, columns: Sequence[str]) -> None:
-    """Asks which of several columns is meant that have the usual name but for capitals or spaces."""
-    for column in columns:
-        if column != usual:
-            faults.add(
-                table,
-                0,
-                column,
-                f"its name is {usual} but for capitals or spaces; say --{option} {quoted(column)}, or rename it",
-            )
-
-
-def take_alike(words: argparse.Namespace, table: Table, option: str, banks: Container[str] = ()) -> str:
-    """The name of a column, as it usually is or an option gives it. Where one column alone has it but for capitals or
-    spaces, that is taken for it."""
-    word = option.replace("-", "_")
-    found = alike(table, getattr(words, word), banks)
-    if len(found) == 1:
-        setattr(words, word, found[0])
-    taken: str = getattr(words, word)
-    return taken
-
-
-def need_usual(
-    faults: Faults, words: argparse.Namespace, table: Table, option: str, banks: Container[str] = ()
-) -> None:
-    """Refuses a table without a column of a name, whatever its capitals or spaces."""
-    need_column(faults, table, option, take_alike(words, table, option, banks), banks)
-
-
-def find_column(
-    faults: Faults, words: argparse.Namespace, table: Table, option: str, banks: Container[str] = ()
-) -> None:
-    """Finds a column that may be missing. One that an option names must be there, else it is the only one of the usual
-    name, whatever its capitals or spaces, or none. Which of several it is is asked for."""
-    word, usual = option.replace("-", "_"), option.split("-")[0]
-    if getattr(words, word) is not None:
-        need_usual(faults, words, table, option, banks)
-        return
-    found = alike(table, usual, banks, words.drop)
-    if found:
-        setattr(words, word, found[0])
-    if len(found) > 1:
-        ask_alike(faults, table, option, usual, found)
-
-
-def find_outside(faults: Faults, words: argparse.Namespace, table: Table, banks: Container[str] = ()) -> List[str]:
-    """Finds the columns of what is owed outside: those that are named, else the only one of the name `outside`,
-    whatever its capitals or spaces, or none. One that looks like it is asked for. Gives the columns that --no-outside
-    passes over."""
-    if words.outside:
-        for column in words.outside:
-            need_column(faults, table, "outside", column, banks)
-        return []
-    found = alike(table, "outside", banks, words.drop)
-    words.outside = [] if words.no_outside else found[:1]
-    if len(found) > 1 and not words.no_outside:
-        ask_alike(faults, table, "outside", "outside", found)
-    like = [] if words.outside else [column for column in table.header if is_outside(table, column, words, banks)]
-    if words.no_outside:
-        return [*like, *found]
-    for column in like:
-        faults.add(table, 0, column, f"it may be what is owed outside; say --outside {quoted(column)}, or --no-outside")
-    return like
-
-
-def is_outside(table: Table, column: str, words: argparse.Namespace, banks: Container[str]) -> bool:
-    """Whether a column looks like what is owed to others: by its name, and something stands in it."""
-    taken = (words.cash, words.rule_column, getattr(words, "assets", None), getattr(words, "liabilities", None))
-    if column in banks or column in taken or column in words.drop:
-        return False
-    return bool(OUTSIDE.search(column)) and not NO_DEBT.search(column) and any(table.column(column).values())

@@ -1,10 +1,9 @@
 """A network in the amounts of a sheet, and how it becomes whole units within the limits of docs/FORMATS.md."""
-import argparse
 import re
 from collections import defaultdict
 from dataclasses import dataclass, field
 from fractions import Fraction
-from typing import Any, Dict, Iterable, Iterator, List, Mapping, Optional, Tuple, Union
+from typing import Dict, Iterable, Iterator, List, Mapping, Optional, Tuple, Union
 
 from clearing_client.format import MAX_CASH, MAX_CLAIM, MAX_OUTSIDE, is_name
 from clearing_client.limits import LIMITS, STANDARD, WIDE, Limits, of_counts
@@ -12,8 +11,10 @@ from clearing_client.texts import DEBTS
 
 from .. import files
 from .amounts import Amount, decimals_of, shown
-from .faults import Faults
+from .faults import Faults, Located
+from .sheet_options import SheetOptions
 from .summary import Summary
+from .tables import Table
 
 NAME_BYTES = 64
 
@@ -38,20 +39,20 @@ class Debt:
     creditor: str
     rank: int
     amount: Amount
-    place: Tuple[Any, Any, str]
+    place: Tuple[Located, int, str]
 
 
 @dataclass
 class Network:
-    """Banks and debts in amounts, the codes of names that are none, and the full names that labels have."""
+    """Banks and debts in amounts, the table of the banks, which may have more of their names, the codes of names that
+    are none, and the full names that labels have."""
 
     banks: List[Bank]
     debts: List[Debt]
     has_outside: bool
+    table: Table
     codes: Dict[str, str] = field(default_factory=dict)
     labels: Dict[str, str] = field(default_factory=dict)
-    # The table of the banks, which may have more of their names.
-    table: Any = None
 
     def amounts(self) -> Iterator[Tuple[Amount, int, Union[Bank, Debt]]]:
         """Each amount with its limit in units, and the bank or the debt that has it."""
@@ -62,6 +63,7 @@ class Network:
             yield debt.amount, MAX_CLAIM, debt
 
     def owed(self) -> Amount:
+        """What is owed in all."""
         return sum(debt.amount for debt in self.debts)
 
     def labels_text(self) -> str:
@@ -153,10 +155,27 @@ def auto_unit(network: Network, limits: Limits) -> Fraction:
     return next(unit for unit in handy_units(finest) if 2 * unit >= bound and not any(breaks(network, unit, limits)))
 
 
-def tell_limits(summary: Summary, said: Optional[str], needed: str) -> None:
+def unit_for(network: Network, args: SheetOptions, faults: Faults, table: Located) -> Fraction:
+    """The unit that was said, or the smallest that keeps all limits. One that breaks some is refused."""
+    # It is chosen by the limits that the network needs for its banks and debts alone.
+    debts = sum(1 for debt in network.debts if debt.amount)
+    limits = LIMITS[args.limits or of_counts(len(network.banks), debts, 0)]
+    if args.unit is None:
+        return auto_unit(network, limits)
+    broken = list(breaks(network, args.unit, args.most))
+    for line in broken:
+        faults.add(table, None, None, line)
+    if broken:
+        unit = shown(auto_unit(network, limits))
+        way = f"(--unit {unit.replace(',', '')} --round, or --unit auto)"
+        faults.add(table, None, None, f"a unit of {unit} keeps all limits on amounts {way}")
+    return args.unit
+
+
+def tell_limits(summary: Summary, limits: Optional[str], needed: str) -> None:
     """Tells where a network needs the wide limits."""
     if needed == WIDE:
-        what = "as was said" if said else f"as the standard ones have {standard_words()}"
+        what = "as was said" if limits else f"as the standard ones have {standard_words()}"
         summary.tell("limits", detail=f"wide, {what}: clearing reads the files by --limits wide")
 
 
@@ -167,41 +186,35 @@ def standard_words() -> str:
 
 
 class Units:
-    """A network in whole units, and what was done to come to them."""
+    """A network in whole units: the units of each debt, of which there may be a million; by the limits that were said,
+    where they were."""
 
-    def __init__(self, network: Network, words: argparse.Namespace, faults: Faults, table: Any) -> None:
-        self.network, self.unit, self.said = network, words.unit, words.limits
-        self.is_auto = words.unit == "auto"
-        # A unit is chosen by the limits that the network needs for its banks and debts alone.
-        debts = sum(1 for debt in network.debts if debt.amount)
-        limits = LIMITS[self.said or of_counts(len(network.banks), debts, 0)]
-        most = LIMITS[self.said or WIDE]
-        if self.is_auto:
-            self.unit = auto_unit(network, limits)
-        elif broken := list(breaks(network, self.unit, most)):
-            for line in broken:
-                faults.add(table, None, None, line)
-            unit = shown(auto_unit(network, limits))
-            faults.add(
-                table,
-                None,
-                None,
-                f"a unit of {unit} keeps all limits on amounts (--unit {unit.replace(',', '')} --round, or --unit "
-                "auto)",
-            )
-        # The units of each debt, of which there may be a million.
-        self.units = [units_of(debt.amount, self.unit) for debt in network.debts]
-        self.check_counts(faults, table)
-        if not self.is_auto and not words.round:
-            for debt in network.debts:
-                if off_by(debt.amount, self.unit):
-                    faults.add(*debt.place, not_whole(debt.amount), kind="whole")
+    def __init__(self, network: Network, unit: Fraction, units: List[int], limits: Optional[str]) -> None:
+        self.network, self.unit, self.units, self.limits = network, unit, units, limits
 
-    def check_counts(self, faults: Faults, table: Any) -> None:
-        count, limits = self.count(), LIMITS[self.said or WIDE]
-        for found, most, what in [(len(self.network.banks), limits.banks, "banks"), (count, limits.debts, "debts")]:
-            if found > most:
-                faults.add(table, None, None, f"{found:,} {what}, {found - most:,} more than the most, {most:,}")
+    @classmethod
+    def of(cls, network: Network, args: SheetOptions, faults: Faults, table: Located) -> "Units":
+        """The network in the unit that was said, or the smallest that keeps all limits. Refuses what passes a limit,
+        and debts that are no whole units, unless they are rounded."""
+        unit = unit_for(network, args, faults, table)
+        units = cls(network, unit, [units_of(debt.amount, unit) for debt in network.debts], args.limits)
+        units.check_counts(args.most, faults, table)
+        if args.unit is not None and not args.is_rounded:
+            units.check_whole(faults)
+        return units
+
+    def check_counts(self, limits: Limits, faults: Faults, table: Located) -> None:
+        """Refuses more banks or debts than the limits have."""
+        banks = len(self.network.banks), limits.banks, "banks"
+        for count, most, what in [banks, (self.count(), limits.debts, "debts")]:
+            if count > most:
+                faults.add(table, None, None, f"{count:,} {what}, {count - most:,} more than the most, {most:,}")
+
+    def check_whole(self, faults: Faults) -> None:
+        """Refuses debts that are no whole units."""
+        for debt in self.network.debts:
+            if off_by(debt.amount, self.unit):
+                faults.add(*debt.place, not_whole(debt.amount), kind="whole")
 
     def count(self) -> int:
         """How many debts have a unit."""
@@ -212,9 +225,11 @@ class Units:
         return of_counts(len(self.network.banks), self.count(), sum(self.units))
 
     def named(self, name: str) -> str:
+        """The name of a bank in the files: its code, where it has one."""
         return self.network.codes.get(name, name)
 
     def banks_text(self) -> str:
+        """The banks file."""
         header = ["name", "cash", "rule"] + ["outside"] * self.network.has_outside
         records = []
         for bank in self.network.banks:
@@ -223,6 +238,7 @@ class Units:
         return files.csv_text([header, *records])
 
     def debts_text(self) -> str:
+        """The debts file."""
         code = self.network.codes.get
         lines = [
             f"{code(debt.debtor, debt.debtor)},{code(debt.creditor, debt.creditor)},{debt.rank},{units}\n"
@@ -240,20 +256,22 @@ class Units:
             ("debts", [d.amount for d in network.debts]),
         ]:
             units = self.units if what == "debts" else [units_of(amount, unit) for amount in amounts]
-            made, given = sum(units) * unit, Fraction(sum(amounts))
+            total, in_sheet = sum(units) * unit, Fraction(sum(amounts))
             if what == "owed outside" and not network.has_outside:
                 continue
             count = sum(map(bool, units)) if what == "debts" else len(network.banks)
             off = (
-                f"; {shown(abs(made - given))} {'more' if made > given else 'less'} than the sheet's {shown(given)}"
-                if made != given
+                f"; {shown(abs(total - in_sheet))} {'more' if total > in_sheet else 'less'} than the sheet's"
+                f" {shown(in_sheet)}"
+                if total != in_sheet
                 else ""
             )
-            summary.tell(f"{what} made", count, made, f"in units of {shown(unit)}: {sum(units):,}{off}")
+            summary.tell(f"{what} made", count, total, f"in units of {shown(unit)}: {sum(units):,}{off}")
         self.tell_rounding(summary)
-        tell_limits(summary, self.said, self.needed())
+        tell_limits(summary, self.limits, self.needed())
 
     def tell_rounding(self, summary: Summary) -> None:
+        """Tells what was rounded, and what became 0."""
         unit = self.unit
         off = [gap for gap in (off_by(amount, unit) for amount, _, _ in self.network.amounts()) if gap]
         if off:
@@ -267,13 +285,16 @@ class Units:
 
 
 def not_whole(amount: Amount) -> str:
+    """What is said of an amount that is no whole number of units."""
     return f"{shown(amount)} is not a whole number of units; take a smaller --unit, or --round"
 
 
 # Groups
 
 
-def grouped(network: Network, groups: Mapping[str, str], faults: Faults, table: Any, summary: Summary) -> Network:
+def grouped(
+    network: Network, groups: Mapping[str, str], faults: Faults, table: Located, summary: Summary
+) -> Network:
     """A network in which the banks of a group are one: debts within it are gone, all else adds up."""
     names = {bank.name for bank in network.banks}
     of = {bank: group for bank, group in groups.items() if bank in names}
@@ -285,33 +306,45 @@ def grouped(network: Network, groups: Mapping[str, str], faults: Faults, table: 
     for group in sorted(set(of.values())):
         if of.get(group, group) != group:
             faults.add(table, None, None, f"the group {group} has the name of a bank of another group")
-    made = {}
-    for bank in network.banks:
+    banks = grouped_banks(network.banks, of, faults, table)
+    summary.tell("groups", len(set(of.values())), None, f"of {len(of):,} banks")
+    debts = grouped_debts(network.debts, of, summary)
+    return Network(banks, debts, network.has_outside, network.table, labels=network.labels)
+
+
+def grouped_banks(banks: Iterable[Bank], of: Mapping[str, str], faults: Faults, table: Located) -> List[Bank]:
+    """The banks, those of a group as one."""
+    by_group: Dict[str, Bank] = {}
+    for bank in banks:
         group = of.get(bank.name, bank.name)
-        if group not in made:
-            made[group] = Bank(group, bank.cash, bank.rule, bank.outside)
+        if group not in by_group:
+            by_group[group] = Bank(group, bank.cash, bank.rule, bank.outside)
             continue
-        made[group].cash += bank.cash
-        made[group].outside += bank.outside
-        if made[group].rule != bank.rule:
-            what = f"the banks of the group {group} have the rules {made[group].rule} and {bank.rule}; give them one"
+        one = by_group[group]
+        one.cash += bank.cash
+        one.outside += bank.outside
+        if one.rule != bank.rule:
+            what = f"the banks of the group {group} have the rules {one.rule} and {bank.rule}; give them one"
             faults.add(table, None, None, what)
-    debts: Dict[Tuple[str, str, int], Debt] = {}
+    return list(by_group.values())
+
+
+def grouped_debts(debts: Iterable[Debt], of: Mapping[str, str], summary: Summary) -> List[Debt]:
+    """The debts between groups: those within one are gone, and those of the same two groups and class add up."""
+    by_key: Dict[Tuple[str, str, int], Debt] = {}
     within: List[Amount] = []
     summed: Dict[Tuple[str, str, int], int] = defaultdict(int)
-    for debt in network.debts:
+    for debt in debts:
         key = (of.get(debt.debtor, debt.debtor), of.get(debt.creditor, debt.creditor), debt.rank)
         if key[0] == key[1]:
             within.append(debt.amount)
-        elif key in debts:
-            debts[key].amount += debt.amount
+        elif key in by_key:
+            by_key[key].amount += debt.amount
             summed[key] += 1
         else:
-            debts[key] = Debt(*key, debt.amount, debt.place)
-    summary.tell("groups", len(set(of.values())), None, f"of {len(of):,} banks")
+            by_key[key] = Debt(*key, debt.amount, debt.place)
     summary.tell("debts within groups, left out", len(within), sum(within), step="leftOut")
     if summed:
-        summary.tell(
-            "debts summed by groups", sum(summed.values()) + len(summed), None, f"into {len(summed):,}", step="summed"
-        )
-    return Network(list(made.values()), list(debts.values()), network.has_outside, {}, network.labels, network.table)
+        count, into = sum(summed.values()) + len(summed), f"into {len(summed):,}"
+        summary.tell("debts summed by groups", count, None, into, step="summed")
+    return list(by_key.values())

@@ -2,9 +2,11 @@
 of its estate, by `clearing cost-bounds`. Amounts are whole units of account."""
 from __future__ import annotations
 
-from typing import TYPE_CHECKING, Any, List, NamedTuple, Optional, Sequence
+from typing import TYPE_CHECKING, List, NamedTuple, Optional, Sequence
 
+from clearing_client.records import CostBound
 from clearing_client.results import CostBounds
+from clearing_client.table import Table
 
 from ..labels import count
 from ..texts import Bank, due_of, given_by
@@ -36,7 +38,7 @@ class Costs(NamedTuple):
     base: End
     least: End
     greatest: End
-    banks: Any
+    banks: Table[CostBound]
 
 
 def costs_of(
@@ -47,19 +49,19 @@ def costs_of(
     if keep is None:
         return None
     path = program.ask("cost-bounds.csv", "cost-bounds", *files, "--keep", str(keep))
-    found = program.result("cost-bounds", CostBounds, path)
+    bounds = program.result("cost-bounds", CostBounds, path)
     due = sum(map(due_of, banks))
     states = ["contagion" if bank.state == "gridlock" else bank.state for bank in banks]
     base = end_of(states, due - sum(map(given_by, banks)), 0, sum(bank.equity for bank in banks))
-    least, greatest = (end_at(found, which, due, cash) for which in ("least", "greatest"))
-    return Costs(keep, base, least, greatest, found.standings)
+    least, greatest = (end_at(bounds, which, due, cash) for which in ("least", "greatest"))
+    return Costs(keep, base, least, greatest, bounds.standings)
 
 
-def end_at(found: CostBounds, which: str, due: int, cash: int) -> End:
+def end_at(bounds: CostBounds, which: str, due: int, cash: int) -> End:
     """The sums at one end. All cash is kept, lost or paid outside."""
-    lost, kept = (sum(found.standings.column(f"{word}_at_{which}")) for word in ("lost", "equity"))
-    paid = sum(found.payments.column(which)) + cash - lost - kept
-    return end_of(found.standings.column(f"state_at_{which}"), due - paid, lost, kept)
+    lost, kept = (sum(bounds.standings.column(f"{word}_at_{which}")) for word in ("lost", "equity"))
+    paid = sum(bounds.payments.column(which)) + cash - lost - kept
+    return end_of(bounds.standings.column(f"state_at_{which}"), due - paid, lost, kept)
 
 
 def end_of(states: List[str], unpaid: int, lost: int, kept: int) -> End:
@@ -68,12 +70,12 @@ def end_of(states: List[str], unpaid: int, lost: int, kept: int) -> End:
     return End(sum(state != "sound" for state in states), own, label, unpaid, lost, kept)
 
 
-def shown_of(costs: Costs) -> List[Any]:
+def shown_of(costs: Costs) -> List[CostBound]:
     """The banks in default at some end, with costs: those that are so at one end alone first, then those that keep
     least of their estates."""
-    found = [bank for bank in costs.banks if bank.state_at_least != "sound" or bank.state_at_greatest != "sound"]
+    fallen = [bank for bank in costs.banks if bank.state_at_least != "sound" or bank.state_at_greatest != "sound"]
     return sorted(
-        found, key=lambda bank: (bank.state_at_greatest != "sound", -bank.lost_at_least, -bank.lost_at_greatest)
+        fallen, key=lambda bank: (bank.state_at_greatest != "sound", -bank.lost_at_least, -bank.lost_at_greatest)
     )
 
 
@@ -88,13 +90,13 @@ def sentence(matter: Matter) -> str:
     if costs is None:
         return ""
     base, least, greatest = costs.base, costs.least, costs.greatest
-    said = f"Where a bank in default keeps {share_of(costs.keep)} of its estate, "
+    start = f"Where a bank in default keeps {share_of(costs.keep)} of its estate, "
     falls = count(least.defaults, "bank falls", "banks fall") if least.defaults else "no bank falls"
     both = f"{lost_of(matter, least)}, and {unpaid_of(matter, base, least)}"
     if least == greatest:
-        return f"{said}{falls} at the least as at the greatest payments that clear; {both}."
+        return f"{start}{falls} at the least as at the greatest payments that clear; {both}."
     return (
-        f"{said}{falls} at the least payments that clear, and {greatest.defaults or 'none'} at the"
+        f"{start}{falls} at the least payments that clear, and {greatest.defaults or 'none'} at the"
         f" greatest. At the least {both};"
         f" at the greatest {lost_of(matter, greatest)}, and {unpaid_of(matter, base, greatest)}."
     )

@@ -1,14 +1,18 @@
 """The report as a document: Word by python-docx, PDF by Chromium's print of the page. Both have the parts of the
 page in its order."""
+import importlib
 import io
 import os
 import pathlib
 import subprocess
-from typing import TYPE_CHECKING, Any, Iterator, List, Optional, Sequence, Tuple
+from types import ModuleType
+from typing import TYPE_CHECKING, Iterator, List, Optional, Sequence, Tuple
 
-from ..runner import Failed, lacking, on_path, seen, work_folder
+from ..runner import ToolError, lacking, on_path, seen, work_folder
 
 if TYPE_CHECKING:
+    from docx.text.paragraph import Paragraph
+
     from .charts.figure import Figure
     from .matter import Matter
     from .tables import Table
@@ -20,10 +24,10 @@ MOST_ROWS = 100
 WIDE = 6.3  # inches between the margins
 
 
-def format_of(said: Optional[str], out: str) -> str:
+def format_of(named: Optional[str], out: str) -> str:
     """The format: what was said, else by the ending of the name, html where that is none."""
     ending = out.rpartition(".")[2].lower()
-    return said or (ending if ending in FORMATS else "html")
+    return named or (ending if ending in FORMATS else "html")
 
 
 # PDF.
@@ -32,10 +36,10 @@ def format_of(said: Optional[str], out: str) -> str:
 def browser() -> str:
     """The browser that prints. Where there is none the tool fails with 2."""
     for name in BROWSERS:
-        found = on_path(name)
-        if found:
-            return found
-    raise Failed("no browser prints the page as PDF: Debian's package chromium", 2)
+        path = on_path(name)
+        if path:
+            return path
+    raise ToolError("no browser prints the page as PDF: Debian's package chromium", 2)
 
 
 def in_browser(words: List[str], folder: str) -> None:
@@ -50,9 +54,9 @@ def in_browser(words: List[str], folder: str) -> None:
             command, stdin=subprocess.DEVNULL, capture_output=True, timeout=SECONDS, env=environment
         )
     except (OSError, subprocess.TimeoutExpired) as fault:
-        raise Failed(f"{command[0]} cannot print the page: {fault}") from fault
+        raise ToolError(f"{command[0]} cannot print the page: {fault}") from fault
     if done.returncode:
-        raise Failed(f"{command[0]} ended with {done.returncode} and printed no page")
+        raise ToolError(f"{command[0]} ended with {done.returncode} and printed no page")
 
 
 def pdf_of(text: str) -> bytes:
@@ -71,7 +75,7 @@ def png_of(chart: str, width: float, height: float) -> Optional[bytes]:
     """A picture as PNG by the browser; nothing where there is no browser."""
     try:
         browser()
-    except Failed:
+    except ToolError:
         return None
     with work_folder() as folder:
         page, out = pathlib.Path(folder) / "chart.svg", pathlib.Path(folder) / "chart.png"
@@ -84,13 +88,12 @@ def png_of(chart: str, width: float, height: float) -> Optional[bytes]:
 # Word.
 
 
-def check_docx() -> Any:
+def check_docx() -> ModuleType:
     """The library python-docx. Where it is missing the tool fails with 2 and says for which Python."""
     try:
-        import docx
+        return importlib.import_module("docx")
     except ImportError as fault:
         raise lacking("docx", "report", ", which makes documents") from fault
-    return docx
 
 
 class Word:
@@ -111,7 +114,7 @@ class Word:
         section.header.paragraphs[0].text = f"Clearing report: {readable(matter.head.title)}"
         self.number_pages(section.footer.paragraphs[0])
 
-    def number_pages(self, paragraph: Any) -> None:
+    def number_pages(self, paragraph: "Paragraph") -> None:
         """A field with the number of the page."""
         paragraph.add_run("page ")
         run = paragraph.add_run()
@@ -123,7 +126,7 @@ class Word:
                 element.text = text
             run._r.append(element)
 
-    def paragraph(self, text: str, style: Optional[str] = None) -> Any:
+    def paragraph(self, text: str, style: Optional[str] = None) -> "Paragraph":
         """A paragraph."""
         return self.document.add_paragraph(readable(text), style)
 
@@ -183,13 +186,13 @@ class Word:
     def grid(self, heads: Sequence[Tuple[str, str]], rows: Sequence[Tuple[str, ...]]) -> None:
         """Rows of cells, numbers to the right."""
         has_head = any(head for head, _ in heads)
-        made = self.document.add_table(rows=int(has_head), cols=len(heads))
-        made.style = "Light List" if has_head else "Light Grid"
+        grid = self.document.add_table(rows=int(has_head), cols=len(heads))
+        grid.style = "Light List" if has_head else "Light Grid"
         if has_head:
-            for cell, (head, _) in zip(made.rows[0].cells, heads):
+            for cell, (head, _) in zip(grid.rows[0].cells, heads):
                 cell.text = head
         for row in rows:
-            cells = made.add_row().cells
+            cells = grid.add_row().cells
             for at, text in enumerate(row[: len(heads)]):
                 cells[at].text = readable(text)
                 if has_head and at and heads[at][1] != "st":

@@ -2,16 +2,21 @@
 numbers."""
 import array
 import csv
-from typing import Any, Dict, Iterator, List, Mapping, Tuple
+from typing import Dict, Iterator, List, Mapping, Tuple, Union
 
-from ..runner import Failed
+from clearing_client.fields import long_fields
+
+from .. import files
+from ..runner import ToolError, StrPath
 from ..texts import lines_in
 
 
 MOST_FRAMES = 2000
 MOST_CHANGES = 200_000
 Key = Tuple[str, str, str]
-Frame = List[Any]
+Frame = List[Union[int, List[int]]]
+"""The first and last line of a step, its first and last stamp, how many raises it has, and what is then paid on the
+debts that are raised: a debt's place and an amount in turn."""
 
 
 class Raises:
@@ -37,15 +42,16 @@ class Raises:
         return [at for at in range(len(stamps)) if at == 0 or stamps[at] != stamps[at - 1]] + [len(stamps)]
 
 
-def rows_in(path: Any) -> Iterator[Tuple[int, List[str]]]:
+def rows_in(path: StrPath) -> Iterator[Tuple[int, List[str]]]:
     """The records of a journal with their lines, as they are read. A name has no control character, so that LF, CR
     LF and CR alone end a line."""
     rows = csv.reader(part for line in lines_in(path) for part in line.split("\r"))
-    for fields in rows:
-        yield rows.line_num, fields
+    with long_fields(files.MOST_BYTES):
+        for fields in rows:
+            yield rows.line_num, fields
 
 
-def read_journal(path: Any, place: Mapping[Key, int]) -> Raises:
+def read_journal(path: StrPath, place: Mapping[Key, int]) -> Raises:
     """The raises of a journal that the program read; `place` tells a debt's place by its debtor, creditor and class."""
     raises = Raises()
     for number, fields in rows_in(path):
@@ -56,7 +62,7 @@ def read_journal(path: Any, place: Mapping[Key, int]) -> Raises:
             continue
         debt = place.get((debtor, creditor, rank))
         if debt is None:
-            raise Failed(f"{path}: line {number}: no debt of these two banks and this class")
+            raise ToolError(f"{path}: line {number}: no debt of these two banks and this class")
         raises.add(number, int(stamp), debt, int(to))
     return raises
 
@@ -76,8 +82,7 @@ def groups_of(raises: Raises) -> List[Tuple[int, int]]:
 
 
 def frames_of(raises: Raises) -> List[Frame]:
-    """The steps of the player. A step is its first and last line, its first and last stamp, how many raises it has,
-    and what is then paid on the debts raised: a debt's place and an amount in turn."""
+    """The steps of the player."""
     frames: List[Frame] = []
     for first, end in groups_of(raises):
         last: Dict[int, int] = dict(zip(raises.debts[first:end], raises.amounts[first:end]))

@@ -1,14 +1,17 @@
 """The analyst's text: Markdown's simple forms, by the library markdown-it. Without it the text stands as it was
 written."""
 import html
-from typing import Any, List
+from typing import TYPE_CHECKING, List, Optional
 
 from ..labels import shown
+
+if TYPE_CHECKING:
+    from markdown_it import MarkdownIt
 
 FORMS = ["emphasis", "list", "newline", "escape", "entity", "backticks"]
 
 
-def reader() -> Any:
+def reader() -> "Optional[MarkdownIt]":
     """The library, which passes no HTML, no links and no pictures on; nothing where it is not there."""
     try:
         from markdown_it import MarkdownIt
@@ -22,16 +25,15 @@ def html_of(text: str) -> str:
     text = "\n".join(map(shown, text.replace("\r\n", "\n").split("\n"))).strip()
     if not text:
         return ""
-    found = reader()
-    if found is None:
+    library = reader()
+    if library is None:
         return "".join(f"<p>{html.escape(part)}</p>" for part in text.split("\n\n") if part.strip())
-    made: str = found.render(text)
+    markup: str = library.render(text)
     # Its heads stand below the title of the page.
     for level in range(6, 0, -1):
-        made = made.replace(f"<h{level}>", f"<h{min(6, level + 2)}>").replace(
-            f"</h{level}>", f"</h{min(6, level + 2)}>"
-        )
-    return made
+        below = min(6, level + 2)
+        markup = markup.replace(f"<h{level}>", f"<h{below}>").replace(f"</h{level}>", f"</h{below}>")
+    return markup
 
 
 def paragraphs_of(text: str) -> List[str]:

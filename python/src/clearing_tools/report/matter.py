@@ -2,7 +2,7 @@
 order."""
 import dataclasses
 import functools
-from typing import Any, Dict, List, NamedTuple, Optional, Sequence, Set, Tuple
+from typing import Dict, List, NamedTuple, Optional, Sequence, Set, Tuple
 
 from clearing_client.records import BreakingCut, Harm, Payment, Ruin, Saving
 from clearing_client.steady import MARK, Place, decided_by_one
@@ -13,6 +13,7 @@ from ..fullnames import FullNames
 from ..money import Money, Scale
 from ..texts import Bank, due_of, given_by, shortfall_of
 from .costs import Costs
+from .journal import Frame
 
 WORDS_TO_TWELVE = (
     "none",
@@ -85,8 +86,8 @@ class Scenario(NamedTuple):
 
 
 class Change(NamedTuple):
-    """The case changed in one point: its words, and how the banks then stand. `unpaid` is in units of this case, rounded
-    down; `places` are there where another unit is the change, and tell whether one unit decides a figure."""
+    """The case changed in one point: its words, and how the banks then stand. `unpaid` is in units of this case,
+    rounded down; `places` are there where another unit is the change, and tell whether one unit decides a figure."""
 
     words: str
     defaults: int
@@ -138,7 +139,7 @@ class Matter:
     costs: Optional[Costs]
     scenarios: Optional[List[Scenario]]
     changed: List[Change]
-    frames: Any
+    frames: Optional[List[Frame]]
     changes: List[str]
     evidence: Evidence
 
@@ -150,14 +151,14 @@ class Matter:
         """A bank in a picture: as it is called, with a mark behind it where one unit decides its figures."""
         return self.called(name) + (f" {MARK}" if name in self.unsure else "")
 
-    def said(self, name: str) -> str:
+    def in_sentence(self, name: str) -> str:
         """A bank in a sentence: its full name where it has one, cut where it is long, held apart where it runs from
         right to left, and marked where one unit decides its figures."""
         return labels.held(short(labels.shown(self.names(name)))) + (f"\u00a0{MARK}" if name in self.unsure else "")
 
     def listed(self, names: Sequence[str], most: int = 4) -> str:
         """Some banks in a sentence."""
-        return labels.listed([self.said(name) for name in names], most)
+        return labels.listed([self.in_sentence(name) for name in names], most)
 
     def amount(self, units: int) -> str:
         """An amount in a sentence."""

@@ -1,12 +1,13 @@
 """The page of a report: HTML that stands alone, whole without its script, made from the templates beside this file."""
 import base64
+import dataclasses
 import functools
 import hashlib
 import html
 import json
 import pathlib
 import re
-from typing import Any, Dict, Iterator, List, NamedTuple, Optional, Sequence, Tuple
+from typing import TYPE_CHECKING, Dict, Iterator, List, NamedTuple, Optional, Sequence, Tuple, Type
 
 from clearing_client.records import CostBound
 from clearing_client.steady import MARK, NOTE
@@ -14,13 +15,16 @@ from clearing_client.steady import MARK, NOTE
 from .. import labels
 from ..drawing import svg, web
 from ..runner import lacking
-from ..texts import STATES
 from . import costs, markdown, player, tables
 from .charts import breaking, ruin, scenarios, shortfalls
 from .charts import network as network_chart
 from .charts.figure import Data, Figure
 from .matter import Matter, counted
 from .summary import headline, summary
+
+if TYPE_CHECKING:
+    from jinja2 import Environment
+    from markupsafe import Markup
 
 MOST_CHANGES = 40  # lines of what was changed, under the title
 FOLDER = pathlib.Path(__file__).resolve().parent
@@ -58,7 +62,7 @@ def kpis(matter: Matter) -> List[Kpi]:
             "",
             labels.percent(matter.near[0].cut, 1000),
             "",
-            f"of all cash; it is {matter.said(matter.near[0].bank)}",
+            f"of all cash; it is {matter.in_sentence(matter.near[0].bank)}",
         )
     else:
         next_one = Kpi(
@@ -88,6 +92,8 @@ def parts_of(matter: Matter, units: int) -> Tuple[str, str, str]:
 
 class View:
     """A page: what the templates ask of it, by name."""
+
+    mark, note, most_changes = MARK, NOTE, MOST_CHANGES
 
     def __init__(self, matter: Matter, library: Optional[str] = None) -> None:
         self.matter, self.library = matter, library
@@ -122,7 +128,7 @@ class View:
     @property
     def parts(self) -> Dict[str, str]:
         """The parts of the page that its head links to."""
-        found = {
+        parts = {
             "network": "Network",
             "unpaid": "Unpaid",
             "breaking": "Breaking",
@@ -140,15 +146,15 @@ class View:
             "costs": self.matter.costs is None,
             "journal": self.matter.frames is None or self.library is None,
         }
-        return {key: words for key, words in found.items() if not absent.get(key)}
+        return {key: words for key, words in parts.items() if not absent.get(key)}
 
     @functools.cached_property
     def numbers(self) -> Dict[str, str]:
         """The numbers of figures and tables, in their order on the page."""
         keys = ["network", *(figure.key for figure in self.figures)]
-        found = {key: f"Figure {at}" for at, key in enumerate(keys, 1)}
+        figures = {key: f"Figure {at}" for at, key in enumerate(keys, 1)}
         more = ["stands", *(["cases"] if self.cases else []), "banks"]
-        return {**found, **{key: f"Table {at}" for at, key in enumerate(more, 1)}}
+        return {**figures, **{key: f"Table {at}" for at, key in enumerate(more, 1)}}
 
     def each(self) -> Iterator[tables.Part]:
         """The part of each bank."""
@@ -176,15 +182,15 @@ class View:
     @property
     def files(self) -> Dict[str, str]:
         """The tables that the page gives as files of CSV, by their keys."""
-        found = {
+        tables_of_page = {
             "network": self.picture.data,
             **{figure.key: figure.data for figure in self.figures},
             "stands": self.stands.data,
             "banks": self.banks.data,
         }
         if self.matter.costs:
-            found["costs"] = Data(CostBound._fields, list(self.matter.costs.banks))
-        return {key: tables.csv_of(data) for key, data in found.items()}
+            tables_of_page["costs"] = Data(CostBound._fields, list(self.matter.costs.banks))
+        return {key: tables.csv_of(data) for key, data in tables_of_page.items()}
 
     @property
     def page_title(self) -> str:
@@ -196,12 +202,12 @@ class View:
         """The model's limits in two lines."""
         head = self.matter.head
         of = " as of ".join(filter(None, (head.test or "test not stated", head.as_of or "a date not stated")))
-        kept = "" if self.matter.costs else ", costs of default"
+        costs = "" if self.matter.costs else ", costs of default"
         return [
             f"{of[:1].upper()}{of[1:]}; the least list of payments that clears. All debts are due at"
             " once; each bank pays by its own rule,"
             " smaller classes first.",
-            f"Left out: fire sales, maturities, runs{kept}. Contagion is a label, and names no debtor."
+            f"Left out: fire sales, maturities, runs{costs}. Contagion is a label, and names no debtor."
             + (f" {MARK}: {NOTE}, within its rounding." if self.matter.unsure else ""),
         ]
 
@@ -209,7 +215,7 @@ class View:
 # The templates.
 
 
-def templates() -> Any:
+def templates() -> "Environment":
     """The templates, by Jinja2, each text escaped. Where that is missing the tool fails with 2 and says for which
     Python."""
     try:
@@ -228,42 +234,42 @@ def templates() -> Any:
 class Texts:
     """How names and elements stand in the page: what the templates call."""
 
-    def __init__(self, matter: Matter, markup: Any) -> None:
+    def __init__(self, matter: Matter, markup: "Type[Markup]") -> None:
         self.matter, self.markup = matter, markup
         self.icons = {state: markup(svg.icon(state, words)) for state, words in tables.STATE_WORDS.items()}
         self.with_parts = tables.with_parts(matter)
         self.links = {bank.name: self.link_to(at, bank.name) for at, bank in enumerate(matter.banks)}
 
-    def link_to(self, at: int, name: str) -> Any:
+    def link_to(self, at: int, name: str) -> "Markup":
         """A bank's name, linked to its part; where it has none, to its row."""
         kind = "bank" if name in self.with_parts else "row"
         return self.markup('<a href="#{}-{}">{}</a>').format(kind, at, self.name(self.matter.called(name)))
 
-    def head(self, place: int, head: str) -> Any:
+    def head(self, place: int, head: str) -> "Markup":
         """The name of a bank in its own row, linked to its part where it has one."""
         name = self.name(head)
         is_linked = self.matter.banks[place].name in self.with_parts
         return self.markup('<a href="#bank-{}">{}</a>').format(place, name) if is_linked else name
 
-    def name(self, text: str) -> Any:
+    def name(self, text: str) -> "Markup":
         """A name as HTML, held apart where it may run from right to left."""
         return self.readable(labels.shown(text))
 
-    def readable(self, text: str) -> Any:
+    def readable(self, text: str) -> "Markup":
         """The same of a name that can be read already."""
         return self.markup("<bdi>{}</bdi>").format(text) if labels.is_turned(text) else self.markup.escape(text)
 
-    def link(self, name: str) -> Any:
+    def link(self, name: str) -> "Markup":
         """A bank by its name of the files, as a link."""
         return self.links[name]
 
-    def chart(self, figure: Figure) -> Any:
+    def chart(self, figure: Figure) -> "Markup":
         """The charts of a figure, each in a box that is shown at its widths."""
         return self.markup(
             "".join(f'<div class="{size}">{chart.whole()}</div>' for size, chart in figure.charts.items())
         )
 
-    def raw(self, text: str) -> Any:
+    def raw(self, text: str) -> "Markup":
         """Markup as it is."""
         return self.markup(text)
 
@@ -293,38 +299,44 @@ def style_of(matter: Matter) -> str:
 
 def string_of(text: str) -> str:
     """A text as a string of CSS, in which nothing ends the style."""
-    kept = labels.shown(text)[:80]
+    short = labels.shown(text)[:80]
     return (
         '"'
-        + "".join(letter if letter.isalnum() or letter in " .,:-" else f"\\{ord(letter):x} " for letter in kept)
+        + "".join(letter if letter.isalnum() or letter in " .,:-" else f"\\{ord(letter):x} " for letter in short)
         + '"'
     )
 
 
-def page_of(view: View, environment: Any) -> str:
+@dataclasses.dataclass(frozen=True)
+class Assets:
+    """What a page has of its own beside its text: the style, the scripts with what they need as JSON, and what a
+    browser may load and run."""
+
+    style: "Markup"
+    scripts: List["Markup"]
+    data: "Markup"
+    policy: str
+
+
+def assets_of(view: View) -> Assets:
+    """The assets of a page; without the library d3 it has no script."""
+    from markupsafe import Markup
+
+    style = style_of(view.matter)
+    scripts = [view.library, web.bundle("report.mjs")] if view.library else []
+    data = data_text(view) if scripts else ""
+    return Assets(Markup(style), list(map(Markup, scripts)), Markup(data), policy_of(style, scripts))
+
+
+def page_of(view: View, environment: "Environment") -> str:
     """The page; without the library d3 it has no script."""
     from markupsafe import Markup
 
-    matter, texts = view.matter, Texts(view.matter, Markup)
-    style = style_of(matter)
-    scripts = [view.library, web.bundle("report.mjs")] if view.library else []
-    found: str = environment.get_template("page.html").render(
-        view=view,
-        matter=matter,
-        texts=texts,
-        labels=labels,
-        tables=tables,
-        costs=costs,
-        mark=MARK,
-        note=NOTE,
-        states=[state for state in STATES],
-        most_changes=MOST_CHANGES,
-        policy=policy_of(style, scripts),
-        style=Markup(style),
-        scripts=list(map(Markup, scripts)),
-        data=Markup(data_text(view)) if scripts else "",
+    template = environment.get_template("page.html")
+    texts, assets = Texts(view.matter, Markup), assets_of(view)
+    return template.render(
+        view=view, matter=view.matter, texts=texts, assets=assets, labels=labels, tables=tables, costs=costs
     )
-    return found
 
 
 def limits_of(view: View) -> List[str]:
@@ -332,8 +344,8 @@ def limits_of(view: View) -> List[str]:
     from markupsafe import Markup
 
     texts = Texts(view.matter, Markup)
-    made: str = templates().get_template("limits.html").render(view=view, matter=view.matter, texts=texts, mark=MARK)
-    return [html.unescape(re.sub("<[^>]*>", "", part)) for part in re.findall("<p>(.*?)</p>", made, re.DOTALL)]
+    markup = templates().get_template("limits.html").render(view=view, matter=view.matter, texts=texts)
+    return [html.unescape(re.sub("<[^>]*>", "", part)) for part in re.findall("<p>(.*?)</p>", markup, re.DOTALL)]
 
 
 def data_text(view: View) -> str:

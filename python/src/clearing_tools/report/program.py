@@ -1,13 +1,12 @@
 """The program, as the report asks it: tasks one after another, with what each printed kept in a file of its own."""
-import hashlib
 import os
 import pathlib
-from typing import Any, Callable, List, NamedTuple, Optional, Sequence, Type, TypeVar
+from typing import Callable, List, NamedTuple, Optional, Sequence, Type, TypeVar
 
 from clearing_client.results import Result
 
 from .. import labels, runner, texts
-from ..runner import ROOT, Failed
+from ..runner import ROOT, StrPath, ToolError, digest_of
 
 T = TypeVar("T")
 R = TypeVar("R", bound=Result)
@@ -38,10 +37,10 @@ def line_of(words: Sequence[str]) -> str:
 class Program:
     """The program, its runs so far, the folder of what they printed, and the files that were made for some of them."""
 
-    def __init__(self, folder: Any) -> None:
+    def __init__(self, folder: StrPath) -> None:
         self.name = runner.program()
         self.folder = pathlib.Path(folder)
-        self.asking = runner.Asking()
+        self.runs = runner.ProgramRuns()
         self.commands: List[Command] = []
         self.made: List[pathlib.Path] = []
 
@@ -53,32 +52,32 @@ class Program:
         return path
 
     def ask(
-        self, output: str, *words: Any, given: Optional[pathlib.Path] = None, may_end: Sequence[int] = (0,)
+        self, output: str, *words: str, source: Optional[pathlib.Path] = None, may_end: Sequence[int] = (0,)
     ) -> pathlib.Path:
         """Runs a task on a file for its standard input, where one is given. What it prints is kept in a file, which
         is named; none of it is held in memory."""
         path = self.folder / output
-        status, _, told = self.asking.run_on(given, [self.name, *map(str, words)], into=path)
-        message, line = told.decode(errors="replace").strip(), line_of(["clearing", *map(str, words)])
+        status, _, messages = self.runs.run_on(source, [self.name, *words], into=path)
+        message, line = messages.decode(errors="replace").strip(), line_of(["clearing", *words])
         if status not in may_end:
-            raise Failed(f"`{line}` ended with {status}: {message}")
-        redirect = f" < {given.name}" if given else ""
+            raise ToolError(f"`{line}` ended with {status}: {message}")
+        redirect = f" < {source.name}" if source else ""
         self.commands.append(Command(f"{line}{redirect} > {output}", status, path, message))
         return path
 
-    def read(self, task: str, work: Callable[..., T], path: pathlib.Path, *more: Any) -> T:
+    def read(self, task: str, work: Callable[[pathlib.Path], T], path: pathlib.Path) -> T:
         """What is read of a text that a task printed."""
         try:
-            return work(path, *more)
-        except (Failed, ValueError) as fault:
-            raise Failed(f"{self.name} did not print what `clearing {task}` does") from fault
+            return work(path)
+        except (ToolError, ValueError) as fault:
+            raise ToolError(f"{self.name} did not print what `clearing {task}` does") from fault
 
     def result(self, task: str, kind: Type[R], path: pathlib.Path) -> R:
         """The result of this kind that a text of a task says."""
-        found: Result = self.read(task, texts.read_result, path)
-        if not isinstance(found, kind):
-            raise Failed(f"{self.name} did not print what `clearing {task}` does")
-        return found
+        result = self.read(task, texts.read_result, path)
+        if not isinstance(result, kind):
+            raise ToolError(f"{self.name} did not print what `clearing {task}` does")
+        return result
 
     def executable(self) -> pathlib.Path:
         """The file that is the program itself, where it is known."""
@@ -87,10 +86,7 @@ class Program:
         return built if path.resolve() == ROOT / "clearing" and built.exists() else path
 
 
-def sum_of(path: Any) -> str:
+def sum_of(path: StrPath) -> str:
     """The SHA-256 of a file."""
-    digest = hashlib.sha256()
     with open(path, "rb") as file:
-        while block := file.read(1 << 20):
-            digest.update(block)
-    return digest.hexdigest()
+        return digest_of(file)

@@ -87,14 +87,15 @@ class Stands:
         first."""
         by = words_of(limits or self.limits)
         path = self.program.ask(f"defaults-{key}.csv", "defaults", "--banks", banks, "--debts", debts, *by)
-        found: Defaults = self.program.result("defaults", Defaults, path)
+        defaults: Defaults = self.program.result("defaults", Defaults, path)
         outside = {row[0]: unit.amount(int(row[3])) for row in self.files.banks if len(row) > 3}
-        unpaid = sum(bank.owed - bank.paid + outside.get(bank.bank, 0) - bank.outside_paid for bank in found.standings)
-        states = {bank.bank: bank.state for bank in found.standings}
-        made = self.change(words, states, unpaid * unit.times // unit.parts)
+        gaps = ((bank, outside.get(bank.bank, 0) - bank.outside_paid) for bank in defaults.standings)
+        unpaid = sum(bank.owed - bank.paid + gap for bank, gap in gaps)
+        states = {bank.bank: bank.state for bank in defaults.standings}
+        change = self.change(words, states, unpaid * unit.times // unit.parts)
         if unit is AS_GIVEN:
-            return made
-        return made._replace(places={bank.bank: Place(bank.state, bank.equity > 0) for bank in found.standings})
+            return change
+        return change._replace(places={bank.bank: Place(bank.state, bank.equity > 0) for bank in defaults.standings})
 
     def change(self, words: str, states: Dict[str, str], unpaid: int) -> Change:
         """A changed case beside the first."""
@@ -152,8 +153,8 @@ class Stands:
         least, greatest = (sum(self.bounds.payments.column(word)) for word in ("least", "greatest"))
         gridlock = {wave.bank for wave in self.bounds.waves if wave.gridlock}
         states = {name: "sound" if name in gridlock else state for name, state in self.base.items()}
-        found = self.change("greatest payments, not least", states, self.unpaid - (greatest - least))
-        return found if greatest != least else found._replace(against="no payment differs")
+        change = self.change("greatest payments, not least", states, self.unpaid - (greatest - least))
+        return change if greatest != least else change._replace(against="no payment differs")
 
     def all(self) -> List[Change]:
         """All changes, the first as it was given."""
@@ -172,17 +173,17 @@ def in_unit(amount: str, unit: Unit) -> str:
 
 
 def rescues_of(
-    program: Program, files: Files, names: Tuple[str, str], banks: List[Bank], found: Rescues, limits: str
+    program: Program, files: Files, names: Tuple[str, str], banks: List[Bank], rescues: Rescues, limits: str
 ) -> List[Rescue]:
     """The rescues, in file order, the cheapest and those of the banks that leave most unpaid tried one by one.
 
     All cash that is tried is put in at once, and each scenario takes that of all others away."""
     by_name = {bank.name: bank for bank in banks}
     saves: Dict[str, List[str]] = {}
-    for pair in found.saved:
+    for pair in rescues.saved:
         saves.setdefault(pair.bank, []).append(pair.saves)
     cash = {row[0]: int(row[1]) for row in files.banks}
-    able = [one for one in found.banks if one.added and cash[one.bank] + one.added <= MAX_CASH]
+    able = [one for one in rescues.banks if one.added and cash[one.bank] + one.added <= MAX_CASH]
     cheap = sorted(able, key=lambda one: one.added)[: MOST_TRIED // 4]
     large = sorted(able, key=lambda one: -shortfall_of(by_name[one.bank]))
     tried = list(dict.fromkeys([*cheap, *large]))[:MOST_TRIED]
@@ -198,9 +199,9 @@ def rescues_of(
         path = str(program.put("rescues.toml", Scenarios(scenarios).to_toml(plain=True).encode()))
         words = ["--banks", changed, "--debts", names[1], "--scenarios", path, *words_of(limits)]
         sums = program.result("outcomes", Outcomes, program.ask("outcomes-rescues.csv", "outcomes", *words))
-        given = sum(map(given_by, banks))
-        less = {one.bank: then.paid + then.outside_paid - given for one, then in zip(tried, sums.scenarios)}
-    return [saving_of(one, saves.get(one.bank, []), less.get(one.bank)) for one in found.banks]
+        paid_as_is = sum(map(given_by, banks))
+        less = {one.bank: then.paid + then.outside_paid - paid_as_is for one, then in zip(tried, sums.scenarios)}
+    return [saving_of(one, saves.get(one.bank, []), less.get(one.bank)) for one in rescues.banks]
 
 
 def changes_of(
@@ -218,12 +219,12 @@ def title_of(changes: List[Change], unsure: Set[str]) -> str:
         return f"One unit decides the figures of {counted(len(unsure))}, which are marked {MARK}"
     if any(differs(change, first) for change in rounding):
         return "Rounding decides: another order of the debts changes a label"
-    said = "The rule matters; the unit and the order of the debts do not"
+    title = "The rule matters; the unit and the order of the debts do not"
     if not by_rule:
-        said = "Neither rule nor unit matters" if differs(greatest, first) else (
+        title = "Neither rule nor unit matters" if differs(greatest, first) else (
             "It stands: no rule, unit or order changes which banks are in default"
         )
-    return said + ("; greater payments would clear too" if differs(greatest, first) else "")
+    return title + ("; greater payments would clear too" if differs(greatest, first) else "")
 
 
 def differs(change: Change, first: Change) -> bool:

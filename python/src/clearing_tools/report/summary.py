@@ -12,8 +12,8 @@ from .matter import Matter, begun, counted, number_word
 
 def summary(matter: Matter) -> List[str]:
     """The sentences, each made from the results."""
-    said = [falls(matter), labels_of(matter), saved(matter), worst(matter), following(matter)]
-    return [*said, costs.sentence(matter)] if matter.costs else said
+    sentences = [falls(matter), labels_of(matter), saved(matter), worst(matter), following(matter)]
+    return [*sentences, costs.sentence(matter)] if matter.costs else sentences
 
 
 def headline(matter: Matter) -> str:
@@ -64,9 +64,9 @@ def labels_of(matter: Matter) -> str:
     if parts:
         return "; ".join(parts) + "."
     keeps = min(matter.banks, key=lambda bank: bank.equity, default=None)
-    return (
-        f"{matter.said(keeps.name)} keeps the least, {matter.amount(keeps.equity)}." if keeps else "There is no bank."
-    )
+    if keeps is None:
+        return "There is no bank."
+    return f"{matter.in_sentence(keeps.name)} keeps the least, {matter.amount(keeps.equity)}."
 
 
 def saved(matter: Matter) -> str:
@@ -76,15 +76,15 @@ def saved(matter: Matter) -> str:
     first, best = min(matter.rescues, key=lambda each: each.added), best_of(matter)
     least = f", the least of the {number_word(len(matter.rescues))}" if len(matter.rescues) > 1 else ""
     lets = matter.money.verb(first.added, "lets", "let")
-    said = f"{matter.amount(first.added)} more {lets} {matter.said(first.bank)} pay in full{least}"
+    sentence = f"{matter.amount(first.added)} more {lets} {matter.in_sentence(first.bank)} pay in full{least}"
     if best is None or best.bank == first.bank:
         if best is not None and best.less is not None:
-            said += f"; that takes {matter.amount(best.less)} of unpaid debt away"
-        return said + "."
-    need = f"{matter.said(best.bank)} needs {matter.amount(best.added)}"
+            sentence += f"; that takes {matter.amount(best.less)} of unpaid debt away"
+        return sentence + "."
+    need = f"{matter.in_sentence(best.bank)} needs {matter.amount(best.added)}"
     for_each = f"for each {matter.money.currency}" if matter.money.currency else "for each unit"
     return (
-        f"{said}; {need}, and that takes {matter.amount(best.less or 0)} of unpaid debt away, the most"
+        f"{sentence}; {need}, and that takes {matter.amount(best.less or 0)} of unpaid debt away, the most"
         f" {for_each} ({ratio_of(best):.2f})."
     )
 
@@ -114,9 +114,8 @@ def following(matter: Matter) -> str:
     near = matter.near
     if not near:
         return "No other bank falls at any cut of all cash." if matter.sound else "No bank is left that could fall."
-    said = (
-        f"The next bank in default is {matter.said(near[0].bank)}, at a cut of {percent(near[0].cut, 1000)} of all cash"
-    )
+    first, cut = matter.in_sentence(near[0].bank), percent(near[0].cut, 1000)
+    sentence = f"The next bank in default is {first}, at a cut of {cut} of all cash"
     if len(near) > 1:
-        said += f"; then {matter.said(near[1].bank)}, at {percent(near[1].cut, 1000)}"
-    return said + "."
+        sentence += f"; then {matter.in_sentence(near[1].bank)}, at {percent(near[1].cut, 1000)}"
+    return sentence + "."

@@ -1,9 +1,10 @@
 """The tables of a report, as text for its page and its documents, and as numbers for files of CSV."""
 import csv
 import io
-from typing import Any, Container, Dict, Iterator, List, NamedTuple, Optional, Sequence, Tuple
+from typing import TYPE_CHECKING, Container, Dict, Iterator, List, NamedTuple, Optional, Sequence, Tuple, Union
 
 from clearing_client.limits import LIMITS, STANDARD
+from clearing_client.records import Payment
 from clearing_client.steady import MARK, NOTE, WHY
 
 from ..labels import percent, shown
@@ -12,6 +13,9 @@ from ..texts import Bank, due_of, given_by, shortfall_of
 from . import stands
 from .charts.figure import Data
 from .matter import Matter, begun, counted, plain
+
+if TYPE_CHECKING:
+    from .charts.scenarios import Case
 
 MANY_BANKS = 40  # above that the part of one bank is shown at a time
 LEAST_EACH, MOST_ROWS = 10, 40_000
@@ -45,7 +49,7 @@ class Cell(NamedTuple):
 
     text: str
     kind: str = ""
-    value: Any = None
+    value: Union[str, int, None] = None
 
 
 class Row(NamedTuple):
@@ -207,27 +211,27 @@ def data_of_banks(matter: Matter) -> Data:
         "falls_at_a_cut_of_per_mille",
         "note",
     )
-    rows: List[Sequence[Any]] = []
-    for bank in matter.banks:
-        rescue, cut = matter.rescue_of.get(bank.name), matter.cut_of.get(bank.name, 0)
-        rows.append(
-            (
-                bank.name,
-                matter.called(bank.name),
-                bank.state,
-                matter.cash[bank.name],
-                due_of(bank),
-                outside_of(bank),
-                given_by(bank),
-                bank.outside_paid,
-                shortfall_of(bank),
-                bank.equity,
-                rescue.added if rescue else "",
-                cut if cut <= 1000 else "",
-                NOTE if bank.name in matter.unsure else "",
-            )
-        )
-    return Data(columns, rows)
+    return Data(columns, [data_of_bank(matter, bank) for bank in matter.banks])
+
+
+def data_of_bank(matter: Matter, bank: Bank) -> Sequence[object]:
+    """The numbers of a bank."""
+    rescue, cut = matter.rescue_of.get(bank.name), matter.cut_of.get(bank.name, 0)
+    return (
+        bank.name,
+        matter.called(bank.name),
+        bank.state,
+        matter.cash[bank.name],
+        due_of(bank),
+        outside_of(bank),
+        given_by(bank),
+        bank.outside_paid,
+        shortfall_of(bank),
+        bank.equity,
+        rescue.added if rescue else "",
+        cut if cut <= 1000 else "",
+        NOTE if bank.name in matter.unsure else "",
+    )
 
 
 # Does it stand.
@@ -265,6 +269,16 @@ def note_of_unsure(matter: Matter) -> str:
 
 # The scenarios, with the labels.
 
+SCENARIO_HEADS = [
+    ("Scenario", ""),
+    ("In default", ""),
+    ("Own fundamentals", "wide"),
+    ("Contagion", "wide"),
+    ("Unpaid", ""),
+    ("All keep less", ""),
+    ("Against as things are", "st"),
+]
+
 
 def scenarios_table(matter: Matter) -> Table:
     """The scenarios in numbers, with the labels that change."""
@@ -276,26 +290,9 @@ def scenarios_table(matter: Matter) -> Table:
     printed = {case.name for case in shown_of(cases)}
     rows: List[Row] = []
     for case in cases:
-        states = [bank.state for bank in case.banks]
-        default = len(states) - states.count("sound")
-        cells = [
-            Cell(f"{default:,}"),
-            Cell(f"{states.count('fundamental'):,}", "wide"),
-            Cell(f"{default - states.count('fundamental'):,}", "wide"),
-            amount(scale, case.total, "u-t"),
-            amount(scale, case.cash),
-            Cell(against(matter, base, case.banks) if case is not cases[0] else "", "st"),
-        ]
+        change = against(matter, base, case.banks) if case is not cases[0] else ""
+        cells = [*scenario_cells(case, scale), Cell(change, "st")]
         rows.append(Row(None, case.name, "", cells, case.name in printed))
-    heads = [
-        ("Scenario", ""),
-        ("In default", ""),
-        ("Own fundamentals", "wide"),
-        ("Contagion", "wide"),
-        ("Unpaid", ""),
-        ("All keep less", ""),
-        ("Against as things are", "st"),
-    ]
     data = Data(
         ("scenario", "in_default", "own_fundamentals", "contagion", "unpaid", "kept_less_by_all"),
         [
@@ -306,7 +303,20 @@ def scenarios_table(matter: Matter) -> Table:
     unit = f"Labels and amounts by scenario, {scale.words}"
     left = sum(not row.is_printed for row in rows)
     note = f"On paper stand the {len(rows) - left - 1} of which most stays unpaid; all are on the page." if left else ""
-    return Table("cases", "The scenarios in numbers", unit, heads, rows, None, "stress", data, note)
+    return Table("cases", "The scenarios in numbers", unit, SCENARIO_HEADS, rows, None, "stress", data, note)
+
+
+def scenario_cells(case: "Case", scale: Scale) -> List[Cell]:
+    """The numbers of a scenario: who is in default, by which labels, what stays unpaid, and what all keep less."""
+    states = [bank.state for bank in case.banks]
+    default, alone = len(states) - states.count("sound"), states.count("fundamental")
+    return [
+        Cell(f"{default:,}"),
+        Cell(f"{alone:,}", "wide"),
+        Cell(f"{default - alone:,}", "wide"),
+        amount(scale, case.total, "u-t"),
+        amount(scale, case.cash),
+    ]
 
 
 def against(matter: Matter, base: Dict[str, str], banks: Sequence[Bank]) -> str:
@@ -386,16 +396,16 @@ def with_parts(matter: Matter) -> Container[str]:
     return {name for side in (owes, owed) for name in sorted(side, key=lambda one: side[one], reverse=True)[:half]}
 
 
-def largest_of(debts: Sequence[Any], most: int) -> Tuple[List[Any], List[Any]]:
+def largest_of(debts: Sequence[Payment], most: int) -> Tuple[List[Payment], List[Payment]]:
     """The debts of which most stays unpaid, then the largest, in file order; and the others."""
     if len(debts) <= most:
         return list(debts), []
     order = sorted(range(len(debts)), key=lambda at: (debts[at].paid - debts[at].claim, -debts[at].claim, at))
-    kept = set(order[:most])
-    return [debts[at] for at in sorted(kept)], [debt for at, debt in enumerate(debts) if at not in kept]
+    largest = set(order[:most])
+    return [debts[at] for at in sorted(largest)], [debt for at, debt in enumerate(debts) if at not in largest]
 
 
-def debts_of(matter: Matter, debts: Sequence[Any], side: int, outside: Tuple[int, int] = (0, 0)) -> Debts:
+def debts_of(matter: Matter, debts: Sequence[Payment], side: int, outside: Tuple[int, int] = (0, 0)) -> Debts:
     """What a bank owes, or is owed, to the last unit; first what it owes outside, with what is paid of it."""
     number = matter.money.number
     rows = []
@@ -406,7 +416,14 @@ def debts_of(matter: Matter, debts: Sequence[Any], side: int, outside: Tuple[int
     for debt in largest:
         unpaid = debt.claim - debt.paid
         rows.append(
-            Debt(debt[side], str(debt.class_), number(debt.claim), number(debt.paid), number(unpaid), unpaid > 0)
+            Debt(
+                debt.creditor if side else debt.debtor,
+                str(debt.class_),
+                number(debt.claim),
+                number(debt.paid),
+                number(unpaid),
+                unpaid > 0,
+            )
         )
     claim, paid = sum(debt.claim for debt in debts), sum(debt.paid for debt in debts)
     sums = number(claim), number(paid), number(claim - paid)
@@ -420,8 +437,8 @@ def debts_of(matter: Matter, debts: Sequence[Any], side: int, outside: Tuple[int
 def parts_of_banks(matter: Matter) -> Iterator[Part]:
     """The parts of the page for each bank that has one, in file order."""
     chosen = with_parts(matter)
-    owes: Dict[str, List[Any]] = {bank.name: [] for bank in matter.banks}
-    is_owed: Dict[str, List[Any]] = {bank.name: [] for bank in matter.banks}
+    owes: Dict[str, List[Payment]] = {bank.name: [] for bank in matter.banks}
+    is_owed: Dict[str, List[Payment]] = {bank.name: [] for bank in matter.banks}
     for debt in matter.debts:
         owes[debt.debtor].append(debt)
         is_owed[debt.creditor].append(debt)

@@ -10,6 +10,6 @@ loop-smaller g c =
     omega (
       arith,
       OnTrue_at c.loop-test.true c.sweep.ensures.more,
-      way_within_owed net (g.S.Spending.spends c.args.spending.now net) after.paid
+      way_within_owed net (g.S.Spending.spends c.args.spending.now net) after.payments.paid
           c.sweep.ensures.swept.way,
     )

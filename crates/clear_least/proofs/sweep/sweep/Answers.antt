@@ -9,6 +9,6 @@ returns-clause-done g c =
     let net = c.args.net.now in
     let f = g.S.Spending.spends c.args.spending.now net in
     let now = c.loop-number in
-    OnFalse_from now.any (now.paid ≡ least_by net f) (λ (e : now.any ≡ false).
-    quiet_at_least net f now.paid now.marks now.invariant.swept c.banks-number-end.ensures.network
+    OnFalse_from now.any (now.payments.paid ≡ least_by net f) (λ (e : now.any ≡ false).
+    quiet_at_least net f now.payments.paid now.marks now.invariant.swept c.banks-number-end.ensures.network
     (λ i l. now.invariant.so_far.quiet e i (omega arith)))

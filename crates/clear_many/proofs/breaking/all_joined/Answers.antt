@@ -6,6 +6,7 @@ use Rattle.shares.proofs.InOrder.{read_off}
 use Rattle.stress.proofs.Descent.{shares_join}
 use Rattle.stress.specs.Breaking.{breaking_within}
 use Rattle.clear_many.specs.Blocks.{IsTold, across, edge}
+use Rattle.clear_many.specs.declared.breaking.TheConstants.{BLOCKS}
 use Rattle.clear_many.proofs.Broken.{across_back, as_many_broken, edges_rise}
 use Rattle.clear_many.proofs.breaking.all_joined.Goals.{After-as_slice}
 use Rattle.clear_many.proofs.breaking.all_joined.Goals as goal
@@ -18,8 +19,8 @@ told c =
     let block_at = λ (b : ℕ). map (breaking_within (edge b) (edge (b + 1)) c.args.net.now) (bank_numbers c.args.net.now) in
     let back = across_back c.loop-block.block (omega (arith, c.loop-block-test.true)) in
     c.as_slice.ensures.value
-    ∙ head_at (λ k. block_at (across k)) c.args.pieces.now 16
-    (read_off (IsTold c.args.net.now) (λ t. t.items) (λ k. block_at (across k)) 0 16 c.args.pieces.now (λ k t is. is)
+    ∙ head_at (λ k. block_at (across k)) c.args.pieces.now BLOCKS
+    (read_off (IsTold c.args.net.now) (λ t. t.items) (λ k. block_at (across k)) 0 BLOCKS c.args.pieces.now (λ k t is. is)
     c.requires.as_many c.requires.in_order)
     c.across.result c.index-pieces-across.result (omega (arith, c.across.ensures, back.0)) c.index-pieces-across.is
     ∙ ap block_at (ap across c.across.ensures ∙ back.1)

@@ -1,5 +1,5 @@
 use Rattle.std.proofs.Common.{◌≡◌, ◌≤◌, count_by, take}
-use Rattle.clear_report.specs.Words.{is_default}
+use Rattle.cascade.specs.Standings.{is_default}
 use Rattle.clear_report.proofs.sums.defaults_of.Given as goal
 
 abbrev pub invariant-loop-standing : goal.invariant-loop-standing

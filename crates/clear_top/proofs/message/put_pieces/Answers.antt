@@ -1,6 +1,7 @@
 -- The pieces that were written whole, and of one piece a part.
 use Rattle.std.proofs.Common.{◌∙◌, inr, sym, arith}
-use Rattle.clear_top.proofs.Pieces.{piece_taken, piece_part, risen_since, on_ok_of, on_err_of}
+use Rattle.clr_edge.proofs.Rises.{risen_since}
+use Rattle.clr_edge.proofs.Pieces.{piece_taken, piece_part, on_ok_of, on_err_of}
 use Rattle.clear_top.proofs.message.put_pieces.Goals as goal
 
 pub returns-then-is_err : goal.returns-then-is_err

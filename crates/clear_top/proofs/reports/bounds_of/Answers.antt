@@ -3,8 +3,8 @@ use Rattle.std.proofs.lemmas.List.FromFn.{length-map-range_with_len}
 use Rattle.cascade.proofs.Limits.{clearing_over}
 use Rattle.clear_report.specs.Bounds.{bounds_tables}
 use Rattle.upper.specs.Bounds.{greatest, wave, waves}
-use Rattle.clear_top.specs.Meaning.{least_standings}
-use Rattle.clear_top.proofs.Runs.{least_places}
+use Rattle.clear_stress.specs.Told.{least_standings}
+use Rattle.clear_stress.proofs.Places.{least_places}
 use Rattle.clear_top.proofs.reports.bounds_of.Goals as goal
 
 pub bounds_text-requires-clause-least : goal.bounds_text-requires-clause-least

@@ -10,7 +10,7 @@ use Rattle.clear_top.specs.Meaning.{clear_text}
 use Rattle.clear_top.specs.Outcome.{with_journal}
 use Rattle.clear_words.specs.declared.show.Show.TheVariants as show
 use Rattle.raise_journal.specs.Texts.{journal_header, raise_line, rounds_line}
-use Rattle.clear_top.proofs.Runs.{least_places}
+use Rattle.clear_stress.proofs.Places.{least_places}
 use Rattle.clear_top.proofs.reports.cleared.Goals as goal
 
 pub pay_text-requires : goal.pay_text-requires

@@ -6,12 +6,13 @@ use Rattle.rescue.proofs.MoreCash.{belongs_added}
 use Rattle.rescue.specs.Rescue.{added}
 use Rattle.settle.specs.Runs.{CanGoOn, IsSettled}
 use Rattle.clear_top.specs.Meaning.{IsRun}
-use Rattle.clear_top.proofs.Runs.{least_places, run_of}
+use Rattle.clear_stress.proofs.Places.{least_places}
+use Rattle.clear_top.proofs.Runs.{run_of}
 use Rattle.clear_top.proofs.saving.save_after.Goals as goal
 
 -- what a run left may be gone on from in the network with cash added
-pub settle_owned_from-requires-clause-past : goal.settle_owned_from-requires-clause-past
-settle_owned_from-requires-clause-past g c = λ κs lives.
+pub settle_owned-requires-clause-past : goal.settle_owned-requires-clause-past
+settle_owned-requires-clause-past g c = λ κs lives.
     let net = c.args.net.now in
     rw c.in_ok-saved.ensures
     (belongs_added net c.args.bank.0 c.in_ok-found.found.added (start_of net c.args.past.now) c.args.past.now
@@ -34,7 +35,7 @@ with_record-requires g c =
 pub returns : goal.returns
 returns g c =
     let net = c.args.net.now in
-    let plan = c.args.clearer.now.plan in
+    let plan = c.args.engine.now.plan in
     let saved = c.in_ok-saved.saved in
     let first = c.requires.run.0 in
     let second = c.in_ok-paid.field-0 in
@@ -49,9 +50,9 @@ returns g c =
       second = second;
       first_settled = c.requires.run.1;
       second_settled = subst (λ n. IsSettled n first.sealed.journal plan second) same went_on;
-      before = run_of net c.is_network.ensures [] plan first c.requires.run.1;
+      before = run_of net c.banks.ensures.network [] plan first c.requires.run.1;
       run = subst (λ n. IsRun n second.sealed.journal second.rounds) same
-          (run_of saved c.is_network-2.ensures first.sealed.journal plan second went_on);
+          (run_of saved c.banks-2.ensures.network first.sealed.journal plan second went_on);
       comes = out ∙ ap₂ (λ s t. record { status = status.Done; sealed = Some s; text = t }) (sym c.in_ok-paid.sealed-is)
           (rw (c.as_slice.ensures, settled.paid, c.in_ok-saved.ensures, found.short, found.added) at c.in_ok-text.ensures);
     }

@@ -10,29 +10,30 @@ use Rattle.clear_top.proofs.top.carry_out.Goals.{After-drop-room}
 
 -- the status and the record are those of the outcome
 ended : (g : Over) (c : After-drop-room g) → c.end.result
-    ≡ record { status = c.in-Ok-work.outcome.status; sealed = c.in-Ok-work.outcome.sealed }
+    ≡ record { status = c.in-Ok.outcome.status; sealed = c.in-Ok.outcome.sealed }
 ended g c =
-    let with_record : Outcome → Ended = λ o. record { status = o.status; sealed = c.in-Ok-work.outcome.sealed } in
+    let with_record : Outcome → Ended = λ o. record { status = o.status; sealed = c.in-Ok.outcome.sealed } in
     c.end.ensures ∙ ap with_record c.outcome.view_is
 
 pub returns-in-Ok-put-clause-ends : goal.returns-in-Ok-put-clause-ends
 returns-in-Ok-put-clause-ends g c =
-    let outcome = c.in-Ok-work.outcome in
+    let outcome = c.in-Ok.outcome in
+    let works = c.in-Ok.ensures.works in
     rw (ended g c)
-    (ends_whole c.args.job.now c.in-Ok.input _ _ c.in-Ok.ensures.input outcome.status outcome.sealed outcome.text
-    c.in-Ok-work.ensures c.in-Ok-put.ensures.written)
+    (ends_whole c.args.job.now works.0 _ _ works.1 outcome.status outcome.sealed outcome.text works.2 c.in-Ok-put.ensures.written)
 
 pub returns-clause-ends : goal.returns-clause-ends
 returns-clause-ends g c =
-    let outcome = c.in-Ok-work.outcome in
+    let outcome = c.in-Ok.outcome in
     rw c.end-in-Err-put.ensures
-    (outcome.status, outcome.text, (c.in-Ok.input, c.in-Ok.ensures.input, c.in-Ok-work.ensures), c.in-Err-put.ensures.part)
+    (outcome.status, outcome.text, c.in-Ok.ensures.works, c.in-Err-put.ensures.part)
 
 -- what was to be written is a status of work
 pub returns-in-Ok-put-clause-untouched : goal.returns-in-Ok-put-clause-untouched
 returns-in-Ok-put-clause-untouched g c = λ nothing.
-    let outcome = c.in-Ok-work.outcome in
-    absurd (work_writes c.args.job.now c.in-Ok.input outcome.status outcome.sealed outcome.text c.in-Ok-work.ensures
+    let outcome = c.in-Ok.outcome in
+    let works = c.in-Ok.ensures.works in
+    absurd (work_writes c.args.job.now works.0 outcome.status outcome.sealed outcome.text works.2
     (subst (λ (e : Ended). WritesNothing e.status) (ended g c) nothing))
 
 pub returns-clause-untouched : goal.returns-clause-untouched

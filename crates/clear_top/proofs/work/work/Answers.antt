@@ -1,60 +1,61 @@
--- What is reported of a run is what its task comes to, of the network in the input.
-use Rattle.std.proofs.Common.{◌≡◌, ◌⊎◌, inl, inr, IfOk, Result, subst}
-use Rattle.clear_report.specs.Outcomes.{outcomes_text}
+-- What was loaded, and what the one task that works on it comes to.
+use Rattle.std.proofs.Common.{◌≡◌, List, Option, Some, Ok, sym, ap, subst}
+use Rattle.clr_net.specs.Net.{Net}
+use Rattle.clear_core.specs.declared.event.Raise.{Raise}
+use Rattle.clear_load.proofs.Tasks.{gen_by, replay_by, rescue_by}
+use Rattle.clear_load.specs.Loading.{Gives}
+use Rattle.clear_load.specs.Reading.{Files, Input, Read, alone, reading_by}
+use Rattle.clear_load.specs.Sources.{source_of}
+use Rattle.clear_load.specs.declared.source.Source.{Source}
+use Rattle.clear_load.specs.declared.source.Source.TheVariants as source
 use Rattle.clear_words.specs.declared.job.Job.{Job}
 use Rattle.clear_words.specs.declared.task.Task.{Task}
 use Rattle.clear_words.specs.declared.task.Task.TheVariants as task
-use Rattle.clear_top.specs.Meaning.{ComesTo, IsPlain, Settles, plan_of, shown_of}
+use Rattle.net_gen.specs.Generated.{generated}
+use Rattle.raise_journal.specs.Verdicts.{judged}
+use Rattle.clear_top.specs.Meaning.{ComesTo, Settles, answer_to, plan_of, shown_of}
 use Rattle.clear_top.specs.Outcome.{Outcome}
-use Rattle.clear_top.specs.Reading.{Input}
 use Rattle.clear_top.proofs.work.work.Goals as goal
 
--- the scenarios are of the network in the input
-pub report_scenarios-requires-clause-scenarios : goal.report_scenarios-requires-clause-scenarios
-report_scenarios-requires-clause-scenarios g c κs within = rw c.as_slice.ensures.value
-    (rw (c.in-Stress.is, ← c.input-in-Stress.view_is) at c.requires.usable).0
+-- a network that was made is what its job reads, from whatever files
+gives_made : (files : Option Files) (job : Job) (net : Net) → source.Generated ≡ source_of job.task
+    → net ≡ generated job.seed job.size job.tries → Gives files job (Ok (alone net))
+gives_made files job net is made told tells =
+    let read : Net → Read Input = λ n. Some (Ok (alone n)) in
+    subst (λ (s : Source). reading_by s told job ≡ read net) is (ap read (sym made))
 
-pub report_outcomes-requires-clause-scenarios : goal.report_outcomes-requires-clause-scenarios
-report_outcomes-requires-clause-scenarios g c κs within = rw c.as_slice-in-Outcomes.ensures.value
-    (rw (c.in-Outcomes.is, ← c.input-in-Outcomes.view_is) at c.requires.usable).0
+-- what is reported of it is its summary
+made_comes : (job : Job) (net : Net) (o : Outcome) (t : Task) → t ≡ task.Gen
+    → Settles net (plan_of job) (shown_of t job.show net) o → ComesTo t job (alone net) o
+made_comes job net o task.Gen is told = told
+made_comes job net o t is told = absurd (cc)
 
--- of which there are not too many
-pub report_outcomes-requires-clause-few : goal.report_outcomes-requires-clause-few
-report_outcomes-requires-clause-few g c κs within = rw c.as_slice-in-Outcomes.ensures.value
-    (rw (c.in-Outcomes.is, ← c.input-in-Outcomes.view_is) at c.requires.usable).1
+pub returns-in_ok-judge-in-FilesAndJournal-clause-works : goal.returns-in_ok-judge-in-FilesAndJournal-clause-works
+returns-in_ok-judge-in-FilesAndJournal-clause-works g c =
+    let read = c.in_ok-net-in-FilesAndJournal in
+    let on : Input = record (alone read.net) { journal = read.journal.raises } in
+    let o = c.in_ok-judge-in-FilesAndJournal.field-0 in
+    let replays = replay_by c.args.job.now.task (sym c.in-FilesAndJournal.ensures) in
+    let told = subst (λ (rs : List Raise). o ≡ answer_to read.net rs (judged read.net rs).verdict)
+    c.as_slice-in-FilesAndJournal.ensures c.in_ok-judge-in-FilesAndJournal.ensures in
+    (on, read.ensures.input, subst (λ (t : Task). ComesTo t c.args.job.now on o) (sym replays) told)
 
--- a task that clears on one board comes to what is reported of it
-by_report : {E : Type 0} (job : Job) (on : Input) (r : Result Outcome E) (t : Task)
-    → (t ≡ task.Clear) ⊎ ((t ≡ task.Defaults) ⊎ ((t ≡ task.Gen) ⊎ (t ≡ task.Bounds)))
-    → IfOk r (Settles on.net (plan_of job) (shown_of t job.show on.net)) → IfOk r (ComesTo t job on)
-by_report job on r t (inl is) h = rw is (rw is at h)
-by_report job on r t (inr (inl is)) h = rw is (rw is at h)
-by_report job on r t (inr (inr (inl is))) h = rw is (rw is at h)
-by_report job on r t (inr (inr (inr is))) h = rw is (rw is at h)
+pub returns-in_ok-save-in-FilesAndBank-clause-works : goal.returns-in_ok-save-in-FilesAndBank-clause-works
+returns-in_ok-save-in-FilesAndBank-clause-works g c =
+    let read = c.in_ok-net-in-FilesAndBank in
+    let on : Input = record (alone read.net) { bank = read.bank.0 } in
+    let o = c.in_ok-save-in-FilesAndBank.field-0 in
+    let saves = rescue_by c.args.job.now.task (sym c.in-FilesAndBank.ensures) in
+    let told = c.in_ok-save-in-FilesAndBank.ensures in
+    (on, read.ensures.input, subst (λ (t : Task). ComesTo t c.args.job.now on o) (sym saves) told)
 
-pub returns-in-Clear : goal.returns-in-Clear
-returns-in-Clear g c =
-    by_report c.args.job.now c.args.input c.report.result c.args.job.now.task c.in-Clear.is
-    (rw c.net_of.ensures at (rw c.of-clearer.ensures.plan at c.report.ensures))
-
-pub returns-in-Costs : goal.returns-in-Costs
-returns-in-Costs g c = rw c.in-Costs.is
-    (subst (λ i. IfOk c.clear_with_costs.result (ComesTo task.Costs c.args.job.now i))
-    c.input-in-Costs.view_is c.clear_with_costs.ensures)
-
-pub returns-in-CostBounds : goal.returns-in-CostBounds
-returns-in-CostBounds g c = rw c.in-CostBounds.is
-    (subst (λ i. IfOk c.bound_with_costs.result (ComesTo task.CostBounds c.args.job.now i))
-    c.input-in-CostBounds.view_is c.bound_with_costs.ensures)
-
-pub returns-in-Breaking : goal.returns-in-Breaking
-returns-in-Breaking g c = rw c.in-Breaking.is
-    (subst (λ i. IfOk c.report_breaking.result (ComesTo task.Breaking c.args.job.now i))
-    c.input-in-Breaking.view_is c.report_breaking.ensures)
-
--- the scenarios are those of the input
-pub returns-in-Outcomes : goal.returns-in-Outcomes
-returns-in-Outcomes g c = rw c.in-Outcomes.is
-    (subst (λ i. IfOk c.report_outcomes.result (ComesTo task.Outcomes c.args.job.now i)) c.input-in-Outcomes.view_is
-    (subst (λ ss. IfOk c.report_outcomes.result (IsPlain (outcomes_text c.input-in-Outcomes.inside.net ss)))
-    c.as_slice-in-Outcomes.ensures.value c.report_outcomes.ensures))
+pub returns-in_ok-report-in-Generated-clause-works : goal.returns-in_ok-report-in-Generated-clause-works
+returns-in_ok-report-in-Generated-clause-works g c =
+    let job = c.args.job.now in
+    let read = c.in_ok-net-in-Generated in
+    let makes = gen_by job.task (sym c.in-Generated.ensures) in
+    let told = c.in_ok-report-in-Generated.ensures in (
+      alone read.net,
+      gives_made (g.F.Shelf.files c.args.files.now) job read.net c.in-Generated.ensures read.ensures.input,
+      made_comes job read.net c.in_ok-report-in-Generated.field-0 job.task makes told,
+    )

@@ -1,9 +1,8 @@
-use Rattle.std.proofs.Common.{◌≡◌, ℕ, ◌<◌, ◌≤◌, length, get_or, ap, subst, ⊎_elim, arith}
+use Rattle.std.proofs.Common.{◌≡◌, ◌<◌, ◌≤◌, length, get_or, ap, subst, ⊎_elim, arith}
 use Rattle.std.proofs.lemmas.Bool.{cases_lt}
 use Rattle.std.proofs.lemmas.List.{get_or-map}
 use Rattle.compress.specs.declared.step.Step.{Step}
 use Rattle.compress.specs.Walk.{numbers}
-use Rattle.compress.proofs.cancel.least_claim.Goals.{then-claim-least, else-claim-least}
 use Rattle.compress.proofs.cancel.least_claim.Goals as goal
 
 -- the step past the end of a list
@@ -28,24 +27,13 @@ loop-k-preserved c =
     ≡ get_or claims (get_or walk k none).debt.0 0 = ap (λ x. get_or claims x 0) at in
     let old = c.loop-k.invariant in
     let live : 0 < get_or claims (get_or (numbers walk) k 0) 0 = c.requires.live k (omega arith) in
-    elim c.if-claim-least.branch [
-      | then-claim-least w ↦ record {
-        positive = omega (arith, live, read);
-        closing = omega arith;
-        least = λ j g l. ⊎_elim (λ (b : j < k). omega (arith, old.least j g b))
-            (λ (h : k ≤ j). here c j (omega arith) (omega (arith, read))) (cases_lt j k);
-      }
-      | else-claim-least w ↦ record {
-        positive = omega arith;
-        closing = omega arith;
-        least = λ j g l. ⊎_elim (λ (b : j < k). omega (arith, old.least j g b))
-            (λ (h : k ≤ j). here c j (omega arith) (omega (arith, read))) (cases_lt j k);
-      }
-    ]
-  where
-    here : (c : goal.Joined-claim-least) (j : ℕ) → j ≡ c.loop-k.k
-        → c.if-claim-least.least ≤ get_or c.args.claims.now
-        (get_or (numbers c.args.debts.now) c.loop-k.k 0) 0
-        → c.if-claim-least.least ≤ get_or c.args.claims.now
-        (get_or (numbers c.args.debts.now) j 0) 0
-    here c j e h = rw e h
+    record {
+      positive = omega (arith, live, read, c.min-least.ensures);
+      closing = omega (arith, c.min-least.ensures);
+      least = λ j g l. ⊎_elim
+          (λ (b : j < k). omega (arith, old.least j g b, c.min-least.ensures))
+          (λ (h : k ≤ j). subst
+          (λ x. c.min-least.result ≤ get_or claims (get_or (numbers walk) x 0) 0)
+          (let same : k ≡ j = omega arith in same) (omega (arith, read, c.min-least.ensures)))
+          (cases_lt j k);
+    }

@@ -5,9 +5,7 @@ use Rattle.clr_net.specs.Net.{debtor_of}
 use Rattle.compress.specs.Compression.{IsLive}
 use Rattle.compress.specs.declared.mark.Mark.TheVariants.{Done}
 use Rattle.compress.specs.Walk.{mark_of, ArePassed, IsPassed}
-use Rattle.compress.proofs.Dones.{live_from}
 use Rattle.compress.proofs.Searching.{stands_in_column}
-use Rattle.compress.proofs.Cycles.{live_is}
 use Rattle.compress.proofs.Cursors.{passed_moved, ready_when_passed}
 use Rattle.compress.proofs.search.next_back.Goals as goal
 
@@ -32,8 +30,7 @@ returns-then-not-done-clause-next c =
     let stands = stands_in_column c.args.net.now _ _ c.loop-place.place (record { 0 = 0 })
     c.column-column.ensures (omega arith) in
     record {
-      live = live_from c.args.net.now c.args.claims.now c.args.class _ stands.in_range
-          (sym c.is_live.ensures ∙ c.if-is_live.true);
+      live = record { debt = stands.in_range; live = sym c.is_live.ensures ∙ c.if-is_live.true };
       owed = stands.owed;
       unfinished = λ e. true≢false (sym (c.is_done-done.ensures.1
           (ap (mark_of c.args.marks.now) c.debtor_of-debtor.ensures.debtor ∙ e))
@@ -65,7 +62,7 @@ loop-place-preserved c =
           ap (mark_of marks) (sym c.debtor_of-debtor.ensures.debtor)
           ∙ c.is_done-done.ensures.0 both.1)
           (λ (not_live : c.is_live.result ≡ false). absurd (true≢false
-          (sym (live_is net C c.args.class _ live) ∙ sym c.is_live.ensures ∙ not_live)))
+          (sym live.live ∙ sym c.is_live.ensures ∙ not_live)))
           c.else-is_live.either));
       cursors = c.loop-place.invariant.cursors;
     }

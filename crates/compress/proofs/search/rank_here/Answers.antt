@@ -29,7 +29,7 @@ loop-id-preserved c =
       | then-is_live w ↦ omega (
         arith,
         w.most-is,
-        w.greater-most.ensures,
+        w.max-most.ensures,
         c.loop-id.invariant,
         more true w.if-is_live.true,
         ap (λ j. get_or R j 0) c.debtor_of-debtor.ensures.debtor,

@@ -3,6 +3,7 @@ use Rattle.std.proofs.lemmas.List.{get_or_read}
 use Rattle.compress.specs.declared.mark.Mark.{Mark}
 use Rattle.compress.specs.declared.step.Step.{Step}
 use Rattle.compress.specs.Walk.{ArePassed, IsReady, IsStep, IsStepFrom, IsUnderWay, LeadsOn, mark_of}
+use Rattle.compress.proofs.Cycles.{live_class, live_with}
 use Rattle.compress.proofs.Steps.{end_in_range}
 use Rattle.compress.proofs.Telling.{looked_on}
 use Rattle.compress.proofs.walk.step_back.Goals.{After-as_slice, in-Some+else-is_open, in_default}
@@ -38,7 +39,8 @@ pub returns-then-is_open-clause-next : goal.returns-then-is_open-clause-next
 returns-then-is_open-clause-next c =
     let from = head (goal.at.returns-then-is_open-clause-next c).After-as_slice in
     record {
-      live = record { debt = from.debt; class = from.class; claim = c.if-is_open.ensures.claim };
+      live = live_with c.args.net.now c.args.claims.now c.args.class _ from.debt from.class
+          c.if-is_open.ensures.claim;
       owed = from.owed;
       unfinished = λ e. c.if-is_open.ensures.debtor
           (ap (λ (m : List Mark). mark_of m c.in-Some.step.debtor.0) c.as_slice.ensures.value
@@ -77,7 +79,7 @@ returns-clause-under_way c =
     e look.ensures.next in
     record {
       debt = next.live.debt;
-      class = next.live.class;
+      class = live_class next.live;
       owed = next.owed;
       debtor = subst (λ o. IfSome o (IsStep net)) e look.ensures.step;
     })

@@ -1,7 +1,7 @@
 use Rattle.std.proofs.Common.{[], ◌∷◌, refl, lit<, lit≤, sym, ◌∙◌}
 use Rattle.clr_net.specs.Samples.{chain}
 use Rattle.law_tests.specs.Nets.{two}
-use Rattle.law_tests.proofs.Facts.{history}
+use Rattle.law_tests.proofs.ProcessFacts.{history}
 use Rattle.law_tests.proofs.process.history_stands_and_replays.Goals as goal
 
 pub returns-clause-stands : goal.returns-clause-stands

@@ -1,7 +1,7 @@
 use Rattle.std.proofs.Common.{[], ◌∷◌, refl, lit<, lit≤, sym, ◌∙◌}
 use Rattle.clr_net.specs.Samples.{chain}
 use Rattle.law_tests.specs.Nets.{two, two_ordered}
-use Rattle.law_tests.proofs.Facts.{history, low_stamps}
+use Rattle.law_tests.proofs.ProcessFacts.{history, low_stamps}
 use Rattle.law_tests.proofs.process.journal_of_two_belongs.Goals as goal
 
 pub returns : goal.returns

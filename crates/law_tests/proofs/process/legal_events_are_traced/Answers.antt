@@ -1,6 +1,6 @@
 use Rattle.clr_net.specs.Samples.{chain}
 use Rattle.law_tests.specs.Nets.{events}
-use Rattle.law_tests.proofs.Facts.{legal}
+use Rattle.law_tests.proofs.ProcessFacts.{legal}
 use Rattle.law_tests.proofs.process.legal_events_are_traced.Goals as goal
 
 pub returns : goal.returns

@@ -1,7 +1,7 @@
 use Rattle.std.proofs.Common.{[], ◌∷◌, refl, lit<, lit≤, sym, ◌∙◌}
 use Rattle.clr_net.specs.Samples.{chain}
 use Rattle.clear_core.specs.Cases.{chain_least}
-use Rattle.law_tests.proofs.Facts.{seven_rises, seven_below}
+use Rattle.law_tests.proofs.ProcessFacts.{seven_rises, seven_below}
 use Rattle.law_tests.proofs.process.rounds_from_seven_reach_the_least.Goals as goal
 
 pub returns : goal.returns

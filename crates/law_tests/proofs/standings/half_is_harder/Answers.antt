@@ -1,7 +1,7 @@
 use Rattle.std.proofs.Common.{[], ◌∷◌, refl, lit<, lit≤, sym, ◌∙◌}
 use Rattle.clr_net.specs.Samples.{chain}
 use Rattle.law_tests.specs.Nets.{scenario, loss}
-use Rattle.law_tests.proofs.Facts.{milder}
+use Rattle.law_tests.proofs.StandingFacts.{milder}
 use Rattle.law_tests.proofs.standings.half_is_harder.Goals as goal
 
 pub returns : goal.returns

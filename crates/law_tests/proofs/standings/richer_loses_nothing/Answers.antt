@@ -1,6 +1,6 @@
 use Rattle.clr_net.specs.Samples.{chain}
 use Rattle.law_tests.specs.Nets.{richer}
-use Rattle.law_tests.proofs.Facts.{more}
+use Rattle.law_tests.proofs.StandingFacts.{more}
 use Rattle.law_tests.proofs.standings.richer_loses_nothing.Goals as goal
 
 pub returns : goal.returns

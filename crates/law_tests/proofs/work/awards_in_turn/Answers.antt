@@ -1,6 +1,6 @@
 use Rattle.std.proofs.Common.{[], ◌∷◌, refl, lit<, lit≤, sym, ◌∙◌}
 use Rattle.clr_net.specs.declared.rule.RuleKind.TheVariants as kind
-use Rattle.law_tests.proofs.Facts.{within, in_turn}
+use Rattle.law_tests.proofs.WorkFacts.{within, in_turn}
 use Rattle.law_tests.proofs.work.awards_in_turn.Goals as goal
 
 pub returns : goal.returns

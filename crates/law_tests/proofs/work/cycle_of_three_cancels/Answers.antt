@@ -1,6 +1,6 @@
 use Rattle.std.proofs.Common.{[], ◌∷◌, refl, lit<, lit≤, sym, ◌∙◌}
 use Rattle.law_tests.specs.Nets.{cycle}
-use Rattle.law_tests.proofs.Facts.{can_lower, of_class_1}
+use Rattle.law_tests.proofs.WorkFacts.{can_lower, of_class_1}
 use Rattle.law_tests.proofs.work.cycle_of_three_cancels.Goals as goal
 
 pub returns : goal.returns

@@ -1,7 +1,7 @@
 use Rattle.clr_net.specs.Samples.{chain}
 use Rattle.net_check.specs.declared.limits.Limits.TheVariants as limits
 use Rattle.law_tests.specs.Nets.{two_ordered}
-use Rattle.law_tests.proofs.Facts.{keeps, in_limits}
+use Rattle.law_tests.proofs.WorkFacts.{keeps, in_limits}
 use Rattle.law_tests.proofs.work.journal_is_read_back.Goals as goal
 
 pub returns : goal.returns

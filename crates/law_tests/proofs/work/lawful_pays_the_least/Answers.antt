@@ -1,6 +1,6 @@
 use Rattle.clr_net.specs.Samples.{chain}
 use Rattle.law_tests.specs.Nets.{two_ordered}
-use Rattle.law_tests.proofs.Facts.{is_lawful}
+use Rattle.law_tests.proofs.WorkFacts.{is_lawful}
 use Rattle.law_tests.proofs.work.lawful_pays_the_least.Goals as goal
 
 pub returns : goal.returns

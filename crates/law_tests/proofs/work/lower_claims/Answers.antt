@@ -1,6 +1,6 @@
 use Rattle.std.proofs.Common.{[], ◌∷◌, refl, lit<, lit≤, sym, ◌∙◌}
 use Rattle.law_tests.specs.Nets.{cycle, left}
-use Rattle.law_tests.proofs.Facts.{left_below}
+use Rattle.law_tests.proofs.WorkFacts.{left_below}
 use Rattle.law_tests.proofs.work.lower_claims.Goals as goal
 
 pub returns : goal.returns

@@ -1,6 +1,6 @@
 use Rattle.std.proofs.Common.{◌≡◌, ◌≤◌, ◌*◌, take, vec_capacity, vec_len}
 use Rattle.std.specs.List.{flat_map}
-use Rattle.net_csv.specs.declared.line.TheConstants.{MAX_LINE}
+use Rattle.clr_edge.specs.declared.line.TheConstants.{MAX_LINE}
 use Rattle.raise_journal.specs.Texts.{raise_line}
 use Rattle.raise_journal.proofs.printing.print_raises.Given as goal
 

@@ -6,7 +6,7 @@ use Rattle.cascade.specs.Standings.{standings}
 use Rattle.cascade.proofs.CashAt.{cash_read}
 use Rattle.rescue.specs.Rescue.{added}
 use Rattle.rescue.specs.Saved.{rescued}
-use Rattle.rescue.proofs.Searching.{as_many_banks, set_to_sum, still_differ}
+use Rattle.rescue.proofs.Searching.{as_many_banks, set_to_sum, still_differ, sums_added}
 use Rattle.rescue.proofs.saved.standings_saved.Goals as goal
 use Rattle.rescue.proofs.saved.standings_saved.Goals.{After-set_cash}
 
@@ -32,11 +32,17 @@ set_cash-requires-clause-cash c =
       cash_read c.args.net.now c.args.bank.0 c.bank.result.now c.bank.ensures,
     )
 
-pub defaults-requires : goal.defaults-requires
-defaults-requires c =
-    let set = is_added (goal.at.defaults-requires c).After-set_cash in
-    rw (set, c.as_slice.ensures ∙ c.requires.paid)
+pub defaults_by-requires-clause-clears : goal.defaults_by-requires-clause-clears
+defaults_by-requires-clause-clears c =
+    let set = is_added (goal.at.defaults_by-requires-clause-clears c).After-set_cash in
+    rw (set, c.requires.paid)
     (least_clears (added c.args.net.now c.args.bank.0 c.args.found.now.sum.added))
+
+pub defaults_by-requires-clause-sums : goal.defaults_by-requires-clause-sums
+defaults_by-requires-clause-sums c =
+    let set = is_added (goal.at.defaults_by-requires-clause-sums c).After-set_cash in
+    let found = c.args.found.now in
+    rw set (sums_added c.args.net.now c.args.bank.0 found.sum.added found.payments.paid found.payments.sums.items c.requires.sums)
 
 pub returns-clause-search : goal.returns-clause-search
 returns-clause-search c = record {
@@ -53,7 +59,7 @@ returns-clause-all c =
     let at = goal.at.returns-clause-all c in
     let sum = c.requires.added in
     let set : c.set_cash.new.self ≡ rescued net i = is_added at.After-set_cash ∙ ap (added net i) sum in
-    let paid : c.as_slice.result.now ≡ least (rescued net i) =
-    c.as_slice.ensures ∙ c.requires.paid ∙ ap (λ (a : ℕ). least (added net i a)) sum in
-    IfOk-weaker c.defaults.result _ _ (λ all e. e ∙ (λ k. standings (set k) (paid k)))
-    c.defaults.ensures.standings
+    let paid : c.args.found.now.payments.paid ≡ least (rescued net i) =
+    c.requires.paid ∙ ap (λ (a : ℕ). least (added net i a)) sum in
+    IfOk-weaker c.defaults_by.result _ _ (λ all e. e ∙ (λ k. standings (set k) (paid k)))
+    c.defaults_by.ensures

@@ -3,10 +3,10 @@ use Rattle.clr_net.specs.Net.{of_cash}
 use Rattle.run_tests.proofs.meetings.run_by.Goals as goal
 
 -- the offices are of the network whose copy is cleared
-pub settle_alone-requires-clause-offices : goal.settle_alone-requires-clause-offices
-settle_alone-requires-clause-offices g c κs within = record {
+pub settle_alone-requires : goal.settle_alone-requires
+settle_alone-requires g c = record { offices = record {
   other = c.args.net.now;
   banks = ap (λ n. map (of_cash 0) n.banks) c.in_ok-copy-in-Alone.ensures;
   debts = ap (λ n. n.debts) c.in_ok-copy-in-Alone.ensures;
   offices = c.in_ok-offices-in-Alone.ensures;
-}
+} }

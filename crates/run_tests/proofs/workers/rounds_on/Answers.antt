@@ -3,7 +3,7 @@ use Rattle.run_tests.proofs.workers.rounds_on.Goals as goal
 
 -- each worker has its office, and all banks are called at first
 pub loop-number-init : goal.loop-number-init
-loop-number-init g c =
+loop-number-init c =
     let between = c.requires.master.1 in
     let state = c.in_ok-state.ensures in
     record {

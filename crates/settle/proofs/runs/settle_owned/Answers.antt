@@ -1,6 +1,18 @@
-use Rattle.std.proofs.Common.{refl}
-use Rattle.pay_words.proofs.Pasts.{belongs_at_first}
+use Rattle.std.proofs.Common.{◌∙◌, subst}
+use Rattle.settle.specs.Drives.{IsDriven}
 use Rattle.settle.proofs.runs.settle_owned.Goals as goal
 
-pub settle_owned_from-requires-clause-past : goal.settle_owned_from-requires-clause-past
-settle_owned_from-requires-clause-past g c κs within = belongs_at_first c.args.net _ refl
+pub drive_on-requires-clause-opened : goal.drive_on-requires-clause-opened
+drive_on-requires-clause-opened g c κs within = c.in_ok-offices.ensures.opened.shows
+
+pub close_run-requires-clause-ended : goal.close_run-requires-clause-ended
+close_run-requires-clause-ended g c =
+    let opened = c.in_ok-offices.ensures.opened in
+    record {
+      payments_are = opened.payments_are;
+      net_is = opened.net_is;
+      past_is = opened.past_is;
+      workers_are = opened.workers_are;
+      table_is = c.drive_on.ensures.table ∙ opened.table_is;
+      driven = subst (λ s. IsDriven c.args.net c.args.past.now c.args.engine.now.plan s c.drive_on.new.master.shows c.in_ok-driven.driven) opened.shows c.in_ok-driven.ensures.driven;
+    }

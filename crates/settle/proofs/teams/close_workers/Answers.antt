@@ -1,26 +1,28 @@
-use Rattle.std.proofs.Common.{◌≡◌, ◌+◌, ◌-◌, ◌≤◌, ◌++◌, drop, length, sym, ap, ◌∙◌, arith, rules, sum_by}
+use Rattle.std.proofs.Math.Seq.{drop-length}
+use Rattle.std.proofs.Common.{append-nil, ◌≡◌, ◌+◌, ◌-◌, ◌≤◌, ◌++◌, drop, length, sym, ap, ◌∙◌, arith, rules, sum_by}
 use Rattle.std.proofs.lemmas.List.Sums.{sum_by_push}
 use Rattle.pay_words.specs.declared.view.Shown.{Shown}
 use Rattle.pay_words.specs.Views.{rejoined}
-use Rattle.bank_worker.specs.Views.{Crew}
-use Rattle.settle.specs.Between.{raises_of_all}
-use Rattle.settle.specs.Rounds.{crew_at}
+use Rattle.bank_worker.specs.Views.{WorkerView}
+use Rattle.settle.specs.Between.{noted_in, raises_of_all}
+use Rattle.settle.specs.Rounds.{worker_at}
 use Rattle.settle.proofs.Calling.{called_from}
 use Rattle.settle.proofs.OfficeLists.{held_by, office_more, seat_serves}
 use Rattle.settle.proofs.Returned.{IsLast, back_more, grown_more, known_banks, last_of, raises_more}
+use Rattle.settle.proofs.Waiting.{noted_first, not_shorter}
 use Rattle.settle.proofs.teams.close_workers.Goals as goal
 use Rattle.settle.proofs.teams.close_workers.Given.{Over}
 use Rattle.settle.proofs.teams.close_workers.Goals.{In-Some}
 
 -- the worker whose seat comes back
 last : (g : Over) (c : In-Some g) → IsLast c.args.run.now.board.now c.args.workers.items c.loop-worker.workers.items c.pop.new.self.items c.in-Some.worker
-last g c = last_of c.args.run.now.board.now c.args.workers.items c.loop-worker.workers.items c.pop.new.self.items c.in-Some.worker c.requires.crew c.loop-worker.invariant.left c.in-Some.ensures.items
+last g c = last_of c.args.run.now.board.now c.args.workers.items c.loop-worker.workers.items c.pop.new.self.items c.in-Some.worker c.requires.of_board c.loop-worker.invariant.left c.in-Some.ensures.items
 
 pub overflow_add-visits : goal.overflow_add-visits
 overflow_add-visits g c =
-    let on_board = c.args.run.now.on_board in
+    let run = c.args.run.now in
     let h = last g (goal.at.overflow_add-visits g c).In-Some in
-    record { fits = omega (arith, h.more, h.left.few, h.own.few_visits, c.visits-visits.ensures, c.loop-worker.invariant.low, c.requires.workers, on_board.limits.few_workers, on_board.workers_are, c.args.workers.ok) }
+    record { fits = omega (arith, h.more, h.left.few, h.own.few_visits, c.visits-visits.ensures, c.loop-worker.invariant.low, c.requires.workers, run.engine.now.limits.few_workers, run.on_board.workers_are, c.args.workers.ok) }
 
 pub take_back-requires : goal.take_back-requires
 take_back-requires g c =
@@ -34,6 +36,30 @@ take_back-requires g c =
       not_the_master = ap (λ s. s.shows.master) seat ∙ own.not_the_master;
       rings = rw seat own.no_rings;
     }
+
+pub loop-worker-init : goal.loop-worker-init
+loop-worker-init g c = record {
+  table = search rules;
+  back = search rules;
+  left = search rules;
+  offices = search rules;
+  noted = noted_first c.args.state.now.journal.raises c.args.master.now.shows.raises c.args.state.now.waiting.items c.requires.none_waits;
+  none_waits = λ _. c.requires.none_waits;
+  called = λ i le li. absurd (omega (arith, le, li));
+  visits = search rules;
+  sum = search rules;
+  made = sym (ap (λ ws. c.args.master.now.shows.raises ++ raises_of_all ws) (drop-length c.args.workers.items) ∙ append-nil c.args.master.now.shows.raises);
+  low = search rules;
+}
+
+pub note-requires-clause-place : goal.note-requires-clause-place
+note-requires-clause-place g c turn =
+    let inv = c.loop-worker.invariant in
+    omega (
+      arith,
+      ap length c.as_slice-from.ensures,
+      not_shorter c.args.state.now.journal.raises c.loop-worker.state.journal.raises inv.noted.0 c.loop-worker.state.waiting.items inv.noted.1 (inv.none_waits turn),
+    )
 
 pub loop-worker-preserved : goal.loop-worker-preserved
 loop-worker-preserved g c =
@@ -49,10 +75,10 @@ loop-worker-preserved g c =
     let is = c.in-Some.ensures.items in
     let h = last g (goal.at.loop-worker-preserved g c).In-Some in
     let seat = c.leave-seat.ensures.seat in
-    let shown : c.take_back.new.master.shows ≡ rejoined m (crew_at ws n).seat.shows =
-    c.take_back.ensures.rejoined ∙ ap (rejoined m) (ap (λ s. s.shows) seat ∙ ap (λ (k : Crew). k.seat.shows) h.is) in
+    let shown : c.take_back.new.master.shows ≡ rejoined m (worker_at ws n).seat.shows =
+    c.take_back.ensures.rejoined ∙ ap (rejoined m) (ap (λ s. s.shows) seat ∙ ap (λ (k : WorkerView). k.seat.shows) h.is) in
     let back = back_more c.args.run.now.board.now s m ws n (rw (h.is) at h.own) (rw (h.more) at inv.back) (known_banks net c.requires.network) in
-    let made : c.leave-seat.result.1.raises ≡ (crew_at ws n).seat.shows.raises = c.leave-seat.ensures.same ∙ ap (λ s. s.shows.raises) seat ∙ ap (λ (k : Crew). k.seat.shows.raises) h.is in
+    let made : c.leave-seat.result.1.raises ≡ (worker_at ws n).seat.shows.raises = c.leave-seat.ensures.raises_of_seat ∙ ap (λ s. s.shows.raises) seat ∙ ap (λ (k : WorkerView). k.seat.shows.raises) h.is in
     record {
       table = c.take_back.ensures.table ∙ inv.table;
       back = rw shown back;
@@ -64,14 +90,16 @@ loop-worker-preserved g c =
           c.leave-seat.ensures.office (c.leave-seat.ensures.worker ∙ h.own.worker) in
           rw (c.in_ok-push.ensures.items, c.keep.ensures, count)
           (office_more net k (k - (n + 1)) n c.loop-worker.state.offices.items c.leave-seat.result.2 (rw (h.more) at inv.offices) (omega arith) serves);
-      noted = grown_more c.args.state.now.journal.raises c.loop-worker.state.journal.raises c.add_raises.new.journal.raises s.raises m.raises c.take_back.new.master.shows.raises (crew_at ws n).seat.shows.raises
-          inv.noted (rw (made, ap length c.as_slice-from.ensures) at c.in_ok-left.ensures) (ap (λ (u : Shown). u.raises) shown);
+      noted = grown_more c.args.state.now.journal.raises (noted_in c.loop-worker.state.journal.raises c.loop-worker.state.waiting.items)
+          (noted_in c.note.new.journal.raises c.note.new.waiting.items) s.raises m.raises c.take_back.new.master.shows.raises (worker_at ws n).seat.shows.raises
+          inv.noted (rw (made, ap length c.as_slice-from.ensures) at c.in_ok-left.ensures.noted) (ap (λ (u : Shown). u.raises) shown);
+      none_waits = c.in_ok-left.ensures.none_waits;
       called = called_from net c.loop-worker.state.called c.call_creditors.new.called ws n w.journal
           (rw (h.more) at inv.called) c.call_creditors.ensures.kept
-          (sym c.leave-seat.ensures.journal ∙ c.leave-seat.ensures.same ∙ ap (λ s. s.shows.raises) seat ∙ ap (λ (k : Crew). k.seat.shows.raises) h.is)
+          (sym c.leave-seat.ensures.journal ∙ c.leave-seat.ensures.raises_of_seat ∙ ap (λ s. s.shows.raises) seat ∙ ap (λ (k : WorkerView). k.seat.shows.raises) h.is)
           (rw (h.own.at.1) at c.call_creditors.ensures.creditors);
-      visits = omega (arith, ap (λ (u : Shown). u.taken) shown, inv.visits, c.visits-visits.ensures, h.own.by_bells, ap (λ (k : Crew). k.seat.shows.taken) h.is);
-      sum = omega (arith, inv.sum, ap (λ ks. sum_by (λ (k : Crew). k.visits) ks) is, sum_by_push (λ (k : Crew). k.visits) rest w, c.visits-visits.ensures);
+      visits = omega (arith, ap (λ (u : Shown). u.taken) shown, inv.visits, c.visits-visits.ensures, h.own.by_bells, ap (λ (k : WorkerView). k.seat.shows.taken) h.is);
+      sum = omega (arith, inv.sum, ap (λ ks. sum_by (λ (k : WorkerView). k.visits) ks) is, sum_by_push (λ (k : WorkerView). k.visits) rest w, c.visits-visits.ensures);
       made = raises_more s m c.take_back.new.master.shows ws n (length c.loop-worker.workers.items) h.more (omega (arith, h.more, inv.left.few)) inv.made shown;
       low = omega (arith, h.more, inv.low, c.visits-visits.ensures, h.own.few_visits);
     }

@@ -1,6 +1,7 @@
-use Rattle.std.proofs.Common.{◌≡◌, ◌+◌, ◌-◌, ◌*◌, ◌≤◌, ◌++◌, drop, length, sum_by}
+use Rattle.std.proofs.Common.{◌≡◌, ◌+◌, ◌-◌, ◌*◌, ◌≤◌, ◌++◌, [], drop, length, sum_by}
 use Rattle.bank_worker.specs.Grows.{MAX_VISITS}
-use Rattle.settle.specs.Between.{HaveGrownAlike, IsBack, raises_of_all}
+use Rattle.settle.specs.Between.{HaveGrownAlike, IsBack, noted_in, raises_of_all}
+use Rattle.settle.specs.declared.run.Way.TheVariants.{InTurn}
 use Rattle.settle.specs.Calls.{HaveCalledFrom}
 use Rattle.settle.specs.Offices.{AreOffices}
 use Rattle.settle.proofs.Returned.{AreFirst}
@@ -12,7 +13,8 @@ invariant-loop-worker g l = record {
   back : IsBack l.run.board.now.table.workers l.run.board.now.net l.fn.master.shows l.fn.workers.items l.master.shows (length l.workers.items);
   left : AreFirst l.fn.workers.items l.workers.items;
   offices : AreOffices l.run.board.now.net l.run.board.now.table.workers (l.run.board.now.table.workers - length l.workers.items) l.state.offices.items;
-  noted : HaveGrownAlike l.fn.state.journal.raises l.state.journal.raises l.fn.master.shows.raises l.master.shows.raises;
+  noted : HaveGrownAlike l.fn.state.journal.raises [] (noted_in l.state.journal.raises l.state.waiting.items) l.fn.master.shows.raises l.master.shows.raises;
+  none_waits : l.way ≡ InTurn → l.state.waiting.items ≡ [];
   called : HaveCalledFrom (length l.workers.items) l.run.board.now.net l.state.called l.fn.workers.items;
   visits : l.master.shows.taken ≡ l.fn.master.shows.taken + l.visits;
   sum : l.visits + sum_by (λ w. w.visits) l.workers.items ≡ sum_by (λ w. w.visits) l.fn.workers.items;

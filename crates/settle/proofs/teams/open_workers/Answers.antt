@@ -2,7 +2,7 @@ use Rattle.std.proofs.Common.{◌≡◌, ◌+◌, ◌-◌, [], sym, ap, ◌∙�
 use Rattle.pay_words.specs.declared.view.Shown.{Shown}
 use Rattle.pay_words.specs.Views.{OwesNoRing, handed, holds}
 use Rattle.bank_worker.specs.Views.{desks_held}
-use Rattle.settle.specs.Between.{crew_of}
+use Rattle.settle.specs.Between.{opened_worker}
 use Rattle.settle.proofs.Handed.{first_handed, first_holds, first_rest, handed_holds, handed_quiet}
 use Rattle.settle.specs.Offices.{AreOffices, Serves}
 use Rattle.settle.proofs.OfficeLists.{office_taken, serves_seat}
@@ -15,7 +15,7 @@ use Rattle.std.proofs.lemmas.List.{nil_from_length}
 pub hand-requires : goal.hand-requires
 hand-requires g c =
     let s = c.args.master.now.shows in
-    let w = c.args.run.now.plan.workers in
+    let w = c.args.run.now.engine.now.plan.workers in
     let n = c.loop-number.number in
     let inv = c.loop-number.invariant in
     let b = c.requires.between in
@@ -28,14 +28,14 @@ hand-requires g c =
     }
 
 -- what the next worker is handed, and its office
-shown : (g : Over) (c : In-Some g) → c.in_ok-seat.seat.shows ≡ handed c.args.run.now.plan.workers c.loop-number.number c.args.master.now.shows
+shown : (g : Over) (c : In-Some g) → c.in_ok-seat.seat.shows ≡ handed c.args.run.now.engine.now.plan.workers c.loop-number.number c.args.master.now.shows
 shown g c = rw (c.in_ok-seat.ensures.seat.1, ← c.args.run.now.on_board.workers_are, c.loop-number.invariant.rest)
-    (first_handed c.args.run.now.plan.workers c.loop-number.number c.loop-number.number c.args.master.now.shows)
+    (first_handed c.args.run.now.engine.now.plan.workers c.loop-number.number c.loop-number.number c.args.master.now.shows)
 
-taken : (g : Over) (c : In-Some g) → AreOffices c.args.run.now.net.now c.args.run.now.plan.workers (c.args.run.now.plan.workers - (c.loop-number.number + 1)) c.pop.new.self.items
-    × Serves c.args.run.now.net.now c.args.run.now.plan.workers c.loop-number.number c.in-Some.office
+taken : (g : Over) (c : In-Some g) → AreOffices c.args.run.now.net.now c.args.run.now.engine.now.plan.workers (c.args.run.now.engine.now.plan.workers - (c.loop-number.number + 1)) c.pop.new.self.items
+    × Serves c.args.run.now.net.now c.args.run.now.engine.now.plan.workers c.loop-number.number c.in-Some.office
 taken g c =
-    let w = c.args.run.now.plan.workers in
+    let w = c.args.run.now.engine.now.plan.workers in
     let n = c.loop-number.number in
     let count : w - n ≡ w - (n + 1) + 1 = omega arith in
     office_taken c.args.run.now.net.now w (w - (n + 1)) n c.loop-number.offices.items c.pop.new.self.items c.in-Some.office
@@ -44,7 +44,7 @@ taken g c =
 pub with-requires : goal.with-requires
 with-requires g c =
     let net = c.args.run.now.net.now in
-    let w = c.args.run.now.plan.workers in
+    let w = c.args.run.now.engine.now.plan.workers in
     let n = c.loop-number.number in
     let b = c.requires.between in
     let at = (goal.at.with-requires g c).In-Some in
@@ -60,13 +60,13 @@ with-requires g c =
 pub loop-number-preserved : goal.loop-number-preserved
 loop-number-preserved g c =
     let s = c.args.master.now.shows in
-    let w = c.args.run.now.plan.workers in
+    let w = c.args.run.now.engine.now.plan.workers in
     let n = c.loop-number.number in
     let inv = c.loop-number.invariant in
     let seat = c.in_ok-seat.seat in
     let table = c.args.run.now.board.now.table in
     let at = (goal.at.loop-number-preserved g c).In-Some in
-    let made : c.with.result ≡ crew_of w table s n = rw (c.with.ensures) (λ i. record {
+    let made : c.with.result ≡ opened_worker w table s n = rw (c.with.ensures) (λ i. record {
       seat = record { table = c.in_ok-seat.ensures.seat.0 i; shows = (shown g at) i };
       desks = desks_held ((shown g at) i);
       worker = (taken g at).1.worker i;
@@ -78,9 +78,9 @@ loop-number-preserved g c =
       net = ap (λ (u : Shown). u.net) c.in_ok-seat.ensures.rest ∙ inv.net;
       rest = rw (c.in_ok-seat.ensures.rest, ← c.args.run.now.on_board.workers_are, inv.rest, add-one n);
       offices = (taken g at).0;
-      crew =
+      opened =
           c.in_ok-push.ensures.items
-          ∙ rw (made, inv.crew) (sym (map-range_with_len_more (crew_of w table s) 0 n n (omega arith)));
+          ∙ rw (made, inv.opened) (sym (map-range_with_len_more (opened_worker w table s) 0 n n (omega arith)));
     }
 
 pub returns-clause-offices : goal.returns-clause-offices

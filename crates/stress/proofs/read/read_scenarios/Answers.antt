@@ -13,7 +13,7 @@ returns-clause-in_limit c =
     IfOk-weaker c.read_document.result _ _ (λ all are k d l. (are.read k d l).1)
     (document_is c.args.net.now (table_view c.in_ok-document.document) _ c.read_document.ensures.read)
 
-pub returns-clause-few : goal.returns-clause-few
-returns-clause-few c =
+pub returns-clause-scenarios_in_limit : goal.returns-clause-scenarios_in_limit
+returns-clause-scenarios_in_limit c =
     IfOk-weaker c.read_document.result _ _ (λ all are. are.few)
     (document_is c.args.net.now (table_view c.in_ok-document.document) _ c.read_document.ensures.read)

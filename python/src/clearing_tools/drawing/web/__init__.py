@@ -61,7 +61,7 @@ def as_function(name: str, text: str) -> str:
     """A module as a constant of its name that has what it exports."""
     names = EXPORT.findall(text)
     body = IMPORT.sub(
-        lambda given: f"const {{ {given[1]} }} = {given[2].removesuffix('.mjs')}Module;\n", EXPORT.sub("", text)
+        lambda match: f"const {{ {match[1]} }} = {match[2].removesuffix('.mjs')}Module;\n", EXPORT.sub("", text)
     )
     return f"const {name.removesuffix('.mjs')}Module = (() => {{\n{body}return {{ {', '.join(names)} }};\n}})();\n"
 

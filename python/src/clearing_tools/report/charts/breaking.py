@@ -45,11 +45,11 @@ def title_of(matter: Matter) -> str:
     if not matter.near:
         return f"{stand} at any cut of all cash"
     first = matter.near[0]
-    said = f"{stand} until a cut of {percent(first.cut, 1000)} of all cash"
+    title = f"{stand} until a cut of {percent(first.cut, 1000)} of all cash"
     at_end = standing(matter)[-1][1]
     if at_end:
-        return f"{said}; {counted(at_end)} at any cut"
-    return said + ("; then one after another falls" if len(matter.near) > 1 else "")
+        return f"{title}; {counted(at_end)} at any cut"
+    return title + ("; then one after another falls" if len(matter.near) > 1 else "")
 
 
 def path_of(steps: List[Tuple[int, int]], panel: Panel, most: int, tall: float) -> str:
@@ -102,11 +102,11 @@ def draw_names(chart: svg.Svg, matter: Matter, panel: Panel, wide: float) -> Non
         words = f" {percent(cut.cut, 1000)}"
         room = wide - step - 10 - lettering.width_of(words, 12)
         name = shown(matter.marked(cut.bank))
-        kept = lettering.cut(name, max(room, 72), 12, True)
-        whole = f"<title>{svg.text_of(name)}</title>" if kept != name else ""
-        x = min(step + 6, wide - lettering.width_of(kept, 12, True) - lettering.width_of(words, 12) - 2)
+        short = lettering.cut(name, max(room, 72), 12, True)
+        whole = f"<title>{svg.text_of(name)}</title>" if short != name else ""
+        x = min(step + 6, wide - lettering.width_of(short, 12, True) - lettering.width_of(words, 12) - 2)
         chart.add(
-            f'<text class="nm2" x="{x:.1f}" y="{y:.1f}">{svg.text_of(kept)}<tspan class="sub">{words}'
+            f'<text class="nm2" x="{x:.1f}" y="{y:.1f}">{svg.text_of(short)}<tspan class="sub">{words}'
             f'</tspan>{whole}</text>'
         )
 

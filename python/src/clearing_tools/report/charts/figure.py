@@ -1,6 +1,6 @@
 """A figure of a report: its message, its unit, the chart at some widths, where it comes from, and its numbers as a
 table."""
-from typing import Any, Dict, List, NamedTuple, Sequence, Tuple
+from typing import Dict, List, NamedTuple, Sequence, Tuple
 
 from ...drawing.svg import Svg
 
@@ -12,7 +12,7 @@ class Data(NamedTuple):
     """A table as numbers: the names of its columns, and its rows. Amounts are exact."""
 
     columns: Sequence[str]
-    rows: Sequence[Sequence[Any]]
+    rows: Sequence[Sequence[object]]
 
 
 class Figure(NamedTuple):

@@ -41,9 +41,9 @@ def title_of(matter: Matter) -> str:
         return "All that is owed is paid"
     first = matter.fallen[0]
     if len(matter.fallen) == 1:
-        return f"{matter.said(first.name)} alone leaves debts unpaid, {matter.amount(matter.unpaid)}"
+        return f"{matter.in_sentence(first.name)} alone leaves debts unpaid, {matter.amount(matter.unpaid)}"
     return (
-        f"{matter.said(first.name)} leaves the most unpaid, {matter.amount(shortfall_of(first))} of"
+        f"{matter.in_sentence(first.name)} leaves the most unpaid, {matter.amount(shortfall_of(first))} of"
         f" {matter.amount(matter.unpaid)}"
     )
 
@@ -56,31 +56,33 @@ def owing_of(matter: Matter, flows: List[Flow]) -> Tuple[List[Owing], str]:
         if flow.claim > flow.paid:
             unpaid.setdefault(flow.debtor, []).append(flow)
     most = shortfall_of(matter.fallen[0]) if matter.fallen else 1
-    found = []
+    owing = []
     for bank in matter.fallen[:MOST_IN_LIST]:
         own = unpaid.get(bank.name, [])
         named = [
-            f"{'outside' if flow.creditor is None else matter.said(flow.creditor)}"
+            f"{'outside' if flow.creditor is None else matter.in_sentence(flow.creditor)}"
             f" {scale.number(flow.claim - flow.paid)}"
             for flow in own[:4]
         ]
         more = f" and {len(own) - 4:,} more" if len(own) > 4 else ""
         whom = f"to {', '.join(named)}{more}" if named else "what it owes outside"
         amount = scale.number(shortfall_of(bank))
-        found.append(Owing(bank.name, bank.state, amount, 100 * shortfall_of(bank) / most if most else 0.0, whom))
-    left = len(matter.fallen) - len(found)
-    return found, f"{counted(left, 'other')} in default: in the table of banks." if left else ""
+        owing.append(Owing(bank.name, bank.state, amount, 100 * shortfall_of(bank) / most if most else 0.0, whom))
+    left = len(matter.fallen) - len(owing)
+    return owing, f"{counted(left, 'other')} in default: in the table of banks." if left else ""
 
 
 def rows_of(flows: List[Flow]) -> List[Tuple[str, str, int, int, int]]:
     """The flows as numbers; where they are very many, those of which most stays unpaid, and the others as one."""
-    kept = flows
+    largest = flows
     if len(flows) > MOST_ROWS:
-        kept = sorted(flows, key=lambda flow: (flow.paid - flow.claim, -flow.claim))[:MOST_ROWS]
-    rows = [(flow.debtor, flow.creditor or "outside", flow.claim, flow.paid, flow.claim - flow.paid) for flow in kept]
+        largest = sorted(flows, key=lambda flow: (flow.paid - flow.claim, -flow.claim))[:MOST_ROWS]
+    rows = [
+        (flow.debtor, flow.creditor or "outside", flow.claim, flow.paid, flow.claim - flow.paid) for flow in largest
+    ]
     claim, paid = (sum(getattr(flow, word) for flow in flows) for word in ("claim", "paid"))
-    claim, paid = claim - sum(flow.claim for flow in kept), paid - sum(flow.paid for flow in kept)
-    return rows if kept is flows else [*rows, ("all others", "all others", claim, paid, claim - paid)]
+    claim, paid = claim - sum(flow.claim for flow in largest), paid - sum(flow.paid for flow in largest)
+    return rows if largest is flows else [*rows, ("all others", "all others", claim, paid, claim - paid)]
 
 
 def picture_of(matter: Matter) -> Picture:

@@ -21,11 +21,11 @@ def ranked(matter: Matter) -> List[Ruin]:
 
 def harmed(matter: Matter) -> Dict[str, List[Harm]]:
     """The others that keep less at the ruin of each bank, the most first."""
-    found: Dict[str, List[Harm]] = {}
+    by_bank: Dict[str, List[Harm]] = {}
     for harm in sorted(matter.harms, key=lambda harm: -harm.lost):
         if harm.bank != harm.of and harm.lost:
-            found.setdefault(harm.bank, []).append(harm)
-    return found
+            by_bank.setdefault(harm.bank, []).append(harm)
+    return by_bank
 
 
 def title_of(matter: Matter, ruins: List[Ruin]) -> str:
@@ -38,16 +38,17 @@ def title_of(matter: Matter, ruins: List[Ruin]) -> str:
         return f"Of {stand}, no ruin reaches another bank"
     most, only = reach[0], len(reach) == 1
     if only:
-        return f"Of {stand}, only the ruin of {matter.said(most.bank)} reaches others: {matter.amount(most.others)}"
+        whose = matter.in_sentence(most.bank)
+        return f"Of {stand}, only the ruin of {whose} reaches others: {matter.amount(most.others)}"
     return (
-        f"Of {stand}, {counted(len(reach), 'reaches', 'reach')} others by ruin; {matter.said(most.bank)}"
+        f"Of {stand}, {counted(len(reach), 'reaches', 'reach')} others by ruin; {matter.in_sentence(most.bank)}"
         f" most: {matter.amount(most.others)}"
     )
 
 
 def words_of(matter: Matter, ruin: Ruin, harms: List[Harm], scale: Scale) -> str:
     """Whom a ruin reaches, and how many it brings into default."""
-    named = ", ".join(f"{matter.said(harm.of)} {scale.number(harm.lost)}" for harm in harms[:4])
+    named = ", ".join(f"{matter.in_sentence(harm.of)} {scale.number(harm.lost)}" for harm in harms[:4])
     more = f" and {len(harms) - 4:,} more" if len(harms) > 4 else ""
     falls = f"; {counted(ruin.falls)} then in default" if ruin.falls else ""
     return f"others {scale.number(ruin.others)}: {named}{more}{falls}"
@@ -85,8 +86,8 @@ def chart_of(matter: Matter, ruins: List[Ruin], scale: Scale, width: float) -> s
         chart.bar(left + own, down, others, BAR, "k", f"others keep {matter.money(ruin.others)} less")
         chart.text(left + own + others + 5, down + 11, scale.number(ruin.own + ruin.others), "sub halo")
         if ruin.others:
-            kept = lettering.cut(words_of(matter, ruin, by.get(ruin.bank, []), scale), width - left, NOTE)
-            chart.text(left, down + BAR + 14, kept, "sub halo")
+            short = lettering.cut(words_of(matter, ruin, by.get(ruin.bank, []), scale), width - left, NOTE)
+            chart.text(left, down + BAR + 14, short, "sub halo")
         y += height_of(ruin, is_narrow)
     return chart
 

@@ -82,7 +82,7 @@ def leading(cases: Sequence[Case]) -> List[str]:
 def words_of(matter: Matter, amounts: Dict[str, int], scale: Scale, most: int) -> str:
     """The banks with the largest amounts, each with its own."""
     largest = sorted((name for name in amounts if amounts[name] > 0), key=lambda name: -amounts[name])
-    named = [f"{matter.said(name)} {scale.number(amounts[name])}" for name in largest[:most]]
+    named = [f"{matter.in_sentence(name)} {scale.number(amounts[name])}" for name in largest[:most]]
     more = f" and {len(largest) - most:,} more" if len(largest) > most else ""
     return ", ".join(named) + more if named else "nothing"
 
@@ -101,8 +101,8 @@ def bars_unpaid(chart: svg.Svg, scene: Scene, case: Case, x: float, y: float, si
     rest = case.total - sum(case.unpaid[name] for name in scene.names)
     for name, units in [*((name, case.unpaid[name]) for name in scene.names), ("others", rest)]:
         long = size * scene.scale.value(units)
-        said = "others" if name == "others" else shown(scene.matter.called(name))
-        chart.bar(x, y, max(long - 1, 0.5) if units else 0, BAR, "u", f"{said}: {scene.matter.money(units)} unpaid")
+        called = "others" if name == "others" else shown(scene.matter.called(name))
+        chart.bar(x, y, max(long - 1, 0.5) if units else 0, BAR, "u", f"{called}: {scene.matter.money(units)} unpaid")
         x += long
     return x
 
@@ -122,8 +122,8 @@ def narrow(scene: Scene, cases: List[Case]) -> svg.Svg:
         chart.text(end + 5, y + 45, f"{scale.number(case.total)} unpaid", "val")
         chart.bar(0, y + 70, size * scale.value(case.cash), BAR, "g")
         chart.text(size * scale.value(case.cash) + 5, y + 85, scale.number(case.cash), "num")
-        said = f"kept less; most: {words_of(matter, case.less, scale, 2)}" if case.cash else "kept less"
-        chart.text(0, y + 106, lettering.cut(said, scene.wide, NOTE), "sub")
+        label = f"kept less; most: {words_of(matter, case.less, scale, 2)}" if case.cash else "kept less"
+        chart.text(0, y + 106, lettering.cut(label, scene.wide, NOTE), "sub")
     return chart
 
 
@@ -161,8 +161,8 @@ def wide(scene: Scene, cases: List[Case]) -> svg.Svg:
         )
         chart.bar(second, y, size * scale.value(case.cash), BAR, "g")
         chart.text(second + size * scale.value(case.cash) + 6, y + 15, scale.number(case.cash), "num halo")
-        said = f"most: {words_of(matter, case.less, scale, 3)}" if case.cash else "nothing"
-        chart.text(second, y + 37, lettering.cut(said, scene.wide - second, NOTE), "sub halo")
+        label = f"most: {words_of(matter, case.less, scale, 3)}" if case.cash else "nothing"
+        chart.text(second, y + 37, lettering.cut(label, scene.wide - second, NOTE), "sub halo")
     return chart
 
 
@@ -208,7 +208,7 @@ def figure_of(matter: Matter) -> Figure:
     cases = cases_of(matter)
     drawn = shown_of(cases)
     scale = scale_for(matter.money, drawn)
-    names = [matter.said(name) for name in leading(drawn)]
+    names = [matter.in_sentence(name) for name in leading(drawn)]
     order = f". Unpaid by {listed(names)}, in this order" if names else ""
     others = (
         ", then all others" if len([name for name in drawn[-1].unpaid if drawn[-1].unpaid[name]]) > len(names) else ""

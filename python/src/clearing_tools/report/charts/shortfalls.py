@@ -33,9 +33,9 @@ def title_of(matter: Matter) -> str:
     gone = f"{matter.money.currency}\u00a0{ratio_of(best):.2f}" if matter.money.currency else f"{ratio_of(best):.2f}"
     tried = sum(rescue.less is not None for rescue in matter.rescues)
     if tried == 1:
-        return f"{matter.said(best.bank)} alone leaves debts unpaid"
+        return f"{matter.in_sentence(best.bank)} alone leaves debts unpaid"
     of = f"the {counted(tried)} in default" if tried == len(matter.rescues) else f"{tried} tried"
-    return f"{one} for {matter.said(best.bank)} takes {gone} of unpaid debt away, the most of {of}"
+    return f"{one} for {matter.in_sentence(best.bank)} takes {gone} of unpaid debt away, the most of {of}"
 
 
 def words_of(matter: Matter, bank: Bank, scale: Scale) -> str:
@@ -43,16 +43,16 @@ def words_of(matter: Matter, bank: Bank, scale: Scale) -> str:
     rescue = matter.rescue_of.get(bank.name)
     if rescue is None:
         return ""
-    said = f"rescue {scale.number(rescue.added)}"
+    words = f"rescue {scale.number(rescue.added)}"
     if rescue.less is not None:
-        said += f", takes {scale.number(rescue.less)} of unpaid away"
+        words += f", takes {scale.number(rescue.less)} of unpaid away"
     if rescue.saves:
-        said += (
+        words += (
             f", saves {matter.listed(rescue.saves, 2)} too"
             if len(rescue.saves) <= 2
             else f", saves {len(rescue.saves)} more"
         )
-    return said
+    return words
 
 
 def chart_of(matter: Matter, banks: List[Bank], scale: Scale, wide: float) -> svg.Svg:

@@ -10,7 +10,7 @@ use Rattle.pay_words.specs.Views.{holds}
 use Rattle.bank_worker.specs.Offices.{OfficeView}
 use Rattle.bank_worker.specs.Raises.{IsRaised}
 use Rattle.bank_worker.specs.Views.{desk_at}
-use Rattle.bank_worker.specs.Visits.{AreNoted, LooksOnce, PaysOut, RingsAll}
+use Rattle.bank_worker.specs.Visits.{IsSeatVisited}
 use Rattle.bank_worker.proofs.Filtered.{column_held, row_held}
 use Rattle.bank_worker.proofs.Manned.{IsDeskOf, desk_is}
 use Rattle.bank_worker.proofs.Staffed.{office_kept}
@@ -27,6 +27,10 @@ there c = rw (c.at-desk.ensures ∙ ap (λ (o : OfficeView). desk_at o.desks c.a
 ins : (c : After-debts_in) → numbers c.debts_in.result.now ≡ column c.args.seat.now.shows.net c.at-desk.result.now.bank
 ins c = c.debts_in.ensures ∙ ap (λ (d : BankView). d.debts_in) (there c).known
 
+pub look_at_all-received-requires-clause-working : goal.look_at_all-received-requires-clause-working
+look_at_all-received-requires-clause-working c =
+    record { at = c.requires.seat; not_the_master = c.requires.staffed.not_the_master; over = c.clock.ensures.over }
+
 pub look_at_all-received-requires-clause-debts : goal.look_at_all-received-requires-clause-debts
 look_at_all-received-requires-clause-debts c =
     rw (ins c) (column_held c.args.seat.now.shows c.at-desk.result.now.bank (there c).held)
@@ -41,7 +45,7 @@ lay_out-requires-clause-received c =
     let t = c.look_at_all-received.new.seat.shows in
     let same : t.net ≡ s.net = ap (λ (w : Shown). w.net) c.look_at_all-received.ensures.looked.only in
     rw (c.look_at_all-received.ensures.receipts, ins (goal.at.lay_out-requires-clause-received c).After-debts_in)
-    (receipts_low s.net t.sights c.at-desk.result.now.bank c.requires.staffed.office.network (rw same at c.clock-clock-2.ensures.sights_below_least))
+    (receipts_low s.net t.sights c.at-desk.result.now.bank c.requires.staffed.office.network (rw same at c.clock-2.ensures.sights_below_least))
 
 pub lay_out-requires-clause-room : goal.lay_out-requires-clause-room
 lay_out-requires-clause-room c = omega (
@@ -76,13 +80,17 @@ raise_all-units-requires c =
     let e = outs at.After-debts_out-debts f in
     let are = targets at.After-as_slice f (ins at.After-debts_in) in
     record {
-      seat = (c.look_at_all-received.ensures.table ∙ c.requires.seat.0, here ∙ c.requires.seat.1);
-      not_the_master = ap (λ (w : Shown). w.master) only ∙ c.requires.staffed.not_the_master;
-      over = c.clock-clock-2.ensures.over;
+      working = record {
+        at = (c.look_at_all-received.ensures.table ∙ c.requires.seat.0, here ∙ c.requires.seat.1);
+        not_the_master = ap (λ (w : Shown). w.master) only ∙ c.requires.staffed.not_the_master;
+        over = c.clock-2.ensures.over;
+      };
       debts = rw e (row_held net t b here held);
-      targets = omega (arith, ap length are, length-division net b (receipts net t.sights b), as_many_numbers c.debts_out-debts.result.now _ e);
-      rise = rw (e, are) (not_below_division net t b here held c.clock-clock-2.ensures.pays_within);
-      within = rw (e, are) (within_division net t b here);
+      places = omega (arith, ap length are, length-division net b (receipts net t.sights b), as_many_numbers c.debts_out-debts.result.now _ e);
+      targets = record {
+        rise = rw (e, are) (not_below_division net t b here held c.clock-2.ensures.pays_within);
+        within = rw (e, are) (within_division net t b here);
+      };
       few = omega (arith, ap sum are, sum_division_low net b (receipts net t.sights b) c.requires.staffed.office.network);
       room = omega (
         arith,
@@ -136,7 +144,7 @@ returns c =
       held = f.held;
       quiet = staffed.no_rings;
       looked = rw (in_column, as_many_numbers c.debts_in.result.now _ in_column) at looks.looked;
-      within = c.clock-clock-2.ensures.pays_within;
+      within = c.clock-2.ensures.pays_within;
       targets = targets at.After-as_slice f in_column;
       raised = r.0;
       units_are = rw in_row at c.raise_all-units.ensures.units;
@@ -148,11 +156,13 @@ returns c =
     let same = same_seat b s t u v ts units h in
     record {
       table = c.ring_all.ensures.table ∙ c.raise_all-units.ensures.table ∙ looks.table;
-      same = same;
-      looks = subst (λ d. LooksOnce d s v) (sym desk) (looks_once b s t u v ts units h);
-      pays = subst (λ d. PaysOut d units s v) (sym desk) (pays_out b s t u v ts units h);
-      notes = subst (λ d. AreNoted d s v) (sym desk) (noted b s t u v ts units h);
-      rings = subst (λ d. RingsAll d s v) (sym desk) (rings_all b s t u v ts units h);
+      visited = subst (λ d. IsSeatVisited d units s v) (sym desk) (record {
+        same = same;
+        looks = looks_once b s t u v ts units h;
+        pays = pays_out b s t u v ts units h;
+        notes = noted b s t u v ts units h;
+        rings = rings_all b s t u v ts units h;
+      });
       few = few b s t u v ts units h;
       staffed = record {
         office = office_kept s v _ same (search rules);

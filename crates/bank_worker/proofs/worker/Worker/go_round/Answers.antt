@@ -10,13 +10,13 @@ pub loop-init : goal.loop-init
 loop-init g c = record {
   round = round_start c.args.self.now c.requires.idle.0 c.requires.idle.1 c.desks-desks.ensures.no_rings c.desks-desks.ensures.held;
   called = c.requires.called;
-  others = λ b other is. is;
+  keeps_others = λ b other is. is;
   rung = calls_none c.args.self.now c.args.called.now;
 }
 
 pub sweep-requires-clause-visits : goal.sweep-requires-clause-visits
 sweep-requires-clause-visits g c =
-    omega (arith, few_in_all c.loop.counter (length c.args.self.now.desks) (omega arith) (omega (arith, c.desks-desks.ensures.desks, c.desks-desks.ensures.few)), c.loop.invariant.round.at_most)
+    omega (arith, few_in_all c.loop.counter (length c.args.self.now.desks) (omega arith) (omega (arith, c.desks-desks.ensures.desks, c.desks-desks.ensures.in_limit)), c.loop.invariant.round.at_most)
 
 pub sweep-requires-clause-called : goal.sweep-requires-clause-called
 sweep-requires-clause-called g c =
@@ -24,14 +24,14 @@ sweep-requires-clause-called g c =
 
 pub overflow_add-units : goal.overflow_add-units
 overflow_add-units g c =
-    record { fits = omega (arith, few_in_all c.loop.counter (length c.args.self.now.desks) (omega arith) (omega (arith, c.desks-desks.ensures.desks, c.desks-desks.ensures.few)), c.loop.invariant.round.low, c.in-Raised.ensures.few, ap (λ ds. length ds) c.loop.invariant.round.gone.grows.same.desks) }
+    record { fits = omega (arith, few_in_all c.loop.counter (length c.args.self.now.desks) (omega arith) (omega (arith, c.desks-desks.ensures.desks, c.desks-desks.ensures.in_limit)), c.loop.invariant.round.low, c.in-Raised.ensures.few, ap (λ ds. length ds) c.loop.invariant.round.gone.grows.same.desks) }
 
 -- what is called after one sweep more
 calls : (g : Over) (c : After-sweep g) → KeepsOthers c.args.self.now.seat.shows c.args.called.now c.sweep.new.called × CallsOthers c.args.self.now c.sweep.new.self c.sweep.new.called
 calls g c =
     let h = c.loop.invariant in
     calls_on c.args.self.now c.loop.self c.sweep.new.self c.args.called.now c.loop.called c.call_anew.new.called c.sweep.new.called
-    h.round.gone.grows.same.seat c.call_anew.ensures.kept (h.others, h.rung) (c.sweep.ensures.others, c.sweep.ensures.rung)
+    h.round.gone.grows.same.seat c.call_anew.ensures.kept (h.keeps_others, h.rung) (c.sweep.ensures.keeps_others, c.sweep.ensures.rung)
 
 pub loop-preserved : goal.loop-preserved
 loop-preserved g c =
@@ -41,7 +41,7 @@ loop-preserved g c =
     record {
       round = round_more c.args.self.now c.loop.self c.sweep.new.self c.loop.counter c.in-Raised.more c.loop.units e.round e.few h.round;
       called = λ k lk _. record { divides = e.round.raised.at_rest.divide k lk; seen = e.round.raised.at_rest.seen k lk };
-      others = both.0;
+      keeps_others = both.0;
       rung = both.1;
     }
 
@@ -53,7 +53,7 @@ returns-in-Mem g c =
     record {
       round = round_stopped c.args.self.now c.loop.self c.sweep.new.self c.args.sweeps c.loop.counter c.loop.units (omega arith) h.round
           e.round;
-      others = both.0;
+      keeps_others = both.0;
       rung = both.1;
     }
 
@@ -64,8 +64,8 @@ returns-then-self-visits g c =
     let both = calls g (goal.at.returns-then-self-visits g c).After-sweep in
     record {
       round = round_made c.args.self.now c.sweep.new.self (c.loop.counter + 1) c.args.sweeps (c.loop.units + c.in-Raised.more) (omega arith) (omega arith) c.requires.sweeps.1
-          (omega (arith, c.desks-desks.ensures.desks, c.desks-desks.ensures.few))
+          (omega (arith, c.desks-desks.ensures.desks, c.desks-desks.ensures.in_limit))
           (round_more c.args.self.now c.loop.self c.sweep.new.self c.loop.counter c.in-Raised.more c.loop.units e.round e.few h.round);
-      others = both.0;
+      keeps_others = both.0;
       rung = both.1;
     }

@@ -6,6 +6,6 @@ abbrev pub invariant-loop : goal.invariant-loop
 invariant-loop g l = record {
   round : RoundTo l.fn.self l.self l.counter l.units;
   called : AreCalledOrAtRest l.called l.self.seat.shows l.self.desks;
-  others : KeepsOthers l.fn.self.seat.shows l.fn.called l.called;
+  keeps_others : KeepsOthers l.fn.self.seat.shows l.fn.called l.called;
   rung : CallsOthers l.fn.self l.self l.called;
 }

@@ -1,5 +1,5 @@
 use Rattle.std.proofs.Common.{ℕ, [], ap, ◌∙◌}
-use Rattle.bank_worker.specs.Views.{Crew, desks_held}
+use Rattle.bank_worker.specs.Views.{WorkerView, desks_held}
 use Rattle.bank_worker.proofs.Rooms.{banks_of_seat}
 use Rattle.bank_worker.proofs.worker.Worker.make.Goals as goal
 
@@ -11,5 +11,5 @@ with-requires-clause-office c =
 
 pub returns-in-Ok-clause-worker : goal.returns-in-Ok-clause-worker
 returns-in-Ok-clause-worker c =
-    let made = λ (i : ℕ). let w : Crew = record { seat = c.args.seat; desks = desks_held c.args.seat.shows; worker = i; visits = 0; journal = [] } in w in
+    let made = λ (i : ℕ). let w : WorkerView = record { seat = c.args.seat; desks = desks_held c.args.seat.shows; worker = i; visits = 0; journal = [] } in w in
     c.with.ensures ∙ ap made c.in-Ok.ensures.worker

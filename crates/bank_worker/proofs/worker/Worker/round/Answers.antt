@@ -1,6 +1,6 @@
 use Rattle.std.proofs.Common.{subst}
 use Rattle.bank_worker.specs.Called.{AreCalledOrAtRest}
-use Rattle.bank_worker.specs.Views.{Crew}
+use Rattle.bank_worker.specs.Views.{WorkerView}
 use Rattle.bank_worker.proofs.Calling.{all_called}
 use Rattle.bank_worker.proofs.worker.Worker.round.Goals as goal
 
@@ -8,5 +8,5 @@ pub go_round-requires-clause-called : goal.go_round-requires-clause-called
 go_round-requires-clause-called g c =
     let a = c.self.inside in
     let office = c.self.invariant.office in
-    subst (λ (w : Crew). AreCalledOrAtRest c.all.result w.seat.shows w.desks) c.self.view_is
+    subst (λ (w : WorkerView). AreCalledOrAtRest c.all.result w.seat.shows w.desks) c.self.view_is
     (all_called a.seat.shows a.office.desks c.all.result office.network office.desks c.all.ensures)

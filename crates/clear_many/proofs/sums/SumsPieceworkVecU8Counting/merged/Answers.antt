@@ -1,9 +1,8 @@
 -- Both shares are counted together.
-use Rattle.std.proofs.Common.{◌≤◌, sym, arith}
+use Rattle.std.proofs.Common.{◌≤◌, slice_range, sym, arith}
 use Rattle.stress.proofs.Outcomes.{tallies_add_up}
-use Rattle.clear_many.specs.Between.{between}
-use Rattle.clear_many.proofs.Between.{between_joined}
 use Rattle.clear_many.proofs.Counting.{counted_within}
+use Rattle.clear_many.proofs.Ranges.{ranges_join}
 use Rattle.clear_many.proofs.sums.SumsPieceworkVecU8Counting.merged.Goals as goal
 
 pub add-requires-clause-fits : goal.add-requires-clause-fits
@@ -22,6 +21,6 @@ returns c = λ low middle high front back.
     let within : low ≤ high = omega (arith, front.0, back.0) in (
       within,
       front.1,
-      rw (c.add.ensures, front.2, back.2, between_joined scenarios low middle high front.0 back.0)
-          (sym (tallies_add_up c.args.self.now.net.now (between scenarios low middle) (between scenarios middle high))),
+      rw (c.add.ensures, front.2, back.2, ranges_join scenarios low middle high front.0 back.0)
+          (sym (tallies_add_up c.args.self.now.net.now (slice_range scenarios low middle) (slice_range scenarios middle high))),
     )

@@ -1,5 +1,5 @@
 -- One scenario more is told and counted.
-use Rattle.std.proofs.Common.{◌≡◌, ◌+◌, ◌≤◌, get_or, length, sym, ap, ◌∙◌, arith}
+use Rattle.std.proofs.Common.{◌≡◌, ◌+◌, ◌≤◌, get_or, length, slice_range, sym, ap, ◌∙◌, arith}
 use Rattle.std.proofs.lemmas.List.{get_or_default}
 use Rattle.std.proofs.lemmas.List.Edits.{between_more}
 use Rattle.clear_core.specs.Clearing.{least}
@@ -9,7 +9,6 @@ use Rattle.cascade.specs.Standings.{standings}
 use Rattle.stress.specs.Shocks.{shocked}
 use Rattle.stress.proofs.Kept.{length-shocked_from}
 use Rattle.stress.proofs.Outcomes.{one_scenario_more}
-use Rattle.clear_many.specs.Between.{between}
 use Rattle.clear_many.proofs.Counting.{as_many_counted, counted_within}
 use Rattle.clear_many.proofs.sums.SumsPieceworkVecU8Counting.piece.Goals as goal
 
@@ -57,6 +56,6 @@ returns-clause-desk c = λ low so_far.
       more,
       c.in_ok-standings.ensures.descent,
       rw (c.in_ok-text.ensures.tally, left, so_far.2, grown)
-          (sym (one_scenario_more w.net.now (between w.scenarios.now low c.args.place)
+          (sym (one_scenario_more w.net.now (slice_range w.scenarios.now low c.args.place)
           (get_or w.scenarios.now c.args.place first))),
     )

@@ -1,7 +1,7 @@
 -- The text, the lines of the journal and the line that closes it, one after another.
 use Rattle.std.proofs.Common.{◌∙◌, arith}
 use Rattle.std.proofs.lemmas.Result.{on_ok_weaker, on_err_weaker}
-use Rattle.clear_top.proofs.Pieces.{on_err, part_in_front, whole_then_part, whole_then_whole}
+use Rattle.clr_edge.proofs.Pieces.{on_err, part_in_front, whole_then_part, whole_then_whole}
 use Rattle.clear_top.proofs.recorded.Recorded.put.Goals as goal
 
 pub returns-in_err-put_raises-in-Some-clause-part : goal.returns-in_err-put_raises-in-Some-clause-part

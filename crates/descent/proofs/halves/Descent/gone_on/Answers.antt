@@ -1,15 +1,12 @@
-use Rattle.std.proofs.Common.{◌≡◌, ℕ, List, length, take, ◌++◌, sym, ◌∙◌, subst, arith}
-use Rattle.std.proofs.lemmas.List.{take-append-le, take_all}
+use Rattle.std.proofs.Common.{◌≡◌, ap, sym, ◌∙◌, subst, arith}
 use Rattle.clr_net.specs.Net.{Net}
 use Rattle.clear_core.specs.Buffers.{HasRoom}
 use Rattle.clear_core.specs.Clearing.{least}
+use Rattle.clear_core.proofs.WrittenRows.{written_back}
+use Rattle.cascade.proofs.OtherCash.{sums_alike, sums_back}
 use Rattle.descent.specs.Cashes.{with_cashes}
 use Rattle.descent.proofs.GoingOn.{swept_for_part}
 use Rattle.descent.proofs.halves.Descent.gone_on.Goals as goal
-
--- a list of the same length, written back in place of another
-written_back : {X : Type 0} (n : ℕ) (xs ys : List X) → length xs ≡ n → take n (xs ++ ys) ≡ xs
-written_back n xs ys e = take-append-le n xs ys (omega arith) ∙ take_all n xs (omega arith)
 
 pub least_again-requires-clause-swept : goal.least_again-requires-clause-swept
 least_again-requires-clause-swept g c =
@@ -17,14 +14,14 @@ least_again-requires-clause-swept g c =
     let step = c.args.step.now in
     let floor = g.F.Floors.floors c.args.floors.now net in
     let marks = c.mark_richer.new.marks in
-    let back : c.as_mut_slice-3.result.now ≡ marks =
-    c.as_mut_slice-3.ensures.value
+    let back : c.as_mut_slice-2.result.now ≡ marks =
+    c.as_mut_slice-2.ensures.value
     ∙ written_back c.args.self.now.marks.len c.mark_richer.new.marks _ (omega arith) in
-    let paid : c.as_mut_slice-2.result.now ≡ least (with_cashes net (floor step.low step.high)) =
-    c.as_mut_slice-2.ensures.now ∙ c.in_ok-paid.ensures ∙ c.as_slice.ensures ∙ c.requires.step.paid in
+    let paid : c.in_ok-payments.payments.paid ≡ least (with_cashes net (floor step.share.low step.share.high)) =
+    c.in_ok-payments.ensures.paid ∙ c.requires.step.paid in
     rw (c.lay_in.ensures.left, paid, back)
-    (swept_for_part net floor c.requires.floors step.low step.high c.args.low c.args.high
-    c.requires.low c.requires.some c.requires.high
+    (swept_for_part net floor c.requires.floors step.share.low step.share.high c.args.part.low c.args.part.high
+    c.requires.part.low c.requires.part.some c.requires.part.high
     marks (omega (arith, c.requires.descent.for_each_bank))
     (rw c.lay_in.ensures.left at c.mark_richer.ensures))
 
@@ -32,3 +29,21 @@ pub least_again-requires-clause-room : goal.least_again-requires-clause-room
 least_again-requires-clause-room g c =
     subst (λ (m : Net). HasRoom m c.args.self.now.scratch) (sym c.lay_in.ensures.left)
     c.requires.descent.room
+
+pub least_again-requires-clause-sums : goal.least_again-requires-clause-sums
+least_again-requires-clause-sums g c =
+    let all = c.args.step.now.payments in
+    rw (c.in_ok-payments.ensures.paid, c.in_ok-payments.ensures.sums)
+    (sums_alike c.args.net.now c.lay_in.new.left all.paid all.sums.items c.lay_in.ensures.alike
+    c.requires.step.sums)
+
+pub returns-clause-step : goal.returns-clause-step
+returns-clause-step g c =
+    let all = c.least_again.new.payments in
+    record {
+      some = c.requires.part.some;
+      share = omega (arith, c.requires.part.high, c.requires.step.share);
+      paid = c.least_again.ensures.payments ∙ ap least c.lay_in.ensures.left;
+      sums = sums_back c.args.net.now c.lay_in.new.left all.paid all.sums.items c.lay_in.ensures.alike
+          c.least_again.ensures.sums;
+    }

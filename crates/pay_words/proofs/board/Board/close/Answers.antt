@@ -2,7 +2,7 @@ use Rattle.std.proofs.Common.{◌≡◌, ◌+◌, ◌<◌, ◌≢◌, length, ap
 use Rattle.std.specs.Slots.{slots_items}
 use Rattle.pay_words.proofs.Views.{got}
 use Rattle.pay_words.specs.Ends.{Ends}
-use Rattle.pay_words.specs.Views.{Panel, Chair, HoldsAll}
+use Rattle.pay_words.specs.Views.{BoardView, HoldsAll, SeatView}
 use Rattle.pay_words.specs.Words.{unpaid, payment_of}
 use Rattle.pay_words.proofs.Ends.{closes, copied}
 use Rattle.pay_words.proofs.Seats.{net_within}
@@ -21,9 +21,9 @@ pub returns : goal.returns
 returns c =
     let d = c.self.inside.table.shared.key.me.0 in
     let own = net_within _ _ _ _ c.master.view_is c.self.view_is c.requires.master.1 in
-    let all = subst (λ (s : Chair). HoldsAll s.shows) (sym c.master.view_is) c.requires.banks in
-    let chief = ap (λ (s : Chair). s.shows.master) c.master.view_is ∙ c.requires.is_the_master in
+    let all = subst (λ (s : SeatView). HoldsAll s.shows) (sym c.master.view_is) c.requires.banks in
+    let chief = ap (λ (s : SeatView). s.shows.master) c.master.view_is ∙ c.requires.is_the_master in
     let closed = closes d _ c.master.inside.seat.me.0 _ _ c.master.invariant.1.live chief all c.close_with-closed.ensures.values.2 in
-    let size : length c.loop-i.into ≡ length d.net.debts = omega (arith, c.loop-i.auto.into, c.requires.into, ap (λ (p : Panel). length p.net.debts) c.self.view_is) in
+    let size : length c.loop-i.into ≡ length d.net.debts = omega (arith, c.loop-i.auto.into, c.requires.into, ap (λ (p : BoardView). length p.net.debts) c.self.view_is) in
     let here = copied d _ _ c.loop-i.into own closed size (λ k lt. c.loop-i.invariant k (omega (arith, lt, c.loop-i-test.false, c.loop-i.auto.into))) in
-    record { ends = subst (λ (y : Panel × Chair). Ends y.0.net y.0.past y.1.shows c.loop-i.into) (λ i. (c.self.view_is i, c.master.view_is i)) here }
+    record { ends = subst (λ (y : BoardView × SeatView). Ends y.0.net y.0.past y.1.shows c.loop-i.into) (λ i. (c.self.view_is i, c.master.view_is i)) here }

@@ -2,8 +2,8 @@ use Rattle.std.proofs.Common.{◌≡◌, true, ◌<◌, ◌∙◌, length, ap, r
 use Rattle.clr_net.specs.Net.{creditor_of}
 use Rattle.atomic_table.specs.Table.{Me}
 use Rattle.pay_words.specs.declared.view.View.{View}
-use Rattle.pay_words.specs.Seats.{IsInMemory, purse}
-use Rattle.pay_words.specs.Views.{Chair, holds}
+use Rattle.pay_words.specs.Seats.{IsInMemory, seat_memory}
+use Rattle.pay_words.specs.Views.{SeatView, holds}
 use Rattle.clr_net.specs.Net.{Net}
 use Rattle.pay_words.proofs.Looks.{looks}
 use Rattle.pay_words.proofs.Seats.{kept_look, net_within}
@@ -15,7 +15,7 @@ load-word-requires c =
     let may : (c.args.debt.0 < length c.args.seat.now.shows.net.debts)
     × (holds c.args.seat.now.shows (creditor_of c.args.seat.now.shows.net c.args.debt.0) ≡ true) =
     rw c.requires.seat.1 (c.requires.debt, c.requires.creditor) in
-    let here = subst (λ (s : Chair). (c.args.debt.0 < length s.shows.net.debts)
+    let here = subst (λ (s : SeatView). (c.args.debt.0 < length s.shows.net.debts)
     × (holds s.shows (creditor_of s.shows.net c.args.debt.0) ≡ true)) (sym c.seat.view_is) may in (
       search rules,
       omega (arith, c.self.invariant.0.words_are, here.0, ap (λ (n : Net). length n.debts) over),
@@ -26,6 +26,6 @@ pub invariant_of-seat : goal.invariant_of-seat
 invariant_of-seat c =
     let told = c.load-word.ensures.2 c.args.debt.0 refl in (
       ap (λ (m : Me (Unit {0}) View). m.1) told.0 ∙ c.seat.invariant.0,
-      subst (λ (m : Me (Unit {0}) View). IsInMemory m.0 (purse c.seat.inside.own c.seat.inside.lists.items c.seat.inside.debtors.items c.seat.inside.workers c.seat.inside.worker) c.max-seat-inside.result c.seat.inside.seats) (sym told.0)
+      subst (λ (m : Me (Unit {0}) View). IsInMemory m.0 (seat_memory c.seat.inside.own c.seat.inside.lists.items c.seat.inside.debtors.items c.seat.inside.workers c.seat.inside.worker) c.max-seat-inside.result c.seat.inside.seats) (sym told.0)
           (kept_look _ _ _ _ c.seat.invariant.1 c.args.debt.0 _ _ (search rules) told.1.sound),
     )

@@ -2,8 +2,8 @@ use Rattle.std.proofs.Common.{◌≡◌, ◌∙◌, true, ap, sym, subst, rules,
 use Rattle.atomic_table.specs.Table.{Me}
 use Rattle.pay_words.specs.declared.view.View.{View}
 use Rattle.pay_words.specs.BoardRule.{TakeTells, after_take}
-use Rattle.pay_words.specs.Seats.{IsInMemory, purse}
-use Rattle.pay_words.specs.Views.{Chair, holds}
+use Rattle.pay_words.specs.Seats.{IsInMemory, seat_memory}
+use Rattle.pay_words.specs.Views.{SeatView, holds}
 use Rattle.pay_words.proofs.Rings.{takes}
 use Rattle.pay_words.proofs.Places.{held_in_range}
 use Rattle.clr_net.specs.Net.{Net}
@@ -16,7 +16,7 @@ swap-requires c =
     let laid = c.self.invariant.0 in
     let over = net_within _ _ _ _ c.seat.view_is c.self.view_is c.requires.seat.1 in
     let place = bell_at _ _ _ _ c.self.inside.debts c.args.bank.0 c.seat.view_is c.self.view_is c.requires.seat.1 laid.debts_are in
-    let held = subst (λ (s : Chair). holds s.shows c.args.bank.0 ≡ true) (sym c.seat.view_is) c.requires.held in
+    let held = subst (λ (s : SeatView). holds s.shows c.args.bank.0 ≡ true) (sym c.seat.view_is) c.requires.held in
     let bank = held_in_range c.seat.inside.seat.me.0.shown c.args.bank.0 c.seat.invariant.1.sound.over held in (
       search rules,
       omega (arith, bank, laid.words_are, laid.debts_are, ap (λ (n : Net). length n.banks) over),
@@ -28,7 +28,7 @@ invariant_of-seat c =
     let told = c.swap.ensures.2 c.args.bank.0
     (bell_at _ _ _ _ c.self.inside.debts _ c.seat.view_is c.self.view_is c.requires.seat.1 c.self.invariant.0.debts_are) in (
       ap (λ (m : Me (Unit {0}) View). m.1) told.0 ∙ c.seat.invariant.0,
-      subst (λ (m : Me (Unit {0}) View). IsInMemory m.0 (purse c.seat.inside.own c.seat.inside.lists.items c.seat.inside.debtors.items c.seat.inside.workers c.seat.inside.worker) c.seat.inside.clock c.seat.inside.seats) (sym told.0)
+      subst (λ (m : Me (Unit {0}) View). IsInMemory m.0 (seat_memory c.seat.inside.own c.seat.inside.lists.items c.seat.inside.debtors.items c.seat.inside.workers c.seat.inside.worker) c.seat.inside.clock c.seat.inside.seats) (sym told.0)
           (kept_take _ _ _ _ c.args.bank.0 c.swap.result c.seat.invariant.1),
     )
 
@@ -36,10 +36,10 @@ pub returns-clause-taken : goal.returns-clause-taken
 returns-clause-taken c =
     let told = c.swap.ensures.2 c.args.bank.0
     (bell_at _ _ _ _ c.self.inside.debts _ c.seat.view_is c.self.view_is c.requires.seat.1 c.self.invariant.0.debts_are) in
-    ap (λ (m : Me (Unit {0}) View). m.0.shown) told.0 ∙ ap (λ (s : Chair). after_take s.shows c.args.bank.0 c.swap.result) c.seat.view_is
+    ap (λ (m : Me (Unit {0}) View). m.0.shown) told.0 ∙ ap (λ (s : SeatView). after_take s.shows c.args.bank.0 c.swap.result) c.seat.view_is
 
 pub returns-clause-tells : goal.returns-clause-tells
 returns-clause-tells c =
     let told = c.swap.ensures.2 c.args.bank.0
     (bell_at _ _ _ _ c.self.inside.debts _ c.seat.view_is c.self.view_is c.requires.seat.1 c.self.invariant.0.debts_are) in
-    subst (λ (s : Chair). TakeTells s.shows c.args.bank.0 c.swap.result) c.seat.view_is told.1
+    subst (λ (s : SeatView). TakeTells s.shows c.args.bank.0 c.swap.result) c.seat.view_is told.1

@@ -1,6 +1,6 @@
 use Rattle.std.proofs.Common.{◌≡◌, true, sym, subst, rules, arith}
 use Rattle.pay_words.specs.BoardRule.{TakeTells}
-use Rattle.pay_words.specs.Views.{Chair, holds}
+use Rattle.pay_words.specs.Views.{SeatView, holds}
 use Rattle.pay_words.proofs.Rings.{glances}
 use Rattle.pay_words.proofs.Places.{held_in_range}
 use Rattle.clr_net.specs.Net.{Net}
@@ -13,7 +13,7 @@ load-requires c =
     let laid = c.self.invariant.0 in
     let over = net_within _ _ _ _ c.seat.view_is c.self.view_is c.requires.seat.1 in
     let place = bell_at _ _ _ _ c.self.inside.debts c.args.bank.0 c.seat.view_is c.self.view_is c.requires.seat.1 laid.debts_are in
-    let held = subst (λ (s : Chair). holds s.shows c.args.bank.0 ≡ true) (sym c.seat.view_is) c.requires.held in
+    let held = subst (λ (s : SeatView). holds s.shows c.args.bank.0 ≡ true) (sym c.seat.view_is) c.requires.held in
     let bank = held_in_range c.seat.inside.seat.me.0.shown c.args.bank.0 c.seat.invariant.1.sound.over held in (
       search rules,
       omega (arith, bank, laid.words_are, laid.debts_are, ap (λ (n : Net). length n.banks) over),
@@ -24,4 +24,4 @@ pub returns-clause-tells : goal.returns-clause-tells
 returns-clause-tells c =
     let told = c.load.ensures.2.1 c.args.bank.0
     (bell_at _ _ _ _ c.self.inside.debts _ c.seat.view_is c.self.view_is c.requires.seat.1 c.self.invariant.0.debts_are) in
-    subst (λ (s : Chair). TakeTells s.shows c.args.bank.0 c.load.result) c.seat.view_is told
+    subst (λ (s : SeatView). TakeTells s.shows c.args.bank.0 c.load.result) c.seat.view_is told

@@ -1,8 +1,8 @@
 use Rattle.std.proofs.Common.{◌∙◌, ap, sym, subst, rules, arith}
 use Rattle.atomic_table.specs.Table.{Me}
 use Rattle.pay_words.specs.declared.view.View.{View}
-use Rattle.pay_words.specs.Seats.{IsInMemory, purse}
-use Rattle.pay_words.specs.Views.{Chair, OwesRing, rung}
+use Rattle.pay_words.specs.Seats.{IsInMemory, seat_memory}
+use Rattle.pay_words.specs.Views.{OwesRing, SeatView, rung}
 use Rattle.clr_net.specs.Net.{Net}
 use Rattle.std.proofs.Common.{length}
 use Rattle.pay_words.proofs.Rings.{bank_of_ring, rings}
@@ -14,7 +14,7 @@ store-requires c =
     let laid = c.self.invariant.0 in
     let over = net_within _ _ _ _ c.seat.view_is c.self.view_is c.requires.seat.1 in
     let place = bell_at _ _ _ _ c.self.inside.debts c.args.bank.0 c.seat.view_is c.self.view_is c.requires.seat.1 laid.debts_are in
-    let owes = subst (λ (s : Chair). OwesRing s.shows c.args.bank.0) (sym c.seat.view_is) c.requires.owes in
+    let owes = subst (λ (s : SeatView). OwesRing s.shows c.args.bank.0) (sym c.seat.view_is) c.requires.owes in
     let bank = bank_of_ring c.seat.inside.seat.me.0.shown c.args.bank.0 c.seat.invariant.1.sound.network owes in (
       search rules,
       omega (arith, bank, laid.words_are, laid.debts_are, ap (λ (n : Net). length n.banks) over),
@@ -26,7 +26,7 @@ invariant_of-seat c =
     let told = c.store.ensures.2 c.args.bank.0
     (bell_at _ _ _ _ c.self.inside.debts _ c.seat.view_is c.self.view_is c.requires.seat.1 c.self.invariant.0.debts_are) in (
       ap (λ (m : Me (Unit {0}) View). m.1) told ∙ c.seat.invariant.0,
-      subst (λ (m : Me (Unit {0}) View). IsInMemory m.0 (purse c.seat.inside.own c.seat.inside.lists.items c.seat.inside.debtors.items c.seat.inside.workers c.seat.inside.worker) c.seat.inside.clock c.seat.inside.seats) (sym told)
+      subst (λ (m : Me (Unit {0}) View). IsInMemory m.0 (seat_memory c.seat.inside.own c.seat.inside.lists.items c.seat.inside.debtors.items c.seat.inside.workers c.seat.inside.worker) c.seat.inside.clock c.seat.inside.seats) (sym told)
           (kept_rung _ _ _ _ c.args.bank.0 c.seat.invariant.1),
     )
 
@@ -34,4 +34,4 @@ pub returns-clause-rung : goal.returns-clause-rung
 returns-clause-rung c =
     let told = c.store.ensures.2 c.args.bank.0
     (bell_at _ _ _ _ c.self.inside.debts _ c.seat.view_is c.self.view_is c.requires.seat.1 c.self.invariant.0.debts_are) in
-    ap (λ (m : Me (Unit {0}) View). m.0.shown) told ∙ ap (λ (s : Chair). rung s.shows c.args.bank.0) c.seat.view_is
+    ap (λ (m : Me (Unit {0}) View). m.0.shown) told ∙ ap (λ (s : SeatView). rung s.shows c.args.bank.0) c.seat.view_is

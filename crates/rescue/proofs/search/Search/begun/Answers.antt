@@ -1,13 +1,14 @@
-use Rattle.std.proofs.Common.{◌≡◌, ℕ, ◌-◌, ◌==◌, cond, sym, ap, ◌∙◌, arith}
-use Rattle.clear_core.specs.Clearing.{least, receipts}
+use Rattle.std.proofs.Common.{◌≡◌, sym, ap, ◌∙◌, subst, arith}
+use Rattle.clear_core.specs.Clearing.{Clears, least}
 use Rattle.clear_core.proofs.Least.{least_clears}
 use Rattle.cascade.proofs.CashAt.{cash_read}
-use Rattle.rescue.specs.Bound.{missing, received_with}
-use Rattle.rescue.specs.Rescue.{added, lacks}
+use Rattle.cascade.proofs.Limits.{clearing_over, clearing_in_limit}
+use Rattle.rescue.specs.Bound.{missing}
+use Rattle.rescue.specs.Rescue.{added}
 use Rattle.rescue.proofs.MoreCash.{added_nothing, with_less}
-use Rattle.rescue.proofs.Searching.{as_many_banks, begun_at_bound, lacks_told}
+use Rattle.rescue.proofs.Searching.{as_many_banks, range_begun}
 use Rattle.rescue.proofs.search.Search.begun.Goals as goal
-use Rattle.rescue.proofs.search.Search.begun.Goals.{After-saturating_sub-high}
+use Rattle.rescue.proofs.search.Search.begun.Goals.{After-saturating_sub-high, In_ok-copy_of}
 
 -- the greatest sum is what is missing
 is_missing : (c : After-saturating_sub-high)
@@ -19,6 +20,22 @@ is_missing c = omega (
   cash_read c.args.net.now c.args.bank.0 c.bank.result.now c.bank.ensures,
 )
 
+-- the payments that it begins with clear
+clears : (c : In_ok-copy_of) → Clears c.args.net.now c.in_ok-copy_of.field-0
+clears c =
+    let net = c.args.net.now in
+    subst (Clears net) (sym (c.in_ok-copy_of.ensures ∙ c.requires.least)) (least_clears net)
+
+pub of-requires-clause-over : goal.of-requires-clause-over
+of-requires-clause-over c =
+    let at = goal.at.of-requires-clause-over c in
+    clearing_over c.args.net.now _ (clears at.In_ok-copy_of)
+
+pub of-requires-clause-paid_in_limit : goal.of-requires-clause-paid_in_limit
+of-requires-clause-paid_in_limit c =
+    let at = goal.at.of-requires-clause-paid_in_limit c in
+    clearing_in_limit c.args.net.now _ c.requires.network (clears at.In_ok-copy_of)
+
 pub paid_with-requires-clause-sum : goal.paid_with-requires-clause-sum
 paid_with-requires-clause-sum c =
     let at = goal.at.paid_with-requires-clause-sum c in
@@ -28,8 +45,8 @@ pub paid_with-requires-clause-from : goal.paid_with-requires-clause-from
 paid_with-requires-clause-from c =
     let net = c.args.net.now in
     let i = c.args.bank.0 in
-    with_less net i 0 c.saturating_sub-high.result c.args.least.now c.requires.bank (omega arith)
-    (c.requires.least ∙ ap least (sym (added_nothing net i)))
+    with_less net i 0 c.saturating_sub-high.result c.in_ok-from.from.paid c.requires.bank (omega arith)
+    (c.in_ok-from.ensures.paid ∙ c.in_ok-copy_of.ensures ∙ c.requires.least ∙ ap least (sym (added_nothing net i)))
 
 pub received-receipts-requires-clause-bank : goal.received-receipts-requires-clause-bank
 received-receipts-requires-clause-bank c =
@@ -59,8 +76,8 @@ pub paid_with-requires-2-clause-from : goal.paid_with-requires-2-clause-from
 paid_with-requires-2-clause-from c =
     let net = c.args.net.now in
     let i = c.args.bank.0 in
-    with_less net i 0 c.saturating_sub-one_less.result c.args.least.now c.requires.bank (omega arith)
-    (c.requires.least ∙ ap least (sym (added_nothing net i)))
+    with_less net i 0 c.saturating_sub-one_less.result c.in_ok-from.from.paid c.requires.bank (omega arith)
+    (c.in_ok-from.ensures.paid ∙ c.in_ok-copy_of.ensures ∙ c.requires.least ∙ ap least (sym (added_nothing net i)))
 
 pub lacks-requires-clause-bank : goal.lacks-requires-clause-bank
 lacks-requires-clause-bank c =
@@ -78,25 +95,13 @@ lacks-requires-clause-clears c =
 
 pub returns-clause-range : goal.returns-clause-range
 returns-clause-range c =
-    let net = c.args.net.now in
-    let i = c.args.bank.0 in
     let at = goal.at.returns-clause-range c in
-    let all = is_missing at.After-saturating_sub-high in
-    let high = c.saturating_sub-high.result in
-    let low = c.saturating_sub-low.result in
-    let full : c.as_slice.result.now ≡ least (added net i high) = c.as_slice.ensures ∙ c.in_ok-enough.ensures.paid in
-    let got : c.received-receipts.result ≡ received_with net i (missing net i) =
-    c.received-receipts.ensures
-    ∙ (λ k. receipts (c.paid_with.ensures.more k) (full k) i)
-    ∙ ap (received_with net i) all in
-    let less : c.saturating_sub-one_less.result ≡ low - 1 = omega (arith, c.saturating_sub-one_less.ensures) in
-    let lacking : c.lacks.result ≡ lacks net i (low - 1) =
-    c.lacks.ensures
-    ∙ lacks_told net i c.paid_with-2.new.self.more c.saturating_sub-one_less.result _
-    c.paid_with-2.ensures.more (c.as_slice-2.ensures ∙ c.in_ok-less.ensures.paid ∙ ap least (sym c.paid_with-2.ensures.more))
-    ∙ ap (lacks net i) less in
-    begun_at_bound net i c.requires.network _ c.requires.bank all
-    (omega (arith, c.saturating_sub-low.ensures, all, got))
-    (c.in_ok-less.ensures.paid ∙ ap (λ (a : ℕ). least (added net i a)) less)
-    (c.if_any-short.ensures ∙ ap (λ (n : ℕ). cond (low == 0) 0 n) lacking)
-    c.in_ok-enough.ensures.paid
+    range_begun c.args.net.now c.args.bank.0 c.requires.network _ c.received-receipts.result
+    c.saturating_sub-one_less.result c.lacks.result c.paid_with.new.self.more
+    c.paid_with-2.new.self.more c.as_slice.result.now c.as_slice-2.result.now c.requires.bank
+    (is_missing at.After-saturating_sub-high) c.paid_with.ensures.more
+    (c.as_slice.ensures ∙ c.in_ok-enough.ensures.paid) c.received-receipts.ensures
+    c.saturating_sub-low.ensures c.saturating_sub-one_less.ensures c.paid_with-2.ensures.more
+    (c.as_slice-2.ensures ∙ c.in_ok-less.ensures.paid) c.lacks.ensures c.if_any-short.ensures
+    c.in_ok-less.ensures.paid c.in_ok-less.ensures.sums c.in_ok-enough.ensures.paid
+    c.in_ok-enough.ensures.sums

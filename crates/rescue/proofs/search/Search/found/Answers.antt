@@ -38,3 +38,6 @@ pub returns-clause-paid : goal.returns-clause-paid
 returns-clause-paid c =
     paid_found c.args.net.now c.args.bank.0 c.banks.ensures.network c.loop-range.range
     c.loop-range.invariant.range (omega arith)
+
+pub returns-clause-sums : goal.returns-clause-sums
+returns-clause-sums c = c.loop-range.invariant.range.enough_sums

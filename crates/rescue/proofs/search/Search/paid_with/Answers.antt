@@ -1,18 +1,15 @@
-use Rattle.std.proofs.Common.{◌≡◌, ℕ, ◌+◌, ◌++◌, List, length, take, ap, sym, ◌∙◌, subst, arith}
-use Rattle.std.proofs.lemmas.List.{take-append-le, take_all}
+use Rattle.std.proofs.Common.{◌≡◌, ◌+◌, length, ap, sym, ◌∙◌, subst, arith}
 use Rattle.clr_net.specs.Net.{Net, cash_of}
 use Rattle.clear_core.specs.Buffers.{HasRoom}
 use Rattle.clear_core.specs.Clearing.{least}
+use Rattle.clear_core.specs.Sums.{AreSums}
 use Rattle.cascade.proofs.CashAt.{length-with_cash}
 use Rattle.rescue.specs.Rescue.{DifferInCash, added}
 use Rattle.rescue.proofs.MoreCash.{swept_at_bank}
-use Rattle.rescue.proofs.Searching.{as_many_banks, set_to_sum, still_differ, sum_fits}
+use Rattle.clear_core.proofs.WrittenRows.{written_back}
+use Rattle.rescue.proofs.Searching.{as_many_banks, set_to_sum, still_differ, sum_fits, sums_added, sums_without}
 use Rattle.rescue.proofs.search.Search.paid_with.Goals as goal
 use Rattle.rescue.proofs.search.Search.paid_with.Goals.{After-set_cash}
-
--- a list of the same length, written back in place of another
-written_back : {X : Type 0} (n : ℕ) (xs ys : List X) → length xs ≡ n → take n (xs ++ ys) ≡ xs
-written_back n xs ys e = take-append-le n xs ys (omega arith) ∙ take_all n xs (omega arith)
 
 -- with the sum the copy is the network of the definition
 is_added : (c : After-set_cash) → c.set_cash.new.self
@@ -60,12 +57,11 @@ least_again-requires-clause-swept c =
     let i = c.args.bank.0 in
     let at = goal.at.least_again-requires-clause-swept c in
     let cash : c.set_cash.new.self ≡ added net i c.args.sum = is_added at.After-set_cash in
-    let back : c.as_mut_slice-3.result.now ≡ c.mark.new.marks =
-    c.as_mut_slice-3.ensures.value
+    let back : c.as_mut_slice-2.result.now ≡ c.mark.new.marks =
+    c.as_mut_slice-2.ensures.value
     ∙ written_back c.args.self.now.marks.len c.mark.new.marks _ (omega arith) in
-    let paid : c.as_mut_slice-2.result.now ≡ c.args.from.now = c.as_mut_slice-2.ensures.now ∙ c.in_ok-paid.ensures in
-    rw (cash, paid, back)
-    (swept_at_bank (added net i c.args.sum) i c.args.from.now c.mark.new.marks c.requires.from
+    rw (cash, c.in_ok-payments.ensures.paid, back)
+    (swept_at_bank (added net i c.args.sum) i c.args.from.now.paid c.mark.new.marks c.requires.from
     (omega (
       arith,
       length-with_cash net i (cash_of net i + c.args.sum),
@@ -92,17 +88,30 @@ returns-clause-more c = is_added (goal.at.returns-clause-more c).After-set_cash
 pub returns-clause-paid : goal.returns-clause-paid
 returns-clause-paid c =
     let at = goal.at.returns-clause-paid c in
-    let as_many : length c.least_again.new.paid ≡ length c.in_ok-paid.paid = omega (arith, ap length c.as_mut_slice-2.ensures.now) in
-    written_back (length c.in_ok-paid.paid) c.least_again.new.paid _ as_many
-    ∙ c.least_again.ensures.payments ∙ ap least (is_added at.After-set_cash)
+    c.least_again.ensures.payments ∙ ap least (is_added at.After-set_cash)
 
-pub returns-in_err-paid-clause-search : goal.returns-in_err-paid-clause-search
-returns-in_err-paid-clause-search c = record {
-  differ = differs (goal.at.returns-in_err-paid-clause-search c).After-set_cash;
+pub least_again-requires-clause-sums : goal.least_again-requires-clause-sums
+least_again-requires-clause-sums c =
+    let at = goal.at.least_again-requires-clause-sums c in
+    let from = c.args.from.now in
+    rw (is_added at.After-set_cash, c.in_ok-payments.ensures.paid, c.in_ok-payments.ensures.sums)
+    (sums_added c.args.net.now c.args.bank.0 c.args.sum from.paid from.sums.items c.requires.sums)
+
+pub returns-clause-sums : goal.returns-clause-sums
+returns-clause-sums c =
+    let at = goal.at.returns-clause-sums c in
+    let all = c.least_again.new.payments in
+    let kept : AreSums (added c.args.net.now c.args.bank.0 c.args.sum) all.paid all.sums.items =
+    rw (is_added at.After-set_cash) at c.least_again.ensures.sums in
+    sums_without c.args.net.now c.args.bank.0 c.args.sum all.paid all.sums.items kept
+
+pub returns-in_err-payments-clause-search : goal.returns-in_err-payments-clause-search
+returns-in_err-payments-clause-search c = record {
+  differ = differs (goal.at.returns-in_err-payments-clause-search c).After-set_cash;
   for_each_bank = c.requires.search.for_each_bank;
   room = c.requires.search.room;
 }
 
-pub returns-in_err-paid-clause-more : goal.returns-in_err-paid-clause-more
-returns-in_err-paid-clause-more c =
-    is_added (goal.at.returns-in_err-paid-clause-more c).After-set_cash
+pub returns-in_err-payments-clause-more : goal.returns-in_err-payments-clause-more
+returns-in_err-payments-clause-more c =
+    is_added (goal.at.returns-in_err-payments-clause-more c).After-set_cash

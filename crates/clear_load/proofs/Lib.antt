@@ -1,0 +1,4 @@
+pub mod Tasks
+pub mod Fetches
+pub mod Shocked
+pub mod Made

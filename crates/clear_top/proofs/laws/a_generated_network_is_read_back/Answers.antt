@@ -1,5 +1,0 @@
-use Rattle.clear_top.proofs.Made.{generated_back}
-use Rattle.clear_top.proofs.laws.a_generated_network_is_read_back.Goals as goal
-
-pub returns : goal.returns
-returns c = generated_back

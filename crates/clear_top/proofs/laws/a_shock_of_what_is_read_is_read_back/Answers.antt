@@ -1,5 +1,0 @@
-use Rattle.clear_top.proofs.Shocked.{shocked_after_reading}
-use Rattle.clear_top.proofs.laws.a_shock_of_what_is_read_is_read_back.Goals as goal
-
-pub returns : goal.returns
-returns c = shocked_after_reading

@@ -1,7 +1,0 @@
-use Rattle.std.proofs.lemmas.List.{append-nil, map-append}
-use Rattle.std.proofs.lemmas.List.Folds.{concat-append}
-use Rattle.clear_top.proofs.outcome.Text.add.Goals as goal
-
-pub returns : goal.returns
-returns c =
-    rw (c.in_ok-push.ensures.items, ← c.self.view_is) (simp (map-append, concat-append, append-nil))

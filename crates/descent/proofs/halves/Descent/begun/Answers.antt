@@ -1,0 +1,15 @@
+use Rattle.std.proofs.Common.{ap, ◌∙◌}
+use Rattle.clear_core.specs.Clearing.{least}
+use Rattle.cascade.proofs.OtherCash.{sums_back}
+use Rattle.descent.proofs.halves.Descent.begun.Goals as goal
+
+pub returns-clause-step : goal.returns-clause-step
+returns-clause-step g c =
+    let all = c.in_ok-payments.payments in
+    record {
+      some = c.widest-high.ensures.some;
+      share = c.widest-high.ensures.share;
+      paid = c.in_ok-payments.ensures.payments ∙ ap least c.lay_in.ensures.left;
+      sums = sums_back c.args.net.now c.lay_in.new.left all.paid all.sums.items c.lay_in.ensures.alike
+          c.in_ok-payments.ensures.sums;
+    }

@@ -1,8 +1,0 @@
-use Rattle.std.proofs.Common.{◌≡◌, ◌<◌, ℕ, false, get_or}
-use Rattle.std.specs.Bool.{OnFalse}
-use Rattle.clr_net.specs.Net.{cash_of}
-use Rattle.descent.proofs.halves.mark_richer.Given as goal
-
-abbrev pub invariant-loop-number : goal.invariant-loop-number
-invariant-loop-number g l = (i : ℕ) → i < l.number → OnFalse (get_or l.marks i false)
-    (g.F.Floors.floors l.floors l.net l.step.low l.step.high i ≡ cash_of l.left i)

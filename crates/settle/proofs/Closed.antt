@@ -1,0 +1,70 @@
+-- A round of all workers, once their seats were taken back.
+use Rattle.std.proofs.Common.{◌≡◌, ℕ, ◌+◌, ◌++◌, true, List, [], length, sum_by, sym, ap, ◌∙◌, subst, arith}
+use Rattle.std.proofs.lemmas.List.{with_items_is}
+use Rattle.std.specs.Global.{Vec}
+use Rattle.std.specs.Vec.{with_items}
+use Rattle.bank_worker.specs.Views.{WorkerView}
+use Rattle.clear_core.specs.Clearing.{least}
+use Rattle.clear_core.specs.declared.event.Raise.{Raise}
+use Rattle.clr_net.specs.Amounts.{IsAtMost}
+use Rattle.clr_net.specs.Net.{Net}
+use Rattle.pay_words.specs.Views.{BoardView, IsOver, SeatView}
+use Rattle.pay_words.specs.declared.view.Shown.{Shown}
+use Rattle.raise_journal.specs.Gathered.{HasGrownBy, raises_of_all as all_of}
+use Rattle.settle.specs.Asks.{IsReady, IsRoundOn}
+use Rattle.settle.specs.Between.{AreOfBoard, HaveGrownAlike, IsBack, IsBetween, noted_in, opened_workers, raises_of_all, without_first}
+use Rattle.settle.specs.Calls.{HaveCalledFrom}
+use Rattle.settle.specs.Drives.{IsPlan, IsRunOn}
+use Rattle.settle.specs.Offices.{AreOffices}
+use Rattle.settle.specs.Rounds.{AreRounded}
+use Rattle.settle.specs.declared.plan.Plan.{Plan}
+use Rattle.settle.specs.declared.state.RunState.{RunState}
+use Rattle.settle.proofs.AllDown.{idle_between}
+use Rattle.settle.proofs.Handed.{IsRest, first_rest}
+use Rattle.settle.proofs.Rounded.{between_again, of_board, others_at_rest, round_is}
+use Rattle.settle.proofs.Waiting.{noted_after}
+
+-- the workers as they stand in their list after the round
+pub all_back : (sweeps n : ℕ) (v : Vec WorkerView) (lent olds news : List WorkerView) → lent ≡ v.items → v.items ≡ olds → AreRounded sweeps n lent news
+    → AreRounded sweeps n olds (with_items v news).items
+all_back sweeps n v lent olds news e f h =
+    subst (AreRounded sweeps n olds) (sym (with_items_is v news (omega (arith, h.as_many, ap length e, v.ok)))) (subst (λ os. AreRounded sweeps n os news) (e ∙ f) h)
+
+module _ {board : BoardView} {net : Net} {plan : Plan} {master : SeatView} {state : RunState} {units : ℕ} {news : List WorkerView}
+    (limits : IsPlan plan) (on_board : IsRunOn board net plan) (ready : IsReady board net plan master state)
+    (rounded : AreRounded plan.sweeps units (opened_workers plan.workers board.table master.shows plan.workers) news) where
+  -- each worker may give its seat back
+  pub seats_of_board : AreOfBoard board news
+  seats_of_board =
+      of_board board net master.shows plan.workers plan.sweeps units news on_board.net_is on_board.workers_are limits.some_workers limits.few_sweeps ready.between rounded
+
+  -- and once they did, it was a round
+  pub round_closed : (m t : SeatView) (worked left : RunState) (visits : ℕ) → m.shows ≡ without_first plan.workers plan.workers master.shows
+      → t.table ≡ board.table → IsOver t.shows → IsBack board.table.workers board.net m.shows news t.shows 0
+      → AreOffices board.net board.table.workers board.table.workers left.offices.items → HaveCalledFrom 0 board.net left.called news
+      → t.shows.taken ≡ m.shows.taken + visits → visits ≡ sum_by (λ (k : WorkerView). k.visits) news → t.shows.raises ≡ m.shows.raises ++ raises_of_all news
+      → IsAtMost t.shows.paid (least t.shows.net) → IsAtMost t.shows.sights (least t.shows.net)
+      → HasGrownBy state.journal.raises worked.journal.raises (all_of state.waiting.items)
+      → HaveGrownAlike worked.journal.raises [] (noted_in left.journal.raises left.waiting.items) m.shows.raises t.shows.raises
+      → IsRoundOn board net plan units visits master state t left
+  round_closed m t worked left visits is table over back offices called taken in_all made paid_low sights_low grown noted =
+      let w = plan.workers in
+      let sweeps = plan.sweeps in
+      let s = master.shows in
+      let here = on_board.net_is in
+      let workers = on_board.workers_are in
+      let some = limits.some_workers in
+      let few = limits.few_sweeps in
+      let between = ready.between in
+      let now = noted_in left.journal.raises left.waiting.items in
+      let is_master = subst (λ (u : Shown). u.master ≡ true) (sym is) ((first_rest w w s).master ∙ between.master) in
+      let again : IsBetween net t.shows = between_again board net s w sweeps units news here workers some few between rounded m.shows t.shows over back (back.master ∙ is_master) in
+      record {
+        idle = idle_between net t.shows again;
+        ready = record { table_is = table; between = again; offices = rw (workers, here) offices };
+        called = others_at_rest board net s w sweeps units news here workers some few between rounded m.shows t.shows over back left.called again (rw here called);
+        round = round_is board net s w sweeps units news here workers some few between rounded m.shows t.shows over back visits is taken in_all made paid_low sights_low;
+        noted = subst (λ (rs : List Raise). HaveGrownAlike state.journal.raises state.waiting.items now rs t.shows.raises)
+            (ap (λ (u : Shown). u.raises) is ∙ (first_rest w w s).raises)
+            (noted_after state.journal.raises worked.journal.raises now m.shows.raises t.shows.raises state.waiting.items grown noted);
+      }

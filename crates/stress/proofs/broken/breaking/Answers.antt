@@ -1,5 +1,0 @@
-use Rattle.stress.proofs.Descent.{told_by_all}
-use Rattle.stress.proofs.broken.breaking.Goals as goal
-
-pub returns : goal.returns
-returns c = told_by_all c.args.net.now c.breaking_within.result c.breaking_within.ensures

@@ -1,0 +1,127 @@
+"""What is left out of a list of exposures: lines by their values, lines of totals, and banks with all their debts."""
+from typing import Dict, List, Set
+
+from .control import Totals, is_called_total, wrong
+from .exposure_sheets import ExposureSheets
+from .left_out import Gone, beside_of, no_total, tell_columns
+from .summary import Counted
+from .tables import quoted
+
+
+class Dropping:
+    """Takes out of a list and its table what the words say, and tells it."""
+
+    def __init__(self, sheets: ExposureSheets) -> None:
+        self.sheets, self.args, self.faults, self.summary = sheets, sheets.args, sheets.faults, sheets.summary
+        self.list, self.table = sheets.list, sheets.table
+
+    def take_where(self) -> None:
+        """Leaves out the lines that have none of the values that are wanted."""
+        for column, values in self.sheets.columns.where.items():
+            there = {str(text) for text in self.list.column(column).values()}
+            for value in values:
+                if value not in there:
+                    some = ", ".join(sorted(there)[:5]) + (", .." if len(there) > 5 else "")
+                    self.faults.add(self.list, 0, column, f"no line has {value!r} here; it has {some}")
+            rows = [row for row, text in self.list.column(column).items() if str(text) not in values]
+            self.sheets.leave_out(rows, f"lines left out by --where {column}={' or '.join(values)}")
+
+    def drop(self) -> None:
+        """Leaves out what is to be dropped, once its amounts are those of the others."""
+        args, faults = self.args, self.faults
+        columns = [column for column in self.sheets.bank_columns.amounts if column in self.table]
+        totals = Totals.read(self.table, args, columns, may_be_empty=columns)
+        # As they are before anything is left out, where they are asked for.
+        parties = self.sheets.parties() if args.drop or totals.rows else {}
+        dropped = {row: names for row, names in parties.items() if any(name in args.drop for name in names)}
+        right = self.check_lines(dropped, parties) if dropped else set()
+        for name in args.drop:
+            totals.check(name, faults, self.summary)
+            rows = [row for row in dropped if row in self.list.rows and name in dropped[row]]
+            if name not in right and name not in totals.rows and (rows or name in self.table.rows):
+                self.refuse_drop(name, rows)
+                continue
+            if name in self.table.columns and name not in self.table.rows:
+                tell_columns(self.summary, [name], self.table, args.amounts, "amounts left out by --drop")
+            if not (self.table.drop(name) or rows):
+                faults.add(self.list, None, None, f"there is no {name} to drop")
+            self.sheets.leave_out(rows, f"lines left out by --drop {quoted(name)}")
+        self.leave_out_banks()
+        named = {name for names in parties.values() for name in names}
+        totals.refuse(
+            faults, {row for row in totals.rows if row not in args.drop and (is_called_total(row) or row not in named)}
+        )
+
+    def refuse_drop(self, name: str, rows: List[int]) -> None:
+        """Refuses to drop a name that is no total."""
+        owes, owed = Counted(), Counted()
+        for row in rows:
+            side = owes if str(self.list.cell(row, self.sheets.columns.debtor)) == name else owed
+            side.add(self.sheets.quiet(row) or 0)
+        self.faults.add(self.list, rows[0] if rows else None, None, no_total(self.list, name, owes, owed))
+
+    def leave_out_banks(self) -> None:
+        """Leaves out the banks that are named by --leave-out, with all that they owe and are owed, and tells it."""
+        columns = self.sheets.columns
+        for name in self.args.left_out.banks:
+            gone, rows = Gone(name), []
+            for row in self.list.rows:
+                parties = [str(self.list.cell(row, column)) for column in (columns.debtor, columns.creditor)]
+                if name in parties:
+                    (gone.owes if parties[0] == name else gone.owed).add(self.sheets.quiet(row) or 0)
+                    rows.append(row)
+            if name in self.table.rows:
+                reader = self.args.amounts(is_signed=True)
+                gone.beside = beside_of(self.table, name, self.sheets.bank_columns.amounts, reader)
+            if not rows and name not in self.table.rows:
+                self.faults.add(self.list, None, None, f"there is no {name or 'line without a name'} to leave out")
+                continue
+            self.table.drop_row(name)
+            for row in rows:
+                del self.list.rows[row], self.list.cells[row]
+            gone.tell(self.summary)
+
+    def is_total(self, name: str) -> bool:
+        """Whether a party of a line is none but a word for all of them."""
+        return not name or is_called_total(name) or name not in self.table.rows and name in self.args.drop
+
+    def check_lines(self, dropped: Dict[int, List[str]], parties: Dict[int, List[str]]) -> Set[str]:
+        """The lines of totals among those that are dropped have the sum of the others: of one bank's, where they name
+        one. Gives the names that lines of totals have."""
+        amounts = {row: self.sheets.quiet(row) for row in parties}
+        judged, named = [], {name for names in dropped.values() for name in names if not name or is_called_total(name)}
+        for row, names in dropped.items():
+            open_ = [self.is_total(name) for name in names]
+            amount = amounts[row]
+            if not any(open_) or amount is None:
+                continue
+            rest = [
+                other
+                for other in parties
+                if other not in dropped
+                and all(o or name == mine for o, name, mine in zip(open_, parties[other], names))
+            ]
+            total = sum(amounts[other] or 0 for other in rest)
+            rate = self.sheets.columns.rate
+            if rate and amount != total:
+                # A total over several currencies may stand in that of the network.
+                total = sum(
+                    (amounts[other] or 0) * self.sheets.rates.get(str(self.list.cell(other, rate[0])), 0)
+                    for other in rest
+                )
+            judged.append((row, amount, total, any(not name or is_called_total(name) for name in names)))
+            if amount == total:
+                named.update(name for name, o in zip(names, open_) if o)
+        right = sum(value == total for _, value, total, _ in judged)
+        for row, value, total, is_named in judged:
+            # Lines of a bank that the table lacks are no totals, unless some are.
+            if value != total and (is_named or right >= 2):
+                self.faults.add(self.list, row, self.sheets.columns.amount, wrong("the line of totals", value, total))
+        if right:
+            self.summary.tell("control totals that agree", right, None, self.list.label)
+        return named | {
+            name
+            for names, (_, value, total, _) in zip(dropped.values(), judged)
+            if value != total and right >= 2
+            for name in names
+        }
