@@ -1,8 +1,8 @@
 -- Going down from cut to cut: what is known of each bank, and which banks are to pay anew.
-use Rattle.std.proofs.Common.{◌≡◌, ◌↔◌, ℕ, ◌+◌, ◌<◌, ◌≤◌, ◌==◌, ◌&&◌, not, cond, Bool, false, List, [], ◌∷◌, length, get_or, map, max, min, nat_lt, nat_le, sum_by, replicate, Result, Vec, Global, refl, sym, ap, ◌∙◌, subst, ⊎_elim, arith}
+use Rattle.std.proofs.Common.{◌≡◌, ◌↔◌, ℕ, ◌+◌, ◌<◌, ◌≤◌, ◌==◌, ◌&&◌, not, cond, Bool, false, true, List, [], ◌∷◌, length, get_or, map, max, min, nat_lt, nat_le, sum_by, replicate, Result, Vec, Global, refl, sym, ap, ◌∙◌, subst, ⊎_elim, arith}
 use Rattle.std.specs.Result.{IfOk}
 use Rattle.std.proofs.lemmas.Bool.Decides.{nat_tests}
-use Rattle.std.proofs.lemmas.Bool.{cases_lt, eqb-false}
+use Rattle.std.proofs.lemmas.Bool.{cases_lt, eqb-false, eqb-true, lt-ltb}
 use Rattle.std.proofs.lemmas.Result.{IfOk-weaker}
 use Rattle.std.proofs.lemmas.List.{get_or-map, get_or-replicate, length-map, length-replicate}
 use Rattle.std.proofs.lemmas.List.FromFn.{fill_by_all, get_or-map-range_with_len, length-map-range_with_len}
@@ -76,18 +76,45 @@ told h b low high =
     let cut = max low (min high b) in
     record { cut = cut; health = cond (nat_lt cut high) (h cut) Sound }
 
+-- what is told, by the cut that it comes to
+told_at : (h : ℕ → Health) (b low high cut : ℕ) → max low (min high b) ≡ cut
+    → told h b low high ≡ record { cut = cut; health = cond (nat_lt cut high) (h cut) Sound }
+told_at h b low high cut is =
+    ap (λ k. record { cut = k; health = cond (nat_lt k high) (h k) Sound }) is
+
+-- where that is below all cuts, the bank stands there as it is told
+told_below : (h : ℕ → Health) (b low high cut : ℕ) → max low (min high b) ≡ cut → cut < high
+    → told h b low high ≡ record { cut = cut; health = h cut }
+told_below h b low high cut is l =
+    told_at h b low high cut is
+    ∙ ap (λ (t : Bool). record { cut = cut; health = cond t (h cut) Sound }) (lt-ltb cut high l)
+
+-- what two shares of the cuts tell, by whether the first comes to its last cut
+told_by_test : (h : ℕ → Health) (b low middle high : ℕ) → low ≤ middle → middle ≤ high
+    → (t : Bool) → ((told h b low middle).cut == middle) ≡ t
+    → cond t (told h b middle high) (told h b low middle) ≡ told h b low high
+told_by_test h b low middle high l m true e =
+    let at : max low (min middle b) ≡ middle = eqb-true (max low (min middle b)) middle e in
+    told_at h b middle high (max low (min high b)) (omega (arith, at, l, m))
+told_by_test h b low middle high l m false e =
+    let not_at = eqb-false (max low (min middle b)) middle e in
+    let cut = max low (min high b) in
+    told_below h b low middle cut (omega (arith, not_at, l, m)) (omega (arith, not_at, l, m))
+    ∙ sym (told_below h b low high cut refl (omega (arith, not_at, l, m)))
+
+-- and what they tell is what all of them tell
+told_by_shares : (h : ℕ → Health) (b low middle high : ℕ) → low ≤ middle → middle ≤ high
+    → cond ((told h b low middle).cut == middle) (told h b middle high) (told h b low middle)
+    ≡ told h b low high
+told_by_shares h b low middle high l m =
+    told_by_test h b low middle high l m ((told h b low middle).cut == middle) refl
+
 -- one cut more tells what all cuts from it on tell
 told_more : (h : ℕ → Health) (b high c : ℕ) → c < high → (h c ≡ Sound) ↔ (c < b)
     → cond (((told h b (c + 1) high).cut == c + 1) && not (is_sound (h c)))
     (record { cut = c; health = h c }) (told h b (c + 1) high)
     ≡ told h b c high
 told_more h b high c l below = grind (arith, nat_tests, sound_told (h c))
-
--- and what two shares of the cuts tell is what all of them tell
-told_by_shares : (h : ℕ → Health) (b low middle high : ℕ) → low ≤ middle → middle ≤ high
-    → cond ((told h b low middle).cut == middle) (told h b middle high) (told h b low middle)
-    ≡ told h b low high
-told_by_shares h b low middle high l m = grind (arith, nat_tests)
 
 -- no cut tells nothing
 told_by_none : (h : ℕ → Health) (b high : ℕ) → record { cut = high; health = Sound } ≡ told h b high high
