@@ -108,13 +108,15 @@ IsCalled net words w x = (bell net words (creditor_of net x) ≡ 1) ⊎ (w.pend 
 abbrev pub how_many : ℕ → (ℕ → Bool) → ℕ
 how_many n marks = sum (tabled n (λ x. if marks x then 1 else 0))
 
+-- how many bells are up
 abbrev pub bells_up : Net → List ℕ → ℕ
 bells_up net words = sum (tabled (length net.banks) (bell net words))
 
--- the bells that a live seat took, and the raises that it made
+-- how many bells a live seat took: none count of a seat that was taken back
 abbrev pub taken_of : View → ℕ
 taken_of v = if v.live then v.shown.taken else 0
 
+-- how many raises a live seat made
 abbrev pub made_of : View → ℕ
 made_of v = if v.live then length v.shown.raises else 0
 
@@ -140,9 +142,13 @@ pub record IsRung (d : Origin) (t : Traces) (words : List ℕ) (views : List Vie
       ≤ length d.net.banks + sum_by made_of views
   pub has : (id : ℕ) (v : View) → get_elem? views id ≡ some v → v.live ≡ true → HasBells d ledger v
 
+-- The rule of a board: what holds of its words and of all its seats between any two steps. Each
+-- payment word ends a history of lawful raises. Each bank is held by one live seat, whose view shows
+-- of its debts what stands in the words. And no creditor misses a raise, since its bell tells it.
 pub record MeetsRule (d : Origin) (words : List ℕ) (views : List View) : Type 0 where
   pub history : BoardHistory
   pub network : IsNetwork d.net
+  -- a word for the roll, one for each debt and one for each bank
   pub size : length words ≡ 1 + length d.net.debts + length d.net.banks
   -- each payment word is that of the debt's last raise, and all raises are lawful
   pub stands : (x : ℕ) → x < length d.net.debts
@@ -178,17 +184,19 @@ pub record LookTells (s : Shown) (x : ℕ) (p : Payment) : Type 0 where
       → p ≡ record { value = slice_index s.paid x; stamp = slice_index s.paid_stamps x }
 
 module _ {S : Type 0} where
+  -- a load of a payment word: the view has looked at its debt, and what the word says is told
   abbrev pub Looks : Step S → Me S View → ℕ → Me S View → Type 0
   Looks s v n w = (x : ℕ) → s.word ≡ x + 1
       → (w ≡ (showing v.0 (looked v.0.shown x (payment_of n)), v.1))
       × LookTells v.0.shown x (payment_of n)
 
+  -- a store of a payment word: the view has raised its debt, and is sound still
   abbrev pub Raises : Step S → Me S View → ℕ → Me S View → Type 0
   Raises s v n w = (x : ℕ) → s.word ≡ x + 1
       → (w ≡ (showing v.0 (raised v.0.shown x (payment_of n).value), v.1))
       × IsSound (raised v.0.shown x (payment_of n).value)
 
-  -- the master has left a number in the roll word
+  -- a store of the roll word, by the master: its view has the number that it left there
   abbrev pub Rolls : Step S → Me S View → ℕ → Me S View → Type 0
   Rolls s v n w = w ≡ (record v.0 { rolled = n }, v.1)
 
@@ -207,6 +215,7 @@ abbrev pub after_take : Shown → ℕ → ℕ → Shown
 after_take s b n = if n == 0 then s else took s b
 
 module _ {S : Type 0} where
+  -- a store of a bell: the view has rung its bank
   abbrev pub Rings : Step S → Me S View → ℕ → Me S View → Type 0
   Rings s v n w = (b : ℕ) → s.word ≡ length v.0.shown.net.debts + 1 + b
       → w ≡ (showing v.0 (rung v.0.shown b), v.1)
@@ -216,14 +225,16 @@ module _ {S : Type 0} where
   Glances s v n w = (w ≡ v) × ((b : ℕ) → s.word ≡ length v.0.shown.net.debts + 1 + b
       → TakeTells v.0.shown b n)
 
+  -- a swap of a bell: where it was up the view has taken it
   abbrev pub Takes : Step S → Me S View → ℕ → Me S View → Type 0
   Takes s v n w = (b : ℕ) → s.word ≡ length v.0.shown.net.debts + 1 + b
       → (w ≡ (showing v.0 (after_take v.0.shown b n), v.1)) × TakeTells v.0.shown b n
 
--- the master and the new seat of a worker
+-- the master, after it handed out the seat of the worker i
 abbrev pub rest_of : ℕ → ℕ → View → View
 rest_of workers i v = showing v (without workers i v.shown)
 
+-- the new seat of the worker i, as the master's view v gives it
 abbrev pub part_of : ℕ → ℕ → View → View
 part_of workers i v = showing v (handed workers i v.shown)
 

@@ -15,6 +15,7 @@ abbrev pub payments_of : Shown → List Payment
 payments_of s = tabled (length s.net.debts)
     (λ x. record { value = slice_index s.paid x; stamp = slice_index s.paid_stamps x })
 
+-- their values, without the stamps
 abbrev pub values : List Payment → List ℕ
 values payments = map (λ p. p.value) payments
 

@@ -15,12 +15,12 @@ pub record SeatMemory : Type 0 where
   pub workers : ℕ
   pub worker : ℕ
 
+-- what a seat has in memory, field by field
 abbrev pub seat_memory : List ℕ → List (List ℕ) → List ℕ → ℕ → ℕ → SeatMemory
 seat_memory own lists debtors workers worker = record {
   own = own;
   lists = lists;
-  debtors
-      = debtors;
+  debtors = debtors;
   workers = workers;
   worker = worker;
 }

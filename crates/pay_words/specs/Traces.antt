@@ -20,6 +20,7 @@ abbrev pub ending_from : Payment → List Raise → Payment
 ending_from p [] = p
 ending_from p (r ∷ rs) = ending_from (record { value = r.to; stamp = r.stamp }) rs
 
+-- the payment of the last raise, or nothing paid where there is none
 abbrev pub ending : List Raise → Payment
 ending rs = ending_from unpaid rs
 
@@ -39,10 +40,11 @@ Rise rs = AllPairs (λ r s. (r.stamp < s.stamp) × (r.to < s.to)) rs
 abbrev pub Traces : Type 0
 Traces = ℕ → List Raise
 
--- what is paid on each debt after all raises, and in all
+-- what is paid on each debt after all raises
 abbrev pub paid_in : Net → Traces → List ℕ
 paid_in net t = tabled (length net.debts) (λ x. (ending (t x)).value)
 
+-- what is paid in all
 abbrev pub total : Net → Traces → ℕ
 total net t = sum (paid_in net t)
 

@@ -38,9 +38,11 @@ IsAt board seat = (seat.table ≡ board.table) × (seat.shows.net ≡ board.net)
 abbrev pub tabled : {A : Type 0} → ℕ → (ℕ → A) → List A
 tabled n f = map f (range_with_len 0 n)
 
+-- the list has true at the place k. A place past its end is not marked
 abbrev pub is_marked : List Bool → ℕ → Bool
 is_marked marks k = slice_index_or marks k false
 
+-- the seat holds the bank b
 abbrev pub holds : Shown → ℕ → Bool
 holds s b = is_marked s.banks b
 
@@ -113,20 +115,23 @@ opening net start = record {
   acts = [];
 }
 
--- what is done with a seat: a look at the debt x that found the payment p, a raise of the debt, a
--- ring of the bell of the bank b, and a take that found it up
+-- what is done with a seat: a look at the debt x that found the payment p
 abbrev pub look_at : ℕ → Payment → Act
 look_at x p = act.Look (record { 0 = x }) p
 
+-- a raise of the debt x
 abbrev pub raise_of : ℕ → Act
 raise_of x = act.Raise (record { 0 = x })
 
+-- a ring of the bell of the bank b
 abbrev pub ring_of : ℕ → Act
 ring_of b = act.Ring (record { 0 = b })
 
+-- a take that found the bell of the bank b up
 abbrev pub take_of : ℕ → Act
 take_of b = act.Take (record { 0 = b })
 
+-- the raise of the debt x to so many units, with this stamp
 abbrev pub a_raise : ℕ → ℕ → ℕ → Raise
 a_raise stamp x to = record { stamp = stamp; debt = record { 0 = x }; to = to }
 
@@ -231,8 +236,8 @@ abbrev pub chosen : {A : Type 0} → A → ℕ → (ℕ → Bool) → List A →
 chosen none n test xs ys = tabled n
     (λ k. if test k then slice_index_or ys k none else slice_index_or xs k none)
 
--- the master s with all that the seat t shows of its banks, over the network net. What is paid on
--- their debts becomes the floor
+-- the master s with all that the seat t shows of its banks, over the network net: of the debts to
+-- them what it saw, and of the debts that they owe what it paid, which becomes the floor
 abbrev pub rejoined_over : Net → Shown → Shown → Shown
 rejoined_over net s t =
     let owes = λ (x : ℕ). holds t (debtor_of net x) in
@@ -253,5 +258,6 @@ rejoined_over net s t =
       taken = s.taken + t.taken;
     }
 
+-- the master s with all that the seat t shows of its banks
 abbrev pub rejoined : Shown → Shown → Shown
 rejoined s t = rejoined_over s.net s t

@@ -7,6 +7,7 @@ use Rattle.pay_words.specs.declared.payment.TheConstants.{STAMP}
 abbrev pub unpaid : Payment
 unpaid = record { value = 0; stamp = 0 }
 
+-- the word in which the payment stands
 abbrev pub word_of : Payment → ℕ
 word_of p = p.stamp * STAMP + p.value
 
