@@ -84,12 +84,13 @@ class Unused(unittest.TestCase):
     def test_what_the_program_does_not_call_stands_in_modules_called_plain(self):
         texts = {path: code_of(path) for path in sorted((ROOT / "crates").glob("*/src/**/*.rt"))
                  if not re.match(r".*_tests$|net_samples$", path.relative_to(ROOT / "crates").parts[0])}
-        called = {name for path, text in texts.items() if path.name != "plain.rt" for name in CALL.findall(text)}
+        plain = {path for path in texts if path.name == "plain.rt" or path.parent.name == "plain"}
+        called = {name for path, text in texts.items() if path not in plain for name in CALL.findall(text)}
         offered = [(path, deep, name) for path, text in texts.items() for deep, name, body in OFFERED.findall(text) if body != "{}"]
         self.assertEqual([f"{path.relative_to(ROOT)}: {name}" for path, _, name in offered
-                          if path.name not in ("plain.rt", "mem_sink.rt") and name not in called], [], "a sink in memory is there for tests")
+                          if path not in plain and path.name != "mem_sink.rt" and name not in called], [], "a sink in memory is there for tests")
         self.assertEqual([f"{path.relative_to(ROOT)}: {name}" for path, deep, name in offered
-                          if path.name == "plain.rt" and not deep and name in called], [], "of methods the name alone does not tell")
+                          if path in plain and not deep and name in called], [], "of methods the name alone does not tell")
 
     def test_each_crate_names_all_that_it_is_listed_to_stand_on(self):
         self.assertEqual([f"{crate} is listed to stand on {other}, which none of its files names"

@@ -7,7 +7,7 @@ use Rattle.std.proofs.lemmas.List.{get_or-map, get_or-set_same, get_or-set_other
 use Rattle.std.proofs.lemmas.List.Sums.{sum-map}
 use Rattle.clr_net.specs.Amounts.{IsAtMost}
 use Rattle.clr_net.specs.Net.{Net, debtor_of, creditor_of, place_in_row, row}
-use Rattle.clr_net.proofs.Lists.{same_from_sum, sum-le, sum_rises}
+use Rattle.clr_net.proofs.Lists.{same_from_sum, sum_rises}
 use Rattle.clr_net.proofs.RowsAndColumns.{StandsInRow, row_place}
 use Rattle.clear_core.specs.Clearing.{paid_by}
 use Rattle.clear_core.specs.Raised.{is_marked, IsRaised}

@@ -1,8 +1,9 @@
 -- One bank pays more on its debts, and marks whom it pays more.
-use Rattle.std.specs.Prelude.{◌≡◌, ◌≢◌, ℕ, ◌<◌, Bool, true, false, List, length, slice_index, slice_index_or}
+use Rattle.std.specs.Prelude.{◌≡◌, ◌≢◌, ℕ, ◌<◌, Bool, true, false, List, length, slice_index}
+use Rattle.std.specs.Prelude.{slice_index_or}
 use Rattle.clr_net.specs.Net.{Net, debtor_of, creditor_of, place_in_row}
 
--- the bank i is marked
+-- the list has true in the place i. A place past its end is not marked
 abbrev pub is_marked : List Bool → ℕ → Bool
 is_marked marks i = slice_index_or marks i false
 

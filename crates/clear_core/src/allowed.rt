@@ -16,7 +16,8 @@ pub fn allowed_of(net: &Network, debt: DebtId, seen: &[u64], scratch: &mut Scrat
     requires over { length seen.now ≡ length net.now.debts }
     requires in_limit { AreInLimit seen.now }
     requires room { HasRoom net.now scratch.old }
-    ensures allowed { result ≡ part net.now debt.0 (receipts_in net.now seen.now (debtor_of net.now debt.0)) }
+    ensures allowed { result ≡ part net.now debt.0
+        (receipts_in net.now seen.now (debtor_of net.now debt.0)) }
     ensures pays { result ≡ slice_index (pay net.now seen.now) debt.0 }
     ensures room { scratch.new ≡ scratch.old }
 {

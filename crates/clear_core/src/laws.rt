@@ -1,6 +1,7 @@
 //! The laws of clearing, for any plain data. A law has nothing to run; its `ensures` is proved.
 ghost use Rattle.clear_core.specs.Clearing.{Clears, IsLeast, least, pay, receipts, spend};
-ghost use Rattle.clear_core.specs.History.{IsHistory, IsLawful, IsTraced, Stands, journal_from, may_precede, ordered, raised_to, replayed};
+ghost use Rattle.clear_core.specs.History.{IsHistory, IsLawful, IsTraced, Stands, journal_from};
+ghost use Rattle.clear_core.specs.History.{may_precede, ordered, raised_to, replayed};
 ghost use Rattle.clear_core.specs.Process.{AreLegal, NeverPassesLeast, opening};
 ghost use Rattle.clear_core.specs.Richer.{IsRicher};
 ghost use Rattle.clear_core.specs.Rounds.{rounds_of};
@@ -10,7 +11,9 @@ ghost use Rattle.clr_net.specs.Amounts.{IsAtMost};
 ghost use Rattle.clr_net.specs.Limits.{IsNetwork};
 ghost use Rattle.clr_net.specs.Net.{Net, claims_of, row, units_owed};
 ghost use Rattle.std.specs.List.Sorted.{IsPermutation};
-ghost use Rattle.std.specs.Prelude.{◌≡◌, ◌+◌, ◌++◌, ◌∷◌, ◌<◌, ◌≤◌, [], All, true, ℕ, List, Some, length, min, slice_get, slice_index, slice_index_or, sum, sum_by};
+ghost use Rattle.std.specs.Prelude.{◌≡◌, ◌+◌, ◌++◌, ◌∷◌, ◌<◌, ◌≤◌, [], All, true, ℕ, List, Some};
+ghost use Rattle.std.specs.Prelude.{length, min, slice_get, slice_index, slice_index_or, sum};
+ghost use Rattle.std.specs.Prelude.{sum_by};
 
 /// No bank pays less on any debt as what was paid grows.
 #[tactic(auto, using(crate::proofs::Pay::pay_mono))]

@@ -16,7 +16,6 @@ pub fn first_unquiet(net: &Network, paid: &[u64], scratch: &mut Scratch) -> Opti
     requires over { length paid.now ≡ length net.now.debts }
     requires within { IsWithinClaims net.now paid.now }
     requires room { HasRoom net.now scratch.old }
-
     ensures first { IfSome result (λ bank. IsFirstUnquiet net.now paid.now bank.0) }
     ensures none { (result ≡ None) ↔ IsQuiet net.now paid.now }
     ensures clears { (result ≡ None) ↔ Clears net.now paid.now }

@@ -1,5 +1,7 @@
 ghost use Rattle.clear_core.specs.Buffers.{AreInLimit};
-ghost use Rattle.clear_core.specs.Clearing.{estate, paid_by as paid_by_bank, receipts as receipts_in, spend as spend_of, spendable as spendable_of};
+ghost use Rattle.clear_core.specs.Clearing.{estate, paid_by as paid_by_bank};
+ghost use Rattle.clear_core.specs.Clearing.{receipts as receipts_in, spend as spend_of};
+ghost use Rattle.clear_core.specs.Clearing.{spendable as spendable_of};
 ghost use Rattle.clr_net.specs.Limits.{IsNetwork};
 ghost use Rattle.clr_net.specs.declared.TheConstants.{MAX_CASH, MAX_CLAIM, MAX_DEBTS};
 ghost use Rattle.std.specs.Prelude.{◌≡◌, ◌+◌, ◌*◌, ◌^◌, ◌<◌, ◌≤◌, length};

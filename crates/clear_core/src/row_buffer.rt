@@ -93,15 +93,15 @@ pub fn lay_out_row(net: &Network, bank: BankId, claims: &mut Vec<u64>, classes: 
     }
 }
 
-// As many awards of nothing as there are places.
-fn blank(awards: &mut Vec<u64>, places: usize)
-    requires { places ≤ vec_capacity awards.old }
-    ensures places { vec_len awards.new ≡ places }
-    ensures room { vec_capacity awards.new ≡ vec_capacity awards.old }
+/// Writes so many zeros over a list that has the room for them. Takes no memory.
+pub fn blank(amounts: &mut Vec<u64>, places: usize)
+    requires { places ≤ vec_capacity amounts.old }
+    ensures places { vec_len amounts.new ≡ places }
+    ensures room { vec_capacity amounts.new ≡ vec_capacity amounts.old }
 {
-    awards.clear();
+    amounts.clear();
     for _ in 0..places {
-        awards.push_reserved(0);
+        amounts.push_reserved(0);
     }
 }
 

@@ -6,7 +6,8 @@ ghost use Rattle.clr_net.specs.Limits.{IsNetwork};
 ghost use Rattle.clr_net.specs.Net.{debtor_of, place_in_row, row as row_of};
 ghost use Rattle.clr_net.specs.declared.TheConstants.{MAX_CLAIM, MAX_DEBTS};
 ghost use Rattle.std.specs.Bool.{OnFalse, OnTrue};
-ghost use Rattle.std.specs.Prelude.{◌≡◌, ◌≢◌, ◌*◌, ◌<◌, ◌≤◌, ◌↔◌, ℕ, IfOk, IsTrue, length, map, slice_index, sum};
+ghost use Rattle.std.specs.Prelude.{◌≡◌, ◌≢◌, ◌*◌, ◌<◌, ◌≤◌, ◌↔◌, ℕ, IfOk, IsTrue, length, map};
+ghost use Rattle.std.specs.Prelude.{slice_index, sum};
 
 use crate::payments::{Payments, Sums};
 use crate::receipts::{receipts_of, spend};
@@ -88,8 +89,8 @@ impl Scratch {
     /// A bank pays on the debts of its row what its rule gives of so many units, which is no less
     /// than it has paid. Whoever it pays more is marked; answers whether it pays anyone more.
     ///
-    /// `payments` have their sums, and keep them. `marks` has a place for each bank. Takes no memory,
-    /// and divides nothing where the bank pays in all what it has paid.
+    /// `payments` have their sums, and keep them. `marks` has a place for each bank. Takes no
+    /// memory, and divides nothing where the bank pays in all what it has paid.
     pub fn raise_row(
         &mut self,
         net: &Network,
@@ -132,7 +133,7 @@ impl Scratch {
         true
     }
 
-    /// What a bank's rule gives the debt in one place of its row, when the bank receives so many units.
+    /// What a bank's rule gives the debt in one place of its row of so many units received.
     pub(crate) fn award_at(
         &mut self,
         net: &Network,
@@ -161,7 +162,8 @@ impl Scratch {
         requires room { HasRoom net.now self.old }
         requires over { length paid.now ≡ length net.now.debts }
         ensures same { IsTrue result
-            ↔ (map (slice_index paid.now) (row_of net.now bank.0) ≡ division net.now bank.0 receipts) }
+            ↔ (map (slice_index paid.now) (row_of net.now bank.0)
+            ≡ division net.now bank.0 receipts) }
         ensures room { self.new ≡ self.old }
     {
         self.row.divide(net, bank, spend(net, bank, receipts));

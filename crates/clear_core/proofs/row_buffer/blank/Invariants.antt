@@ -3,6 +3,6 @@ use Rattle.clear_core.proofs.row_buffer.blank.Given as goal
 
 abbrev pub invariant-loop : goal.invariant-loop
 invariant-loop l = record {
-  places : vec_len l.awards ≡ l.counter;
-  room : vec_capacity l.awards ≡ vec_capacity l.fn.awards;
+  places : vec_len l.amounts ≡ l.counter;
+  room : vec_capacity l.amounts ≡ vec_capacity l.fn.amounts;
 }

@@ -4,7 +4,7 @@ use Rattle.clr_net.specs.Net.{debtor_of}
 use Rattle.clear_core.specs.Clearing.{part, receipts}
 use Rattle.clear_core.specs.Process.{Progress, allowed, debt_of}
 use Rattle.clear_core.proofs.Applied.{allowed_in_limit, raise_in_range, raise_legal, sound_raised, below_applied}
-use Rattle.clear_core.proofs.plain.State.apply.Goals as goal
+use Rattle.clear_core.proofs.plain.state.State.apply.Goals as goal
 
 pub invariant_of-self-then-to-allowed : goal.invariant_of-self-then-to-allowed
 invariant_of-self-then-to-allowed c =
