@@ -3,7 +3,7 @@ use Rattle.std.proofs.lemmas.Bool.Decides.{nat_tests}
 use Rattle.std.proofs.lemmas.Grind.{get_or-set_at}
 use Rattle.pay_words.proofs.Views.{got}
 use Rattle.std.proofs.lemmas.Bool.{cond-true}
-use Rattle.pay_words.specs.BoardRule.{taken_of, made_of}
+use Rattle.pay_words.specs.Bells.{taken_of, made_of}
 use Rattle.std.proofs.Common.{length}
 use Rattle.std.proofs.Common.{◌≡◌, ◌≢◌, ℕ, zero, suc, ◌+◌, ◌*◌, ◌<◌, ◌≤◌, List, [], ◌∷◌, set, get_or, sum, sum_by, Bool, true, false, refl, sym, ap, ◌∙◌, subst, arith, length-set, get_or-set_other}
 use Rattle.std.specs.Prelude.{if◌then◌else◌}
@@ -15,7 +15,7 @@ use mathlib.Core.Option.{some, some-ne-none, some-injective}
 use lib.ListN.{get_elem?}
 use Rattle.pay_words.specs.declared.view.View.{View}
 use Rattle.pay_words.specs.Views.{tabled}
-use Rattle.pay_words.specs.BoardRule.{how_many}
+use Rattle.pay_words.specs.Bells.{how_many}
 use Rattle.pay_words.proofs.Tables.{tabled_at, length-tabled, sum_less, tabled_most, changed}
 
 -- what a live seat took, and how many raises it made

@@ -19,7 +19,8 @@ use Rattle.pay_words.specs.Ends.{payments_of, values, Ends}
 use Rattle.pay_words.specs.Words.{unpaid, payment_of}
 use Rattle.pay_words.specs.Traces.{Traces, AreLawfulTraces, ending, raises_of, last_payment, start_of, paid_in}
 use Rattle.pay_words.specs.Views.{tabled, HoldsAll, holds, a_raise}
-use Rattle.pay_words.specs.BoardRule.{BoardHistory, Suits, taken_of, made_of, own_raises}
+use Rattle.pay_words.specs.BoardRule.{BoardHistory, Suits, own_raises}
+use Rattle.pay_words.specs.Bells.{taken_of, made_of}
 use Rattle.pay_words.proofs.Tables.{tabled_at, tabled_agree, length-tabled}
 use Rattle.pay_words.proofs.Traces.{under_own_ending}
 use Rattle.pay_words.proofs.Lawful.{paid_in_below}

@@ -22,7 +22,9 @@ use Rattle.pay_words.specs.declared.view.Shown.{Shown}
 use Rattle.pay_words.specs.declared.view.View.{View}
 use Rattle.pay_words.specs.Views.{IsSound, OwesNoRing, is_marked, holds, rejoined, rejoined_over}
 use Rattle.pay_words.specs.Traces.{Traces, Stood, ending, raises_of}
-use Rattle.pay_words.specs.BoardRule.{BoardHistory, Leads, Suits, Sits, BellLedger, HasBells, IsRung, taken_of, made_of, both_of, nobody, own_raises}
+use Rattle.pay_words.specs.BoardRule.{BoardHistory, Leads, Suits, Sits, own_raises}
+use Rattle.pay_words.specs.Bells.{BellLedger, HasBells, IsRung, taken_of, made_of}
+use Rattle.pay_words.specs.Steps.{both_of, nobody}
 use Rattle.pay_words.proofs.Traces.{raises_of-append, raises_of-none}
 use Rattle.pay_words.proofs.Marks.{either_marked, marked, chosen_second, chosen_first, chosen_each, chosen_most, receipts_agree}
 use Rattle.pay_words.proofs.Views.{rule, sits_set, its_raises}

@@ -20,7 +20,8 @@ use Rattle.pay_words.specs.declared.view.View.{View}
 use Rattle.pay_words.specs.Words.{payment_of}
 use Rattle.pay_words.specs.Views.{IsSound, holds, looked}
 use Rattle.pay_words.specs.Traces.{Stood, ending, total}
-use Rattle.pay_words.specs.BoardRule.{BoardHistory, Suits, MeetsRule, LookTells, Looks, showing}
+use Rattle.pay_words.specs.BoardRule.{BoardHistory, Suits, MeetsRule}
+use Rattle.pay_words.specs.Steps.{LookTells, Looks, showing}
 use Rattle.pay_words.proofs.Tables.{after_set, set_above, set_below}
 use Rattle.pay_words.proofs.Traces.{ending_stood, stood_under}
 use Rattle.pay_words.proofs.Lawful.{total_le}

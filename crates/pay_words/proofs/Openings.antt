@@ -19,7 +19,8 @@ use Rattle.pay_words.specs.Words.{word_of}
 use Rattle.pay_words.specs.Belongs.{Belongs}
 use Rattle.pay_words.specs.Traces.{Traces, AreLawfulTraces, ending, raises_of, total}
 use Rattle.pay_words.specs.Views.{IsSound, greatest, opening}
-use Rattle.pay_words.specs.BoardRule.{BoardHistory, Suits, MeetsRule, BellLedger, HasBells, taken_of, made_of, bell, opening_view}
+use Rattle.pay_words.specs.BoardRule.{BoardHistory, Suits, MeetsRule, opening_view}
+use Rattle.pay_words.specs.Bells.{BellLedger, HasBells, taken_of, made_of, bell}
 use Rattle.pay_words.proofs.Traces.{ending_stood, under_own_ending}
 use Rattle.pay_words.proofs.Lawful.{paid_in_below, total_le, value_fits}
 use Rattle.pay_words.specs.Seats.{IsInMemory, seat_memory}

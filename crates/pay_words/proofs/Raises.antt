@@ -23,7 +23,8 @@ use Rattle.pay_words.specs.declared.view.View.{View}
 use Rattle.pay_words.specs.Words.{word_of, payment_of}
 use Rattle.pay_words.specs.Views.{IsSound, MayRaise, holds, raised, a_raise}
 use Rattle.pay_words.specs.Traces.{AreLawfulTraces, ending, raises_of, total}
-use Rattle.pay_words.specs.BoardRule.{BoardHistory, Suits, Raises, showing}
+use Rattle.pay_words.specs.BoardRule.{BoardHistory, Suits}
+use Rattle.pay_words.specs.Steps.{Raises, showing}
 use Rattle.pay_words.proofs.Tables.{after_set, set_below, changed_else, changed_each}
 use Rattle.pay_words.proofs.Traces.{pushed, stood_pushed, raises_of-push, raises_of-push_else}
 use Rattle.pay_words.proofs.Lawful.{total_le, ending_here, ending_else, ending_rises, total_rises, lawful_push, seen_before}

@@ -24,7 +24,9 @@ use Rattle.pay_words.specs.declared.view.Shown.{Shown}
 use Rattle.pay_words.specs.declared.view.View.{View}
 use Rattle.pay_words.specs.Traces.{Traces, ending}
 use Rattle.pay_words.specs.Views.{IsSound, IsCalm, OwesRing, holds, is_marked, rung, took}
-use Rattle.pay_words.specs.BoardRule.{BoardHistory, Suits, MeetsRule, BellLedger, HasBells, IsCalled, IsRung, TakeTells, Rings, Glances, Takes, after_take, bell, taken_of, made_of, showing}
+use Rattle.pay_words.specs.BoardRule.{BoardHistory, Suits, MeetsRule}
+use Rattle.pay_words.specs.Bells.{BellLedger, HasBells, IsCalled, IsRung, bell, taken_of, made_of}
+use Rattle.pay_words.specs.Steps.{TakeTells, Rings, Glances, Takes, after_take, showing}
 use Rattle.pay_words.proofs.Tables.{tabled_at, length-tabled, changed}
 use Rattle.pay_words.proofs.Bells.{sum_views, sum_changed, one_less}
 use Rattle.pay_words.proofs.Rung.{NoOther}

@@ -4,7 +4,8 @@ use mathlib.Core.Option.{none}
 use Rattle.atomic_table.specs.Table.{Me, Allows, keeps, step}
 use Rattle.pay_words.specs.declared.origin.Origin.{Origin}
 use Rattle.pay_words.specs.declared.view.View.{View}
-use Rattle.pay_words.specs.BoardRule.{Leads, Rolls}
+use Rattle.pay_words.specs.BoardRule.{Leads}
+use Rattle.pay_words.specs.Steps.{Rolls}
 use Rattle.pay_words.proofs.Views.{rule, kept_again}
 use Rattle.pay_words.proofs.Rung.{rung_same}
 

@@ -14,7 +14,7 @@ use Rattle.clear_core.proofs.Pay.{part_within}
 use Rattle.clear_core.proofs.Rows.{claim_in_limit}
 use Rattle.pay_words.specs.declared.payment.Payment.{Payment}
 use Rattle.pay_words.specs.declared.view.View.{View}
-use Rattle.pay_words.specs.BoardRule.{after_take, showing, part_of, rest_of, both_of}
+use Rattle.pay_words.specs.Steps.{after_take, showing, part_of, rest_of, both_of}
 use Rattle.pay_words.specs.Seats.{HasAll, HasOwn, IsInMemory, SeatMemory, Tells, seat_memory}
 use Rattle.pay_words.specs.Views.{BoardView, Place, SeatView, IsSound, HoldsAllOf, MayRaise, looked, raised, rung, took}
 use Rattle.pay_words.proofs.Rings.{sound_rung, sound_took}
@@ -144,7 +144,8 @@ pub kept_take : (v : View) (p : SeatMemory) (clock seats b n : ℕ) → IsInMemo
 kept_take v p clock seats b n h = cond_both (n == 0) v.shown (took v.shown b) (λ s. IsInMemory (showing v s) p clock seats) (λ _. h)
     (λ _. assumption (sound_took v.shown b h.sound, h))
 
--- the place of a bell, by what the board has in memory
-pub bell_at : (s t : SeatView) (b c : BoardView) (debts k : ℕ) → s ≡ t → b ≡ c → t.shows.net ≡ c.net
-    → debts ≡ length b.net.debts → debts + 1 + k ≡ length s.shows.net.debts + 1 + k
-bell_at s t b c debts k e f same d = omega (arith, d, ap (λ (n : Net). length n.debts) (net_within s t b c e f same))
+-- the place of a bell, seen from within
+pub bell_at : (s t : SeatView) (b c : BoardView) (place k : ℕ) → s ≡ t → b ≡ c → t.shows.net ≡ c.net
+    → place ≡ length c.net.debts + 1 + k → place ≡ length s.shows.net.debts + 1 + k
+bell_at s t b c place k e f same d =
+    omega (arith, d, ap (λ (n : Net). length n.debts) (ap (λ (x : SeatView). x.shows.net) e ∙ same))

@@ -1,7 +1,7 @@
 -- The master hands the banks of a worker to a new seat.
 use Rattle.pay_words.proofs.Tables.{tabled_at}
 use Rattle.pay_words.specs.declared.view.Act.{Act}
-use Rattle.pay_words.specs.BoardRule.{showing}
+use Rattle.pay_words.specs.Steps.{showing}
 use Rattle.pay_words.specs.Views.{is_marked}
 use Rattle.std.proofs.lemmas.Bool.{cond_both}
 use Rattle.pay_words.proofs.Tables.{length-tabled}
@@ -19,7 +19,9 @@ use Rattle.pay_words.specs.declared.view.Shown.{Shown}
 use Rattle.pay_words.specs.declared.view.View.{View}
 use Rattle.pay_words.specs.Views.{IsSound, HoldsAllOf, holds, is_of_worker, handed, without}
 use Rattle.pay_words.specs.Traces.{raises_of}
-use Rattle.pay_words.specs.BoardRule.{BoardHistory, Leads, Suits, Sits, BellLedger, HasBells, taken_of, made_of, own_raises, rest_of, part_of}
+use Rattle.pay_words.specs.BoardRule.{BoardHistory, Leads, Suits, Sits, own_raises}
+use Rattle.pay_words.specs.Bells.{BellLedger, HasBells, taken_of, made_of}
+use Rattle.pay_words.specs.Steps.{rest_of, part_of}
 use Rattle.pay_words.proofs.Marks.{marked_if, marked}
 use Rattle.pay_words.proofs.Views.{rule, sits_set}
 use Rattle.pay_words.proofs.Bells.{sum_views}

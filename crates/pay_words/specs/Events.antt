@@ -10,8 +10,8 @@ use Rattle.clear_core.specs.declared.event.Raise.{Raise}
 abbrev pub unstamped : Raise → Raise
 unstamped r = record r { stamp = 0 }
 
--- the raises of a journal are those of a list of events, each of which is legal where it stands; and
--- these pay what the journal replays to
+-- the raises of a journal are those of a list of events, each of which is legal where it stands;
+-- and these pay what the journal replays to
 pub record IsOfEvents (net : Net) (journal : List Raise) : Type 0 where
   pub events : List Event
   pub legal : AreLegal net (opening net) events

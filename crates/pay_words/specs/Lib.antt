@@ -2,7 +2,10 @@ pub mod Founded
 pub mod Words
 pub mod Views
 pub mod Traces
+pub mod Bells
 pub mod BoardRule
+pub mod Steps
+pub mod Making
 pub mod Seats
 pub mod Belongs
 pub mod Ends

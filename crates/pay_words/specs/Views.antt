@@ -9,6 +9,7 @@ use Rattle.clr_net.specs.Limits.{IsNetwork}
 use Rattle.clr_net.specs.Net.{Net, debtor_of, creditor_of, units_owed}
 use Rattle.clear_core.specs.Clearing.{receipts, part, least}
 use Rattle.clear_core.specs.declared.event.Raise.{Raise}
+pub use Rattle.clear_core.specs.Raised.{is_marked}
 use Rattle.pay_words.specs.declared.payment.Payment.{Payment}
 use Rattle.pay_words.specs.declared.view.Act.{Act}
 use Rattle.pay_words.specs.declared.view.Act.TheVariants as act
@@ -37,10 +38,6 @@ IsAt board seat = (seat.table ≡ board.table) × (seat.shows.net ≡ board.net)
 -- the list of what f gives for each number below n
 abbrev pub tabled : {A : Type 0} → ℕ → (ℕ → A) → List A
 tabled n f = map f (range_with_len 0 n)
-
--- the list has true at the place k. A place past its end is not marked
-abbrev pub is_marked : List Bool → ℕ → Bool
-is_marked marks k = slice_index_or marks k false
 
 -- the seat holds the bank b
 abbrev pub holds : Shown → ℕ → Bool
@@ -147,8 +144,8 @@ looked s x p = record s {
 }
 
 -- the seat of a worker may raise the debt x to so much: it holds the debtor, pays less on the debt,
--- and pays no more by it than the debtor's rule gives from its cash and from what the seat last saw,
--- less what the debtor owes outside
+-- and pays no more by it than the debtor's rule gives from its cash and from what the seat last
+-- saw, less what the debtor owes outside
 pub record MayRaise (net : Net) (s : Shown) (x to : ℕ) : Type 0 where
   pub debt : x < length net.debts
   pub not_the_master : s.master ≡ false

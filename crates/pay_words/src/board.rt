@@ -3,7 +3,8 @@ ghost use Rattle.clear_core.specs.History.{ordered};
 ghost use Rattle.clr_net.specs.Net.{creditor_of, debtor_of};
 ghost use Rattle.pay_words.specs.Belongs.{Belongs};
 ghost use Rattle.pay_words.specs.Ends.{Ends};
-ghost use Rattle.pay_words.specs.BoardRule.{TakeTells, after_take};
+ghost use Rattle.pay_words.specs.Making.{AreMade, HandsOut, MayHandOut};
+ghost use Rattle.pay_words.specs.Steps.{TakeTells, after_take};
 ghost use Rattle.pay_words.specs.declared.TheConstants.{MAX_SEATS};
 ghost use Rattle.pay_words.specs.Views.{HasSeenAll, HasSeenFloor, HoldsAll, HoldsAllOf, IsAt};
 ghost use Rattle.pay_words.specs.Views.{IsCalm, MayRaise, OwesNoRing, OwesRing, handed, holds};
@@ -92,10 +93,7 @@ impl Board {
         requires workers { 1 ≤ workers }
         requires belongs { Belongs net.now start.now past.now }
         requires origin { C.origin ≡ record { net = net.now; past = past.now } }
-        ensures board { IfOk result (λ r. (r.0.net ≡ net.now) × (r.0.past ≡ past.now)
-            × (r.0.table.workers ≡ workers)) }
-        ensures master { IfOk result (λ r. (r.1.table ≡ r.0.table)
-            × (r.1.shows ≡ opening net.now start.now)) }
+        ensures { IfOk result (AreMade net.now workers start.now past.now) }
     {
         let words = opening_words(alloc, start, net.banks() as usize)?;
         let lists = Paid::of_each(alloc, start, workers)?;
@@ -175,7 +173,7 @@ impl Board {
         ensures table { seat.new.table ≡ seat.old.table }
         ensures rung { seat.new.shows ≡ rung seat.old.shows bank.0 }
     {
-        let bell = self.debts + 1 + bank.0 as usize;
+        let bell = self.bell(bank);
         self.table.shared.store::<Ring>(&mut seat.seat, bell, 1);
     }
 
@@ -209,7 +207,7 @@ impl Board {
         ensures same { seat.new.shows ≡ seat.old.shows }
         ensures tells { TakeTells seat.old.shows bank.0 result }
     {
-        let bell = self.debts + 1 + bank.0 as usize;
+        let bell = self.bell(bank);
         self.table.shared.load::<Glance>(&mut seat.seat, bell)
     }
 
@@ -221,7 +219,7 @@ impl Board {
         ensures taken { seat.new.shows ≡ after_take seat.old.shows bank.0 result }
         ensures tells { TakeTells seat.old.shows bank.0 result }
     {
-        let bell = self.debts + 1 + bank.0 as usize;
+        let bell = self.bell(bank);
         self.table.shared.swap::<Take>(&mut seat.seat, bell, 0)
     }
 
@@ -230,8 +228,15 @@ impl Board {
     pub fn is_up(&self, bank: BankId) -> bool
         requires bank { bank.0 < length self.now.net.banks }
     {
-        let bell = self.debts + 1 + bank.0 as usize;
+        let bell = self.bell(bank);
         self.table.shared.peek(bell) != 0
+    }
+
+    // The place of the bell of a bank among the words.
+    fn bell(&self, bank: BankId) -> usize
+        ensures { result ≡ length self.now.net.debts + 1 + bank.0 }
+    {
+        self.debts + 1 + bank.0 as usize
     }
 
     /// Hands the banks of a worker to a new seat. Where there is no memory nothing has changed.
@@ -261,18 +266,9 @@ impl Board {
         master: &mut PaySeat,
         worker: u32,
     ) -> Result<PaySeat, Mem>
-        requires master { IsAt self.now master.old }
-        requires is_the_master { master.old.shows.master ≡ true }
-        requires worker { worker < self.now.table.workers }
-        requires banks { HoldsAllOf self.now.table.workers worker master.old.shows }
-        requires seats { master.old.shows.seats < MAX_SEATS }
+        requires may_hand { MayHandOut self.now master.old worker }
         requires chosen { (C.workers ≡ self.now.table.workers) × (C.worker ≡ worker) }
-        ensures table { master.new.table ≡ master.old.table }
-        ensures rest { OnOk result (master.new.shows
-            ≡ without self.now.table.workers worker master.old.shows) }
-        ensures seat { IfOk result (λ s. (s.table ≡ self.now.table)
-            × (s.shows ≡ handed self.now.table.workers worker master.old.shows)) }
-        ensures unchanged { OnErr result (master.new.shows ≡ master.old.shows) }
+        ensures { HandsOut self.now worker master.old master.new result }
     {
         self.table
             .shared

@@ -73,14 +73,14 @@ pub fn no_word_is_above_the_least()
     ensures stamps { (board : BoardView) → KeepsStampsLow board }
 {}
 
-/// A journal that stands is that of a list of legal events of the process, from which nothing is paid
-/// at first: its raises are theirs, and so are its payments.
+/// A journal that stands is that of a list of legal events of the process, from which nothing is
+/// paid at first: its raises are theirs, and so are its payments.
 pub fn standing_journal_is_of_legal_events()
     ensures { (net : Net) (journal : List Raise) → Stands net journal → IsOfEvents net journal }
 {}
 
-/// At each moment between two atomic steps the payment words of a board are the state of the process
-/// after a list of legal events: whatever the seats did, and in whatever order.
+/// At each moment between two atomic steps the payment words of a board are the state of the
+/// process after a list of legal events: whatever the seats did, and in whatever order.
 pub fn words_of_a_board_are_a_state_of_the_process()
     ensures { (board : BoardView) (words : List ℕ) → MayStand board words
         → AreOfEvents board.net (values (payments_in board.net words)) }

@@ -37,8 +37,9 @@ mod rule;
 mod seat;
 mod view;
 
-/// The most seats that a master hands out: the greatest number of 32 bits. A run hands out one to each
-/// worker in each round, which is fewer; and the number that stands in the roll word fits there.
+/// The most seats that a master hands out: the greatest number of 32 bits. A run hands out one to
+/// each worker in each round, which is fewer; and the number that stands in the roll word fits
+/// there.
 pub const MAX_SEATS: u64 = 4294967295;
 
 pub use board::Board;

@@ -19,7 +19,7 @@ impl TableRule<(), View, Seat<(), Origin>> for Clearing {
 pub(crate) struct Look;
 
 impl Play<(), View> for Look {
-    ghost use Rattle.pay_words.specs.BoardRule.{Looks};
+    ghost use Rattle.pay_words.specs.Steps.{Looks};
 
     ghost then = { Looks };
 }
@@ -28,7 +28,7 @@ impl Play<(), View> for Look {
 pub(crate) struct Rise;
 
 impl Play<(), View> for Rise {
-    ghost use Rattle.pay_words.specs.BoardRule.{Raises};
+    ghost use Rattle.pay_words.specs.Steps.{Raises};
 
     ghost then = { Raises };
 }
@@ -37,7 +37,7 @@ impl Play<(), View> for Rise {
 pub(crate) struct Roll;
 
 impl Play<(), View> for Roll {
-    ghost use Rattle.pay_words.specs.BoardRule.{Rolls};
+    ghost use Rattle.pay_words.specs.Steps.{Rolls};
 
     ghost then = { Rolls };
 }
@@ -46,7 +46,7 @@ impl Play<(), View> for Roll {
 pub(crate) struct Ring;
 
 impl Play<(), View> for Ring {
-    ghost use Rattle.pay_words.specs.BoardRule.{Rings};
+    ghost use Rattle.pay_words.specs.Steps.{Rings};
 
     ghost then = { Rings };
 }
@@ -55,7 +55,7 @@ impl Play<(), View> for Ring {
 pub(crate) struct Glance;
 
 impl Play<(), View> for Glance {
-    ghost use Rattle.pay_words.specs.BoardRule.{Glances};
+    ghost use Rattle.pay_words.specs.Steps.{Glances};
 
     ghost then = { Glances };
 }
@@ -64,7 +64,7 @@ impl Play<(), View> for Glance {
 pub(crate) struct Take;
 
 impl Play<(), View> for Take {
-    ghost use Rattle.pay_words.specs.BoardRule.{Takes};
+    ghost use Rattle.pay_words.specs.Steps.{Takes};
 
     ghost then = { Takes };
 }
@@ -90,7 +90,7 @@ pub(crate) struct Part<C> {
 }
 
 impl<C: Chosen> Split<View> for Part<C> {
-    ghost use Rattle.pay_words.specs.BoardRule.{rest_of, part_of};
+    ghost use Rattle.pay_words.specs.Steps.{rest_of, part_of};
 
     ghost left = { rest_of C.workers C.worker };
 
@@ -101,7 +101,7 @@ impl<C: Chosen> Split<View> for Part<C> {
 pub(crate) struct Both;
 
 impl Join<View> for Both {
-    ghost use Rattle.pay_words.specs.BoardRule.{both_of, nobody};
+    ghost use Rattle.pay_words.specs.Steps.{both_of, nobody};
 
     ghost both = { both_of };
 

@@ -5,8 +5,9 @@ use clear_core::Raise;
 use clr_net::{BankId, DebtId, Network};
 use std::collections::LinkedList;
 
-/// One thing that was done with the seat of a worker: a look at a debt and the payment that it found
-/// there, a raise of a debt, a ring of a bank's bell, or a take that found the bell of a bank up.
+/// One thing that was done with the seat of a worker: a look at a debt and the payment that it
+/// found there, a raise of a debt, a ring of a bank's bell, or a take that found the bell of a bank
+/// up.
 pub enum Act {
     Look(DebtId, Payment),
     Raise(DebtId),

@@ -8,7 +8,8 @@ use Rattle.clear_core.specs.Clearing.{Clears, part, receipts}
 use Rattle.clear_core.proofs.Least.{least_clears}
 use Rattle.bank_desk.specs.Desks.{desk_of}
 use Rattle.bank_worker.specs.Views.{Divides}
-use Rattle.pay_words.specs.BoardRule.{HasBells, IsCalled, IsRung, MeetsRule, Suits, bell}
+use Rattle.pay_words.specs.BoardRule.{MeetsRule, Suits}
+use Rattle.pay_words.specs.Bells.{HasBells, IsCalled, IsRung, bell}
 use Rattle.pay_words.specs.Ends.{values}
 use Rattle.pay_words.specs.Standing.{payments_in}
 use Rattle.pay_words.specs.Traces.{ending}

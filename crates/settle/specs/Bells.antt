@@ -4,7 +4,8 @@ use Rattle.clr_net.specs.Net.{Net, debtor_of}
 use Rattle.clear_core.specs.Clearing.{Clears, least, part, receipts}
 use Rattle.bank_desk.specs.Desks.{desk_of}
 use Rattle.bank_worker.specs.Views.{Divides}
-use Rattle.pay_words.specs.BoardRule.{MeetsRule, Sits, bell}
+use Rattle.pay_words.specs.BoardRule.{MeetsRule, Sits}
+use Rattle.pay_words.specs.Bells.{bell}
 use Rattle.pay_words.specs.Ends.{values}
 use Rattle.pay_words.specs.Standing.{payments_in}
 use Rattle.pay_words.specs.declared.view.Shown.{Shown}
