@@ -17,7 +17,7 @@ use Rattle.bank_worker.specs.Raises.{debts_of}
 use Rattle.bank_worker.specs.Rings.{creditors_of}
 use Rattle.bank_worker.specs.Rising.{Rises}
 use Rattle.bank_worker.specs.Views.{WorkerView, banks_held, banks_of, desk_at, desks_held}
-use Rattle.bank_worker.specs.Visits.{IsSameSeat, IsSameWorker, Notes, with_bell}
+use Rattle.bank_worker.specs.Visits.{IsSameSeat, IsSameWorker, IsVisited, with_bell}
 use Rattle.bank_worker.proofs.Filtered.{filter_rises}
 use Rattle.bank_worker.proofs.Manned.{desk_is}
 use Rattle.bank_worker.proofs.PlacesOfBanks.{banks_of_desks, not_after}
@@ -145,14 +145,14 @@ calls_on old cur new first called more now same stay a b =
     )
 
 -- the creditors of the debts that a visit raised are called
-pub calls_visit : (cur taken new : WorkerView) (b from : ℕ) (desk : BankView) (now : List ℕ) → taken ≡ with_bell cur b → IsSameWorker taken new
-    → Notes desk taken new → from ≡ length taken.journal → AreCreditorsIn new.seat.shows.net now (drop from new.journal) → CallsOthers cur new now
-calls_visit cur taken new b from desk now is same notes from_is h =
-    let made = notes.seat.made in
+pub calls_visit : (cur taken new : WorkerView) (b from n : ℕ) (desk : BankView) (now : List ℕ) → taken ≡ with_bell cur b → IsSameWorker taken new
+    → IsVisited desk n taken new → from ≡ length taken.journal → AreCreditorsIn new.seat.shows.net now (drop from new.journal) → CallsOthers cur new now
+calls_visit cur taken new b from n desk now is same visited from_is h =
+    let made = visited.seat.notes.made in
     let net : new.seat.shows.net ≡ cur.seat.shows.net = same.seat.net ∙ ap (λ (w : WorkerView). w.seat.shows.net) is in
-    let noted : drop from new.journal ≡ made = rw (from_is, notes.journal) (drop-append_seam taken.journal made) in
+    let noted : drop from new.journal ≡ made = rw (from_is, visited.journal) (drop-append_seam taken.journal made) in
     record {
       made = made;
-      grew = notes.journal ∙ ap (λ (w : WorkerView). w.journal ++ made) is;
+      grew = visited.journal ∙ ap (λ (w : WorkerView). w.journal ++ made) is;
       rung = λ x lx o other. rw net at (h x (rw net lx) (rw noted o));
     }

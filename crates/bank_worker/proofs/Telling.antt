@@ -32,16 +32,16 @@ told_none w = record {
 -- one visit more
 told_more : (old cur new : WorkerView) (place n : ℕ) → IsSameWorker old cur → AreTold old cur → IsCalledVisit place n cur new → AreTold old new
 told_more old cur new place n same h v =
-    let notes = v.visited.notes in
-    let last : VisitMade = record { place = place; found = last_seen new.seat.shows; made = notes.seat.made } in
+    let notes = v.visited.seat.notes in
+    let last : VisitMade = record { place = place; found = last_seen new.seat.shows; made = notes.made } in
     record {
       visits = h.visits ++ last ∷ [];
       as_many = omega (arith, v.counted, h.as_many, length-append h.visits (last ∷ []));
       known = All-push (λ (v : VisitMade). v.place < length old.desks) h.visits last h.known (rw same.desks at v.known);
-      divide = All-push (RaisesWhatItLoaded old.seat.shows.net old.desks) h.visits last h.divide (rw (same.desks, same.seat.net) at notes.seat.raised);
-      acts = simp (notes.seat.acts, h.acts, same.seat.net, same.desks, flat_map-append, append-nil, append_assoc);
-      raises = simp (notes.seat.grew, h.raises, flat_map-append, append-nil, append_assoc);
-      journal = simp (notes.journal, h.journal, flat_map-append, append-nil, append_assoc);
+      divide = All-push (RaisesWhatItLoaded old.seat.shows.net old.desks) h.visits last h.divide (rw (same.desks, same.seat.net) at notes.raised);
+      acts = simp (notes.acts, h.acts, same.seat.net, same.desks, flat_map-append, append-nil, append_assoc);
+      raises = simp (notes.grew, h.raises, flat_map-append, append-nil, append_assoc);
+      journal = simp (v.visited.journal, h.journal, flat_map-append, append-nil, append_assoc);
     }
 
 -- visits one by one leave the worker the same, and are told by what was done

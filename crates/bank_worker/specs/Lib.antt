@@ -11,3 +11,4 @@ pub mod Grows
 pub mod Staff
 pub mod Offices
 pub mod Told
+pub mod Cases

@@ -1,9 +1,10 @@
 -- What looks at some debts change of what a seat shows.
-use Rattle.std.specs.Prelude.{◌≡◌, ◌≢◌, ℕ, ◌+◌, ◌<◌, ◌≤◌, ◌++◌, true, false, List, length, map, slice_index, sum_by, take}
+use Rattle.std.specs.Prelude.{◌≡◌, ◌≢◌, ℕ, ◌+◌, ◌<◌, ◌≤◌, ◌++◌, true, false, List, length, map}
+use Rattle.std.specs.Prelude.{slice_index, sum_by, take}
 use Rattle.clr_net.specs.Net.{creditor_of}
 use Rattle.pay_words.specs.declared.payment.Payment.{Payment}
 use Rattle.pay_words.specs.declared.view.Act.{Act}
-use Rattle.pay_words.specs.declared.view.Act.TheVariants.{Look, Raise as Raised, Ring, Take}
+use Rattle.pay_words.specs.declared.view.Act.TheVariants as act
 use Rattle.pay_words.specs.declared.view.Shown.{Shown}
 use Rattle.pay_words.specs.Views.{IsOver, holds, is_marked, look_at}
 use Rattle.bank_worker.specs.Rising.{Rises}
@@ -37,17 +38,17 @@ looks_at found xs = map (λ x. look_at x (found x)) xs
 
 -- what an act loaded, in units: what a look found, and otherwise nothing
 abbrev pub loaded : Act → ℕ
-loaded (Look x p) = p.value
-loaded (Raised x) = 0
-loaded (Ring b) = 0
-loaded (Take b) = 0
+loaded (act.Look x p) = p.value
+loaded (act.Raise x) = 0
+loaded (act.Ring b) = 0
+loaded (act.Take b) = 0
 
 -- what the looks among some acts loaded, in units
 abbrev pub loaded_in : List Act → ℕ
 loaded_in acts = sum_by loaded acts
 
--- the first n of the debts xs were looked at once each, in order, and no other; what each look found
--- was last seen
+-- the first n of the debts xs were looked at once each, in order, and no other; what each look
+-- found was last seen
 pub record IsLooked (s t : Shown) (xs : List ℕ) (n : ℕ) : Type 0 where
   pub over : IsOver t
   pub only : t ≡ record s {

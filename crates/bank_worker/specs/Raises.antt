@@ -1,5 +1,6 @@
 -- What raises of some debts change of what a seat shows.
-use Rattle.std.specs.Prelude.{◌≡◌, ◌≢◌, ◌⊎◌, ℕ, ◌<◌, ◌≤◌, ◌++◌, true, List, length, map, slice_index}
+use Rattle.std.specs.Prelude.{◌≡◌, ◌≢◌, ◌⊎◌, ℕ, ◌<◌, ◌≤◌, ◌++◌, true, List, length, map}
+use Rattle.std.specs.Prelude.{slice_index}
 use Rattle.clr_net.specs.Net.{debtor_of}
 use Rattle.clear_core.specs.Clearing.{part, receipts}
 use Rattle.clear_core.specs.declared.event.Raise.{Raise}

@@ -1,7 +1,8 @@
 -- What the rings for some raises change of what a seat shows, and the marks of the creditors that
 -- were rung.
 use Rattle.std.specs.List.{list_any}
-use Rattle.std.specs.Prelude.{◌≡◌, ℕ, ◌<◌, ◌≤◌, ◌==◌, ◌++◌, if◌then◌else◌, Bool, true, false, List, [], ◌∷◌, length, map, slice_index}
+use Rattle.std.specs.Prelude.{◌≡◌, ℕ, ◌<◌, ◌≤◌, ◌==◌, ◌++◌, if◌then◌else◌, Bool, true, false, List}
+use Rattle.std.specs.Prelude.{[], ◌∷◌, length, map, slice_index}
 use Rattle.clr_net.specs.Net.{Net, creditor_of, debtor_of, debt_numbers}
 use Rattle.clear_core.specs.declared.event.Raise.{Raise}
 use Rattle.pay_words.specs.declared.view.Shown.{Shown}
@@ -35,11 +36,12 @@ is_among xs c = list_any (λ x. c == x) xs
 abbrev pub with_new : List ℕ → ℕ → List ℕ
 with_new xs c = if is_among xs c then xs else xs ++ c ∷ []
 
--- each number of the list once, in the order in which they first stand there, after those of another
+-- each number of the list once, in the order in which they first stand, after those of another
 abbrev pub each_once_after : List ℕ → List ℕ → List ℕ
 each_once_after ys [] = ys
 each_once_after ys (x ∷ xs) = each_once_after (with_new ys x) xs
 
+-- each number of the list once, in the order in which they first stand there
 abbrev pub each_once : List ℕ → List ℕ
 each_once xs = each_once_after [] xs
 

@@ -1,16 +1,16 @@
 -- In which order a worker visits its banks.
 use Rattle.std.specs.Prelude.{◌≡◌, ℕ, ◌≤◌, ◌++◌, All, List, [], ◌∷◌, flat_map, length}
 use Rattle.pay_words.specs.declared.view.Act.{Act}
-use Rattle.pay_words.specs.declared.view.Act.TheVariants.{Look, Raise as Raised, Ring, Take}
+use Rattle.pay_words.specs.declared.view.Act.TheVariants as act
 use Rattle.bank_worker.specs.Rising.{Rises}
 use Rattle.bank_worker.specs.Views.{WorkerView}
 
 -- the bank whose bell was found up, where it was
 abbrev pub bank_taken : Act → List ℕ
-bank_taken (Look x p) = []
-bank_taken (Raised x) = []
-bank_taken (Ring b) = []
-bank_taken (Take b) = b.0 ∷ []
+bank_taken (act.Look x p) = []
+bank_taken (act.Raise x) = []
+bank_taken (act.Ring b) = []
+bank_taken (act.Take b) = b.0 ∷ []
 
 -- the banks whose bells were found up, in this order
 abbrev pub banks_taken : List Act → List ℕ

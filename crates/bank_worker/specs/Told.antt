@@ -1,11 +1,12 @@
 -- What the acts of a seat tell of the visits of its worker.
-use Rattle.std.specs.Prelude.{◌≡◌, ℕ, ◌+◌, ◌<◌, ◌++◌, All, Bool, true, false, List, ◌∷◌, count_by, flat_map, length}
+use Rattle.std.specs.Prelude.{◌≡◌, ℕ, ◌+◌, ◌<◌, ◌++◌, All, Bool, true, false, List, ◌∷◌, count_by}
+use Rattle.std.specs.Prelude.{flat_map, length}
 use Rattle.clr_net.specs.Net.{Net}
 use Rattle.clear_core.specs.declared.event.Raise.{Raise}
 use Rattle.bank_desk.specs.Desks.{BankView}
 use Rattle.pay_words.specs.declared.payment.Payment.{Payment}
 use Rattle.pay_words.specs.declared.view.Act.{Act}
-use Rattle.pay_words.specs.declared.view.Act.TheVariants.{Look, Raise as Raised, Ring, Take}
+use Rattle.pay_words.specs.declared.view.Act.TheVariants as act
 use Rattle.pay_words.specs.Views.{take_of}
 use Rattle.bank_worker.specs.Views.{WorkerView, desk_at}
 use Rattle.bank_worker.specs.Looks.{loaded_in}
@@ -44,10 +45,10 @@ pub record AreTold (old new : WorkerView) : Type 0 where
 
 -- whether it is a take that found a bell up
 abbrev pub is_take : Act → Bool
-is_take (Look x p) = false
-is_take (Raised x) = false
-is_take (Ring b) = false
-is_take (Take b) = true
+is_take (act.Look x p) = false
+is_take (act.Raise x) = false
+is_take (act.Ring b) = false
+is_take (act.Take b) = true
 
 -- how many bells were found up
 abbrev pub takes_in : List Act → ℕ

@@ -1,5 +1,6 @@
 -- What contracts see of a worker.
-use Rattle.std.specs.Prelude.{◌≡◌, ℕ, false, List, [], filter, length, map, sum_by, slice_index, slice_index_or}
+use Rattle.std.specs.Prelude.{◌≡◌, ℕ, false, List, [], filter, length, map, sum_by, slice_index}
+use Rattle.std.specs.Prelude.{slice_index_or}
 use Rattle.std.specs.List.{range_with_len}
 use Rattle.clr_net.specs.declared.rule.RuleKind.TheVariants as kind
 use Rattle.clear_core.specs.declared.event.Raise.{Raise}
@@ -15,8 +16,8 @@ pub record WorkerView : Type 0 where
   pub visits : ℕ
   pub journal : List Raise
 
--- the seat is that of a worker of this board, and each of its lists has a place for each bank, or for
--- each debt
+-- the seat is that of a worker of this board, and each of its lists has a place for each bank, or
+-- for each debt
 pub record IsWorking (board : BoardView) (seat : SeatView) : Type 0 where
   pub at : IsAt board seat
   pub not_the_master : seat.shows.master ≡ false
@@ -47,6 +48,7 @@ no_desk = record {
 abbrev pub banks_of : List BankView → List ℕ
 banks_of desks = map (λ d. d.bank) desks
 
+-- the desk in the place k, and that of no bank past the last one
 abbrev pub desk_at : List BankView → ℕ → BankView
 desk_at desks k = slice_index_or desks k no_desk
 

@@ -1,5 +1,6 @@
 -- What a visit and a round do.
-use Rattle.std.specs.Prelude.{◌≡◌, ◌≢◌, ◌⊎◌, ℕ, ◌+◌, ◌<◌, ◌≤◌, ◌++◌, true, false, All, List, [], ◌∷◌, length, map, slice_index, sum}
+use Rattle.std.specs.Prelude.{◌≡◌, ◌≢◌, ◌⊎◌, ℕ, ◌+◌, ◌<◌, ◌≤◌, ◌++◌, true, false, All, List, []}
+use Rattle.std.specs.Prelude.{◌∷◌, length, map, slice_index, sum}
 use Rattle.clr_net.specs.Net.{Net, creditor_of, debtor_of}
 use Rattle.clear_core.specs.declared.event.Raise.{Raise}
 use Rattle.bank_desk.specs.Desks.{BankView, target}
@@ -73,8 +74,8 @@ abbrev pub acts_of : Net → BankView → (ℕ → Payment) → List Raise → L
 acts_of net desk found made = looks_at found desk.debts_in ++ map raise_of (debts_of made)
     ++ map ring_of (called_by net made)
 
--- each of these raises is of a debt of the desk's bank, to what the bank's rule gives that debt from
--- its cash and from so many units, less what it owes outside
+-- each of these raises is of a debt of the desk's bank, to what the bank's rule gives that debt
+-- from its cash and from so many units, less what it owes outside
 abbrev pub AreRaisedBy : BankView → ℕ → List Raise → Type 0
 AreRaisedBy desk received made =
     All (IsAmong desk.debts_out (target desk received) (length desk.debts_out)) made
@@ -91,11 +92,6 @@ pub record AreNoted (desk : BankView) (s t : Shown) : Type 0 where
   pub acts : t.acts ≡ s.acts ++ acts_of s.net desk (last_seen t) made
   pub divides : DividesOf (loaded_in (acts_of s.net desk (last_seen t) made)) t desk
   pub raised : AreRaisedBy desk (loaded_in (acts_of s.net desk (last_seen t) made)) made
-
--- and the worker's journal grew by the same raises
-pub record Notes (desk : BankView) (old new : WorkerView) : Type 0 where
-  pub seat : AreNoted desk old.seat.shows new.seat.shows
-  pub journal : new.journal ≡ old.journal ++ seat.made
 
 -- no debt of the bank owes a ring, and for another bank of the seat nothing changed; nor did the
 -- fresh marks and the bells taken
@@ -116,12 +112,10 @@ pub record IsSeatVisited (desk : BankView) (n : ℕ) (s t : Shown) : Type 0 wher
   pub notes : AreNoted desk s t
   pub rings : RingsAll desk s t
 
--- a visit that raised n units
+-- what it does to the worker: its journal grows by the very raises that the seat made
 pub record IsVisited (desk : BankView) (n : ℕ) (old new : WorkerView) : Type 0 where
-  pub looks : LooksOnce desk old.seat.shows new.seat.shows
-  pub pays : PaysOut desk n old.seat.shows new.seat.shows
-  pub notes : Notes desk old new
-  pub rings : RingsAll desk old.seat.shows new.seat.shows
+  pub seat : IsSeatVisited desk n old.seat.shows new.seat.shows
+  pub journal : new.journal ≡ old.journal ++ seat.notes.made
 
 -- the worker once it took the bell of the bank b
 abbrev pub with_bell : WorkerView → ℕ → WorkerView

@@ -2,7 +2,8 @@ ghost use Rattle.bank_worker.specs.BankSets.{HaveNoneInBoth, is_in};
 ghost use Rattle.bank_worker.specs.declared.bank_set.TheConstants.{WORDS};
 ghost use Rattle.clr_net.specs.declared.TheConstants.{MAX_BANKS};
 ghost use Rattle.std.specs.Int.{trailing_zeros, w64};
-ghost use Rattle.std.specs.Prelude.{◌≡◌, ◌≢◌, ◌+◌, ◌*◌, ◌/◌, ◌<◌, ◌≤◌, ◌==◌, ◌&&◌, ◌||◌, ℕ, false, not, true};
+ghost use Rattle.std.specs.Prelude.{◌≡◌, ◌≢◌, ◌+◌, ◌*◌, ◌/◌, ◌<◌, ◌≤◌, ◌==◌, ◌&&◌, ◌||◌, ℕ, false};
+ghost use Rattle.std.specs.Prelude.{not, true};
 ghost use Rattle.std.specs.Prelude.{IfNone, IfSome, bit_or, slice_index};
 
 use clr_net::{BankId, MAX_BANKS};

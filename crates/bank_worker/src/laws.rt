@@ -7,9 +7,9 @@ ghost use Rattle.std.specs.Prelude.{◌≡◌, ◌+◌, ℕ};
 /// Where a worker did nothing but visits to which bells called it, all that was done with its seat
 /// is, visit by visit: a take that found the bell of a bank of the worker up, one look at each debt
 /// to that bank, its raises, and one ring of each creditor of these. There are as many as were
-/// counted, and the journal has their raises and no other. Each visit raised to what the bank's rule
-/// gives from its cash and from the sum of what the looks of that very visit found, less what it owes
-/// outside.
+/// counted, and the journal has their raises and no other. Each visit raised to what the bank's
+/// rule gives from its cash and from the sum of what the looks of that very visit found, less what
+/// it owes outside.
 pub fn acts_are_those_of_visits_by_bells()
     ensures { (n : ℕ) (old new : WorkerView) → IsAllVisits n old new → AreTold old new }
 {}

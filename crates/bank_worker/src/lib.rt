@@ -6,10 +6,10 @@
 //! Whatever the other workers do meanwhile, after a round each of its banks pays its rule's
 //! division at what the worker last saw, and each debt to them was seen at least at the floor.
 //!
-//! A *seat* is the right to look, raise, ring and take on a board. A *desk* has what is known of one
-//! bank. An *office* has the desks of a worker, and the workspace that it keeps from round to round.
-//! Contracts see a worker as a `WorkerView`: its seat, desks, number, visits and journal. A bank is
-//! *called* while it is on the worklist of a round, the set of banks whose bells may be up.
+//! A *seat* is the right to look, raise, ring and take on a board. A *desk* has what is known of
+//! one bank. An *office* has the desks of a worker, and the workspace that it keeps from round to
+//! round. Contracts see a worker as a `WorkerView`: its seat, desks, number, visits and journal. A
+//! bank is *called* while it is on the worklist of a round, the set of banks whose bells may be up.
 #![tactic(auto)]
 
 mod bank_set;
@@ -20,8 +20,10 @@ mod office;
 mod plain;
 mod raises;
 mod rings;
+mod rounds;
 mod visit;
 mod worker;
+mod workspace;
 
 pub use bank_set::BankSet;
 pub use office::Office;

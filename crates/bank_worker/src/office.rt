@@ -1,24 +1,20 @@
-ghost use Rattle.bank_desk.specs.Desks.{target, with_cash_in};
-ghost use Rattle.bank_worker.specs.BankSets.{is_in};
+ghost use Rattle.bank_desk.specs.Desks.{with_cash_in};
 ghost use Rattle.bank_worker.specs.Offices.{IsOfficeFor, banks_of_worker};
-ghost use Rattle.bank_worker.specs.Rings.{AreMarksBelow, AreMarksUpTo, creditors_of, is_among};
 ghost use Rattle.bank_worker.specs.Staff.{IsStaffed};
 ghost use Rattle.bank_worker.specs.Views.{desk_at};
 ghost use Rattle.bank_worker.specs.Visits.{IsSeatVisited};
-ghost use Rattle.clr_net.specs.Net.{creditor_of};
-ghost use Rattle.clr_net.specs.declared.TheConstants.{MAX_BANKS, MAX_OWED};
+ghost use Rattle.clr_net.specs.declared.TheConstants.{MAX_OWED};
 ghost use Rattle.pay_words.specs.Views.{IsAt};
-ghost use Rattle.std.specs.Prelude.{◌≡◌, ◌<◌, ◌≤◌, ℕ, [], All, IfOk, length, map};
-ghost use Rattle.std.specs.Prelude.{vec_capacity, vec_len};
+ghost use Rattle.std.specs.Prelude.{◌≡◌, ◌<◌, ◌≤◌, [], All, IfOk, length, map};
 
 use crate::bank_set::BankSet;
 use crate::desks::Desks;
 use crate::looks::look_at_all;
 use crate::raises::raise_all;
 use crate::rings::ring_all;
-use bank_desk::Desk;
-use clear_core::{Journal, Raise, longest_row};
-use clr_net::{BankId, DebtId, MAX_BANKS, MAX_OWED, Mem, Network};
+use crate::workspace::{Workspace, lay_out};
+use clear_core::Journal;
+use clr_net::{MAX_BANKS, MAX_OWED, Mem, Network};
 use pay_words::{Board, PaySeat};
 use std::alloc::Global;
 use std::marker::Model;
@@ -34,27 +30,8 @@ const FEW_RAISES: usize = 64;
 pub struct Office {
     desks: Desks,
     worker: u32,
+    // It stays in its place in memory, so that little is moved where an office is taken up or left.
     workspace: Box<Workspace>,
-}
-
-// What an office has beside its desks. It stays in its place in memory, so that little is moved
-// where an office is taken up or left.
-#[derive(Drop)]
-struct Workspace {
-    // The creditor of each debt, in file order: in two bytes, since they are read in any order.
-    creditors: Vec<u16>,
-    // For each bank the number of the last visit that rang it, or 0. Visits are counted over all
-    // seats.
-    marks: Vec<u64>,
-    // How many visits there were: no mark is of a later one.
-    counted: u64,
-    // What the bank that is visited should pay on each of its debts.
-    targets: Vec<u64>,
-    // The banks of the desks, and how many workers there are.
-    mine: BankSet,
-    workers: u32,
-    // Room for the raises of the next seat.
-    raises: Vec<Raise>,
 }
 
 impl Model for Office {
@@ -85,16 +62,9 @@ impl Office {
             (λ o. IsOfficeFor net.now (banks_of_worker net.now workers worker) o) }
         ensures worker { IfOk result (λ o. o.worker ≡ worker) }
     {
+        prove!(net.banks() <= MAX_BANKS);
         let desks = Desks::of(alloc, net, worker, workers)?;
-        let workspace = Workspace {
-            creditors: creditors(alloc, net)?,
-            marks: no_marks(alloc, net.banks() as usize)?,
-            counted: 0,
-            targets: Vec::with_capacity(alloc, longest_row(net))?,
-            mine: set_of(desks.banks()),
-            workers,
-            raises: Vec::new(alloc),
-        };
+        let workspace = Workspace::of(alloc, net, desks.banks(), workers)?;
         let workspace = Box::new(alloc, workspace)?;
         Ok(Office {
             desks,
@@ -213,97 +183,4 @@ impl Office {
         );
         units
     }
-}
-
-impl Workspace {
-    // Counts a visit, of which no mark is yet.
-    fn count_visit(&mut self)
-        requires { AreMarksUpTo self.old.counted self.old.marks.items }
-        ensures marks { AreMarksBelow self.new.counted self.new.marks.items }
-        ensures as_many { length self.new.marks.items ≡ length self.old.marks.items }
-        ensures creditors { self.new.creditors ≡ self.old.creditors }
-        ensures targets { self.new.targets ≡ self.old.targets }
-        ensures mine { (self.new.mine ≡ self.old.mine) × (self.new.workers ≡ self.old.workers) }
-    {
-        self.counted = next_number(&mut self.marks, self.counted);
-    }
-}
-
-// The set of these banks.
-fn set_of(banks: &[u32]) -> BankSet
-    requires { All (λ b. b < MAX_BANKS) banks.now }
-    ensures { (b : ℕ) → is_in result b ≡ is_among banks.now b }
-{
-    let mut set = BankSet::none();
-    for bank in banks {
-        set.add(BankId(*bank));
-    }
-    set
-}
-
-// The creditor of each debt, in file order.
-fn creditors(alloc: Global, net: &Network) -> Result<Vec<u16>, Mem>
-    ensures { IfOk result (λ creditors. creditors.items ≡ creditors_of net.now) }
-{
-    let mut creditors = Vec::with_capacity(alloc, net.debts() as usize)?;
-    for number in 0..net.debts() {
-        creditors.push_reserved(creditor(net, DebtId(number)));
-    }
-    Ok(creditors)
-}
-
-// The creditor of a debt: the number of a bank is below that of all banks, which two bytes hold.
-fn creditor(net: &Network, debt: DebtId) -> u16
-    requires { debt.0 < length net.now.debts }
-    ensures { result ≡ creditor_of net.now debt.0 }
-{
-    prove!(net.banks() <= MAX_BANKS);
-    net.debt(debt).creditor.0 as u16
-}
-
-// As many marks of no visit.
-#[tactic(auto, using(crate::proofs::Basics::unmarked))]
-fn no_marks(alloc: Global, banks: usize) -> Result<Vec<u64>, Mem>
-    ensures marks { IfOk result (λ marks. AreMarksUpTo 0 marks.items) }
-    ensures as_many { IfOk result (λ marks. length marks.items ≡ banks) }
-{
-    Ok(vec![in alloc; 0; banks]?)
-}
-
-// The number of a visit more, of which no mark is yet. Only where the numbers end are all marks
-// taken away.
-#[tactic(auto, using(crate::proofs::Basics::below_first))]
-fn next_number(marks: &mut [u64], counted: u64) -> u64
-    requires { AreMarksUpTo counted marks.old }
-    ensures below { AreMarksBelow result marks.new }
-    ensures as_many { length marks.new ≡ length marks.old }
-{
-    if counted < u64::MAX {
-        return counted + 1;
-    }
-    marks.fill(0);
-    1
-}
-
-// Lays out what the desk's bank should pay on each of its debts when it receives so many units.
-fn lay_out(desk: &Desk, received: u64, targets: &mut Vec<u64>)
-    requires received { received ≤ MAX_OWED }
-    requires room { length desk.now.debts_out ≤ vec_capacity targets.old }
-    ensures targets { targets.new.items ≡ target desk.now received }
-    ensures room { vec_capacity targets.old ≤ vec_capacity targets.new }
-{
-    blank(targets, desk.debts_out().len());
-    desk.target(received, targets.as_mut_slice());
-}
-
-// As many targets of nothing as there are places.
-fn blank(targets: &mut Vec<u64>, places: usize)
-    requires { places ≤ vec_capacity targets.old }
-    ensures places { vec_len targets.new ≡ places }
-    ensures room { vec_capacity targets.old ≤ vec_capacity targets.new }
-{
-    targets.clear();
-    let Ok(()) = targets.resize(places, 0) else {
-        unreachable!()
-    };
 }

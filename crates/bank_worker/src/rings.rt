@@ -1,4 +1,5 @@
-ghost use Rattle.bank_worker.specs.Rings.{AreMarksBelow, AreMarksUpTo, IsRungAll, OweRings, creditors_of};
+ghost use Rattle.bank_worker.specs.Rings.{AreMarksBelow, AreMarksUpTo, IsRungAll, OweRings};
+ghost use Rattle.bank_worker.specs.Rings.{creditors_of};
 ghost use Rattle.pay_words.specs.Views.{IsAt};
 ghost use Rattle.clr_net.specs.Limits.{IsNetwork};
 ghost use Rattle.std.specs.Prelude.{◌≡◌, length};

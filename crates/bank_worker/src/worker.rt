@@ -1,15 +1,13 @@
-ghost use Rattle.bank_worker.specs.BankSets.{is_in};
-ghost use Rattle.bank_worker.specs.Called.{AreCalledOrAtRest, AreCalledTo, AreCreditorsIn};
-ghost use Rattle.bank_worker.specs.Called.{CallsOthers, KeepsOthers, StayIn};
-ghost use Rattle.bank_worker.specs.Grows.{Grows, MakesRound};
+//! A worker, and what it does in one visit.
+ghost use Rattle.bank_worker.specs.Called.{AreCalledTo, AreCreditorsIn, StayIn};
+ghost use Rattle.bank_worker.specs.Grows.{Grows};
 ghost use Rattle.bank_worker.specs.Offices.{IsOfficeFor};
 ghost use Rattle.bank_worker.specs.Views.{banks_held, desk_at, desks_held};
-ghost use Rattle.bank_worker.specs.Visits.{IsAllCalm, IsDown, IsSameWorker, IsVisited, MayRest};
-ghost use Rattle.bank_worker.specs.Visits.{WhenMem, WhenRaised};
+ghost use Rattle.bank_worker.specs.Visits.{IsDown, IsSameWorker, IsVisited, WhenMem, WhenRaised};
 ghost use Rattle.clr_net.specs.declared.TheConstants.{MAX_BANKS, MAX_OWED};
 ghost use Rattle.pay_words.specs.Views.{IsAt, OwesNoRing, holds, took};
-ghost use Rattle.std.specs.Prelude.{◌≡◌, ◌+◌, ◌*◌, ◌^◌, ◌<◌, ◌≤◌, ℕ, [], IfNone};
-ghost use Rattle.std.specs.Prelude.{IfSome, drop, false, if◌then◌else◌, length, slice_index, true};
+ghost use Rattle.std.specs.Prelude.{◌≡◌, ◌+◌, ◌^◌, ◌<◌, ◌≤◌, ℕ, [], drop, false, if◌then◌else◌};
+ghost use Rattle.std.specs.Prelude.{length, slice_index, true};
 
 use crate::bank_set::BankSet;
 use crate::office::Office;
@@ -28,10 +26,10 @@ use std::marker::Model;
 /// journal. The journal always is the seat's raises, and the seat owes no ring.
 #[derive(Drop)]
 pub struct Worker {
-    seat: PaySeat,
-    office: Office,
-    visits: u64,
-    journal: Journal,
+    pub(crate) seat: PaySeat,
+    pub(crate) office: Office,
+    pub(crate) visits: u64,
+    pub(crate) journal: Journal,
 }
 
 impl Model for Worker {
@@ -123,54 +121,6 @@ impl Worker {
         Visit::Raised(self.office.visit(board, seat, &mut self.journal, place))
     }
 
-    /// Goes over the desks in order, so many times: takes each bell that is up, and visits that
-    /// desk. Ends early after a sweep that found no bell up. Answers the units of all visits, or
-    /// `Mem` at the first visit that answers so, and then takes no bell and makes no visit.
-    ///
-    /// In each sweep all banks are called anew, since another worker may ring at any time.
-    pub fn round<G: Gate>(&mut self, board: &Board, sweeps: u32, gate: &G) -> Visit
-        requires seat { IsAt board.now self.old.seat }
-        requires sweeps { (1 ≤ sweeps) × (sweeps ≤ 1000) }
-        requires visits { self.old.visits ≤ 2 ^ 62 }
-        requires idle { OwesNoRing self.old.seat.shows × IsAllCalm self.old.seat.shows
-            × MayRest self.old.seat.shows self.old.desks }
-        ensures { MakesRound sweeps result self.old self.new }
-    {
-        // That the banks of the desks are among all banks is known of the office, read here.
-        let _ = &self.office;
-        self.go_round(
-            board,
-            sweeps,
-            gate,
-            &mut BankSet::all(),
-            Some(&BankSet::all()),
-        )
-    }
-
-    /// Makes a round as [`round`](Worker::round) does, and looks at the bells of those banks alone
-    /// that are called. A bank that was never visited, or that may not have seen what was paid to
-    /// it before the seat was handed out, is called. Each bank that is rung is called, of whichever
-    /// worker; a bank of the seat is so no more once its bell was found down or was taken.
-    pub fn round_called<G: Gate>(
-        &mut self,
-        board: &Board,
-        sweeps: u32,
-        gate: &G,
-        called: &mut BankSet,
-    ) -> Visit
-        requires seat { IsAt board.now self.old.seat }
-        requires sweeps { (1 ≤ sweeps) × (sweeps ≤ 1000) }
-        requires visits { self.old.visits ≤ 2 ^ 62 }
-        requires idle { OwesNoRing self.old.seat.shows × IsAllCalm self.old.seat.shows
-            × MayRest self.old.seat.shows self.old.desks }
-        requires called { AreCalledOrAtRest called.old self.old.seat.shows self.old.desks }
-        ensures round { MakesRound sweeps result self.old self.new }
-        ensures keeps_others { KeepsOthers self.old.seat.shows called.old called.new }
-        ensures rung { CallsOthers self.old self.new called.new }
-    {
-        self.go_round(board, sweeps, gate, called, None)
-    }
-
     /// The seat, the journal of its raises, and the office, which may be given another seat for
     /// the same banks. Takes no memory.
     pub fn leave(self) -> (PaySeat, Journal, Office)
@@ -189,96 +139,6 @@ impl Worker {
         (seat, journal, office)
     }
 
-    // Makes a round: sweeps over the desks whose banks are called, and before each sweep calls some
-    // banks anew, or none.
-    fn go_round<G: Gate>(
-        &mut self,
-        board: &Board,
-        sweeps: u32,
-        gate: &G,
-        called: &mut BankSet,
-        anew: Option<&BankSet>,
-    ) -> Visit
-        requires seat { IsAt board.now self.old.seat }
-        requires sweeps { (1 ≤ sweeps) × (sweeps ≤ 1000) }
-        requires visits { self.old.visits ≤ 2 ^ 62 }
-        requires idle { IsAllCalm self.old.seat.shows
-            × MayRest self.old.seat.shows self.old.desks }
-        requires called { AreCalledOrAtRest called.old self.old.seat.shows self.old.desks }
-        ensures round { MakesRound sweeps result self.old self.new }
-        ensures keeps_others { KeepsOthers self.old.seat.shows called.old called.new }
-        ensures rung { CallsOthers self.old self.new called.new }
-    {
-        let desks = self.desks();
-        prove!(desks <= MAX_BANKS as usize);
-        let last = self.last();
-        let mut units = 0;
-        for _ in 0..sweeps {
-            let visits = self.visits;
-            call_anew(called, anew, last);
-            match self.sweep(board, gate, called) {
-                Visit::Raised(more) => units += more,
-                Visit::Mem => return Visit::Mem,
-            }
-            if self.visits == visits {
-                break;
-            }
-        }
-        Visit::Raised(units)
-    }
-
-    // One sweep over the desks whose banks are called, in order.
-    fn sweep<G: Gate>(&mut self, board: &Board, gate: &G, called: &mut BankSet) -> Visit
-        requires seat { IsAt board.now self.old.seat }
-        requires visits { self.old.visits < 2 ^ 62 + 2 ^ 61 }
-        requires idle { IsAllCalm self.old.seat.shows
-            × MayRest self.old.seat.shows self.old.desks }
-        requires called { AreCalledOrAtRest called.old self.old.seat.shows self.old.desks }
-        ensures round { MakesRound 1 result self.old self.new }
-        ensures few { WhenRaised result (λ n. n ≤ length self.old.desks * MAX_OWED) }
-        ensures keeps_others { KeepsOthers self.old.seat.shows called.old called.new }
-        ensures rung { CallsOthers self.old self.new called.new }
-    {
-        let desks = self.desks();
-        let mut units = 0;
-        let mut from = 0;
-        'sweep: loop {
-            let place = self.next_called(called, from);
-            if place >= desks {
-                return Visit::Raised(units);
-            }
-            called.remove(self.bank(place));
-            if self.take(board, place) {
-                let before = self.journal.as_slice().len();
-                match self.visit(board, place, gate) {
-                    Visit::Raised(more) => units += more,
-                    Visit::Mem => return Visit::Mem,
-                }
-                self.call_creditors(before, called);
-            }
-            from = place + 1;
-        }
-    }
-
-    // The first place from this one on whose bank is called, or a place past all desks.
-    fn next_called(&self, called: &BankSet, from: usize) -> usize
-        requires from { from ≤ length self.now.desks }
-        ensures ahead { from ≤ result }
-        ensures none_before { (k : ℕ) → from ≤ k → k < result → k < length self.now.desks
-            → is_in called.now (desk_at self.now.desks k).bank ≡ false }
-    {
-        let banks = self.office.desks().banks();
-        if from == banks.len() {
-            return from;
-        }
-        let last = self.bank(banks.len() - 1);
-        let mine = self.office.banks();
-        match mine.first_in_both(called, banks[from], last.0) {
-            Some(bank) => (bank.0 / self.office.workers()) as usize,
-            None => banks.len(),
-        }
-    }
-
     /// Calls the creditors of the debts that were raised, from this place of the journal on.
     pub fn call_creditors(&self, from: usize, called: &mut BankSet)
         requires { from ≤ length self.now.journal }
@@ -291,7 +151,7 @@ impl Worker {
     }
 
     // The bank of a desk.
-    fn bank(&self, place: usize) -> BankId
+    pub(crate) fn bank(&self, place: usize) -> BankId
         requires { place < length self.now.desks }
         ensures bank { result.0 ≡ (desk_at self.now.desks place).bank }
         ensures few { result.0 < MAX_BANKS }
@@ -301,20 +161,9 @@ impl Worker {
         BankId(banks[place])
     }
 
-    // The bank of the last desk, or the first bank of all where there is no desk.
-    fn last(&self) -> BankId
-        ensures { result.0 < MAX_BANKS }
-    {
-        let desks = self.desks();
-        if desks == 0 {
-            return BankId(0);
-        }
-        self.bank(desks - 1)
-    }
-
     // Takes the bell of a desk's bank, and answers whether it was up.
     #[tactic(auto, using(crate::proofs::Staffed::staffed_taken))]
-    fn take(&mut self, board: &Board, place: usize) -> bool
+    pub(crate) fn take(&mut self, board: &Board, place: usize) -> bool
         requires seat { IsAt board.now self.old.seat }
         requires place { place < length self.old.desks }
         ensures taken { self.new ≡ record self.old {
@@ -329,20 +178,6 @@ impl Worker {
     {
         let bank = self.bank(place);
         board.take(&mut self.seat, bank)
-    }
-}
-
-// Calls these banks, if any, up to the last one.
-#[tactic(auto, using(crate::proofs::Calling::stay_in_part, crate::proofs::Calling::has_part))]
-fn call_anew(called: &mut BankSet, anew: Option<&BankSet>, last: BankId)
-    requires { last.0 < MAX_BANKS }
-    ensures kept { StayIn called.old called.new }
-    ensures anew { IfSome anew.entry (λ banks. (b : ℕ) → b ≤ last.0
-        → is_in banks.now b ≡ true → is_in called.new b ≡ true) }
-    ensures none { IfNone anew.entry (called.new ≡ called.old) }
-{
-    if let Some(banks) = anew {
-        called.add_up_to(banks, last);
     }
 }
 

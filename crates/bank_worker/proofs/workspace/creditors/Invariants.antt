@@ -1,7 +1,7 @@
 use Rattle.std.proofs.Common.{◌≡◌, ◌≤◌, length, map, vec_capacity}
 use Rattle.std.specs.List.{range_with_len}
 use Rattle.clr_net.specs.Net.{creditor_of}
-use Rattle.bank_worker.proofs.office.creditors.Given as goal
+use Rattle.bank_worker.proofs.workspace.creditors.Given as goal
 
 abbrev pub invariant-loop-number : goal.invariant-loop-number
 invariant-loop-number l = record {

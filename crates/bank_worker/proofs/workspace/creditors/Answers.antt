@@ -1,7 +1,7 @@
 use Rattle.std.proofs.Common.{length, ap, sym, ◌∙◌, arith}
 use Rattle.std.proofs.lemmas.List.FromFn.{length-map-range_with_len, map-range_with_len_more}
 use Rattle.clr_net.specs.Net.{creditor_of}
-use Rattle.bank_worker.proofs.office.creditors.Goals as goal
+use Rattle.bank_worker.proofs.workspace.creditors.Goals as goal
 
 pub push_reserved-requires : goal.push_reserved-requires
 push_reserved-requires c =
