@@ -94,7 +94,7 @@ impl<'a> Sums<'a> {
             descent.old }
         ensures descent { IsDescentByRows self.now.net.now self.now.table.now.rows.items
             descent.new }
-        ensures cleared { (d : Scenario) → OnOk result (descent.new.left
+        ensures cleared { (d : Scenario) → OnOk result (descent.new.laid
             ≡ shocked self.now.net.now (slice_index_or self.now.scenarios.now place d)) }
         ensures all { (d : Scenario) → let left = shocked self.now.net.now
             (slice_index_or self.now.scenarios.now place d)

@@ -1,5 +1,6 @@
 -- A network with other cash at each of its banks. Such cash is a function of a bank's number.
-use Rattle.std.specs.Prelude.{◌≡◌, ℕ, zero, suc, ◌^◌, ◌<◌, ◌≤◌, nat_lt, cond, min, List, [], ◌∷◌, length, slice_index_or}
+use Rattle.std.specs.Prelude.{◌≡◌, ℕ, zero, suc, ◌+◌, ◌^◌, ◌<◌, ◌≤◌, nat_lt, cond, min, List, []}
+use Rattle.std.specs.Prelude.{◌∷◌, length, slice_index_or}
 use Rattle.clr_net.specs.declared.bank.Bank.{Bank}
 use Rattle.clr_net.specs.Net.{Net, of_cash}
 use Rattle.clr_net.specs.declared.TheConstants.{MAX_CASH}
@@ -13,10 +14,14 @@ with_cashes_from cash n (b ∷ banks) = of_cash (cash n) b ∷ with_cashes_from 
 abbrev pub with_cashes : Net → (ℕ → ℕ) → Net
 with_cashes net cash = record net { banks = with_cashes_from cash 0 net.banks }
 
--- the cash of each bank, by shares of many networks from one number up to below another: no bank has
--- less by a share within another
+-- the cash of each bank, by shares of many networks from one number up to below another: no bank
+-- has less by a share within another
 abbrev pub AreFloors : (ℕ → ℕ → ℕ → ℕ) → Type 0
 AreFloors floor = (low high a b i : ℕ) → low ≤ a → a < b → b ≤ high → floor low high i ≤ floor a b i
+
+-- the network of the number n, of those whose least cash is so: that with the cash of its own share
+abbrev pub network_at : Net → (ℕ → ℕ → ℕ → ℕ) → ℕ → Net
+network_at net floor n = with_cashes net (floor n (n + 1))
 
 -- the least of f low and what follows, up to below f high; f low where nothing follows
 abbrev pub lowest : (ℕ → ℕ) → ℕ → ℕ → ℕ

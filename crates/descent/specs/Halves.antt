@@ -1,11 +1,12 @@
 -- A descent through halves of many networks: what it holds at any time.
 use Rattle.std.specs.Prelude.{◌≡◌, ℕ, ◌+◌, ◌-◌, ◌*◌, ◌<◌, ◌≤◌, All, length, min}
+use Rattle.clr_net.specs.Limits.{IsNetwork}
 use Rattle.clr_net.specs.Net.{Net, all_cash}
 use Rattle.clear_core.specs.Buffers.{HasRoom}
 use Rattle.clear_core.specs.Clearing.{least}
 use Rattle.clear_core.specs.Sums.{HaveSums}
 use Rattle.cascade.specs.MoreCash.{IsOfOtherCash}
-use Rattle.descent.specs.Cashes.{with_cashes}
+use Rattle.descent.specs.Cashes.{network_at, with_cashes}
 use Rattle.descent.specs.declared.halves.Descent.{Descent}
 use Rattle.descent.specs.declared.halves.Step.{Step}
 use Rattle.descent.specs.declared.share.Share.{Share}
@@ -26,26 +27,34 @@ pub record IsStepOf (net : Net) (size : ℕ) (floor : ℕ → ℕ → ℕ → �
 
 -- a descent through so many networks: its copy differs in cash alone, and each of its steps is one
 pub record IsDescentOf (net : Net) (size : ℕ) (floor : ℕ → ℕ → ℕ → ℕ) (d : Descent) : Type 0 where
-  pub alike : IsOfOtherCash net d.left
+  pub alike : IsOfOtherCash net d.laid
   pub steps : All (IsStepOf net size floor) d.steps.items
   pub for_each_bank : length d.marks.items ≡ length net.banks
   pub room : HasRoom net d.scratch
 
--- the same of a step and of a descent through networks of some kind, which tells of each x how many
--- they are and what their least cash is
+-- the same of a step, of networks of some kind, which tells of each x how many they are and what
+-- their least cash is
 abbrev pub IsStepBy : {F : Type 0} → (F → Net → ℕ) → (F → Net → ℕ → ℕ → ℕ → ℕ) → Net → F
     → Step → Type 0
 IsStepBy size floors net x = IsStepOf net (size x net) (floors x net)
 
+-- so of a descent
 abbrev pub IsDescentBy : {F : Type 0} → (F → Net → ℕ) → (F → Net → ℕ → ℕ → ℕ → ℕ) → Net → F
     → Descent → Type 0
 IsDescentBy size floors net x = IsDescentOf net (size x net) (floors x net)
 
--- the least cash in a share, which begins at a number, comes to at least two thirds of the cash that
--- the network of this number has
+-- a network and a descent through networks of some kind that are of it
+pub record IsReady {F : Type 0} (of : F → Net → Type 0) (size : F → Net → ℕ)
+    (floors : F → Net → ℕ → ℕ → ℕ → ℕ) (net : Net) (x : F) (d : Descent) : Type 0 where
+  pub network : IsNetwork net
+  pub its_own : of x net
+  pub descent : IsDescentBy size floors net x d
+
+-- the least cash in a share, which begins at a number, comes to at least two thirds of the cash
+-- that the network of this number has
 abbrev pub HasEnough : Net → (ℕ → ℕ → ℕ → ℕ) → ℕ → ℕ → Type 0
 HasEnough net floor number high =
-    2 * all_cash (with_cashes net (floor number (number + 1)))
+    2 * all_cash (network_at net floor number)
     ≤ 3 * all_cash (with_cashes net (floor number high))
 
 -- where a share twice as wide ends, of so many networks

@@ -1,2 +1,3 @@
 pub mod Cashes
 pub mod Halves
+pub mod Cases

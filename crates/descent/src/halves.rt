@@ -1,10 +1,10 @@
 //! A descent: the least payments of many networks, by halves of them.
 ghost use Rattle.cascade.specs.Standings.{standings};
 ghost use Rattle.clear_core.specs.Clearing.{least};
-ghost use Rattle.clr_net.specs.Limits.{IsNetwork};
-ghost use Rattle.descent.specs.Cashes.{AreFloors, with_cashes};
-ghost use Rattle.descent.specs.Halves.{HasEnough, IsDescentBy, IsDescentOf, IsPartOf, IsStepBy};
-ghost use Rattle.std.specs.Prelude.{◌≡◌, ◌+◌, ◌<◌, ◌≤◌, ℕ, IfOk, OnOk};
+ghost use Rattle.descent.specs.Cashes.{AreFloors, network_at};
+ghost use Rattle.descent.specs.Halves.{HasEnough, IsDescentBy, IsDescentOf, IsPartOf, IsReady};
+ghost use Rattle.descent.specs.Halves.{IsStepBy};
+ghost use Rattle.std.specs.Prelude.{◌≡◌, ◌<◌, ◌≤◌, ℕ, IfOk, OnOk};
 
 use crate::floors::Floors;
 use crate::laying::{lay_in, widest};
@@ -17,11 +17,12 @@ use clr_net::{Mem, Network};
 use std::alloc::Global;
 
 /// A descent through halves of many networks that differ in cash alone: the least payments with the
-/// least cash of a share of them, of half of the share, of half of this, and so on; and what it takes
-/// to clear.
+/// least cash of a share of them, of half of the share, of half of this, and so on; and what it
+/// takes to clear.
 #[derive(Drop)]
 pub struct Descent {
-    left: Network,
+    // A copy of the network, in which the least cash of the last share is laid.
+    laid: Network,
     steps: Vec<Step>,
     marks: Vec<bool>,
     scratch: Scratch,
@@ -41,7 +42,7 @@ impl Descent {
             → IfOk result (IsDescentOf net.now size floor) }
     {
         Ok(Descent {
-            left: net.copy(alloc)?,
+            laid: net.copy(alloc)?,
             steps: Vec::new(alloc),
             marks: vec![in alloc; false; net.banks() as usize]?,
             scratch: Scratch::of(alloc, net)?,
@@ -50,20 +51,20 @@ impl Descent {
 
     /// The network that was cleared last.
     pub fn cleared(&self) -> &Network
-        ensures { result.now ≡ self.now.left }
+        ensures { result.now ≡ self.now.laid }
     {
-        &self.left
+        &self.laid
     }
 
     /// How each bank stands under the least payments of the network of this number, in file order.
     /// `Mem` for want of memory alone, after which the descent serves as before.
     ///
-    /// Any number may be asked for after any other. In order each clearing goes on from one with the
-    /// least cash of twice as many networks, and first visits those banks alone that have more. A
-    /// clearing begins from nothing paid only where the least cash of more networks would not come to
-    /// two thirds of what its own network has: payments rise long where cash is scarce. Costs a look
-    /// at each bank and at all that is owed to each bank in default, and for each step a list over
-    /// the debts and one over the banks, which are copied.
+    /// Any number may be asked for after any other. In order each clearing goes on from one with
+    /// the least cash of twice as many networks, and first visits those banks alone that have more.
+    /// A clearing begins from nothing paid only where the least cash of more networks would not
+    /// come to two thirds of what its own network has: payments rise long where cash is scarce.
+    /// Costs a look at each bank and at all that is owed to each bank in default, and for each step
+    /// a list over the debts and one over the banks, which are copied.
     pub fn standings_at<F: Floors>(
         &mut self,
         alloc: Global,
@@ -71,17 +72,15 @@ impl Descent {
         floors: &F,
         number: u32,
     ) -> Result<Vec<Standing>, Mem>
-        requires network { IsNetwork net.now }
-        requires of { F.of floors.now net.now }
+        requires ready { IsReady F.of F.size F.floors net.now floors.now self.old }
         requires floors { AreFloors (F.floors floors.now net.now) }
         requires number { number < F.size floors.now net.now }
-        requires descent { IsDescentBy F.size F.floors net.now floors.now self.old }
         ensures descent { IsDescentBy F.size F.floors net.now floors.now self.new }
-        ensures cleared { OnOk result (self.new.left
-            ≡ with_cashes net.now (F.floors floors.now net.now number (number + 1))) }
+        ensures cleared { OnOk result (self.new.laid
+            ≡ network_at net.now (F.floors floors.now net.now) number) }
         ensures all { IfOk result (λ all. all.items
-            ≡ standings (with_cashes net.now (F.floors floors.now net.now number (number + 1)))
-            (least (with_cashes net.now (F.floors floors.now net.now number (number + 1))))) }
+            ≡ standings (network_at net.now (F.floors floors.now net.now) number)
+            (least (network_at net.now (F.floors floors.now net.now) number))) }
     {
         let mut step = self.nearest(alloc, net, floors, number)?;
         while step.share.high - step.share.low > 1 {
@@ -90,12 +89,12 @@ impl Descent {
             self.steps.push(step)?;
             step = next;
         }
-        lay_in(net, floors, step.share, &mut self.left);
-        defaults_by(alloc, &self.left, &step.payments)
+        lay_in(net, floors, step.share, &mut self.laid);
+        defaults_by(alloc, &self.laid, &step.payments)
     }
 
-    // The last step whose share has the number, taken out, without those after it; one that begins at
-    // the number where none has.
+    // The last step whose share has the number, taken out, without those after it; one that begins
+    // at the number where none has.
     fn nearest<F: Floors>(
         &mut self,
         alloc: Global,
@@ -103,10 +102,8 @@ impl Descent {
         floors: &F,
         number: u32,
     ) -> Result<Step, Mem>
-        requires network { IsNetwork net.now }
-        requires of { F.of floors.now net.now }
+        requires ready { IsReady F.of F.size F.floors net.now floors.now self.old }
         requires number { number < F.size floors.now net.now }
-        requires descent { IsDescentBy F.size F.floors net.now floors.now self.old }
         ensures descent { IsDescentBy F.size F.floors net.now floors.now self.new }
         ensures step { IfOk result (IsStepBy F.size F.floors net.now floors.now) }
         ensures low { IfOk result (λ step. step.share.low ≤ number) }
@@ -129,10 +126,8 @@ impl Descent {
         floors: &F,
         number: u32,
     ) -> Result<Step, Mem>
-        requires network { IsNetwork net.now }
-        requires of { F.of floors.now net.now }
+        requires ready { IsReady F.of F.size F.floors net.now floors.now self.old }
         requires number { number < F.size floors.now net.now }
-        requires descent { IsDescentBy F.size F.floors net.now floors.now self.old }
         ensures descent { IsDescentBy F.size F.floors net.now floors.now self.new }
         ensures step { IfOk result (IsStepBy F.size F.floors net.now floors.now) }
         ensures low { IfOk result (λ step. step.share.low ≡ number) }
@@ -140,10 +135,10 @@ impl Descent {
         ensures enough { IfOk result (λ step.
             HasEnough net.now (F.floors floors.now net.now) number step.share.high) }
     {
-        let high = widest(net, floors, number, &mut self.left);
+        let high = widest(net, floors, number, &mut self.laid);
         let share = Share { low: number, high };
-        lay_in(net, floors, share, &mut self.left);
-        let payments = least_payments(alloc, &self.left)?;
+        lay_in(net, floors, share, &mut self.laid);
+        let payments = least_payments(alloc, &self.laid)?;
         Ok(Step { share, payments })
     }
 
@@ -156,10 +151,8 @@ impl Descent {
         step: &Step,
         part: Share,
     ) -> Result<Step, Mem>
-        requires network { IsNetwork net.now }
-        requires of { F.of floors.now net.now }
+        requires ready { IsReady F.of F.size F.floors net.now floors.now self.old }
         requires floors { AreFloors (F.floors floors.now net.now) }
-        requires descent { IsDescentBy F.size F.floors net.now floors.now self.old }
         requires step { IsStepBy F.size F.floors net.now floors.now step.now }
         requires part { IsPartOf part step.now.share }
         ensures descent { IsDescentBy F.size F.floors net.now floors.now self.new }
@@ -167,16 +160,16 @@ impl Descent {
         ensures part { IfOk result (λ next. next.share ≡ part) }
     {
         let mut payments = step.payments.copy(alloc)?;
-        lay_in(net, floors, part, &mut self.left);
+        lay_in(net, floors, part, &mut self.laid);
         mark_richer(
             net,
             floors,
             step.share,
-            &self.left,
+            &self.laid,
             self.marks.as_mut_slice(),
         );
         least_again(
-            &self.left,
+            &self.laid,
             &mut payments,
             self.marks.as_mut_slice(),
             &mut self.scratch,

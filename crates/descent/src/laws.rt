@@ -4,9 +4,9 @@ ghost use Rattle.clr_net.specs.Net.{Net};
 ghost use Rattle.descent.specs.Cashes.{AreFloors, cash_in_row, lowest, with_cashes};
 ghost use Rattle.std.specs.Prelude.{◌<◌, ◌≤◌, ℕ, List};
 
-/// A clearing with the least cash of each bank in a share of some networks goes on for a part of the
-/// share: its payments are at most those with the least cash in the part, and at most what all banks
-/// then pay by them; and only the banks that have more may pay more at first.
+/// A clearing with the least cash of each bank in a share of some networks goes on for a part of
+/// the share: its payments are at most those with the least cash in the part, and at most what all
+/// banks then pay by them; and only the banks that have more may pay more at first.
 pub fn clearing_goes_on_for_a_part()
     ensures { (net : Net) (floor : ℕ → ℕ → ℕ → ℕ) → AreFloors floor → (low high a b : ℕ)
         → low ≤ a → a < b → b ≤ high

@@ -1,4 +1,4 @@
-// The least cash of a share, laid into a copy of the network; and how wide a share has cash enough.
+//! The least cash of a share, laid into a copy of the network, and the widest share that has enough.
 ghost use Rattle.cascade.specs.MoreCash.{IsOfOtherCash};
 ghost use Rattle.clr_net.specs.Limits.{IsNetwork};
 ghost use Rattle.descent.specs.Cashes.{with_cashes};
@@ -11,26 +11,26 @@ use clr_net::{BankId, Network};
 
 // Where the widest share that begins at a number and has cash enough ends. It is made wider twofold
 // at a time. The cash is laid into a copy of the network, which has the sum of it.
-pub(crate) fn widest<F: Floors>(net: &Network, floors: &F, number: u32, left: &mut Network) -> u32
+pub(crate) fn widest<F: Floors>(net: &Network, floors: &F, number: u32, laid: &mut Network) -> u32
     requires network { IsNetwork net.now }
     requires of { F.of floors.now net.now }
     requires number { number < F.size floors.now net.now }
-    requires alike { IsOfOtherCash net.now left.old }
+    requires alike { IsOfOtherCash net.now laid.old }
     ensures some { number < result }
     ensures share { result ≤ F.size floors.now net.now }
     ensures enough { HasEnough net.now (F.floors floors.now net.now) number result }
     ensures widest { result < F.size floors.now net.now
         → HasEnough net.now (F.floors floors.now net.now) number
         (twice_as_wide number result (F.size floors.now net.now)) → ⊥ }
-    ensures alike { IsOfOtherCash net.now left.new }
+    ensures alike { IsOfOtherCash net.now laid.new }
 {
     let all = floors.count(net);
     let one = Share {
         low: number,
         high: number + 1,
     };
-    lay_in(net, floors, one, left);
-    let own = left.cash_total();
+    lay_in(net, floors, one, laid);
+    let own = laid.cash_total();
     let mut high = number + 1;
     while high < all {
         let wider = high + (high - number).min(all - high);
@@ -38,8 +38,8 @@ pub(crate) fn widest<F: Floors>(net: &Network, floors: &F, number: u32, left: &m
             low: number,
             high: wider,
         };
-        lay_in(net, floors, share, left);
-        if 3 * left.cash_total() < 2 * own {
+        lay_in(net, floors, share, laid);
+        if 3 * laid.cash_total() < 2 * own {
             break;
         }
         high = wider;
@@ -48,20 +48,20 @@ pub(crate) fn widest<F: Floors>(net: &Network, floors: &F, number: u32, left: &m
 }
 
 // Gives each bank of a copy the least cash that it has in a share of the networks.
-pub(crate) fn lay_in<F: Floors>(net: &Network, floors: &F, share: Share, left: &mut Network)
+pub(crate) fn lay_in<F: Floors>(net: &Network, floors: &F, share: Share, laid: &mut Network)
     requires network { IsNetwork net.now }
     requires of { F.of floors.now net.now }
     requires some { share.low < share.high }
     requires share { share.high ≤ F.size floors.now net.now }
-    requires alike { IsOfOtherCash net.now left.old }
-    ensures network { IsNetwork left.new }
-    ensures left { left.new
+    requires alike { IsOfOtherCash net.now laid.old }
+    ensures network { IsNetwork laid.new }
+    ensures laid { laid.new
         ≡ with_cashes net.now (F.floors floors.now net.now share.low share.high) }
-    ensures alike { IsOfOtherCash net.now left.new }
+    ensures alike { IsOfOtherCash net.now laid.new }
 {
     for number in 0..net.banks() {
         let bank = BankId(number);
-        left.set_cash(bank, floors.floor(net, share.low, share.high, bank));
+        laid.set_cash(bank, floors.floor(net, share.low, share.high, bank));
     }
-    prove!(left.banks() == net.banks());
+    prove!(laid.banks() == net.banks());
 }

@@ -1,4 +1,4 @@
-// The banks that have more cash in a part of a share than in the share.
+//! The banks that have more cash in a part of a share than in the share.
 ghost use Rattle.clr_net.specs.Limits.{IsNetwork};
 ghost use Rattle.clr_net.specs.Net.{cash_of};
 ghost use Rattle.std.specs.Bool.{OnFalse};
@@ -13,20 +13,20 @@ pub(crate) fn mark_richer<F: Floors>(
     net: &Network,
     floors: &F,
     before: Share,
-    left: &Network,
+    laid: &Network,
     marks: &mut [bool],
 )
     requires network { IsNetwork net.now }
     requires of { F.of floors.now net.now }
     requires some { before.low < before.high }
     requires share { before.high ≤ F.size floors.now net.now }
-    requires left { length left.now.banks ≡ length net.now.banks }
+    requires laid { length laid.now.banks ≡ length net.now.banks }
     requires marks { length marks.old ≡ length net.now.banks }
     ensures { (i : ℕ) → i < length net.now.banks → OnFalse (slice_index_or marks.new i false)
-        (F.floors floors.now net.now before.low before.high i ≡ cash_of left.now i) }
+        (F.floors floors.now net.now before.low before.high i ≡ cash_of laid.now i) }
 {
     for number in 0..net.banks() {
-        marks[number as usize] = is_richer(net, floors, before, left, BankId(number));
+        marks[number as usize] = is_richer(net, floors, before, laid, BankId(number));
     }
 }
 
@@ -35,17 +35,17 @@ fn is_richer<F: Floors>(
     net: &Network,
     floors: &F,
     before: Share,
-    left: &Network,
+    laid: &Network,
     bank: BankId,
 ) -> bool
     requires network { IsNetwork net.now }
     requires of { F.of floors.now net.now }
     requires some { before.low < before.high }
     requires share { before.high ≤ F.size floors.now net.now }
-    requires left { length left.now.banks ≡ length net.now.banks }
+    requires laid { length laid.now.banks ≡ length net.now.banks }
     requires bank { bank.0 < length net.now.banks }
     ensures { OnFalse result
-        (F.floors floors.now net.now before.low before.high bank.0 ≡ cash_of left.now bank.0) }
+        (F.floors floors.now net.now before.low before.high bank.0 ≡ cash_of laid.now bank.0) }
 {
-    floors.floor(net, before.low, before.high, bank) != left.bank(bank).cash
+    floors.floor(net, before.low, before.high, bank) != laid.bank(bank).cash
 }

@@ -5,7 +5,7 @@ use Rattle.descent.proofs.laying.lay_in.Given as goal
 
 abbrev pub invariant-loop-number : goal.invariant-loop-number
 invariant-loop-number g l = record {
-  alike : IsOfOtherCash l.net l.left;
+  alike : IsOfOtherCash l.net l.laid;
   done : (i : ℕ) → i < l.number
-      → cash_of l.left i ≡ g.F.Floors.floors l.floors l.net l.share.low l.share.high i;
+      → cash_of l.laid i ≡ g.F.Floors.floors l.floors l.net l.share.low l.share.high i;
 }

@@ -12,7 +12,7 @@ loop-number-preserved g c =
     let marks = c.loop-number.marks in
     let b = c.is_richer.result in
     let same = λ (i : ℕ). g.F.Floors.floors c.args.floors.now net before.low before.high i
-    ≡ cash_of c.args.left.now i in
+    ≡ cash_of c.args.laid.now i in
     below_more _ n
     (λ i l. subst (λ (m : Bool). OnFalse m (same i))
     (sym (get_or-set_other marks n i b false (λ e. omega arith))) (c.loop-number.invariant i l))

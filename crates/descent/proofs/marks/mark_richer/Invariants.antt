@@ -5,4 +5,4 @@ use Rattle.descent.proofs.marks.mark_richer.Given as goal
 
 abbrev pub invariant-loop-number : goal.invariant-loop-number
 invariant-loop-number g l = (i : ℕ) → i < l.number → OnFalse (get_or l.marks i false)
-    (g.F.Floors.floors l.floors l.net l.before.low l.before.high i ≡ cash_of l.left i)
+    (g.F.Floors.floors l.floors l.net l.before.low l.before.high i ≡ cash_of l.laid i)

@@ -10,10 +10,13 @@ use Rattle.clear_many.specs.Shocked.{cash_row}
 use Rattle.clear_many.proofs.Shocked.{is_table, scenario_of_row}
 use Rattle.clear_many.proofs.sums.Sums.standings_in.Goals as goal
 
-pub standings_at-requires-clause-of : goal.standings_at-requires-clause-of
-standings_at-requires-clause-of c =
-    subst (IsTableOf c.args.self.now.net.now) (sym c.requires.table)
-    (is_table c.args.self.now.net.now c.requires.network c.args.self.now.scenarios.now c.requires.scenarios_in_limit)
+pub standings_at-requires-clause-ready : goal.standings_at-requires-clause-ready
+standings_at-requires-clause-ready c = record {
+  network = c.requires.network;
+  its_own = subst (IsTableOf c.args.self.now.net.now) (sym c.requires.table)
+      (is_table c.args.self.now.net.now c.requires.network c.args.self.now.scenarios.now c.requires.scenarios_in_limit);
+  descent = c.requires.descent;
+}
 
 pub standings_at-requires-clause-floors : goal.standings_at-requires-clause-floors
 standings_at-requires-clause-floors c = rows_have_floors c.args.self.now.table.now.rows.items

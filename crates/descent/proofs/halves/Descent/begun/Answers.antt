@@ -9,7 +9,7 @@ returns-clause-step g c =
     record {
       some = c.widest-high.ensures.some;
       share = c.widest-high.ensures.share;
-      paid = c.in_ok-payments.ensures.payments ∙ ap least c.lay_in.ensures.left;
-      sums = sums_back c.args.net.now c.lay_in.new.left all.paid all.sums.items c.lay_in.ensures.alike
+      paid = c.in_ok-payments.ensures.payments ∙ ap least c.lay_in.ensures.laid;
+      sums = sums_back c.args.net.now c.lay_in.new.laid all.paid all.sums.items c.lay_in.ensures.alike
           c.in_ok-payments.ensures.sums;
     }

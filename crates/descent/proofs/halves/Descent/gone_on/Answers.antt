@@ -19,22 +19,22 @@ least_again-requires-clause-swept g c =
     ∙ written_back c.args.self.now.marks.len c.mark_richer.new.marks _ (omega arith) in
     let paid : c.in_ok-payments.payments.paid ≡ least (with_cashes net (floor step.share.low step.share.high)) =
     c.in_ok-payments.ensures.paid ∙ c.requires.step.paid in
-    rw (c.lay_in.ensures.left, paid, back)
+    rw (c.lay_in.ensures.laid, paid, back)
     (swept_for_part net floor c.requires.floors step.share.low step.share.high c.args.part.low c.args.part.high
     c.requires.part.low c.requires.part.some c.requires.part.high
-    marks (omega (arith, c.requires.descent.for_each_bank))
-    (rw c.lay_in.ensures.left at c.mark_richer.ensures))
+    marks (omega (arith, c.requires.ready.descent.for_each_bank))
+    (rw c.lay_in.ensures.laid at c.mark_richer.ensures))
 
 pub least_again-requires-clause-room : goal.least_again-requires-clause-room
 least_again-requires-clause-room g c =
-    subst (λ (m : Net). HasRoom m c.args.self.now.scratch) (sym c.lay_in.ensures.left)
-    c.requires.descent.room
+    subst (λ (m : Net). HasRoom m c.args.self.now.scratch) (sym c.lay_in.ensures.laid)
+    c.requires.ready.descent.room
 
 pub least_again-requires-clause-sums : goal.least_again-requires-clause-sums
 least_again-requires-clause-sums g c =
     let all = c.args.step.now.payments in
     rw (c.in_ok-payments.ensures.paid, c.in_ok-payments.ensures.sums)
-    (sums_alike c.args.net.now c.lay_in.new.left all.paid all.sums.items c.lay_in.ensures.alike
+    (sums_alike c.args.net.now c.lay_in.new.laid all.paid all.sums.items c.lay_in.ensures.alike
     c.requires.step.sums)
 
 pub returns-clause-step : goal.returns-clause-step
@@ -43,7 +43,7 @@ returns-clause-step g c =
     record {
       some = c.requires.part.some;
       share = omega (arith, c.requires.part.high, c.requires.step.share);
-      paid = c.least_again.ensures.payments ∙ ap least c.lay_in.ensures.left;
-      sums = sums_back c.args.net.now c.lay_in.new.left all.paid all.sums.items c.lay_in.ensures.alike
+      paid = c.least_again.ensures.payments ∙ ap least c.lay_in.ensures.laid;
+      sums = sums_back c.args.net.now c.lay_in.new.laid all.paid all.sums.items c.lay_in.ensures.alike
           c.least_again.ensures.sums;
     }

@@ -15,7 +15,7 @@ defaults_by-requires-clause-clears g c =
     let net = c.args.net.now in
     let step = c.loop-step.step in
     let floor = g.F.Floors.floors c.args.floors.now net in
-    rw (c.lay_in.ensures.left, c.loop-step.invariant.step.paid)
+    rw (c.lay_in.ensures.laid, c.loop-step.invariant.step.paid)
     (least_clears (with_cashes net (floor step.share.low step.share.high)))
 
 pub returns-clause-all : goal.returns-clause-all
@@ -27,17 +27,17 @@ returns-clause-all g c =
     let floor = g.F.Floors.floors c.args.floors.now net in
     let low : step.share.low ≡ j = omega (arith, at.low, at.high) in
     let high : step.share.high ≡ j + 1 = omega (arith, at.low, at.high) in
-    let left : c.lay_in.new.left ≡ with_cashes net (floor j (j + 1)) =
-    c.lay_in.ensures.left ∙ (λ k. with_cashes net (floor (low k) (high k))) in
+    let laid : c.lay_in.new.laid ≡ with_cashes net (floor j (j + 1)) =
+    c.lay_in.ensures.laid ∙ (λ k. with_cashes net (floor (low k) (high k))) in
     let paid : step.payments.paid ≡ least (with_cashes net (floor j (j + 1))) =
     at.step.paid ∙ (λ k. least (with_cashes net (floor (low k) (high k)))) in
-    IfOk-weaker c.defaults_by.result _ _ (λ all e. e ∙ (λ k. standings (left k) (paid k)))
+    IfOk-weaker c.defaults_by.result _ _ (λ all e. e ∙ (λ k. standings (laid k) (paid k)))
     c.defaults_by.ensures
 
 pub defaults_by-requires-clause-sums : goal.defaults_by-requires-clause-sums
 defaults_by-requires-clause-sums g c =
     let all = c.loop-step.step.payments in
-    sums_alike c.args.net.now c.lay_in.new.left all.paid all.sums.items c.lay_in.ensures.alike
+    sums_alike c.args.net.now c.lay_in.new.laid all.paid all.sums.items c.lay_in.ensures.alike
     c.loop-step.invariant.step.sums
 
 pub loop-step-preserved : goal.loop-step-preserved
