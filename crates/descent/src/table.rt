@@ -41,6 +41,5 @@ fn cash_at(table: &Table, net: &Network, number: u32, bank: BankId) -> u64
     ensures cash { result ≡ cash_in_row table.now.rows.items bank.0 number }
     ensures in_limit { result ≤ MAX_CASH }
 {
-    let _ = net.banks();
     table.rows[number as usize].as_slice()[bank.0 as usize]
 }
