@@ -9,8 +9,8 @@ use clr_net::Mem;
 use std::alloc::Global;
 use std::thread::{Threads, join};
 
-/// What is made of all places, of which there are so many, on so many threads: the piece of each, in
-/// order, and a desk at which all are done. `Mem` is want of memory.
+/// Does the work of all places, from 0 to below `places`, on so many threads: makes the piece of
+/// each, in order, and a desk at which all are done. `Mem` is want of memory.
 ///
 /// Each thread has a desk of its own, and takes the places of its share one after another.
 pub fn in_shares<R: Threads + Sync, P: Drop + Send, D: Drop + Send, W: Piecework<P, D> + Sync>(
@@ -49,6 +49,8 @@ fn in_halves<R: Threads + Sync, P: Drop + Send, D: Drop + Send, W: Piecework<P, 
     both_halves(rt, alloc, work, low, high, threads / 2)
 }
 
+// What is made of the places from `low` up to below `high`, of which there are two or more: each
+// half of them on a thread of its own, and there by so many threads.
 #[cycle(halves)]
 fn both_halves<R: Threads + Sync, P: Drop + Send, D: Drop + Send, W: Piecework<P, D> + Sync>(
     rt: &R,

@@ -3,7 +3,8 @@
 //! What is done at a place is a [`Piecework`]: a piece is made of it, at a desk on which what is
 //! needed again stands ready and what adds up is kept. [`in_shares`] halves the places down to as
 //! many shares as threads, each of which has a desk of its own, and puts the pieces together in the
-//! order of their places. So nothing of what comes out depends on the threads.
+//! order of their places. So the pieces that come out do not depend on the threads, where
+//! `is_piece` admits one piece of each place alone; nor does the desk, where `has_done` admits one.
 #![tactic(auto)]
 
 mod halves;
