@@ -1,10 +1,9 @@
 -- What all banks pay at once with costs: it rises with what was paid and with the part that is
 -- kept.
-use Rattle.std.proofs.Common.{◌≡◌, ℕ, ◌+◌, ◌-◌, ◌≤◌, List, length, get_or, map, ap, ◌∙◌, arith}
+use Rattle.std.proofs.Common.{◌≡◌, ℕ, ◌+◌, ◌-◌, ◌≤◌, List, length, ap, ◌∙◌, arith}
 use Rattle.clr_net.specs.Amounts.{IsAtMost}
-use Rattle.clr_net.specs.Net.{Net, row, cash_of, outside_of}
-use Rattle.clear_core.specs.Clearing.{division_of, receipts, spend, RisesTo, NeverFalls, pay_by, pay}
-use Rattle.clear_core.proofs.BankPays.{pay_by_row}
+use Rattle.clr_net.specs.Net.{Net, cash_of, outside_of}
+use Rattle.clear_core.specs.Clearing.{spend, RisesTo, NeverFalls, pay_by, pay}
 use Rattle.clear_core.proofs.Pay.{length-pay_by, pay_by_mono, pay_by_spend}
 use Rattle.costs.specs.Costs.{cost_spend, cost_pay}
 use Rattle.costs.proofs.Keeping.{kept_mono, kept_all}

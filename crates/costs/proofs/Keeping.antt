@@ -1,10 +1,8 @@
 -- What is kept of an estate: no more than it, no less of more, and all of it where all is kept.
-use Rattle.std.proofs.Common.{◌≡◌, ℕ, ◌*◌, ◌/◌, ◌<◌, ◌≤◌, cond, ap, ⊎_elim, arith}
-use Rattle.std.proofs.lemmas.Bool.{cases_lt, le-leb, lt-leb}
+use Rattle.std.proofs.Common.{◌≡◌, ℕ, ◌≤◌, arith}
 use Rattle.std.proofs.lemmas.Bool.Decides.{nat_tests}
 use Rattle.std.proofs.lemmas.Nat.{mul-le}
 use Rattle.clr_net.specs.Net.{Net}
-use Rattle.cascade.specs.Standings.{due}
 use Rattle.costs.specs.Costs.{kept}
 
 -- a bank keeps no more than it has

@@ -1,20 +1,16 @@
 -- Under payments that clear with costs, a bank pays out what it can of what it keeps, and no unit
 -- is made.
-use Rattle.std.proofs.Common.{◌≡◌, ℕ, ◌+◌, ◌<◌, ◌≤◌, min, List, length, get_or, sum, sum_by, refl, sym, ap, ◌∙◌, subst, ⊎_elim, arith}
-use Rattle.std.proofs.lemmas.Bool.{cases_lt}
-use Rattle.std.proofs.lemmas.List.Sums.{sum-map}
+use Rattle.std.proofs.Common.{◌≡◌, ℕ, ◌+◌, ◌≤◌, min, List, length, get_or, refl, sym, ap, ◌∙◌, arith}
 use Rattle.clr_net.specs.Limits.{IsNetwork}
-use Rattle.clr_net.specs.Net.{Net, row, rule_of, claims_of, classes_of}
-use Rattle.clr_net.proofs.RowsAndColumns.{length-claims_of, length-classes_of, classes_of_are}
-use Rattle.clr_net.proofs.Share.{sum_share}
+use Rattle.clr_net.specs.Net.{Net}
 use Rattle.clear_core.specs.Buffers.{AreInLimit}
 use Rattle.clear_core.specs.Clearing.{receipts, estate}
 use Rattle.clear_core.proofs.Pay.{pay_by_within}
 use Rattle.clear_core.proofs.Rows.{claim_in_limit}
-use Rattle.cascade.specs.Standings.{due, owed_by, paid_by}
+use Rattle.cascade.specs.Standings.{owed_by, paid_by}
 use Rattle.cascade.proofs.MoreCash.{pays_by}
 use Rattle.cascade.proofs.PayingOut.{all_kept}
-use Rattle.costs.specs.Costs.{cost_spend, cost_pay, CostClears}
+use Rattle.costs.specs.Costs.{cost_spend, CostClears}
 use Rattle.costs.specs.CostStandings.{lost_by, cost_outside_paid, cost_equity, PaysFromKept, CostAddsUp}
 use Rattle.costs.proofs.Keeping.{kept_le}
 use Rattle.costs.proofs.CostPay.{length-cost_pay}

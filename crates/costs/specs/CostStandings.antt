@@ -1,12 +1,10 @@
 -- How banks stand under payments where default costs: what each has, loses and pays, and what is
 -- left to its owners.
-use Rattle.std.specs.Prelude.{◌≡◌, ℕ, ◌+◌, ◌-◌, ◌<◌, ◌≤◌, nat_le, nat_lt, min, List, map, sum_by}
-use Rattle.std.specs.Prelude.{if◌then◌else◌}
+use Rattle.std.specs.Prelude.{◌≡◌, ℕ, ◌+◌, ◌-◌, ◌<◌, ◌≤◌, min, List, map, sum_by}
 use Rattle.clr_net.specs.Net.{Net, outside_of, all_cash}
 use Rattle.clear_core.specs.Clearing.{estate}
 use Rattle.cascade.specs.declared.standing.Health.{Health}
-use Rattle.cascade.specs.declared.standing.Health.TheVariants as health
-use Rattle.cascade.specs.Standings.{bank_numbers, due, owed_by, worth, paid_by}
+use Rattle.cascade.specs.Standings.{bank_numbers, due, health_at, owed_by, paid_by}
 use Rattle.costs.specs.declared.standing.CostStanding.{CostStanding}
 use Rattle.costs.specs.Costs.{kept}
 
@@ -26,16 +24,7 @@ cost_outside_paid net k P i = min (outside_of net i) (kept_by net k P i)
 abbrev pub cost_equity : Net → ℕ → List ℕ → ℕ → ℕ
 cost_equity net k P i = kept_by net k P i - cost_outside_paid net k P i - paid_by net P i
 
--- the bank i is sound with an estate that is no less than all that it owes. With a smaller one it
--- is in default: by its own fundamentals where it would be even if all its debtors paid it in full,
--- and otherwise by contagion
-abbrev pub health_at : Net → ℕ → ℕ → Health
-health_at net i e =
-    if nat_le (due net i) e
-    then health.Sound
-    else if nat_lt (worth net i) (due net i) then health.Fundamental else health.Contagion
-
--- its health under the payments P
+-- its health under the payments P, by its estate
 abbrev pub cost_health : Net → List ℕ → ℕ → Health
 cost_health net P i = health_at net i (estate net P i)
 

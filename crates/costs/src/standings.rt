@@ -1,12 +1,12 @@
 ghost use Rattle.clr_net.specs.Limits.{IsNetwork};
 ghost use Rattle.costs.specs.CostStandings.{CostAddsUp, PaysFromKept, cost_standing};
-ghost use Rattle.costs.specs.CostStandings.{cost_standings as standings_of, health_at};
+ghost use Rattle.costs.specs.CostStandings.{cost_standings as standings_of};
 ghost use Rattle.costs.specs.Costs.{CostClears};
 ghost use Rattle.std.specs.Prelude.{◌≡◌, ◌<◌, ◌≤◌, ℕ, IfOk, OnOk, length};
 
 use crate::kept::kept;
 use crate::standing::CostStanding;
-use cascade::{Health, due, worth};
+use cascade::health_at;
 use clear_core::estate_of;
 use clr_net::{BankId, Mem, Network};
 use std::alloc::Global;
@@ -55,22 +55,6 @@ fn standing_of(net: &Network, keep: u32, bank: BankId, paid: &[u64]) -> CostStan
         outside_paid,
         paid: on_debts,
         equity: kept - outside_paid - on_debts,
-        health: health_of(net, bank, estate),
-    }
-}
-
-// Whether a bank has all that it owes with such an estate, and else its label.
-fn health_of(net: &Network, bank: BankId, estate: u64) -> Health
-    requires network { IsNetwork net.now }
-    requires bank { bank.0 < length net.now.banks }
-    ensures { result ≡ health_at net.now bank.0 estate }
-{
-    let due = due(net, bank);
-    if due <= estate {
-        Health::Sound
-    } else if worth(net, bank) < due {
-        Health::Fundamental
-    } else {
-        Health::Contagion
+        health: health_at(net, bank, estate),
     }
 }

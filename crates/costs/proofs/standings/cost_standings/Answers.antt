@@ -1,4 +1,4 @@
-use Rattle.std.proofs.Common.{[], sym, arith}
+use Rattle.std.proofs.Common.{sym, arith}
 use Rattle.std.proofs.lemmas.List.FromFn.{map-range_with_len_more}
 use Rattle.costs.specs.CostStandings.{cost_standing}
 use Rattle.costs.proofs.PayingOut.{cost_pays_out, cost_adds_up}

@@ -1,9 +1,9 @@
 use Rattle.std.proofs.Common.{◌≡◌, ◌-◌, ap, ◌∙◌, arith}
 use Rattle.std.specs.Option.{option_map_or}
 use Rattle.clr_net.specs.declared.bank.Bank.{Bank}
-use Rattle.cascade.specs.Standings.{paid_by}
+use Rattle.cascade.specs.Standings.{health_at, paid_by}
 use Rattle.costs.specs.Costs.{kept}
-use Rattle.costs.specs.CostStandings.{cost_equity, cost_outside_paid, health_at, kept_by, lost_by}
+use Rattle.costs.specs.CostStandings.{cost_equity, cost_outside_paid, kept_by, lost_by}
 use Rattle.costs.proofs.Keeping.{kept_le}
 use Rattle.costs.proofs.PayingOut.{cost_clearing_over, cost_clearing_in_limit, cost_paid_is}
 use Rattle.costs.proofs.standings.standing_of.Goals as goal
@@ -41,7 +41,7 @@ returns c =
     omega (arith, c.owed_by.ensures, c.min-on_debts.ensures) in
     let left : c.kept-kept.result - c.min-outside_paid.result - c.min-on_debts.result
     ≡ cost_equity net k P i = omega arith in
-    let health = c.health_of.ensures ∙ ap (health_at net i) has in
+    let health = c.health_at.ensures ∙ ap (health_at net i) has in
     λ at. record {
       estate = has at;
       lost = lost at;
