@@ -1,5 +1,5 @@
 -- A compression leaves no cycle; and lowering the debts of a cycle keeps all balances.
-use Rattle.std.proofs.Common.{◌≡◌, ◌≢◌, ℕ, zero, suc, ◌+◌, ◌-◌, ◌*◌, ◌<◌, ◌≤◌, ◌==◌, ◌&&◌, Bool, true, false, cond, All, List, [], ◌∷◌, length, length-set, get_or, set, map, filter, count_by, sum, sum_by, refl, sym, ap, ◌∙◌, subst, ⊎_elim, arith, eq-eqb}
+use Rattle.std.proofs.Common.{◌≡◌, ◌≢◌, ℕ, suc, ◌+◌, ◌-◌, ◌*◌, ◌<◌, ◌≤◌, ◌==◌, ◌&&◌, Bool, true, false, cond, All, List, [], ◌∷◌, length, length-set, get_or, set, map, filter, count_by, sum, sum_by, refl, sym, ap, ◌∙◌, subst, ⊎_elim, arith, eq-eqb}
 use Rattle.std.specs.List.{range_with_len}
 use Rattle.std.proofs.Math.Dec.{ltb}
 use Rattle.std.proofs.Math.Nat.{mul-add}
@@ -11,20 +11,9 @@ use Rattle.clr_net.specs.Limits.{IsNetwork}
 use Rattle.clr_net.specs.Net.{Net, debtor_of, creditor_of, class_of, column}
 use Rattle.clr_net.proofs.Filters.{place_that_holds}
 use Rattle.clr_net.proofs.Lists.{sum-cons}
-use Rattle.compress.specs.Compression.{IsBalanceKept, is_live, most, rank_of, rank_above, Compression, Leads, IsLive, HasNoCycle}
+use Rattle.compress.specs.Compression.{IsBalanceKept, is_live, rank_of, rank_above, Compression, Leads, IsLive, HasNoCycle}
 use Rattle.compress.specs.Lowering.{lowered, CanLower}
-
--- each that passes is at most the greatest
-most_ge : (f : ℕ → ℕ) (p : ℕ → Bool) (xs : List ℕ) (k : ℕ) → k < length xs
-    → p (get_or xs k 0) ≡ true → f (get_or xs k 0) ≤ most (map f (filter p xs))
-most_ge f p [] k l h = absurd (omega arith)
-most_ge f p (x ∷ xs) zero l h = rw h (omega arith)
-most_ge f p (x ∷ xs) (suc k) l h = by_test (p x) (most_ge f p xs k (omega arith) h)
-  where
-    by_test : (b : Bool) → f (get_or xs k 0) ≤ most (map f (filter p xs))
-        → f (get_or xs k 0) ≤ most (map f (cond b (x ∷ filter p xs) (filter p xs)))
-    by_test true h = omega (arith, h)
-    by_test false h = h
+use Rattle.compress.proofs.Most.{most_ge}
 
 -- a debt stands in its creditor's column
 pub in_column : (net : Net) (x : ℕ) → x < length net.debts

@@ -1,46 +1,17 @@
 -- What stays of the banks that are done, as marks change, a claim is lowered, and a bank is done.
-use Rattle.std.proofs.Common.{◌≡◌, ◌≢◌, ℕ, suc, ◌+◌, ◌-◌, ◌<◌, ◌≤◌, ◌==◌, ◌&&◌, Bool, true, false, cond, List, [], ◌∷◌, length, get_or, set, map, filter, sum_by, refl, sym, ap, ◌∙◌, subst, ⊎_elim, arith, zero-le}
+use Rattle.std.proofs.Common.{◌≡◌, ◌≢◌, ℕ, ◌+◌, ◌-◌, ◌<◌, ◌≤◌, ◌==◌, ◌&&◌, Bool, true, false, List, length, get_or, set, sum_by, refl, sym, ap, ◌∙◌, subst, ⊎_elim, arith}
 use Rattle.std.proofs.Math.Dec.{ltb}
-use Rattle.std.proofs.lemmas.Bool.{cases_eq, eqb-true, true≢false}
+use Rattle.std.proofs.lemmas.Bool.{cases_eq, eqb-true}
 use Rattle.std.proofs.lemmas.List.{get_or-set_same, get_or-set_other}
 use Rattle.std.proofs.lemmas.List.Sums.{sum_by-set}
 use Rattle.clr_net.specs.Net.{Net, debtor_of, creditor_of, class_of, column}
 use Rattle.clr_net.proofs.RowsAndColumns.{column_place}
-use Rattle.compress.specs.Compression.{is_live, IsLive, most, rank_above}
+use Rattle.compress.specs.Compression.{is_live, IsLive, rank_above}
 use Rattle.compress.proofs.Cycles.{live_class, live_claim, live_with}
+use Rattle.compress.proofs.Most.{most_le, most_same}
 use Rattle.compress.specs.declared.mark.Mark.{Mark}
 use Rattle.compress.specs.declared.mark.Mark.TheVariants.{New, Walked, Done}
 use Rattle.compress.specs.Walk.{mark_of, undone, AreDone}
-
--- two lists of numbers that pass, of which the same pass and give the same
-most_same : (f g : ℕ → ℕ) (p q : ℕ → Bool) (xs : List ℕ)
-    → ((k : ℕ) → k < length xs → p (get_or xs k 0) ≡ q (get_or xs k 0))
-    → ((k : ℕ) → k < length xs → p (get_or xs k 0) ≡ true → f (get_or xs k 0) ≡ g (get_or xs k 0))
-    → most (map f (filter p xs)) ≡ most (map g (filter q xs))
-most_same f g p q [] h e = refl
-most_same f g p q (x ∷ xs) h e =
-    by_test (p x) (q x) (h 0 (omega arith)) (e 0 (omega arith))
-    (most_same f g p q xs (λ k l. h (suc k) (omega arith)) (λ k l. e (suc k) (omega arith)))
-  where
-    by_test : (b d : Bool) → b ≡ d → (b ≡ true → f x ≡ g x)
-        → most (map f (filter p xs)) ≡ most (map g (filter q xs))
-        → most (map f (cond b (x ∷ filter p xs) (filter p xs)))
-        ≡ most (map g (cond d (x ∷ filter q xs) (filter q xs)))
-    by_test true true s h r = omega (arith, h refl, r)
-    by_test true false s h r = absurd (true≢false s)
-    by_test false true s h r = absurd (true≢false (sym s))
-    by_test false false s h r = r
-
--- a bound on a function at each number of a list bounds its greatest value over those that pass
-most_le : (f : ℕ → ℕ) (p : ℕ → Bool) (n : ℕ) (xs : List ℕ)
-    → ((k : ℕ) → k < length xs → f (get_or xs k 0) ≤ n) → most (map f (filter p xs)) ≤ n
-most_le f p n [] h = zero-le
-most_le f p n (x ∷ xs) h = by_test (p x) (most_le f p n xs (λ k l. h (suc k) (omega arith)))
-  where
-    by_test : (b : Bool) → most (map f (filter p xs)) ≤ n
-        → most (map f (cond b (x ∷ filter p xs) (filter p xs))) ≤ n
-    by_test true r = omega (arith, h 0, r)
-    by_test false r = r
 
 -- two tests that agree wherever a first one holds agree beside it
 same_test : (t a b : Bool) → (t ≡ true → a ≡ b) → (t && a) ≡ (t && b)

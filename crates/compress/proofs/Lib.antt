@@ -1,3 +1,4 @@
+pub mod Most
 pub mod Cycles
 pub mod Walks
 pub mod Dones

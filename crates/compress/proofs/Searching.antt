@@ -1,30 +1,9 @@
 -- Going over the column of a bank.
-use Rattle.std.proofs.lemmas.List.Elements.{filter-append}
-use Rattle.std.proofs.Common.{◌++◌, refl, ◌≡◌, ℕ, ◌+◌, ◌<◌, max, Bool, true, false, cond, List, [], ◌∷◌, length, get_or, map, take, filter, sym, ap, ◌∙◌, arith}
-use Rattle.std.proofs.lemmas.List.{take_more, map-append}
+use Rattle.std.proofs.Common.{◌≡◌, ℕ, ◌<◌, List, length, get_or, sym, ap, ◌∙◌}
 use Rattle.clr_net.specs.declared.debt.DebtId.{DebtId}
 use Rattle.clr_net.specs.Net.{Net, numbers, creditor_of, column}
 use Rattle.clr_net.proofs.OfKind.{number_at}
 use Rattle.clr_net.proofs.RowsAndColumns.{column_place}
-use Rattle.compress.specs.Compression.{most}
-
--- the greatest of numbers and others
-most-append : (ns ms : List ℕ) → most (ns ++ ms) ≡ max (most ns) (most ms)
-most-append [] ms = omega arith
-most-append (n ∷ ns) ms = omega (arith, most-append ns ms)
-
--- the greatest, with one number more, which passes or does not
-pub most_more : (f : ℕ → ℕ) (p : ℕ → Bool) (xs : List ℕ) (k x : ℕ) (b : Bool) → k < length xs
-    → get_or xs k 0 ≡ x → p x ≡ b
-    → most (map f (filter p (take (k + 1) xs)))
-    ≡ max (most (map f (filter p (take k xs)))) (cond b (f x) 0)
-most_more f p xs k x b l at passes =
-    rw (take_more xs k 0 l) (simp (filter-append, map-append, most-append, at, passes) (one b))
-  where
-    one : (b : Bool) → max (most (map f (filter p (take k xs)))) (most (map f (cond b (x ∷ []) [])))
-        ≡ max (most (map f (filter p (take k xs)))) (cond b (f x) 0)
-    one true = omega arith
-    one false = refl
 
 -- a debt of a column, by its number as it is read
 pub record StandsInColumn (net : Net) (i k x : ℕ) : Type 0 where

@@ -93,10 +93,10 @@ looked_on {net = net} {c = c} {C = C} {w = w} K b o old inside l passed found =
 
 -- the last bank of a walk is done: what is told of the banks is so
 pub retired_told : {net : Net} {c : ℕ} {C : List ℕ} {w : Walk} (ids : Vec Step) (e v : ℕ)
-    → IsUnderWay net c C w → e ≡ end_of net w.start.0 (numbers w.debts.items)
+    → IsUnderWay net c C w → e ≡ end_of net w.start.0 (numbers w.steps.items)
     → IsReady net c e C w.marks.items → v ≡ rank_above net C (λ j. get_or w.ranks.items j 0) c e
     → IsTold net c C (record w {
-      debts = ids;
+      steps = ids;
       marks = with_item w.marks e Done;
       ranks = with_item w.ranks e v;
     })
@@ -104,7 +104,7 @@ retired_told {net = net} {c = c} {C = C} {w = w} ids e v old at ready is =
     let marks = w.marks.items in
     let sizes = old.told.sizes in
     let not_done = subst (λ (b : ℕ). mark_of marks b ≢ Done) (sym at)
-    (end_not_done net c w.start.0 C (numbers w.debts.items) marks old.walk) in
+    (end_not_done net c w.start.0 C (numbers w.steps.items) marks old.walk) in
     let inside = not_done_in_range marks e not_done in
     record {
       done = done_more e v old.told.done inside (omega (arith, inside, sizes.ranks, sizes.marks))

@@ -117,18 +117,18 @@ pub record IsTold (net : Net) (c : ℕ) (C : List ℕ) (w : Walk) : Type 0 where
 -- a walk is under way: its debts lead back from its start, its steps tell their debtors, and what
 -- is told of the banks holds
 pub record IsUnderWay (net : Net) (c : ℕ) (C : List ℕ) (w : Walk) : Type 0 where
-  pub walk : IsWalk net c w.start.0 C (numbers w.debts.items) w.marks.items
-  pub steps : All (IsStep net) w.debts.items
+  pub walk : IsWalk net c w.start.0 C (numbers w.steps.items) w.marks.items
+  pub steps : All (IsStep net) w.steps.items
   pub told : IsTold net c C w
 
 -- no walk is under way, and what is told of the banks holds
 pub record IsAtRest (net : Net) (c : ℕ) (C : List ℕ) (w : Walk) : Type 0 where
-  pub empty : w.debts.items ≡ []
+  pub empty : w.steps.items ≡ []
   pub no_walk : HasNoWalk w.marks.items
   pub told : IsTold net c C w
 
--- what every step keeps of the claims and of the marks: claims of the class c fall, no other changes,
--- balances stay, and so does what is done
+-- what every step keeps of the claims and of the marks: claims of the class c fall, no other
+-- changes, balances stay, and so does what is done
 pub record IsKept (net : Net) (c : ℕ) (C D : List ℕ) (before after : List Mark) : Type 0 where
   pub as_many : length D ≡ length C
   pub falls : IsAtMost D C

@@ -26,10 +26,10 @@ pub(crate) fn cancel(
     requires under_way { IsUnderWay net.now class claims.old walk.old }
     requires closing { IsLive net.now claims.old class closing.0 }
     requires link { creditor_of net.now closing.0
-        ≡ end_of net.now walk.old.start.0 (numbers walk.old.debts.items) }
-    requires place { place < length (numbers walk.old.debts.items) + 1 }
+        ≡ end_of net.now walk.old.start.0 (numbers walk.old.steps.items) }
+    requires place { place < length (numbers walk.old.steps.items) + 1 }
     requires closes { slice_index
-        (stops net.now walk.old.start.0 (numbers walk.old.debts.items)) place
+        (stops net.now walk.old.start.0 (numbers walk.old.steps.items)) place
         ≡ debtor_of net.now closing.0 }
     ensures under_way { IsUnderWay net.now class claims.new walk.new }
     ensures start { walk.new.start ≡ walk.old.start }
@@ -38,33 +38,33 @@ pub(crate) fn cancel(
     ensures less { sum claims.new + sum_by steps_left walk.new.marks.items
         < sum claims.old + sum_by steps_left walk.old.marks.items }
 {
-    let least = least_claim(walk.debts.as_slice(), place, closing, claims);
+    let least = least_claim(walk.steps.as_slice(), place, closing, claims);
     claims[closing.0 as usize] -= least;
-    while walk.debts.len() > place {
-        let last = walk.debts.len() - 1;
-        let step = walk.debts[last];
-        walk.debts.truncate(last);
+    while walk.steps.len() > place {
+        let last = walk.steps.len() - 1;
+        let step = walk.steps[last];
+        walk.steps.truncate(last);
         claims[step.debt.0 as usize] -= least;
         walk.marks[step.debtor.0 as usize] = Mark::New;
     }
 }
 
-// The least claim of a closing debt and of the debts of a walk from a place on.
-fn least_claim(debts: &[Step], place: usize, closing: DebtId, claims: &[u64]) -> u64
+// The least claim of a closing debt and of the steps of a walk from a place on.
+fn least_claim(steps: &[Step], place: usize, closing: DebtId, claims: &[u64]) -> u64
     requires closing { closing.0 < length claims.now }
-    requires debts { (k : ℕ) → k < length debts.now
-        → slice_index (numbers debts.now) k < length claims.now }
+    requires debts { (k : ℕ) → k < length steps.now
+        → slice_index (numbers steps.now) k < length claims.now }
     requires closing_live { 0 < slice_index claims.now closing.0 }
-    requires live { (k : ℕ) → k < length debts.now
-        → 0 < slice_index claims.now (slice_index (numbers debts.now) k) }
+    requires live { (k : ℕ) → k < length steps.now
+        → 0 < slice_index claims.now (slice_index (numbers steps.now) k) }
     ensures positive { 0 < result }
     ensures closing { result ≤ slice_index claims.now closing.0 }
-    ensures least { (k : ℕ) → place ≤ k → k < length debts.now
-        → result ≤ slice_index claims.now (slice_index (numbers debts.now) k) }
+    ensures least { (k : ℕ) → place ≤ k → k < length steps.now
+        → result ≤ slice_index claims.now (slice_index (numbers steps.now) k) }
 {
     let mut least = claims[closing.0 as usize];
-    for k in place..debts.len() {
-        least = least.min(claims[debts[k].debt.0 as usize]);
+    for k in place..steps.len() {
+        least = least.min(claims[steps[k].debt.0 as usize]);
     }
     least
 }

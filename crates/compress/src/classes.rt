@@ -15,9 +15,9 @@ pub(crate) fn cancel_cycles(
 ) -> Result<(), Mem>
     requires claims { length claims.old ≡ length net.now.debts }
     requires sizes { IsSizedFor net.now walk.old }
-    requires empty { walk.old.debts.items ≡ [] }
+    requires empty { walk.old.steps.items ≡ [] }
     ensures sizes { OnOk result (IsSizedFor net.now walk.new) }
-    ensures empty { OnOk result (walk.new.debts.items ≡ []) }
+    ensures empty { OnOk result (walk.new.steps.items ≡ []) }
     ensures kept { OnOk result (IsKept net.now class claims.old claims.new
         (replicate (length net.now.banks) New) walk.new.marks.items) }
     ensures done { OnOk result (AreDone net.now class claims.new walk.new.ranks.items

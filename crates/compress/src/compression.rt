@@ -59,7 +59,7 @@ fn compress_into(
     requires claims { length claims.old ≡ length net.now.debts }
     requires ranks { length ranks.old ≡ LAST_CLASS * length net.now.banks }
     requires sizes { IsSizedFor net.now walk.old }
-    requires empty { walk.old.debts.items ≡ [] }
+    requires empty { walk.old.steps.items ≡ [] }
     ensures { IfOk result (λ cancelled. Compression net.now claims.new ranks.new cancelled) }
 {
     copy_claims(net, claims);
@@ -101,7 +101,7 @@ fn cancel_all(
     requires claims { claims.old ≡ all_claims net.now }
     requires ranks { length ranks.old ≡ LAST_CLASS * length net.now.banks }
     requires sizes { IsSizedFor net.now walk.old }
-    requires empty { walk.old.debts.items ≡ [] }
+    requires empty { walk.old.steps.items ≡ [] }
     ensures { OnOk result (IsCompressedTo net.now (LAST_CLASS + 1) claims.new ranks.new) }
 {
     let banks = net.banks() as usize;

@@ -3,8 +3,7 @@
 ghost use Rattle.clr_net.specs.Amounts.{IsAtMost};
 ghost use Rattle.clr_net.specs.Limits.{IsNetwork};
 ghost use Rattle.clr_net.specs.Net.{Net, class_of, creditor_of, debtor_of};
-ghost use Rattle.clr_net.specs.Claims.{with_claims};
-ghost use Rattle.clr_net.specs.Claims.{all_claims};
+ghost use Rattle.clr_net.specs.Claims.{all_claims, with_claims};
 ghost use Rattle.compress.specs.Compression.{Compression, HasNoCycle, IsBalanceKept, Leads};
 ghost use Rattle.compress.specs.Lowering.{CanLower, lowered};
 ghost use Rattle.std.specs.Prelude.{◌≡◌, ◌<◌, ℕ, List, length, slice_index};

@@ -9,8 +9,8 @@
 //! Each step lowers claims, or brings a bank nearer to being done. Each cancelling brings a debt
 //! to 0, so there are at most as many as debts. Between them no debt is looked at twice to go on: a
 //! cursor stands in each bank's column, before which all debts are 0 or owed by banks that are
-//! done. Beside it stands the last step back from the bank, which mostly is the next one too: a walk
-//! that comes that way again reads neither the column nor the debt.
+//! done. Beside it stands the last step back from the bank, which mostly is the next one too: a
+//! walk that comes that way again reads neither the column nor the debt.
 #![tactic(auto)]
 
 mod cancel;

@@ -1,8 +1,7 @@
-//! What the program does not call, for whoever calls the crate: the network with the claims that are
-//! left, as one value. The program prints those claims.
+//! What the program does not call, for whoever calls the crate: the network with the claims that
+//! are left, as one value. The program prints those claims.
 ghost use Rattle.clr_net.specs.Amounts.{IsAtMost};
-ghost use Rattle.clr_net.specs.Claims.{with_claims as net_with_claims};
-ghost use Rattle.clr_net.specs.Claims.{all_claims};
+ghost use Rattle.clr_net.specs.Claims.{all_claims, with_claims as net_with_claims};
 ghost use Rattle.compress.specs.Banks.{banks_alone as without_debts};
 ghost use Rattle.std.specs.Prelude.{◌≡◌, IfOk, length};
 

@@ -18,8 +18,9 @@ use std::alloc::Global;
 pub(crate) struct Walk {
     /// The bank that it began at.
     pub start: BankId,
-    /// Its debts: the first is owed to `start`, and each other to the debtor of the one before it.
-    pub debts: Vec<Step>,
+    /// Its steps: the debt of the first is owed to `start`, and that of each other to the debtor of
+    /// the one before it.
+    pub steps: Vec<Step>,
     /// A mark for each bank.
     pub marks: Vec<Mark>,
     /// How many debts of each bank's column need not be looked at again.
@@ -33,7 +34,7 @@ pub(crate) struct Walk {
 impl Walk {
     /// No walk yet, with room for so many banks.
     pub fn of(alloc: Global, banks: usize) -> Result<Walk, Mem>
-        ensures empty { IfOk result (λ walk. walk.debts.items ≡ []) }
+        ensures empty { IfOk result (λ walk. walk.steps.items ≡ []) }
         ensures marks { IfOk result (λ walk. length walk.marks.items ≡ banks) }
         ensures cursors { IfOk result (λ walk. length walk.cursors.items ≡ banks) }
         ensures heads { IfOk result (λ walk. length walk.heads.items ≡ banks) }
@@ -41,7 +42,7 @@ impl Walk {
     {
         Ok(Walk {
             start: BankId(0),
-            debts: Vec::new(alloc),
+            steps: Vec::new(alloc),
             marks: vec![in alloc; Mark::New; banks]?,
             cursors: vec![in alloc; 0; banks]?,
             heads: vec![in alloc; None; banks]?,
@@ -71,7 +72,7 @@ pub(crate) fn walk_from(
     walk.start = start;
     walk.marks[start.0 as usize] = Mark::Walked(0);
     loop {
-        let end = end_of(start, walk.debts.as_slice());
+        let end = end_of(start, walk.steps.as_slice());
         match step_back(net, class, claims, walk, end) {
             None => {
                 if retire(net, class, claims, walk, end) {
@@ -93,10 +94,10 @@ fn step_back(net: &Network, class: u8, claims: &[u64], walk: &mut Walk, end: Ban
     requires network { IsNetwork net.now }
     requires claims { length claims.now ≡ length net.now.debts }
     requires under_way { IsUnderWay net.now class claims.now walk.old }
-    requires end { end.0 ≡ end_of_walk net.now walk.old.start.0 (numbers walk.old.debts.items) }
+    requires end { end.0 ≡ end_of_walk net.now walk.old.start.0 (numbers walk.old.steps.items) }
     ensures under_way { IsUnderWay net.now class claims.now walk.new }
     ensures start { walk.new.start ≡ walk.old.start }
-    ensures debts { walk.new.debts ≡ walk.old.debts }
+    ensures steps { walk.new.steps ≡ walk.old.steps }
     ensures marks { walk.new.marks ≡ walk.old.marks }
     ensures next { MatchOption result (IsReady net.now class end.0 claims.now walk.old.marks.items)
         (λ step. LeadsOn net.now class end.0 claims.now walk.old.marks.items step.debt.0) }
@@ -117,7 +118,7 @@ fn step_back(net: &Network, class: u8, claims: &[u64], walk: &mut Walk, end: Ban
 fn grow(net: &Network, class: u8, claims: &[u64], walk: &mut Walk, step: Step) -> Result<(), Mem>
     requires under_way { IsUnderWay net.now class claims.now walk.old }
     requires next { LeadsOn net.now class
-        (end_of_walk net.now walk.old.start.0 (numbers walk.old.debts.items))
+        (end_of_walk net.now walk.old.start.0 (numbers walk.old.steps.items))
         claims.now walk.old.marks.items step.debt.0 }
     requires step { IsStep net.now step }
     requires new { mark_of walk.old.marks.items (debtor_of net.now step.debt.0) ≡ New }
@@ -128,8 +129,8 @@ fn grow(net: &Network, class: u8, claims: &[u64], walk: &mut Walk, step: Step) -
     ensures less { OnOk result (sum_by steps_left walk.new.marks.items
         < sum_by steps_left walk.old.marks.items) }
 {
-    walk.debts.push(step)?;
-    walk.marks[step.debtor.0 as usize] = Mark::Walked(walk.debts.len());
+    walk.steps.push(step)?;
+    walk.marks[step.debtor.0 as usize] = Mark::Walked(walk.steps.len());
     Ok(())
 }
 
@@ -139,7 +140,7 @@ fn retire(net: &Network, class: u8, claims: &[u64], walk: &mut Walk, end: BankId
     requires network { IsNetwork net.now }
     requires claims { length claims.now ≡ length net.now.debts }
     requires under_way { IsUnderWay net.now class claims.now walk.old }
-    requires end { end.0 ≡ end_of_walk net.now walk.old.start.0 (numbers walk.old.debts.items) }
+    requires end { end.0 ≡ end_of_walk net.now walk.old.start.0 (numbers walk.old.steps.items) }
     requires ready { IsReady net.now class end.0 claims.now walk.old.marks.items }
     ensures under_way { OnFalse result (IsUnderWay net.now class claims.now walk.new) }
     ensures rest { OnTrue result (IsAtRest net.now class claims.now walk.new) }
@@ -151,9 +152,9 @@ fn retire(net: &Network, class: u8, claims: &[u64], walk: &mut Walk, end: BankId
 {
     walk.ranks[end.0 as usize] = rank_here(net, class, end, claims, walk.ranks.as_slice());
     walk.marks[end.0 as usize] = Mark::Done;
-    if walk.debts.is_empty() {
+    if walk.steps.is_empty() {
         return true;
     }
-    walk.debts.pop();
+    walk.steps.pop();
     false
 }

@@ -14,14 +14,14 @@ loop-walk-init c =
     let w = c.args.walk.now in
     let least = c.least_claim-least in
     let begins = cancelling_begins c.args.net.now c.args.class w.start.0 c.args.place least.result C
-    (numbers w.debts.items) w.marks.items c.args.closing.0 c.requires.claims
+    (numbers w.steps.items) w.marks.items c.args.closing.0 c.requires.claims
     c.requires.under_way.walk c.requires.closing c.requires.link c.requires.place
     c.requires.closes least.ensures.positive least.ensures.closing
     (λ k g l. subst
     (λ (ids : List Step). least.result ≤ get_or C (get_or (numbers ids) k 0) 0)
     c.as_slice.ensures.value (least.ensures.least k g (omega (
       arith,
-      length-map w.debts.items (λ s. s.debt.0),
+      length-map w.steps.items (λ s. s.debt.0),
       ap length c.as_slice.ensures.value,
     )))) in
     record {
@@ -35,7 +35,7 @@ loop-walk-init c =
 
 -- the last step of the walk tells its debtor
 last_step : (c : After-truncate) → IsStep c.args.net.now c.index-step.result.now
-last_step c = last_is_step c.loop-walk.walk.debts.items c.requires.network c.requires.claims
+last_step c = last_is_step c.loop-walk.walk.steps.items c.requires.network c.requires.claims
     c.requires.under_way.told.sizes.marks c.truncate.ensures.items
     (omega (arith, c.len-last.ensures)) c.index-step.ensures
     (omega (arith, c.len.ensures, c.len-last.ensures)) c.loop-walk.invariant.cancelling
@@ -44,7 +44,7 @@ last_step c = last_is_step c.loop-walk.walk.debts.items c.requires.network c.req
 -- the last debt of the walk, which is lowered
 last : (c : After-truncate) → IsLast c.args.net.now c.args.class c.least_claim-least.result
     c.loop-walk.claims c.index-step.result.now.debt.0
-last c = step_last c.loop-walk.walk.debts.items c.requires.network c.requires.claims
+last c = step_last c.loop-walk.walk.steps.items c.requires.network c.requires.claims
     c.requires.under_way.told.sizes.marks c.truncate.ensures.items
     (omega (arith, c.len-last.ensures)) c.index-step.ensures
     (omega (arith, c.len.ensures, c.len-last.ensures)) c.loop-walk.invariant.cancelling
@@ -73,14 +73,14 @@ index_mut-requires c =
 
 pub loop-walk-preserved : goal.loop-walk-preserved
 loop-walk-preserved c = record {
-  cancelling = step_more c.loop-walk.walk.debts.items c.requires.network c.requires.claims
+  cancelling = step_more c.loop-walk.walk.steps.items c.requires.network c.requires.claims
       c.requires.under_way.told.sizes.marks c.truncate.ensures.items
       (omega (arith, c.len-last.ensures)) c.index-step.ensures
       (omega (arith, c.len.ensures, c.len-last.ensures)) c.loop-walk.invariant.cancelling
       (last_step (goal.at.loop-walk-preserved c).After-truncate) c.least_claim-least.ensures.positive;
   start = c.loop-walk.invariant.start;
   steps = rw c.truncate.ensures.items
-      (All-take (IsStep c.args.net.now) _ c.loop-walk.walk.debts.items c.loop-walk.invariant.steps);
+      (All-take (IsStep c.args.net.now) _ c.loop-walk.walk.steps.items c.loop-walk.invariant.steps);
   cursors = c.loop-walk.invariant.cursors;
   heads = c.loop-walk.invariant.heads;
   ranks = c.loop-walk.invariant.ranks;
@@ -89,7 +89,7 @@ loop-walk-preserved c = record {
 pub returns-clause-kept : goal.returns-clause-kept
 returns-clause-kept c =
     cancelling_ends c.requires.claims c.loop-walk.invariant.cancelling
-    (omega (arith, length-map c.loop-walk.walk.debts.items (λ s. s.debt.0), c.len.ensures))
+    (omega (arith, length-map c.loop-walk.walk.steps.items (λ s. s.debt.0), c.len.ensures))
 
 pub returns-clause-under_way : goal.returns-clause-under_way
 returns-clause-under_way c = record {

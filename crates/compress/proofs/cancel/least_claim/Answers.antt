@@ -9,18 +9,18 @@ use Rattle.compress.proofs.cancel.least_claim.Goals as goal
 abbrev none : Step
 none = record { debt = record { 0 = 0 }; debtor = record { 0 = 0 } }
 
-pub bounds-claims-debts : goal.bounds-claims-debts
-bounds-claims-debts c =
+pub bounds-claims-steps : goal.bounds-claims-steps
+bounds-claims-steps c =
     let k = c.loop-k.k in
     subst (λ x. x < length c.args.claims.now)
-    (get_or-map (λ s. s.debt.0) c.args.debts.now k none 0 (omega arith))
+    (get_or-map (λ s. s.debt.0) c.args.steps.now k none 0 (omega arith))
     (c.requires.debts k (omega arith))
 
 pub loop-k-preserved : goal.loop-k-preserved
 loop-k-preserved c =
     let k = c.loop-k.k in
     let claims = c.args.claims.now in
-    let walk = c.args.debts.now in
+    let walk = c.args.steps.now in
     let at : get_or (numbers walk) k 0 ≡ (get_or walk k none).debt.0 = get_or-map
     (λ s. s.debt.0) walk k none 0 (omega arith) in
     let read : get_or claims (get_or (numbers walk) k 0) 0

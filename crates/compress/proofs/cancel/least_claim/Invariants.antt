@@ -7,5 +7,5 @@ invariant-loop-k l = record {
   positive : 0 < l.least;
   closing : l.least ≤ slice_index l.claims l.fn.closing.0;
   least : (j : ℕ) → l.fn.place ≤ j → j < l.k → l.least ≤ slice_index l.claims
-      (slice_index (numbers l.debts) j);
+      (slice_index (numbers l.steps) j);
 }

@@ -7,5 +7,5 @@ abbrev pub invariant-loop-class : goal.invariant-loop-class
 invariant-loop-class l = record {
   made : IsCompressedTo l.net l.class l.claims l.ranks;
   sizes : IsSizedFor l.net l.walk;
-  empty : l.walk.debts.items ≡ [];
+  empty : l.walk.steps.items ≡ [];
 }

@@ -1,7 +1,8 @@
 use Rattle.std.proofs.Common.{false, Bool, true, ◌≡◌, ℕ, ◌+◌, get_or, sym, ap, ◌∙◌, arith}
 use Rattle.clr_net.specs.Net.{debtor_of, column}
 use Rattle.compress.specs.Compression.{is_live}
-use Rattle.compress.proofs.Searching.{stands_in_column, most_more}
+use Rattle.compress.proofs.Most.{most_more}
+use Rattle.compress.proofs.Searching.{stands_in_column}
 use Rattle.compress.proofs.search.rank_here.Goals.{then-is_live, else-is_live}
 use Rattle.compress.proofs.search.rank_here.Goals as goal
 

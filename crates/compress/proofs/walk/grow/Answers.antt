@@ -20,27 +20,27 @@ returns-clause-under_way c =
     let w = c.args.walk.now in
     let old = c.requires.under_way in
     let s = w.start.0 in
-    let W = numbers w.debts.items in
+    let W = numbers w.steps.items in
     let marks = w.marks.items in
     let x = c.args.step.debt.0 in
     let on = c.requires.next in
     let new = c.requires.new in
     let items = c.in_ok-push.ensures.items in
     let longer : numbers c.push.new.self.items ≡ W ++ x ∷ [] =
-    ap numbers items ∙ map-append (λ (s : Step). s.debt.0) w.debts.items (c.args.step ∷ []) in
+    ap numbers items ∙ map-append (λ (s : Step). s.debt.0) w.steps.items (c.args.step ∷ []) in
     let place : length W + 1 ≡ c.len.result =
     omega (
       arith,
-      length-map w.debts.items (λ s. s.debt.0),
+      length-map w.steps.items (λ s. s.debt.0),
       ap length items,
-      length_push w.debts.items c.args.step,
+      length_push w.steps.items c.args.step,
       c.len.ensures,
     ) in
     let read : debtor_of net x ≡ c.args.step.debtor.0 = sym c.requires.step in
     let in_range = not_done_in_range marks (debtor_of net x) on.unfinished in
     record {
       walk = rw (longer, ← read, ← place) (walk_grows net k s C W marks x old.walk on.live on.owed in_range new);
-      steps = rw items (All-push (IsStep net) w.debts.items c.args.step old.steps c.requires.step);
+      steps = rw items (All-push (IsStep net) w.steps.items c.args.step old.steps c.requires.step);
       told = record {
         done = rw (← read, ← place) (done_marked (debtor_of net x) (Walked (length W + 1)) old.told.done in_range
             on.unfinished (walked_not_done (length W + 1)));

@@ -11,13 +11,13 @@ pub returns-then-is_empty-clause-rest : goal.returns-then-is_empty-clause-rest
 returns-then-is_empty-clause-rest c =
     let w = c.args.walk.now in
     let old = c.requires.under_way in
-    let none : w.debts.items ≡ [] = nil_from_length w.debts.items (omega (arith, eqb-true (vec_len w.debts) 0 (sym c.is_empty.ensures ∙ c.if-is_empty.true))) in
+    let none : w.steps.items ≡ [] = nil_from_length w.steps.items (omega (arith, eqb-true (vec_len w.steps) 0 (sym c.is_empty.ensures ∙ c.if-is_empty.true))) in
     record {
       empty = none;
       no_walk = rw c.requires.end
-          (retired_ends c.args.net.now c.args.class w.start.0 c.args.claims.now (numbers w.debts.items) w.marks.items
+          (retired_ends c.args.net.now c.args.class w.start.0 c.args.claims.now (numbers w.steps.items) w.marks.items
           old.walk (ap numbers none)).0;
-      told = retired_told w.debts c.args.end.0 c.rank_here.result old c.requires.end c.requires.ready
+      told = retired_told w.steps c.args.end.0 c.rank_here.result old c.requires.end c.requires.ready
           (rw c.as_slice.ensures.value at c.rank_here.ensures);
     }
 
@@ -25,12 +25,12 @@ pub returns-clause-under_way : goal.returns-clause-under_way
 returns-clause-under_way c =
     let w = c.args.walk.now in
     let old = c.requires.under_way in
-    let some : vec_len w.debts ≢ 0 = eqb-false (vec_len w.debts) 0 (sym c.is_empty.ensures ∙ c.if-is_empty.false) in
+    let some : vec_len w.steps ≢ 0 = eqb-false (vec_len w.steps) 0 (sym c.is_empty.ensures ∙ c.if-is_empty.false) in
     record {
       walk = rw c.requires.end
-          (popped c.args.net.now c.args.class w.start.0 c.args.claims.now w.marks.items w.debts.items
+          (popped c.args.net.now c.args.class w.start.0 c.args.claims.now w.marks.items w.steps.items
           c.pop.new.self.items c.pop.result old.walk (c.pop.ensures.variant.1 (omega (arith, some))) c.pop.ensures.items);
-      steps = steps_popped c.args.net.now w.debts.items c.pop.new.self.items c.pop.result old.steps c.pop.ensures.items;
+      steps = steps_popped c.args.net.now w.steps.items c.pop.new.self.items c.pop.result old.steps c.pop.ensures.items;
       told = retired_told c.pop.new.self c.args.end.0 c.rank_here.result old c.requires.end c.requires.ready
           (rw c.as_slice.ensures.value at c.rank_here.ensures);
     }

@@ -23,7 +23,7 @@ loop-claims-init c = record {
 
 -- the end of the walk, as the step back from it takes it
 ended : (c : After-end_of-end) → c.end_of-end.result.0 ≡ end_of c.args.net.now
-    c.loop-claims.walk.start.0 (numbers c.loop-claims.walk.debts.items)
+    c.loop-claims.walk.start.0 (numbers c.loop-claims.walk.steps.items)
 ended c =
     let under_way = c.loop-claims.invariant.under_way in
     c.end_of-end.ensures c.args.net.now
