@@ -1,11 +1,11 @@
 -- The text of the least and the greatest payments that clear, as bytes.
-use Rattle.std.specs.Prelude.{ℕ, ◌==◌, ◌&&◌, Bool, List, [], ◌∷◌, ◌++◌, codes, slice_index}
+use Rattle.std.specs.Prelude.{ℕ, List, [], ◌∷◌, ◌++◌, codes, slice_index}
 use Rattle.std.specs.List.{flat_map}
 use Rattle.std.specs.Fmt.{decimal}
 use Rattle.clr_net.specs.Lines.{line}
 use Rattle.clr_net.specs.Net.{Net, name_of, claim_of, debt_numbers}
 use Rattle.net_csv.specs.Reading.{debts_header}
-use Rattle.cascade.specs.Standings.{bank_numbers, is_default}
+use Rattle.cascade.specs.Standings.{bank_numbers, is_gridlocked}
 use Rattle.cascade.specs.declared.standing.Standing.{Standing}
 use Rattle.clear_report.specs.Words.{at_place, one_above_other, yes_or_no}
 use Rattle.clear_report.specs.Text.{debt_fields}
@@ -25,11 +25,6 @@ abbrev pub debts_table : Net → List ℕ → List ℕ → List ℕ
 debts_table net least greatest =
     bounds_header ++ flat_map (bounds_line net least greatest) (debt_numbers net)
 
--- a bank is in gridlock where it is in default under the least payments, and never falls short on
--- the way to the greatest
-abbrev pub is_gridlocked : ℕ → Standing → Bool
-is_gridlocked wave s = is_default s.health && (wave == 0)
-
 -- the header of the banks
 abbrev pub waves_header : List ℕ
 waves_header = line (codes "bank" ∷ codes "wave" ∷ codes "gridlock" ∷ codes "equity" ∷ [])
@@ -37,7 +32,7 @@ waves_header = line (codes "bank" ∷ codes "wave" ∷ codes "gridlock" ∷ code
 -- the line of a bank of this name, wave and standing
 abbrev pub wave_line : List ℕ → ℕ → Standing → List ℕ
 wave_line name wave s = line (
-    name ∷ decimal wave ∷ yes_or_no (is_gridlocked wave s) ∷ decimal s.equity ∷ [])
+    name ∷ decimal wave ∷ yes_or_no (is_gridlocked s.health wave) ∷ decimal s.equity ∷ [])
 
 -- the line of the bank i among these waves and standings
 abbrev pub wave_line_of : Net → List ℕ → List Standing → ℕ → List ℕ

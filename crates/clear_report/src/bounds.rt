@@ -3,7 +3,6 @@ ghost use Rattle.clear_report.specs.Bounds.{debts_table as debts_table_of, wave_
 ghost use Rattle.std.specs.Prelude.{◌≡◌, ◌++◌, length, IfOk, OnOk};
 
 use crate::line::{Field, name, push_debt, push_line, yes_or_no};
-use crate::sums::is_default;
 use crate::table::{BankTable, DebtTable, push_banks, push_debts};
 use cascade::Standing;
 use clr_edge::line::Line;
@@ -111,7 +110,7 @@ fn push_wave(text: &mut Vec<u8>, name: &[u8], wave: u64, standing: Standing) -> 
     ensures { OnOk result
         (text.new.items ≡ text.old.items ++ wave_line name.now wave standing) }
 {
-    let is_gridlocked = is_default(standing.health) && wave == 0;
+    let is_gridlocked = standing.health.is_default() && wave == 0;
     push_line(
         text,
         &[

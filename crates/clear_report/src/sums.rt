@@ -1,5 +1,5 @@
-// Sums over all banks, which no number of banks and no standing makes too great.
-ghost use Rattle.cascade.specs.Standings.{is_default as stands_in_default};
+//! Sums over all banks, which no number of banks and no standing makes too great.
+ghost use Rattle.cascade.specs.Standings.{is_default};
 ghost use Rattle.std.specs.Prelude.{◌≡◌, ◌<◌, ◌∷◌, [], ℕ, List, count_by, slice_index, sum};
 ghost use Rattle.std.specs.Prelude.{sum_by};
 
@@ -81,11 +81,11 @@ pub fn total<S: Stands>(all: &[S], place: usize) -> u128
 
 // How many banks are in default.
 pub fn defaults_of<S: Stands>(all: &[S]) -> u64
-    ensures { result ≡ count_by (λ s. stands_in_default (S.state s)) all.now }
+    ensures { result ≡ count_by (λ s. is_default (S.state s)) all.now }
 {
     let mut defaults = 0;
     for standing in all {
-        if is_default(standing.health()) {
+        if standing.health().is_default() {
             defaults += 1;
         }
     }
@@ -101,11 +101,4 @@ pub fn sum_of(units: &[u64]) -> u128
         total += u128::from(*unit);
     }
     total
-}
-
-// Whether a bank is in default: it is not sound.
-pub fn is_default(health: Health) -> bool
-    ensures { result ≡ stands_in_default health }
-{
-    health != Health::Sound
 }
