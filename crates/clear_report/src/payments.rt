@@ -30,8 +30,8 @@ fn payments_room(net: &Network) -> usize
     (net.debts() as usize + 1) * LINE
 }
 
-// The header of payments.
-fn payments_head() -> &'static [u8]
+/// The line that heads payments.
+pub fn payments_head() -> &'static [u8]
     ensures { result.now ≡ payments_header }
 {
     b"debtor,creditor,class,claim,paid\n"

@@ -1,5 +1,5 @@
-//! What the program does not call, for whoever calls the crate: a text as one list. The program writes
-//! the parts of this one, one after another.
+//! What the program does not call, for whoever calls the crate: a text as one list. The program
+//! writes the parts of this one, one after another.
 ghost use Rattle.clear_report.specs.Text.{checked_text};
 ghost use Rattle.std.specs.Prelude.{◌≡◌, IfOk};
 

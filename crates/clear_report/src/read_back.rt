@@ -17,8 +17,8 @@ pub fn claims_are_a_debts_file()
         → claims_text net C ≡ debts_text (with_claims net C) }
 {}
 
-/// So, beside the network's own banks file, they are read as that network, where no claim was raised
-/// and no name begins or ends with a space, by any limits that the network is within.
+/// So, beside the network's own banks file, they are read as that network, where no claim was
+/// raised and no name begins or ends with a space, by any limits that the network is within.
 pub fn claims_are_read_back()
     ensures { (by : Limits) (net : Net) (C : List ℕ) → IsNetwork net → IsWithin by net
         → KeepsNames net → length C ≡ length net.debts → IsAtMost C (all_claims net)

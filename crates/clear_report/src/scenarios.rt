@@ -5,8 +5,8 @@ use crate::line::{Field, push_line};
 use clr_net::{Mem, Name};
 use std::alloc::Global;
 
-/// The block of a scenario: a line of its name, then this text of the payments that it comes to, and
-/// this one of who defaults then. `Mem` for want of memory alone.
+/// The block of a scenario: a line of its name, then this text of the payments that it comes to,
+/// and this one of who defaults then. `Mem` for want of memory alone.
 pub fn scenario_text(
     alloc: Global,
     name: &Name,
