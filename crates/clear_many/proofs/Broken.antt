@@ -5,7 +5,7 @@ use Rattle.clr_net.specs.Net.{Net}
 use Rattle.cascade.specs.Standings.{bank_numbers}
 use Rattle.stress.specs.Breaking.{breaking_within}
 use Rattle.clear_many.specs.Blocks.{across, edge}
-use Rattle.clear_many.specs.declared.breaking.TheConstants.{BLOCKS}
+use Rattle.clear_many.specs.declared.cuts.TheConstants.{BLOCKS}
 
 -- there is one for each bank
 pub as_many_broken : (net : Net) (low high : ℕ) → length (map (breaking_within low high net) (bank_numbers net)) ≡ length net.banks

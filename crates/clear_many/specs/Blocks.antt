@@ -2,19 +2,21 @@
 use Rattle.std.specs.Prelude.{◌≡◌, ℕ, ◌+◌, ◌-◌, ◌*◌, ◌/◌, ◌%◌, Vec, map, min}
 use Rattle.std.specs.Global.{Global}
 use Rattle.cascade.specs.Standings.{bank_numbers}
-use Rattle.clear_many.specs.declared.breaking.TheConstants.{BLOCKS, BLOCK_CUTS, LAST_CUTS, LAST_EDGE}
+use Rattle.clear_many.specs.declared.cuts.TheConstants.{BLOCKS, BLOCK_CUTS, LAST_CUTS, LAST_EDGE}
 use Rattle.clr_net.specs.Net.{Net}
 use Rattle.shares.specs.declared.TheConstants.{THREADS}
 use Rattle.stress.specs.Breaking.{breaking_within}
 use Rattle.stress.specs.declared.broken.Broken.{Broken}
 
--- the cut at which a block begins. Of the blocks on one thread with the last, the last alone has cuts
+-- the cut at which a block begins. Of the blocks on one thread with the last, the last alone has
+-- cuts
 abbrev pub edge : ℕ → ℕ
 edge block =
     min (BLOCK_CUTS * (block - block / THREADS)) (LAST_EDGE + LAST_CUTS * (block / BLOCKS))
 
 -- the block that is gone through in a place, and the place of a block: row by row of a square, of
--- which each side is as long as there are threads, the places stand, and column by column the blocks
+-- which each side is as long as there are threads, the places stand, and column by column the
+-- blocks
 abbrev pub across : ℕ → ℕ
 across place = place % THREADS * THREADS + place / THREADS
 

@@ -1,12 +1,13 @@
 //! What breaks each bank, by blocks of the cuts on threads.
 ghost use Rattle.cascade.specs.Standings.{bank_numbers};
-ghost use Rattle.clear_many.specs.Blocks.{IsTold, across as across_of, edge as edge_of};
+ghost use Rattle.clear_many.specs.Blocks.{IsTold};
 ghost use Rattle.clear_many.specs.Texts.{breaking_report};
 ghost use Rattle.shares.specs.Made.{AreInOrder};
-ghost use Rattle.std.specs.Prelude.{◌≡◌, ◌+◌, ◌<◌, ◌≤◌, IfOk, length, map};
+ghost use Rattle.std.specs.Prelude.{◌≡◌, ◌+◌, IfOk, length, map};
 ghost use Rattle.stress.specs.Breaking.{breaking_within};
 ghost use Rattle.stress.specs.declared.TheConstants.{MAX_CUT};
 
+use crate::cuts::{BLOCKS, across, edge};
 use clear_report::breaking_text;
 use clr_net::{Mem, Network};
 use shares::{Made, Piecework, THREADS, in_shares};
@@ -14,8 +15,8 @@ use std::alloc::Global;
 use std::thread::Threads;
 use stress::{Broken, MAX_CUT, breaking_within, joined};
 
-/// The text of the least cut that breaks each bank, and of how the bank stands at it. `Mem` for want
-/// of memory alone.
+/// The text of the least cut that breaks each bank, and of how the bank stands at it. `Mem` for
+/// want of memory alone.
 ///
 /// Costs a clearing for each cut, which goes on from the one before in its block of them.
 pub fn tell_breaking<R: Threads + Sync>(
@@ -29,41 +30,6 @@ pub fn tell_breaking<R: Threads + Sync>(
     let Made { pieces, desk: _ } = in_shares(rt, alloc, &blocks, BLOCKS, THREADS)?;
     let all = all_joined(alloc, net, pieces.as_slice())?;
     breaking_text(alloc, net, all.as_slice())
-}
-
-// How many blocks the cuts are parted into: as many for each thread as there are threads.
-const BLOCKS: usize = THREADS * THREADS;
-
-// A clearing after which hardly any cash is left takes the longest by far. So the last block has
-// this many cuts alone, the greatest, and the thread that has it has nothing else.
-const LAST_CUTS: u32 = 3;
-
-// The cut at which the last block begins.
-const LAST_EDGE: u32 = MAX_CUT as u32 + 1 - LAST_CUTS;
-
-// How many cuts a block of the other threads has: the least number by which their blocks, of which
-// there are twelve, have all cuts below the last block. The twelfth has what is left.
-const BLOCK_CUTS: u32 = (LAST_EDGE - 1) / (BLOCKS - THREADS) as u32 + 1;
-
-// The cut at which a block begins, and at which the one before it has ended: 0, 84, 168 and so on up
-// to 924, then 998 and 1001. Blocks 3, 7 and 11 have no cut, since they stand on the thread of the
-// last block.
-fn edge(block: usize) -> u32
-    requires { block ≤ BLOCKS }
-    ensures { result ≡ edge_of block }
-{
-    let ended = (block / BLOCKS) as u32;
-    let with_cuts = (block - block / THREADS) as u32;
-    (BLOCK_CUTS * with_cuts).min(LAST_EDGE + LAST_CUTS * ended)
-}
-
-// The block that is gone through in a place, and the place of a block. The higher the cuts, the more
-// banks they break: so each thread, which has places side by side, has blocks far apart.
-fn across(place: usize) -> usize
-    requires { place < BLOCKS }
-    ensures { result ≡ across_of place }
-{
-    place % THREADS * THREADS + place / THREADS
 }
 
 // What all blocks of the cuts tell, put together from the lowest cuts up.
@@ -92,7 +58,7 @@ struct Blocks<'a> {
 }
 
 impl<'a> Piecework<Vec<Broken>, NoDesk> for Blocks<'a> {
-    ghost use Rattle.clear_many.specs.declared.breaking.TheConstants.{BLOCKS};
+    ghost use Rattle.clear_many.specs.declared.cuts.TheConstants.{BLOCKS};
 
     ghost can = { λ w. Unit {0} };
 

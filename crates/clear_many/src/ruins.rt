@@ -6,10 +6,10 @@ ghost use Rattle.clear_many.specs.Texts.{text_of};
 ghost use Rattle.impact.specs.Ruined.{IsDescentByRuins};
 ghost use Rattle.std.specs.Prelude.{◌≡◌, IfOk, length};
 
-use crate::stand::least_stand;
-use crate::tables::laid_below;
+use crate::pieces::laid_below;
 use cascade::Standing;
-use clear_report::{Piece, impact_begun, impact_piece};
+use clear_least::central;
+use clear_report::{Piece, impact_begun, impact_piece, least_standings};
 use clr_net::{BankId, Mem, Network};
 use descent::Descent;
 use impact::impact_of;
@@ -30,11 +30,12 @@ pub fn tell_impact<R: Threads + Sync>(
 ) -> Result<Vec<Vec<u8>>, Mem>
     ensures { IfOk result (λ all. text_of all.items ≡ impact_text net.now) }
 {
-    let stand = least_stand(alloc, net)?;
+    let paid = central(alloc, net)?;
+    let before = least_standings(alloc, net, paid.as_slice())?;
     let ruins = Ruins {
         alloc,
         net,
-        before: stand.standings.as_slice(),
+        before: before.as_slice(),
     };
     let Made { pieces, desk: _ } = in_shares(rt, alloc, &ruins, net.banks() as usize, THREADS)?;
     let begun = impact_begun(alloc, pieces.as_slice())?;

@@ -7,10 +7,10 @@ ghost use Rattle.rescue.specs.Saved.{banks_in_default};
 ghost use Rattle.rescue.specs.Searching.{IsSearchOf};
 ghost use Rattle.std.specs.Prelude.{◌≡◌, ◌<◌, All, IfOk, length, map, slice_index};
 
-use crate::stand::least_stand;
-use crate::tables::laid_below;
+use crate::pieces::laid_below;
 use cascade::Standing;
-use clear_report::{Piece, saving_piece, savings_begun};
+use clear_least::central;
+use clear_report::{Piece, least_standings, saving_piece, savings_begun};
 use clr_net::{BankId, Mem, Network};
 use rescue::{Before, Search, banks_in_default, saving_of};
 use shares::{Made, Piecework, THREADS, in_shares};
@@ -29,13 +29,14 @@ pub fn tell_rescues<R: Threads + Sync>(
 ) -> Result<Vec<Vec<u8>>, Mem>
     ensures { IfOk result (λ all. text_of all.items ≡ savings_text net.now) }
 {
-    let stand = least_stand(alloc, net)?;
-    let banks = banks_in_default(alloc, net, stand.standings.as_slice())?;
+    let least = central(alloc, net)?;
+    let before = least_standings(alloc, net, least.as_slice())?;
+    let banks = banks_in_default(alloc, net, before.as_slice())?;
     let savings = Savings {
         alloc,
         net,
-        least: stand.paid.as_slice(),
-        before: stand.standings.as_slice(),
+        least: least.as_slice(),
+        before: before.as_slice(),
         banks: banks.as_slice(),
     };
     let Made { pieces, desk: _ } = in_shares(rt, alloc, &savings, banks.len(), THREADS)?;

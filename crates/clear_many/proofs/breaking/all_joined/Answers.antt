@@ -6,7 +6,7 @@ use Rattle.shares.proofs.InOrder.{read_off}
 use Rattle.stress.proofs.Descent.{shares_join}
 use Rattle.stress.specs.Breaking.{breaking_within}
 use Rattle.clear_many.specs.Blocks.{IsTold, across, edge}
-use Rattle.clear_many.specs.declared.breaking.TheConstants.{BLOCKS}
+use Rattle.clear_many.specs.declared.cuts.TheConstants.{BLOCKS}
 use Rattle.clear_many.proofs.Broken.{across_back, as_many_broken, edges_rise}
 use Rattle.clear_many.proofs.breaking.all_joined.Goals.{After-as_slice}
 use Rattle.clear_many.proofs.breaking.all_joined.Goals as goal

@@ -8,7 +8,7 @@ use Rattle.clear_many.proofs.ruins.tell_impact.Goals as goal
 
 pub in_shares-requires-clause-can : goal.in_shares-requires-clause-can
 in_shares-requires-clause-can g c κs lives =
-    c.as_slice.ensures.value ∙ c.in_ok-stand.ensures.standings
+    c.as_slice-2.ensures.value ∙ c.in_ok-before.ensures.standings
 
 pub returns : goal.returns
 returns g c =
@@ -18,4 +18,4 @@ returns g c =
     let all : c.banks.result - 0 ≡ c.banks.result = omega arith in
     let are = pieces_of_all net (impact_line net) (hurt_lines net) pieces (made.as_many ∙ all ∙ c.banks.ensures.banks) made.in_order in
     let table = stacked_is impact_header hurts_header (impact_line net) (hurt_lines net) (bank_numbers net) pieces are in
-    rw (c.in_ok-begun.ensures, c.as_slice-2.ensures.value, table) at c.laid_below.ensures
+    rw (c.in_ok-begun.ensures, c.as_slice-3.ensures.value, table) at c.laid_below.ensures

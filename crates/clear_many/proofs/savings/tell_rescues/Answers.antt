@@ -8,7 +8,7 @@ use Rattle.clear_many.proofs.Tabled.{pieces_of_some}
 use Rattle.clear_many.proofs.savings.tell_rescues.Goals as goal
 
 pub banks_in_default-requires : goal.banks_in_default-requires
-banks_in_default-requires g c = c.as_slice.ensures.value ∙ c.in_ok-stand.ensures.standings
+banks_in_default-requires g c = c.as_slice-2.ensures.value ∙ c.in_ok-before.ensures.standings
 
 pub returns : goal.returns
 returns g c =
@@ -21,4 +21,4 @@ returns g c =
     made.as_many ∙ all ∙ sym (length-map c.in_ok-banks.banks.items (λ b. b.0)) ∙ ap length c.in_ok-banks.ensures.banks in
     let are = pieces_of_some banks (saving_line net) (saves_lines net) pieces many made.in_order in
     let table = stacked_is savings_header saves_header (saving_line net) (saves_lines net) banks pieces are in
-    rw (c.in_ok-begun.ensures, c.as_slice-5.ensures.value, table) at c.laid_below.ensures
+    rw (c.in_ok-begun.ensures, c.as_slice-6.ensures.value, table) at c.laid_below.ensures

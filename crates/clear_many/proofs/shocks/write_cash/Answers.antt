@@ -1,4 +1,4 @@
-use Rattle.std.proofs.Common.{◌+◌, ◌<◌, ◌++◌, List, [], ◌∷◌, ◌≡◌, ℕ, length, take, sym, ap, ◌∙◌, arith}
+use Rattle.std.proofs.Common.{◌++◌, [], ◌∷◌, ◌≡◌, length, sym, ◌∙◌, arith}
 use Rattle.std.proofs.lemmas.List.{length-map, take_all, take_more, take_more_set}
 use Rattle.clr_net.specs.declared.bank.Bank.{Bank}
 use Rattle.cascade.proofs.CashAt.{cash_read}

@@ -2,7 +2,7 @@ use Rattle.std.proofs.Common.{length, sym, ap, ◌∙◌}
 use Rattle.std.proofs.lemmas.List.FromFn.{length-map-range_with_len}
 use Rattle.cascade.specs.Standings.{standing}
 use Rattle.clear_core.specs.Clearing.{least}
-use Rattle.clear_many.proofs.sums.counted.Goals as goal
+use Rattle.clear_many.proofs.outcomes.counted.Goals as goal
 
 pub note-requires-clause-over : goal.note-requires-clause-over
 note-requires-clause-over c =

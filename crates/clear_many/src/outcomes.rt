@@ -1,14 +1,17 @@
 //! Scenarios in sums, a share of them to each thread.
 ghost use Rattle.cascade.specs.Standings.{standings as standings_of};
 ghost use Rattle.clear_core.specs.Clearing.{least};
-ghost use Rattle.clear_report.specs.Outcomes.{falls_text as falls_text_of, outcomes_header as header};
-ghost use Rattle.clear_report.specs.Outcomes.{outcome_line as outcome_line_of, outcomes_text, scenario_sums};
+ghost use Rattle.clear_report.specs.Outcomes.{falls_text as falls_text_of, outcomes_text};
+ghost use Rattle.clear_report.specs.Outcomes.{outcome_line as outcome_line_of, scenario_sums};
+ghost use Rattle.clear_report.specs.Outcomes.{outcomes_header as header};
 ghost use Rattle.clear_report.specs.Words.{one_above_other};
 ghost use Rattle.clear_many.specs.Shocked.{IsDescentByRows, cash_rows};
 ghost use Rattle.clear_many.specs.Texts.{text_of};
 ghost use Rattle.clr_net.specs.Limits.{IsNetwork};
-ghost use Rattle.std.specs.Prelude.{◌≡◌, ◌++◌, ◌<◌, ◌≤◌, All, IfOk, OnOk, length, slice_index_or, slice_range};
-ghost use Rattle.stress.specs.Outcomes.{AreWithin, added, sums as sums_of, tally as tally_of, tally_of_one};
+ghost use Rattle.std.specs.Prelude.{◌≡◌, ◌++◌, ◌<◌, ◌≤◌, All, IfOk, OnOk, length};
+ghost use Rattle.std.specs.Prelude.{slice_index_or, slice_range};
+ghost use Rattle.stress.specs.Outcomes.{AreWithin, added, sums as sums_of, tally as tally_of};
+ghost use Rattle.stress.specs.Outcomes.{tally_of_one};
 ghost use Rattle.stress.specs.Shocks.{IsScenarioOf, shocked};
 ghost use Rattle.stress.specs.declared.TheConstants.{MAX_SCENARIOS};
 ghost use Rattle.stress.specs.declared.scenario.Scenario.{Scenario};
@@ -27,8 +30,8 @@ use stress::{Falls, Scenario, Tally, outcome_of};
 /// pieces. `Mem` for want of memory alone.
 ///
 /// Costs a clearing for each scenario, which goes on from one with the least cash of twice as many,
-/// and a walk over the debts. Each thread has one copy of the network, and a list over the debts for
-/// each halving of the scenarios, and keeps of a scenario its line alone.
+/// and a walk over the debts. Each thread has one copy of the network, and a list over the debts
+/// for each halving of the scenarios, and keeps of a scenario its line alone.
 pub fn tell_outcomes<R: Threads + Sync>(
     rt: &R,
     alloc: Global,
@@ -41,13 +44,13 @@ pub fn tell_outcomes<R: Threads + Sync>(
 {
     prove!(net.banks() <= MAX_BANKS);
     let table = cash_left(alloc, net, scenarios)?;
-    let sums = Sums {
+    let outcomes = Outcomes {
         alloc,
         net,
         scenarios,
         table: &table,
     };
-    let Made { pieces, desk } = in_shares(rt, alloc, &sums, scenarios.len(), THREADS)?;
+    let Made { pieces, desk } = in_shares(rt, alloc, &outcomes, scenarios.len(), THREADS)?;
     summed_up(alloc, net, pieces, desk.tally.as_slice())
 }
 
@@ -73,16 +76,16 @@ fn summed_up(
 
 // The scenarios of a network, with the cash that each leaves.
 #[derive(Drop)]
-struct Sums<'a> {
+struct Outcomes<'a> {
     alloc: Global,
     net: &'a Network,
     scenarios: &'a [Scenario],
     table: &'a Table,
 }
 
-impl<'a> Sums<'a> {
-    // How each bank stands in a scenario, under the least payments that clear then. The clearing goes
-    // on from what is common to many scenarios.
+impl<'a> Outcomes<'a> {
+    // How each bank stands in a scenario, under the least payments that clear then. The clearing
+    // goes on from what is common to many scenarios.
     fn standings_in(&self, descent: &mut Descent, place: usize) -> Result<Vec<Standing>, Mem>
         requires network { IsNetwork self.now.net.now }
         requires scenarios { All (IsScenarioOf self.now.net.now) self.now.scenarios.now }
@@ -112,7 +115,7 @@ struct Counting {
     tally: Tally,
 }
 
-impl<'a> Piecework<Vec<u8>, Counting> for Sums<'a> {
+impl<'a> Piecework<Vec<u8>, Counting> for Outcomes<'a> {
     ghost can = { λ w. All (IsScenarioOf w.net.now) w.scenarios.now
         × (length w.scenarios.now ≤ MAX_SCENARIOS)
         × (w.table.now.rows.items ≡ cash_rows w.net.now w.scenarios.now)

@@ -1,6 +1,6 @@
 use Rattle.std.proofs.Common.{refl, ◌∙◌}
 use Rattle.clear_many.proofs.Tabled.{laid_out}
-use Rattle.clear_many.proofs.sums.summed_up.Goals as goal
+use Rattle.clear_many.proofs.outcomes.summed_up.Goals as goal
 
 pub returns : goal.returns
 returns c =

@@ -2,7 +2,7 @@
 use Rattle.std.proofs.Common.{◌≡◌, ◌-◌, length, slice_range, ap, ◌∙◌, arith}
 use Rattle.std.proofs.lemmas.Slice.{between_to_end}
 use Rattle.clear_many.proofs.Counting.{as_many_counted, lines_of_all}
-use Rattle.clear_many.proofs.sums.tell_outcomes.Goals as goal
+use Rattle.clear_many.proofs.outcomes.tell_outcomes.Goals as goal
 
 pub summed_up-requires : goal.summed_up-requires
 summed_up-requires g c =
