@@ -22,6 +22,7 @@ use Rattle.net_csv.proofs.ReadBack.{printed_is_read_back}
 use Rattle.net_csv.specs.Printing.{KeepsNames}
 use Rattle.net_gen.proofs.Lawful.{tries_network}
 use Rattle.net_gen.proofs.Tries.{small_after}
+use Rattle.net_gen.specs.declared.TheConstants.{MOST_BANKS, MOST_TRIES}
 use Rattle.net_gen.specs.Generated.{after_tries, bank_at, banks_made, debt_at, generated}
 use Rattle.net_gen.specs.Generated.{is_dropped, name_at}
 use Rattle.clear_load.specs.Reading.{IsReadBack}
@@ -63,7 +64,7 @@ last_of b (d ∷ ds) other digits =
     (b ∷ found.0, found.1, ap (λ t. b ∷ t) found.2, found.3)
 
 -- the name of a number begins and ends with no space
-name_kept : (i : ℕ) → i < 1000 → trimmed_field (name_at i) ≡ name_at i
+name_kept : (i : ℕ) → i < MOST_BANKS → trimmed_field (name_at i) ≡ name_at i
 name_kept i l =
     let digits = (decimal_is_IsNumeral i (omega arith)).0.1 in
     let found = last_of 78 (decimal i) refl digits in
@@ -71,7 +72,7 @@ name_kept i l =
     (trimmed_start-stops (name_at i) (decimal i) 78 refl refl)
     ∙ trimmed_end-stops (name_at i) found.0 found.1 found.2 found.3
 
-module _ (seed size tries : ℕ) (some : 1 ≤ size) (few : size ≤ 1000) (few_tries : tries ≤ 20000)
+module _ (seed size tries : ℕ) (some : 1 ≤ size) (few : size ≤ MOST_BANKS) (few_tries : tries ≤ MOST_TRIES)
   where
     -- no name of a generated network begins or ends with a space
     generated_keeps_names : KeepsNames (generated seed size tries)
@@ -102,7 +103,7 @@ module _ (seed size tries : ℕ) (some : 1 ≤ size) (few : size ≤ 1000) (few_
         generated_keeps_names
 
 -- what is printed of a generated network is read back by either limits
-pub generated_back : (by : Limits) (seed size tries : ℕ) → 1 ≤ size → size ≤ 1000 → tries ≤ 20000
+pub generated_back : (by : Limits) (seed size tries : ℕ) → 1 ≤ size → size ≤ MOST_BANKS → tries ≤ MOST_TRIES
     → IsReadBack by (generated seed size tries)
 generated_back by seed size tries some few few_tries =
     generated_is_read_back seed size tries some few few_tries by

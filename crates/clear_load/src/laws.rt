@@ -8,6 +8,7 @@ ghost use Rattle.net_check.specs.declared.limits.Limits.{Limits};
 ghost use Rattle.net_csv.specs.Printing.{KeepsNames};
 ghost use Rattle.net_csv.specs.Reading.{network_within};
 ghost use Rattle.net_gen.specs.Generated.{generated};
+ghost use Rattle.net_gen.specs.declared.TheConstants.{MOST_BANKS, MOST_TRIES};
 ghost use Rattle.std.specs.Prelude.{◌≡◌, ◌≤◌, ℕ, List, Ok};
 ghost use Rattle.stress.specs.Shocks.{shocked};
 ghost use Rattle.stress.specs.declared.scenario.Scenario.{Scenario};
@@ -28,6 +29,6 @@ pub fn a_shock_of_what_is_read_is_read_back()
 
 /// What is printed of a generated network is read back as that network, by either limits.
 pub fn a_generated_network_is_read_back()
-    ensures { (by : Limits) (seed size tries : ℕ) → 1 ≤ size → size ≤ 1000 → tries ≤ 20000
-        → IsReadBack by (generated seed size tries) }
+    ensures { (by : Limits) (seed size tries : ℕ) → 1 ≤ size → size ≤ MOST_BANKS
+        → tries ≤ MOST_TRIES → IsReadBack by (generated seed size tries) }
 {}

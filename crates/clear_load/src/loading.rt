@@ -36,8 +36,9 @@ pub fn load_generated(alloc: Global, job: &Job) -> Result<Network, LoadFault>
     Ok(generate(alloc, job.seed, job.size, job.tries)?)
 }
 
-/// The network of both files of a job. An `Err` says why the files give nothing to work on: one cannot
-/// be read, one has a fault, of which the first is told, or memory is wanting. So it is below.
+/// The network of both files of a job. An `Err` says why the files give nothing to work on: one
+/// cannot be read, one has a fault, of which the first is told, or memory is wanting. So it is
+/// below.
 pub fn load_network<F: Shelf>(alloc: Global, job: &Job, files: &mut F) -> Result<Network, LoadFault>
     requires { source_of job.now.task ≡ Source.Files }
     ensures files { F.files files.new ≡ F.files files.old }

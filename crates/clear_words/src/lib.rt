@@ -1,8 +1,8 @@
 //! The command line: the words after the program's name, read into a [`Job`].
 //!
 //! The words are taken by one simple `clap` command. What that command takes, and which value each
-//! option then has, is as `clap` defines it. The tables of tasks and of options are this crate's own:
-//! which options a task requires or allows, and what the value of each must be.
+//! option then has, is as `clap` defines it. The tables of tasks and of options are this crate's
+//! own: which options a task requires or allows, and what the value of each must be.
 #![tactic(auto)]
 
 mod command;
