@@ -15,7 +15,7 @@ use crate::teams::{round, round_in_turn};
 use bank_worker::Office;
 use clear_core::{Journal, Raise};
 use clr_edge::Gate;
-use clr_net::{MAX_BANKS, Mem};
+use clr_net::{MAX_BANKS, MAX_OWED, Mem};
 use pay_words::PaySeat;
 use raise_journal::in_order;
 use std::alloc::Global;
@@ -43,7 +43,7 @@ pub(crate) fn drive_on<R: Threads + Sync, G: Gate + Sync>(
 {
     let held = mem::replace(offices, Vec::new(run.engine.alloc));
     let mut state = RunState::of(run.engine.alloc, past, held)?;
-    let _clock = master.clock();
+    prove!(master.clock() <= MAX_OWED);
     prove!(run.net.banks() <= MAX_BANKS);
     let mut rounds = 0;
     let mut visits = 0;
@@ -85,7 +85,7 @@ pub(crate) fn drive_in_turn<G: Gate>(
 {
     let held = mem::replace(offices, Vec::new(run.engine.alloc));
     let mut state = RunState::of(run.engine.alloc, past, held)?;
-    let _clock = master.clock();
+    prove!(master.clock() <= MAX_OWED);
     prove!(run.net.banks() <= MAX_BANKS);
     let mut rounds = 0;
     let mut visits = 0;

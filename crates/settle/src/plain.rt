@@ -14,7 +14,7 @@ use crate::run::{Engine, Run};
 use crate::runs::{Settled, settle_owned};
 use clear_core::Raise;
 use clr_edge::Gate;
-use clr_net::{Mem, Network};
+use clr_net::{MAX_OWED, Mem, Network};
 use pay_words::{Board, PaySeat};
 use std::alloc::Global;
 use std::thread::Threads;
@@ -86,7 +86,7 @@ pub fn drive<R: Threads + Sync, G: Gate + Sync>(
     ensures driven { IfOk result
         (IsDriven net.now past.now plan master.old.shows master.new.shows) }
 {
-    let _clock = master.clock();
+    prove!(master.clock() <= MAX_OWED);
     let mut offices = offices_beside(rt, alloc, net, plan.workers)?;
     let engine = Engine { alloc, plan, gate };
     let run = Run {
@@ -95,6 +95,6 @@ pub fn drive<R: Threads + Sync, G: Gate + Sync>(
         board,
     };
     let driven = drive_on(rt, &run, past, master, &mut offices);
-    let _clock = master.clock();
+    prove!(master.clock() <= MAX_OWED);
     driven
 }

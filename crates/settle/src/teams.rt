@@ -1,5 +1,6 @@
 ghost use Rattle.clr_net.specs.Limits.{IsNetwork};
 ghost use Rattle.pay_words.specs.Views.{IsAt};
+ghost use Rattle.pay_words.specs.declared.TheConstants.{MAX_SEATS};
 ghost use Rattle.settle.specs.Asks.{IsReady, IsRoundOn};
 ghost use Rattle.settle.specs.Between.{AreOfBoard, HaveGrownAlike, IsBack, IsBetween};
 ghost use Rattle.settle.specs.Between.{noted_in, opened_workers, raises_of_all, without_first};
@@ -14,7 +15,7 @@ use crate::state::RunState;
 use crate::work::{work_beside, work_in_turn};
 use bank_worker::{Office, Worker};
 use clr_edge::Gate;
-use clr_net::{BankId, Mem, Network};
+use clr_net::{BankId, MAX_OWED, Mem, Network};
 use pay_words::{Board, PaySeat};
 use std::thread::Threads;
 
@@ -31,7 +32,7 @@ fn open_workers<G: Gate>(
         run.now.engine.now.plan.workers offices.old.items }
     requires table { master.old.table ≡ run.now.board.now.table }
     requires between { IsBetween run.now.net.now master.old.shows }
-    requires seats { master.old.shows.seats + run.now.engine.now.plan.workers < 4294967295 }
+    requires seats { master.old.shows.seats + run.now.engine.now.plan.workers < MAX_SEATS }
     ensures table { master.new.table ≡ master.old.table }
     ensures net { master.new.shows.net ≡ master.old.shows.net }
     ensures rest { OnOk result (master.new.shows ≡ without_first run.now.engine.now.plan.workers
@@ -150,7 +151,7 @@ pub fn round<R: Threads + Sync, G: Gate + Sync>(
     requires ready { IsReady run.now.board.now run.now.net.now run.now.engine.now.plan
         master.old state.old }
     requires called { OthersAreAtRest run.now.net.now state.old.called master.old.shows }
-    requires seats { master.old.shows.seats + run.now.engine.now.plan.workers < 4294967295 }
+    requires seats { master.old.shows.seats + run.now.engine.now.plan.workers < MAX_SEATS }
     ensures table { master.new.table ≡ master.old.table }
     ensures net { master.new.shows.net ≡ master.old.shows.net }
     ensures round { IfOk result (λ r. IsRoundOn run.now.board.now run.now.net.now
@@ -162,7 +163,7 @@ pub fn round<R: Threads + Sync, G: Gate + Sync>(
     let mut workers = open_workers(run, master, &mut state.offices)?;
     let units = work_beside(rt, run, &mut workers, state)?;
     let visits = close_workers(run, master, workers, state, Way::Beside)?;
-    let _clock = master.clock();
+    prove!(master.clock() <= MAX_OWED);
     Ok((units, visits))
 }
 
@@ -177,7 +178,7 @@ pub fn round_in_turn<G: Gate>(
     requires ready { IsReady run.now.board.now run.now.net.now run.now.engine.now.plan
         master.old state.old }
     requires called { OthersAreAtRest run.now.net.now state.old.called master.old.shows }
-    requires seats { master.old.shows.seats + run.now.engine.now.plan.workers < 4294967295 }
+    requires seats { master.old.shows.seats + run.now.engine.now.plan.workers < MAX_SEATS }
     ensures table { master.new.table ≡ master.old.table }
     ensures net { master.new.shows.net ≡ master.old.shows.net }
     ensures round { IfOk result (λ r. IsRoundOn run.now.board.now run.now.net.now
@@ -186,7 +187,7 @@ pub fn round_in_turn<G: Gate>(
     let mut workers = open_workers(run, master, &mut state.offices)?;
     let units = work_in_turn(run, &mut workers, state)?;
     let visits = close_workers(run, master, workers, state, Way::InTurn)?;
-    let _clock = master.clock();
+    prove!(master.clock() <= MAX_OWED);
     Ok((units, visits))
 }
 

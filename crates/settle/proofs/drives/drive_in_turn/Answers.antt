@@ -13,7 +13,7 @@ loop-state-init g c =
     record {
       table = refl;
       way = way_begun run.board.now run.net.now c.args.past.now run.engine.now.plan c.args.master.now c.in_ok-state.state
-          c.banks.ensures.network c.requires.table c.requires.opened c.clock-clock.ensures.paid_below_least state.journal state.none_waits
+          c.banks.ensures.network c.requires.table c.requires.opened c.clock.ensures.paid_below_least state.journal state.none_waits
           (subst (λ os. AreOffices run.net.now w w os) (sym (ap (λ v. v.items) (state.offices ∙ c.replace-held.ensures.value))) c.requires.offices)
           state.called;
     }

@@ -52,7 +52,7 @@ pub returns : goal.returns
 returns g c =
     let run = c.args.run.now in
     let closed = c.in_ok-visits.ensures in
-    let clock = c.clock-clock.ensures in
+    let clock = c.clock.ensures in
     let table = c.close_workers.ensures.table ∙ c.open_workers.ensures.table in
     record {
       table = table;
